@@ -1,0 +1,28 @@
+-- `contains` is safe and ends: each turn leaves less of the line.
+use borrow.Author.Needs.{needs}
+use Prim.Native.Nat.{_-_}
+use lib.ListN.{length}
+use Rattle.published_data.proofs.parse.contains.Statement.{statement}
+use Rattle.published_data.proofs.parse.contains.Tie as tie
+
+abbrev Inv-loop : tie.InvT-loop
+Inv-loop line at word i₀ i = Unit {0}
+
+abbrev μ-loop : tie.MeasureT-loop
+μ-loop line at word i₀ i = length line - i
+
+pub contains-spec : {M : Type 1} → statement M
+contains-spec =
+    tie.close
+    (tie.spec
+    Inv-loop
+    μ-loop
+    (λ c. search needs)
+    (λ c κs. search needs)
+    (λ c. search needs)
+    (λ c. search needs)
+    (λ c. search needs)
+    (λ c. search needs)
+    (λ c. search needs)
+    (λ c. search needs)
+    (λ c. search needs))

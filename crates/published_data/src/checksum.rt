@@ -1,0 +1,31 @@
+// The CRC-32 of a text, as gzip and zip have it. It tells a text from any other that differs from
+// it in one byte, also in comments and in the properties that no table has.
+
+// The remainder after one bit more, lowest bit first.
+fn after_bit(crc: u32) -> u32 {
+    if crc % 2 == 1 {
+        return (crc / 2) ^ 0xEDB8_8320;
+    }
+    crc / 2
+}
+
+// The remainder after four bits more.
+fn after_four(crc: u32) -> u32 {
+    after_bit(after_bit(after_bit(after_bit(crc))))
+}
+
+// The remainder after the byte b.
+fn after_byte(crc: u32, b: u8) -> u32 {
+    after_four(after_four(crc ^ (b as u32)))
+}
+
+// The CRC-32 of the text.
+pub(crate) fn crc_32(text: &[u8]) -> u32 {
+    let mut crc: u32 = 0xFFFF_FFFF;
+    let mut i = 0;
+    while i < text.len() {
+        crc = after_byte(crc, text[i]);
+        i += 1;
+    }
+    crc ^ 0xFFFF_FFFF
+}

@@ -1,0 +1,121 @@
+// Holds a table of the crate `unicode` to a published file, both ways: the file's lines are marked
+// in a set of code points, and at each code point the set and the table must say the same.
+use crate::marks::CODE_POINTS;
+use crate::marks::WORDS;
+use crate::marks::is_marked;
+use crate::marks::mark_at;
+use crate::marks::mark_range;
+use crate::parse::line_at;
+use crate::parse::next_line;
+use crate::tables::Listed;
+use crate::tables::Table;
+use crate::tables::has;
+use crate::tables::listed_in;
+use unicode::VariationEntry;
+use unicode::VariationSequenceIndex;
+
+// The first code point at which file and table differ, and which of them has it.
+pub enum Difference {
+    Nowhere,
+    FileOnly(u32),
+    TableOnly(u32),
+}
+
+// How many entries there are, the first code point whose entry is wrong, or an entry past the last.
+pub enum Entries {
+    Same(usize),
+    Wrong(u32),
+    Extra(u32),
+}
+
+// Marks what the line lists for the table; false where a code point of it was listed before.
+fn mark_line(line: &[u8], table: Table, marks: &mut [u64; WORDS]) -> bool {
+    match listed_in(line, table) {
+        Listed::Points(first, last) => mark_range(marks, first, last),
+        Listed::Nothing => true,
+    }
+}
+
+// Marks what the lines list for the table, and answers 0, or the line that lists a code point again.
+pub(crate) fn mark_lines(text: &[u8], table: Table, marks: &mut [u64; WORDS]) -> usize {
+    let mut at = 0;
+    let mut number = 0;
+    while at < text.len() {
+        number += 1;
+        if !mark_line(line_at(text, at), table, marks) {
+            return number;
+        }
+        at = next_line(text, at);
+    }
+    0
+}
+
+// The difference at ch.
+fn difference_at(marks: &[u64; WORDS], table: Table, ch: u32) -> Difference {
+    if is_marked(marks, ch) {
+        if has(table, ch) {
+            return Difference::Nowhere;
+        }
+        return Difference::FileOnly(ch);
+    }
+    if has(table, ch) {
+        return Difference::TableOnly(ch);
+    }
+    Difference::Nowhere
+}
+
+// The first difference between what is marked and the table.
+pub(crate) fn first_difference(marks: &[u64; WORDS], table: Table) -> Difference {
+    let mut ch = 0;
+    while ch < CODE_POINTS {
+        let difference = difference_at(marks, table, ch);
+        match difference {
+            Difference::FileOnly(_) => return difference,
+            Difference::TableOnly(_) => return difference,
+            Difference::Nowhere => {}
+        }
+        ch += 1;
+    }
+    Difference::Nowhere
+}
+
+// Whether ch is the entry at `index`.
+fn is_entry(index: usize, ch: u32) -> bool {
+    match unicode::variation_entry(index) {
+        VariationEntry::Char(entry) => entry == ch,
+        VariationEntry::NoEntry => false,
+    }
+}
+
+// Whether ch, where it is marked, has the entry at `index`, and none elsewhere.
+fn entry_agrees(marks: &[u64; WORDS], ch: u32, index: usize) -> bool {
+    match unicode::variation_sequence_index(ch) {
+        VariationSequenceIndex::At(at) => {
+            if at != index {
+                return false;
+            }
+            if !is_entry(index, ch) {
+                return false;
+            }
+            is_marked(marks, ch)
+        }
+        VariationSequenceIndex::NoEntry => !is_marked(marks, ch),
+    }
+}
+
+// Whether the entries are the marked code points, ascending, and nothing after the last.
+pub(crate) fn compare_entries(marks: &[u64; WORDS]) -> Entries {
+    let mut index = 0;
+    let mut ch = 0;
+    while ch < CODE_POINTS {
+        if !entry_agrees(marks, ch, index) {
+            return Entries::Wrong(ch);
+        }
+        index += mark_at(marks, ch);
+        ch += 1;
+    }
+    match unicode::variation_entry(index) {
+        VariationEntry::Char(entry) => Entries::Extra(entry),
+        VariationEntry::NoEntry => Entries::Same(index),
+    }
+}

@@ -1,0 +1,104 @@
+// Holds the tables of the crate `unicode` to the two files that Unicode publishes, which stand in
+// data/: each table must have exactly the code points that its file lists, over all of 0 to 10FFFF.
+// It writes a line for each file and each table, and where they differ, the first difference.
+mod checksum;
+mod compare;
+mod marks;
+mod parse;
+mod report;
+mod survey;
+mod tables;
+
+use marks::WORDS;
+use report::say_file;
+use report::say_line;
+use tables::File;
+use tables::Table;
+
+// The room for a file, which must be shorter.
+const ROOM: usize = 131072;
+
+// Marks what the file lists for the table and compares the two; where they do not agree, says so and answers false.
+fn agrees(name: &[u8], text: &[u8], table: Table, marks: &mut [u64; WORDS]) -> bool {
+    let again = compare::mark_lines(text, table, marks);
+    if again > 0 {
+        say_line(name, again, b"lists a code point again");
+        return false;
+    }
+    report::say_difference(table, compare::first_difference(marks, table))
+}
+
+// Holds the table of a property to emoji-data.txt.
+fn check_property(name: &[u8], text: &[u8], table: Table) {
+    let mut marks = [0u64; WORDS];
+    if agrees(name, text, table, &mut marks) {
+        report::say_as_published(table, marks::size_of(&marks));
+    }
+}
+
+// Holds the tables of the properties to emoji-data.txt.
+fn check_properties(name: &[u8], text: &[u8]) {
+    check_property(name, text, Table::Emoji);
+    check_property(name, text, Table::EmojiPresentation);
+    check_property(name, text, Table::EmojiModifier);
+    check_property(name, text, Table::EmojiModifierBase);
+    check_property(name, text, Table::RegionalIndicator);
+}
+
+// Holds the variation sequences to emoji-variation-sequences.txt: each style's lines, and then the entries.
+fn check_sequences(name: &[u8], text: &[u8]) {
+    let mut text_style = [0u64; WORDS];
+    if !agrees(name, text, Table::TextStyle, &mut text_style) {
+        return;
+    }
+    let mut emoji_style = [0u64; WORDS];
+    if !agrees(name, text, Table::EmojiStyle, &mut emoji_style) {
+        return;
+    }
+    report::say_entries(compare::compare_entries(&emoji_style));
+}
+
+// Holds the tables to the text of a file, if each of its lines follows the format.
+fn check_text(name: &[u8], text: &[u8], file: File) {
+    let survey = survey::survey_of(text, file);
+    if survey.bad > 0 {
+        say_line(name, survey.bad, b"does not follow the format");
+        return;
+    }
+    report::say_survey(name, survey, checksum::crc_32(text));
+    let totals = survey.totals;
+    if totals.wrong > 0 {
+        say_line(
+            name,
+            totals.wrong,
+            b"states a total that the lines above do not have",
+        );
+    }
+    match file {
+        File::Properties => check_properties(name, text),
+        File::Sequences => check_sequences(name, text),
+    }
+}
+
+// Reads a file and holds the tables to it.
+fn check_file(name: &[u8], file: File) {
+    let fd = os::open_read(name);
+    if fd < 0 {
+        say_file(name, b"cannot be opened");
+        return;
+    }
+    let mut buf = [0u8; ROOM];
+    let n = io::read_full(fd, &mut buf);
+    libc::close(fd);
+    if n == ROOM {
+        say_file(name, b"is longer than the buffer");
+        return;
+    }
+    check_text(name, &buf[..n], file);
+}
+
+fn main() {
+    report::say_tables_version();
+    check_file(b"emoji-data.txt", File::Properties);
+    check_file(b"emoji-variation-sequences.txt", File::Sequences);
+}

@@ -1,0 +1,182 @@
+// What the program writes to standard output, in lines.
+use crate::compare::Difference;
+use crate::compare::Entries;
+use crate::marks::Size;
+use crate::survey::Survey;
+use crate::survey::Version;
+use crate::tables::Table;
+use libc::STDOUT_FILENO;
+use unicode::unicode_data::UNICODE_VERSION_MAJOR;
+use unicode::unicode_data::UNICODE_VERSION_MINOR;
+
+fn say(text: &[u8]) {
+    io::write_all(STDOUT_FILENO, text);
+}
+
+// "15.0"
+fn say_pair(major: u32, minor: u32) {
+    io::print_decimal(STDOUT_FILENO, major as u64);
+    say(b".");
+    io::print_decimal(STDOUT_FILENO, minor as u64);
+}
+
+// "26 code points", "1 range"
+fn say_count(count: u64, thing: &[u8]) {
+    io::print_decimal(STDOUT_FILENO, count);
+    say(b" ");
+    say(thing);
+    if count != 1 {
+        say(b"s");
+    }
+}
+
+// The digit of `digits` at place `at`.
+fn say_digit(digits: &[u8], at: usize) {
+    if at < digits.len() {
+        say(&digits[at..at + 1]);
+    }
+}
+
+// The last of n's digits in base 16.
+fn say_last_digit(n: u32) {
+    say_digit(b"0123456789ABCDEF", (n % 16) as usize);
+}
+
+// "U+00A9"
+fn say_code_point(ch: u32) {
+    say(b"U+");
+    if ch > 0xF_FFFF {
+        say_last_digit(ch / 0x10_0000);
+    }
+    if ch > 0xFFFF {
+        say_last_digit(ch / 0x1_0000);
+    }
+    say_last_digit(ch / 0x1000);
+    say_last_digit(ch / 0x100);
+    say_last_digit(ch / 0x10);
+    say_last_digit(ch);
+}
+
+fn say_table(table: Table) {
+    match table {
+        Table::Emoji => say(b"Emoji"),
+        Table::EmojiPresentation => say(b"Emoji_Presentation"),
+        Table::EmojiModifier => say(b"Emoji_Modifier"),
+        Table::EmojiModifierBase => say(b"Emoji_Modifier_Base"),
+        Table::RegionalIndicator => say(b"regional indicators"),
+        Table::TextStyle => say(b"variation sequences, text style"),
+        Table::EmojiStyle => say(b"variation sequences, emoji style"),
+    }
+}
+
+// The version of the tables: "Unicode 15.0".
+pub(crate) fn say_tables_version() {
+    say(b"Unicode ");
+    say_pair(UNICODE_VERSION_MAJOR, UNICODE_VERSION_MINOR);
+    say(b"\n");
+}
+
+// What is wrong with a file: "emoji-data.txt: cannot be opened".
+pub(crate) fn say_file(name: &[u8], what: &[u8]) {
+    say(name);
+    say(b": ");
+    say(what);
+    say(b"\n");
+}
+
+// What is wrong with a line: "emoji-data.txt: line 24 does not follow the format".
+pub(crate) fn say_line(name: &[u8], number: usize, what: &[u8]) {
+    say(name);
+    say(b": line ");
+    io::print_decimal(STDOUT_FILENO, number as u64);
+    say(b" ");
+    say(what);
+    say(b"\n");
+}
+
+// The file's version, and whether it is that of the tables.
+fn say_version(version: Version) {
+    match version {
+        Version::Stated(major, minor) => {
+            say(b"Emoji Version ");
+            say_pair(major, minor);
+            if major != UNICODE_VERSION_MAJOR {
+                say(b", not that of the tables");
+            } else if minor != UNICODE_VERSION_MINOR {
+                say(b", not that of the tables");
+            }
+        }
+        Version::Unstated => say(b"no Emoji Version"),
+    }
+}
+
+// "emoji-data.txt: Emoji Version 15.0, 1320 lines, 6 totals, CRC-32 0123abcd"
+pub(crate) fn say_survey(name: &[u8], survey: Survey, crc: u32) {
+    let version = survey.version;
+    let totals = survey.totals;
+    say(name);
+    say(b": ");
+    say_version(version);
+    say(b", ");
+    say_count(survey.lines as u64, b"line");
+    say(b", ");
+    say_count(totals.stated as u64, b"total");
+    say(b", CRC-32 ");
+    io::print_hex(STDOUT_FILENO, crc as u64, 8);
+    say(b"\n");
+}
+
+// A table that is as published: "Emoji: 1424 code points, 151 ranges, as published".
+pub(crate) fn say_as_published(table: Table, size: Size) {
+    say_table(table);
+    say(b": ");
+    say_count(size.points as u64, b"code point");
+    say(b", ");
+    say_count(size.ranges as u64, b"range");
+    say(b", as published\n");
+}
+
+// "Emoji differs first at U+00A9: in the file only"
+fn say_only(table: Table, ch: u32, which: &[u8]) {
+    say_table(table);
+    say(b" differs first at ");
+    say_code_point(ch);
+    say(which);
+}
+
+// Says where a table differs from the file, and answers whether it does not.
+pub(crate) fn say_difference(table: Table, difference: Difference) -> bool {
+    match difference {
+        Difference::Nowhere => true,
+        Difference::FileOnly(ch) => {
+            say_only(table, ch, b": in the file only\n");
+            false
+        }
+        Difference::TableOnly(ch) => {
+            say_only(table, ch, b": in the table only\n");
+            false
+        }
+    }
+}
+
+// How the entries compare: "variation sequences: 354 entries, as published".
+pub(crate) fn say_entries(entries: Entries) {
+    say(b"variation sequences");
+    match entries {
+        Entries::Same(count) => {
+            say(b": ");
+            io::print_decimal(STDOUT_FILENO, count as u64);
+            say(b" entries, as published\n");
+        }
+        Entries::Wrong(ch) => {
+            say(b": the entry or the index is wrong first at ");
+            say_code_point(ch);
+            say(b"\n");
+        }
+        Entries::Extra(ch) => {
+            say(b": an entry after the last, ");
+            say_code_point(ch);
+            say(b"\n");
+        }
+    }
+}

@@ -1,0 +1,6 @@
+-- Laws about tables of any length, the one test of each table, and the theorems.
+pub mod Ascent
+pub mod Ranges
+pub mod Between
+pub mod InOrder
+pub mod Claims

@@ -1,0 +1,21 @@
+-- The table is in order, by the one test of it.
+use borrow.Author.Needs.{needs}
+use Rattle.unicode.specs.Unicode.{hasVariationSequence}
+use Rattle.unicode.specs.UnicodeData.{variationEntries}
+use Rattle.unicode.proofs.InOrder.{variation-entries-ascend}
+use Rattle.unicode.proofs.has_variation_sequence.Statement.{statement}
+use Rattle.unicode.proofs.has_variation_sequence.Tie as tie
+
+slice-aggregate-in-char-table : tie.Need-slice-aggregate-in-char-table
+slice-aggregate-in-char-table c = search needs
+
+in-char-table-requires : tie.Need-in-char-table-requires
+unfolding variationEntries
+in-char-table-requires c κs = variation-entries-ascend
+
+returns : tie.Need-returns
+unfolding hasVariationSequence variationEntries
+returns c = c .in-char-table .ensures
+
+pub has-variation-sequence-spec : {M : Type 1} → statement M
+has-variation-sequence-spec = tie.close (tie.spec slice-aggregate-in-char-table in-char-table-requires returns)

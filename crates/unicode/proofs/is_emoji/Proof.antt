@@ -1,0 +1,21 @@
+-- The table is in order, by the one test of it.
+use borrow.Author.Needs.{needs}
+use Rattle.unicode.specs.Unicode.{isEmoji}
+use Rattle.unicode.specs.UnicodeData.{emojiRanges}
+use Rattle.unicode.proofs.InOrder.{emoji-ranges-apart}
+use Rattle.unicode.proofs.is_emoji.Statement.{statement}
+use Rattle.unicode.proofs.is_emoji.Tie as tie
+
+slice-aggregate-in-ranges : tie.Need-slice-aggregate-in-ranges
+slice-aggregate-in-ranges c = search needs
+
+in-ranges-requires : tie.Need-in-ranges-requires
+unfolding emojiRanges
+in-ranges-requires c κs = emoji-ranges-apart
+
+returns : tie.Need-returns
+unfolding isEmoji emojiRanges
+returns c = c .in-ranges .ensures
+
+pub is-emoji-spec : {M : Type 1} → statement M
+is-emoji-spec = tie.close (tie.spec slice-aggregate-in-ranges in-ranges-requires returns)

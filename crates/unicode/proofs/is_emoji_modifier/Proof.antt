@@ -1,0 +1,21 @@
+-- The table is in order, by the one test of it.
+use borrow.Author.Needs.{needs}
+use Rattle.unicode.specs.Unicode.{isEmojiModifier}
+use Rattle.unicode.specs.UnicodeData.{emojiModifiers}
+use Rattle.unicode.proofs.InOrder.{emoji-modifiers-ascend}
+use Rattle.unicode.proofs.is_emoji_modifier.Statement.{statement}
+use Rattle.unicode.proofs.is_emoji_modifier.Tie as tie
+
+slice-aggregate-in-char-table : tie.Need-slice-aggregate-in-char-table
+slice-aggregate-in-char-table c = search needs
+
+in-char-table-requires : tie.Need-in-char-table-requires
+unfolding emojiModifiers
+in-char-table-requires c κs = emoji-modifiers-ascend
+
+returns : tie.Need-returns
+unfolding isEmojiModifier emojiModifiers
+returns c = c .in-char-table .ensures
+
+pub is-emoji-modifier-spec : {M : Type 1} → statement M
+is-emoji-modifier-spec = tie.close (tie.spec slice-aggregate-in-char-table in-char-table-requires returns)

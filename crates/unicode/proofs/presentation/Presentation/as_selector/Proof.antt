@@ -1,0 +1,23 @@
+-- By the presentation.
+use mathlib.Core.Path.{sym, ap}
+use borrow.Author.Needs.{needs}
+use Rattle.unicode.specs.Presentation.{asSelector}
+use Rattle.unicode.proofs.presentation.Presentation.as_selector.Statement.{statement}
+use Rattle.unicode.proofs.presentation.Presentation.as_selector.Tie as tie
+
+enum-told : tie.Need-enum-told
+enum-told c = search needs
+
+enum-told-2 : tie.Need-enum-told-2
+enum-told-2 c = search needs
+
+returns : tie.Need-returns
+unfolding asSelector
+returns c = search needs
+
+returns-2 : tie.Need-returns-2
+unfolding asSelector
+returns-2 c = search needs
+
+pub as-selector-spec : {M : Type 1} → statement M
+as-selector-spec = tie.close (tie.spec enum-told enum-told-2 returns returns-2)

@@ -1,0 +1,21 @@
+-- The table is in order, by the one test of it.
+use borrow.Author.Needs.{needs}
+use Rattle.unicode.specs.Unicode.{variationSequenceIndex}
+use Rattle.unicode.specs.UnicodeData.{variationEntries}
+use Rattle.unicode.proofs.InOrder.{variation-entries-ascend}
+use Rattle.unicode.proofs.variation_sequence_index.Statement.{statement}
+use Rattle.unicode.proofs.variation_sequence_index.Tie as tie
+
+slice-aggregate-binary-search : tie.Need-slice-aggregate-binary-search
+slice-aggregate-binary-search c = search needs
+
+binary-search-requires : tie.Need-binary-search-requires
+unfolding variationEntries
+binary-search-requires c κs = variation-entries-ascend
+
+returns : tie.Need-returns
+unfolding variationSequenceIndex variationEntries
+returns c = c .binary-search .ensures
+
+pub variation-sequence-index-spec : {M : Type 1} → statement M
+variation-sequence-index-spec = tie.close (tie.spec slice-aggregate-binary-search binary-search-requires returns)

@@ -1,0 +1,6 @@
+-- What a character is: the tables of Unicode's data files, and the questions that the formatter asks of them.
+pub mod UnicodeData
+pub mod Tables
+pub mod Unicode
+pub mod Presentation
+pub mod Theorems

@@ -1,0 +1,198 @@
+// What a character is to the formatter: unicode.rs of the crate evfmt; document 01, "Character".
+// Each function answers for every number, and equals membership in the lists of specs/UnicodeData.antt.
+// The tables are lent to one search of each kind, which asks that its table is in order: a test that the
+// proof of each caller computes over the whole table.
+pub mod presentation;
+pub mod unicode_data;
+
+ghost use mathlib.Core.Path.{_≡_};
+ghost use mathlib.Core.Bool.{true};
+ghost use Rattle.unicode.specs.Tables.{ascending, inRanges, indexOf, member, rangesApart};
+ghost use Rattle.unicode.specs.Unicode.{
+  hasVariationSequence,
+  isEmoji,
+  isEmojiDefault,
+  isEmojiModifier,
+  isEmojiModifierBase,
+  isEmojiPresentation,
+  isRi,
+  isTag,
+  isTextDefault,
+  variationEntry,
+  variationSequenceIndex,
+};
+use unicode_data::EMOJI_MODIFIER_BASES;
+use unicode_data::EMOJI_MODIFIERS;
+use unicode_data::EMOJI_PRESENTATION_RANGES;
+use unicode_data::EMOJI_RANGES;
+use unicode_data::RI_RANGES;
+use unicode_data::VARIATION_ENTRIES;
+use unicode_data::VARIATION_ENTRY_COUNT;
+
+// Unicode variation selector 15.
+pub const TEXT_PRESENTATION_SELECTOR: u32 = 0xFE0E;
+
+// Unicode variation selector 16.
+pub const EMOJI_PRESENTATION_SELECTOR: u32 = 0xFE0F;
+
+pub const COMBINING_ENCLOSING_KEYCAP: u32 = 0x20E3;
+
+// The zero-width joiner: document 01's link.
+pub const ZWJ: u32 = 0x200D;
+
+// Where a character stands among the variation entries.
+pub enum VariationSequenceIndex {
+    At(usize),
+    NoEntry,
+}
+
+// The variation entry at an index.
+pub enum VariationEntry {
+    Char(u32),
+    NoEntry,
+}
+
+// The place of a number in an ascending table.
+fn binary_search(table: &[u32], ch: u32) -> VariationSequenceIndex
+    requires { ⌜ ascending (now table) ≡ true ⌝ }
+    ensures { λ r. ⌜ r ≡ indexOf ch (now (table .entry)) ⌝ }
+{
+    let mut lo: usize = 0;
+    let mut hi = table.len();
+    while lo < hi {
+        let mid = lo + (hi - lo) / 2;
+        let current = table[mid];
+        if current == ch {
+            return VariationSequenceIndex::At(mid);
+        }
+        if current < ch {
+            lo = mid + 1;
+        } else {
+            hi = mid;
+        }
+    }
+    VariationSequenceIndex::NoEntry
+}
+
+// Whether an ascending table has a number.
+fn in_char_table(table: &[u32], ch: u32) -> bool
+    requires { ⌜ ascending (now table) ≡ true ⌝ }
+    ensures { λ r. ⌜ r ≡ member ch (now (table .entry)) ⌝ }
+{
+    match binary_search(table, ch) {
+        VariationSequenceIndex::At(_) => true,
+        VariationSequenceIndex::NoEntry => false,
+    }
+}
+
+// Whether a number lies in one of the ranges of a table.
+fn in_ranges(ranges: &[u32], ch: u32) -> bool
+    requires { ⌜ rangesApart (now ranges) ≡ true ⌝ }
+    ensures { λ r. ⌜ r ≡ inRanges ch (now (ranges .entry)) ⌝ }
+{
+    let mut lo: usize = 0;
+    let mut hi = ranges.len() / 2;
+    while lo < hi {
+        let mid = lo + (hi - lo) / 2;
+        if ch < ranges[2 * mid] {
+            hi = mid;
+        } else {
+            if ranges[2 * mid + 1] < ch {
+                lo = mid + 1;
+            } else {
+                return true;
+            }
+        }
+    }
+    false
+}
+
+// Whether a character is a tag, from E0020 to E007F.
+pub fn is_tag(ch: u32) -> bool
+    ensures { λ r. ⌜ r ≡ isTag ch ⌝ }
+{
+    if ch < 0xE0020 {
+        return false;
+    }
+    ch <= 0xE007F
+}
+
+// The variation entry at an index.
+pub fn variation_entry(index: usize) -> VariationEntry
+    ensures { λ r. ⌜ r ≡ variationEntry index ⌝ }
+{
+    if index < VARIATION_ENTRY_COUNT {
+        VariationEntry::Char(VARIATION_ENTRIES[index])
+    } else {
+        VariationEntry::NoEntry
+    }
+}
+
+// Where a character stands among the variation entries.
+pub fn variation_sequence_index(ch: u32) -> VariationSequenceIndex
+    ensures { λ r. ⌜ r ≡ variationSequenceIndex ch ⌝ }
+{
+    binary_search(&VARIATION_ENTRIES, ch)
+}
+
+// Whether a character is a variation entry.
+pub fn has_variation_sequence(ch: u32) -> bool
+    ensures { λ r. ⌜ r ≡ hasVariationSequence ch ⌝ }
+{
+    in_char_table(&VARIATION_ENTRIES, ch)
+}
+
+// Whether a character has the property Emoji_Presentation.
+pub fn is_emoji_presentation(ch: u32) -> bool
+    ensures { λ r. ⌜ r ≡ isEmojiPresentation ch ⌝ }
+{
+    in_ranges(&EMOJI_PRESENTATION_RANGES, ch)
+}
+
+// Whether a character is a variation entry that defaults to text presentation.
+pub fn is_text_default(ch: u32) -> bool
+    ensures { λ r. ⌜ r ≡ isTextDefault ch ⌝ }
+{
+    if has_variation_sequence(ch) {
+        return !is_emoji_presentation(ch);
+    }
+    false
+}
+
+// Whether a character is a variation entry that defaults to emoji presentation.
+pub fn is_emoji_default(ch: u32) -> bool
+    ensures { λ r. ⌜ r ≡ isEmojiDefault ch ⌝ }
+{
+    if has_variation_sequence(ch) {
+        return is_emoji_presentation(ch);
+    }
+    false
+}
+
+// Whether a character has the property Emoji_Modifier.
+pub fn is_emoji_modifier(ch: u32) -> bool
+    ensures { λ r. ⌜ r ≡ isEmojiModifier ch ⌝ }
+{
+    in_char_table(&EMOJI_MODIFIERS, ch)
+}
+
+// Whether a character has the property Emoji_Modifier_Base.
+pub fn is_emoji_modifier_base(ch: u32) -> bool
+    ensures { λ r. ⌜ r ≡ isEmojiModifierBase ch ⌝ }
+{
+    in_char_table(&EMOJI_MODIFIER_BASES, ch)
+}
+
+// Whether a character has the property Emoji.
+pub fn is_emoji(ch: u32) -> bool
+    ensures { λ r. ⌜ r ≡ isEmoji ch ⌝ }
+{
+    in_ranges(&EMOJI_RANGES, ch)
+}
+
+// Whether a character is a regional indicator.
+pub fn is_ri(ch: u32) -> bool
+    ensures { λ r. ⌜ r ≡ isRi ch ⌝ }
+{
+    in_ranges(&RI_RANGES, ch)
+}

@@ -1,0 +1,42 @@
+// The presentation that a selector asks for: presentation.rs of the crate evfmt; document 01, "Character":
+// FE0E is Text, FE0F is Emoji.
+ghost use mathlib.Core.Path.{_≡_};
+ghost use Rattle.unicode.specs.Presentation.{asSelector, fromSelector};
+use crate::EMOJI_PRESENTATION_SELECTOR;
+use crate::TEXT_PRESENTATION_SELECTOR;
+
+pub enum Presentation {
+    Text,
+    Emoji,
+}
+
+// What a character asks for as a selector.
+pub enum FromSelector {
+    Selector(Presentation),
+    NoSelector,
+}
+
+impl Presentation {
+    // The selector that asks for this presentation.
+    pub fn as_selector(self) -> u32
+        ensures { λ r. ⌜ r ≡ asSelector self ⌝ }
+    {
+        match self {
+            Presentation::Text => TEXT_PRESENTATION_SELECTOR,
+            Presentation::Emoji => EMOJI_PRESENTATION_SELECTOR,
+        }
+    }
+
+    // The presentation that a selector asks for.
+    pub fn from_selector(ch: u32) -> FromSelector
+        ensures { λ r. ⌜ r ≡ fromSelector ch ⌝ }
+    {
+        if ch == TEXT_PRESENTATION_SELECTOR {
+            return FromSelector::Selector(Presentation::Text);
+        }
+        if ch == EMOJI_PRESENTATION_SELECTOR {
+            return FromSelector::Selector(Presentation::Emoji);
+        }
+        FromSelector::NoSelector
+    }
+}

@@ -1,0 +1,40 @@
+-- The statements of specs/Theorems, each proved under its own name.
+use mathlib.Core.Path.{refl, ap, _∙_}
+use Rattle.utf8.specs.Rfc3629.{utf8-1, utf8-2, utf8-3, utf8-4, readFour, readChar, foldStep, foldChars, chars, validUpTo, encode, encodeAll}
+use Rattle.utf8.specs.Theorems.{DecodeEncode, WellFormedIffEncoding, WellFormedIffWhole, LongestBeginning, ReadCharIff, CharsAreScalar, ReadEnd, Rfc3629Examples}
+use Rattle.utf8.proofs.Fronts.{readChar-nil}
+use Rattle.utf8.proofs.Encoding.{end-empty}
+use Rattle.utf8.proofs.Texts.{chars-encodeAll-alone, encodeAll-chars, chars-allScalar, validUpTo-le, readChar-iff}
+use Rattle.utf8.proofs.Grammar.{well-formed-whole, whole-well-formed, encoding-well-formed, longest-well-formed, none-longer}
+
+pub decode-encode : DecodeEncode
+unfolding DecodeEncode
+decode-encode = chars-encodeAll-alone
+
+pub well-formed-iff-encoding : WellFormedIffEncoding
+unfolding WellFormedIffEncoding
+well-formed-iff-encoding s = (λ w. encodeAll-chars s (well-formed-whole w), encoding-well-formed s)
+
+pub well-formed-iff-whole : WellFormedIffWhole
+unfolding WellFormedIffWhole
+well-formed-iff-whole s = (well-formed-whole, whole-well-formed s)
+
+pub longest-beginning : LongestBeginning
+unfolding LongestBeginning
+longest-beginning s = (validUpTo-le s, longest-well-formed s, none-longer s)
+
+pub read-char-iff : ReadCharIff
+unfolding ReadCharIff
+read-char-iff = readChar-iff
+
+pub chars-are-scalar : CharsAreScalar
+unfolding CharsAreScalar
+chars-are-scalar = chars-allScalar
+
+pub read-end : ReadEnd
+unfolding ReadEnd
+read-end s = (end-empty s, λ e. ap readChar e ∙ readChar-nil)
+
+pub rfc3629-examples : Rfc3629Examples
+unfolding Rfc3629Examples utf8-1 utf8-2 utf8-3 utf8-4 readFour readChar foldStep foldChars chars validUpTo encode encodeAll
+rfc3629-examples = (refl, refl, refl, refl, refl)

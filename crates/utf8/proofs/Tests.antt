@@ -1,0 +1,43 @@
+-- Tests and what they say: a conjunction, a disjunction, a comparison, a byte's range.
+use mathlib.Core.Path.{_≡_, refl}
+use mathlib.Core.Logic.{_⊎_, inl, inr}
+use mathlib.Core.Bool.{Bool, true, false, _&&_, _||_}
+use Prim.Native.Nat.{ℕ, _≤_, _<_}
+use lib.Dec.{leb}
+use borrow.Author.Tests.{leb-true, leb-false, le-leb}
+use Rattle.utf8.specs.Rfc3629.{within}
+
+pub both-true : (x y : Bool) → (x && y) ≡ true → (x ≡ true) × (y ≡ true)
+both-true true y e = (refl, e)
+both-true false y e = (e, cc)
+
+pub and-both : (x y : Bool) → x ≡ true → y ≡ true → (x && y) ≡ true
+and-both x y p q = rw (p, q)
+
+pub either-true : (x y : Bool) → (x || y) ≡ true → (x ≡ true) ⊎ (y ≡ true)
+either-true true y e = inl refl
+either-true false y e = inr e
+
+pub le-or-lt : (m n : ℕ) → (m ≤ n) ⊎ (n < m)
+le-or-lt m n = go (leb m n) refl
+  where
+    go : (t : Bool) → leb m n ≡ t → (m ≤ n) ⊎ (n < m)
+    go true e = inl (leb-true m n e)
+    go false e = inr (leb-false m n e)
+
+-- b is from lo to hi.
+pub record In (lo hi b : ℕ) : Type 0 where
+  pub low : lo ≤ b
+  pub high : b ≤ hi
+
+-- b is a UTF8-tail.
+abbrev pub Tail : ℕ → Type 0
+Tail b = In 0x80 0xBF b
+
+pub within-in : (lo hi b : ℕ) → within lo hi b ≡ true → In lo hi b
+within-in lo hi b e =
+    let p = both-true (leb lo b) (leb b hi) e in
+    record { low = leb-true lo b (p .0); high = leb-true b hi (p .1) }
+
+pub within-true : (lo hi b : ℕ) → lo ≤ b → b ≤ hi → within lo hi b ≡ true
+within-true lo hi b l h = simp (le-leb lo b l, le-leb b hi h)

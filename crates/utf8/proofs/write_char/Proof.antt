@@ -1,0 +1,73 @@
+-- `utf8::write_char` meets its contract: each answer is a case of Answers.
+use borrow.Author.Tests.{not-true, not-false}
+use mathlib.Core.Path.{sym, _∙_}
+use native.Mathlib.Omega.{arith}
+use Rattle.utf8.proofs.Answers.{not-scalar, too-short, written}
+use Rattle.utf8.proofs.Scalars.{isScalar-le}
+use borrow.Author.Needs.{needs}
+use Rattle.utf8.proofs.write_char.Statement.{statement}
+use Rattle.utf8.proofs.write_char.Tie as tie
+
+is-scalar-requires : tie.Need-is-scalar-requires
+is-scalar-requires c κs = search needs
+
+returns : tie.Need-returns
+returns c =
+    let x = c .before .before .before .args in
+    let i = c .before .is-scalar in
+    not-scalar (x .ch) (x .out .now) (x .at) (sym (i .ensures) ∙ not-true (i .result) (c .if1 .taken))
+
+char-width-requires : tie.Need-char-width-requires
+char-width-requires c κs = search needs
+
+returns-2 : tie.Need-returns-2
+returns-2 c =
+    let x = c .before .before .before .before .before .args in
+    let i = c .before .before .before .is-scalar in
+    let w = c .before .char-width in
+    let e = w .ensures in
+    too-short (x .ch) (x .out .now) (x .at) (w .result) e (sym (i .ensures) ∙ not-false (i .result) (c .before .before .if1 .left)) (omega arith)
+
+sub-if3 : tie.Need-sub-if3
+sub-if3 c = search needs
+
+returns-3 : tie.Need-returns-3
+returns-3 c =
+    let x = c .before .before .before .before .before .before .args in
+    let i = c .before .before .before .before .is-scalar in
+    let w = c .before .before .char-width in
+    let e = w .ensures in
+    too-short (x .ch) (x .out .now) (x .at) (w .result) e (sym (i .ensures) ∙ not-false (i .result) (c .before .before .before .if1 .left)) (omega arith)
+
+put-char-requires : tie.Need-put-char-requires
+put-char-requires c κs =
+    let x = c .before .before .before .before .before .before .before .args in
+    let i = c .before .before .before .before .before .is-scalar in
+    let e = c .before .before .before .char-width .ensures in
+    omega (arith, isScalar-le (x .ch) (sym (i .ensures) ∙ not-false (i .result) (c .before .before .before .before .if1 .left)))
+
+same-length : tie.Need-same-length
+same-length c = search needs
+
+returns-4 : tie.Need-returns-4
+returns-4 c =
+    let x = c .before .before .before .before .before .before .before .before .before .before .args in
+    let i = c .before .before .before .before .before .before .before .before .is-scalar in
+    let w = c .before .before .before .before .before .before .char-width in
+    let e = w .ensures in
+    let a = written (x .ch) (x .out .now) (x .at) (w .result) e (sym (i .ensures) ∙ not-false (i .result) (c .before .before .before .before .before .before .before .if1 .left)) (omega arith) in
+    (a .0, c .before .before .put-char .ensures ∙ a .1)
+
+pub write-char-spec : {M : Type 1} → statement M
+write-char-spec =
+    tie.close
+    (tie.spec
+    is-scalar-requires
+    returns
+    char-width-requires
+    returns-2
+    sub-if3
+    returns-3
+    put-char-requires
+    same-length
+    returns-4)

@@ -1,0 +1,62 @@
+"""Tests of unicode_tables.py: what it reads, what it refuses, and the committed tables."""
+
+import unittest
+
+import unicode_tables as maker
+
+
+class Reading(unittest.TestCase):
+    def test_touching_lines_are_one_range(self):
+        found = maker.properties("f", "0023 ; Emoji # a\n0024..0026 ; Emoji # b\n0028 ; Emoji\n")
+        self.assertEqual(maker.ranges(found["Emoji"]), [0x23, 0x26, 0x28, 0x28])
+
+    def test_comments_and_blank_lines(self):
+        self.assertEqual(maker.properties("f", "# 0023 ; Emoji\n\n  \n"), {})
+
+    def test_malformed_property_line(self):
+        for line in ("0023 Emoji", "23 ; Emoji", "0026..0023 ; Emoji", "002g ; Emoji", "0023 ; Emoji ; more"):
+            with self.assertRaises(maker.Malformed, msg=line):
+                maker.properties("f", line)
+
+    def test_variation_sequences(self):
+        both = "0023 FE0E  ; text style;  # x\n0023 FE0F  ; emoji style; # x\n"
+        self.assertEqual(maker.variation_entries("f", both), {0x23})
+
+    def test_malformed_variation_sequence(self):
+        for text in ("0023 FE0E ; text style; # x\n", "0023 FE0E ; emoji style;\n", "0023 FE00 ; text style;\n"):
+            with self.assertRaises(maker.Malformed, msg=text):
+                maker.variation_entries("f", text)
+
+    def test_version(self):
+        self.assertEqual(maker.version("f", "# Used with Emoji Version 15.0 and more\n"), (15, 0))
+        with self.assertRaises(maker.Malformed):
+            maker.version("f", "# Emoji\n")
+
+
+class Committed(unittest.TestCase):
+    def test_sizes(self):
+        _, tables = maker.tables()
+        sizes = {name: len(numbers) // width for name, _, _, width, numbers in tables}
+        self.assertEqual(
+            sizes,
+            {
+                "EMOJI_RANGES": 151,
+                "EMOJI_PRESENTATION_RANGES": 81,
+                "EMOJI_MODIFIERS": 5,
+                "EMOJI_MODIFIER_BASES": 134,
+                "RI_RANGES": 1,
+                "VARIATION_ENTRIES": 354,
+            },
+        )
+
+    def test_a_changed_number_shows(self):
+        version, tables = maker.tables()
+        committed = maker.SOURCE.read_text(encoding="utf-8")
+        self.assertEqual(committed, maker.source(version, tables))
+        name, spec, what, width, numbers = tables[-1]
+        changed = tables[:-1] + [(name, spec, what, width, numbers[:-1] + [numbers[-1] + 1])]
+        self.assertNotEqual(committed, maker.source(version, changed))
+
+
+if __name__ == "__main__":
+    unittest.main()
