@@ -21,7 +21,7 @@ pub enum Difference {
     TableOnly(u32),
 }
 
-// How many entries there are, the first code point whose entry is wrong, or an entry past the last.
+// As many entries as the file has, the first code point whose entry is wrong, or an entry past the last.
 pub enum Entries {
     Same(usize),
     Wrong(u32),
@@ -87,7 +87,7 @@ fn is_entry(index: usize, ch: u32) -> bool {
     }
 }
 
-// Whether ch, where it is marked, has the entry at `index`, and none elsewhere.
+// Whether ch has the entry at `index` where it is marked, and none where it is not.
 fn entry_agrees(marks: &[u64; WORDS], ch: u32, index: usize) -> bool {
     match unicode::variation_sequence_index(ch) {
         VariationSequenceIndex::At(at) => {
@@ -103,6 +103,14 @@ fn entry_agrees(marks: &[u64; WORDS], ch: u32, index: usize) -> bool {
     }
 }
 
+// What stands at `count`, which must be past the last entry.
+fn past_the_last(count: usize) -> Entries {
+    match unicode::variation_entry(count) {
+        VariationEntry::Char(entry) => Entries::Extra(entry),
+        VariationEntry::NoEntry => Entries::Same(count),
+    }
+}
+
 // Whether the entries are the marked code points, ascending, and nothing after the last.
 pub(crate) fn compare_entries(marks: &[u64; WORDS]) -> Entries {
     let mut index = 0;
@@ -114,8 +122,5 @@ pub(crate) fn compare_entries(marks: &[u64; WORDS]) -> Entries {
         index += mark_at(marks, ch);
         ch += 1;
     }
-    match unicode::variation_entry(index) {
-        VariationEntry::Char(entry) => Entries::Extra(entry),
-        VariationEntry::NoEntry => Entries::Same(index),
-    }
+    past_the_last(index)
 }

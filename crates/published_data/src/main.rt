@@ -18,7 +18,8 @@ use tables::Table;
 // The room for a file, which must be shorter.
 const ROOM: usize = 131072;
 
-// Marks what the file lists for the table and compares the two; where they do not agree, says so and answers false.
+// Marks what the file lists for the table and compares the two. Where they differ, says so and
+// answers false.
 fn agrees(name: &[u8], text: &[u8], table: Table, marks: &mut [u64; WORDS]) -> bool {
     let again = compare::mark_lines(text, table, marks);
     if again > 0 {
@@ -45,7 +46,7 @@ fn check_properties(name: &[u8], text: &[u8]) {
     check_property(name, text, Table::RegionalIndicator);
 }
 
-// Holds the variation sequences to emoji-variation-sequences.txt: each style's lines, and then the entries.
+// Holds the variation sequences to emoji-variation-sequences.txt: each style, then the entries.
 fn check_sequences(name: &[u8], text: &[u8]) {
     let mut text_style = [0u64; WORDS];
     if !agrees(name, text, Table::TextStyle, &mut text_style) {

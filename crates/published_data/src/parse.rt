@@ -29,7 +29,7 @@ pub enum Place {
 
 // A number, and where its digits end.
 pub enum Number {
-    Upto(u32, usize),
+    Value(u32, usize),
     NoNumber,
 }
 
@@ -166,12 +166,12 @@ pub(crate) fn number_at(line: &[u8], at: usize, base: u32) -> Number {
     if value > LARGEST {
         return Number::NoNumber;
     }
-    Number::Upto(value, i)
+    Number::Value(value, i)
 }
 
 // The code point at `at`: 4 to 6 digits in base 16, and at most 10FFFF.
 fn code_point(line: &[u8], at: usize) -> Number {
-    let Number::Upto(value, end) = number_at(line, at, 16) else {
+    let Number::Value(value, end) = number_at(line, at, 16) else {
         return Number::NoNumber;
     };
     if end < at {
@@ -186,7 +186,7 @@ fn code_point(line: &[u8], at: usize) -> Number {
     if value > 0x10_FFFF {
         return Number::NoNumber;
     }
-    Number::Upto(value, end)
+    Number::Value(value, end)
 }
 
 // Where the field starts that a semicolon at `at`, or after blanks, leads to.
@@ -223,12 +223,12 @@ fn sequence_line(line: &[u8], first: u32, second: u32, end: usize) -> Line {
 // The line that starts with the code point `first`, whose digits end at `end`.
 fn data_line(line: &[u8], first: u32, end: usize) -> Line {
     if let Place::Past(at) = after(line, end, b"..") {
-        let Number::Upto(last, stop) = code_point(line, at) else {
+        let Number::Value(last, stop) = code_point(line, at) else {
             return Line::Bad;
         };
         return range_line(line, first, last, stop);
     }
-    let Number::Upto(second, stop) = code_point(line, skip_blanks(line, end)) else {
+    let Number::Value(second, stop) = code_point(line, skip_blanks(line, end)) else {
         return range_line(line, first, first, end);
     };
     sequence_line(line, first, second, stop)
@@ -242,7 +242,7 @@ pub(crate) fn parse_line(line: &[u8]) -> Line {
     if line[0] == b'#' {
         return Line::Comment;
     }
-    let Number::Upto(first, end) = code_point(line, 0) else {
+    let Number::Value(first, end) = code_point(line, 0) else {
         return Line::Bad;
     };
     data_line(line, first, end)

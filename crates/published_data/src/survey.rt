@@ -12,15 +12,17 @@ use crate::parse::parse_line;
 use crate::tables::File;
 use crate::tables::is_of_file;
 use std::num::wrapping_add_u32;
+use std::num::wrapping_add_u64;
 
 pub enum Version {
     Stated(u32, u32),
     Unstated,
 }
 
-// The elements since the last total, how many totals there are, and the first line, or 0, whose total is wrong.
+// The elements since the last total, how many totals there are, and the first line, or 0, whose
+// total is wrong.
 pub struct Totals {
-    pub sum: u32,
+    pub sum: u64,
     pub stated: u32,
     pub wrong: usize,
 }
@@ -38,13 +40,13 @@ fn with_version(version: Version, line: &[u8]) -> Version {
     let Place::Past(at) = after(line, 0, b"# Used with Emoji Version ") else {
         return version;
     };
-    let Number::Upto(major, end) = number_at(line, at, 10) else {
+    let Number::Value(major, end) = number_at(line, at, 10) else {
         return version;
     };
     let Place::Past(next) = after(line, end, b".") else {
         return version;
     };
-    let Number::Upto(minor, _) = number_at(line, next, 10) else {
+    let Number::Value(minor, _) = number_at(line, next, 10) else {
         return version;
     };
     Version::Stated(major, minor)
@@ -61,14 +63,14 @@ fn number_after(line: &[u8], words: &[u8]) -> Number {
 // The total that the line states, of code points or of sequences.
 fn total_in(line: &[u8]) -> Number {
     let elements = number_after(line, b"# Total elements: ");
-    if let Number::Upto(_, _) = elements {
+    if let Number::Value(_, _) = elements {
         return elements;
     }
     number_after(line, b"#Total sequences: ")
 }
 
-// How many elements the line adds to a total. The sequences of a character, one of each style, count as one.
-fn elements_in(line: &[u8]) -> u32 {
+// How many elements the line adds to a total. The two sequences of a character count as one.
+fn elements_in(line: &[u8]) -> u64 {
     match parse_line(line) {
         Line::Range {
             first,
@@ -76,7 +78,7 @@ fn elements_in(line: &[u8]) -> u32 {
             field: _,
         } => {
             if first <= last {
-                wrapping_add_u32(last - first, 1)
+                last as u64 - first as u64 + 1
             } else {
                 0
             }
@@ -94,7 +96,7 @@ fn elements_in(line: &[u8]) -> u32 {
 
 impl Totals {
     // With a total that line `number` states. The next one starts anew.
-    fn with_total(self, total: u32, number: usize) -> Totals {
+    fn with_total(self, total: u64, number: usize) -> Totals {
         let stated = wrapping_add_u32(self.stated, 1);
         let wrong = self.wrong;
         if wrong == 0 {
@@ -113,13 +115,13 @@ impl Totals {
         }
     }
 
-    // With line `number`. No sum wraps, since a text in memory is too short.
+    // With line `number`. The sum does not wrap: a file has too few lines.
     fn with_line(self, line: &[u8], number: usize) -> Totals {
-        if let Number::Upto(total, _) = total_in(line) {
-            return self.with_total(total, number);
+        if let Number::Value(total, _) = total_in(line) {
+            return self.with_total(total as u64, number);
         }
         Totals {
-            sum: wrapping_add_u32(self.sum, elements_in(line)),
+            sum: wrapping_add_u64(self.sum, elements_in(line)),
             stated: self.stated,
             wrong: self.wrong,
         }

@@ -12,7 +12,8 @@ pub enum File {
     Sequences,
 }
 
-// Each character with a variation sequence has one of each style.
+// A property, the regional indicators, or the characters that have a variation sequence of a style:
+// those of the two styles are the same.
 pub enum Table {
     Emoji,
     EmojiPresentation,
@@ -29,7 +30,7 @@ pub enum Listed {
     Nothing,
 }
 
-// Whether the line is one of regional indicators.
+// Whether a line with this field is one of regional indicators.
 fn is_regional(line: &[u8], field: usize) -> bool {
     if contains(line, field, b"regional indicator") {
         return field_is(line, field, b"Emoji");

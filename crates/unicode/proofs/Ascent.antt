@@ -13,7 +13,7 @@ use Rattle.unicode.specs.Tables.{ascending, ascendingFrom, entryAt, inde
 use Rattle.unicode.specs.declared.VariationEntry.the-variants as Entry
 use Rattle.unicode.specs.declared.VariationSequenceIndex.{VariationSequenceIndex}
 use Rattle.unicode.specs.declared.VariationSequenceIndex.the-variants as Index
-use Rattle.utf8.proofs.Tests.{both-true, le-or-lt}
+use Rattle.base.proofs.Tests.{both-true, le-or-lt}
 
 -- every element is above the number that the list ascends from
 above : (a : ℕ) (xs : List ℕ) → ascendingFrom a xs ≡ true → (k : ℕ) → k < length xs → a < getD xs k 0

@@ -8,8 +8,8 @@ use native.Mathlib.Omega.{arith}
 use lib.Dec.{eqb, leb, ltb}
 use borrow.Author.Tests.{eqb-true, leb-true, le-leb, lt-leb, ltb-true}
 use Rattle.unicode.specs.Tables.{inRanges, member}
-use Rattle.utf8.specs.Rfc3629.{within}
-use Rattle.utf8.proofs.Tests.{both-true, either-true}
+use Rattle.base.specs.Ranges.{within}
+use Rattle.base.proofs.Tests.{both-true, either-true}
 
 -- each number of a list passes a test
 unfoldable pub every : (ℕ → Bool) → List ℕ → Bool

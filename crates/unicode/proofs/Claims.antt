@@ -44,7 +44,7 @@ use Rattle.unicode.specs.Theorems.{
   TablesInOrder,
   VariationEntriesAreEmoji,
 }
-use Rattle.utf8.proofs.Tests.{either-true}
+use Rattle.base.proofs.Tests.{either-true}
 use Rattle.unicode.proofs.Ascent.{ascending-lt, index-holds, isAt, member-index, place-is-index}
 use Rattle.unicode.proofs.Ranges.{range-ordered, ranges-lt}
 use Rattle.unicode.proofs.Between.{every, every-member, every-range, everyRange, lies-in, lies-out, liesIn, liesOut}

@@ -10,7 +10,7 @@ use lib.Dec.{leb}
 use lib.ListN.{length, getD}
 use borrow.Author.Tests.{leb-true, le-leb, lt-leb}
 use Rattle.unicode.specs.Tables.{inRanges, rangesApart, rangesApartFrom}
-use Rattle.utf8.proofs.Tests.{both-true, le-or-lt}
+use Rattle.base.proofs.Tests.{both-true, le-or-lt}
 
 -- the first and the last number of range k
 abbrev pub first : List ℕ → ℕ → ℕ

@@ -4,7 +4,7 @@ use mathlib.Core.Bool.{Bool, true, false, cond, _&&_, _||_}
 use mathlib.Core.List.{List, [], _∷_}
 use Prim.Native.Nat.{ℕ, zero, suc}
 use lib.Dec.{eqb, leb, ltb}
-use Rattle.utf8.specs.Rfc3629.{within}
+use Rattle.base.specs.Ranges.{within}
 use Rattle.unicode.specs.declared.VariationEntry.{VariationEntry}
 use Rattle.unicode.specs.declared.VariationEntry.the-variants as Entry
 use Rattle.unicode.specs.declared.VariationSequenceIndex.{VariationSequenceIndex}

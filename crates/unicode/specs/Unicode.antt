@@ -1,7 +1,7 @@
 -- The questions of unicode.rs, for every number: document 01, "Character".
 use mathlib.Core.Bool.{Bool, _&&_, not}
 use Prim.Native.Nat.{ℕ}
-use Rattle.utf8.specs.Rfc3629.{within}
+use Rattle.base.specs.Ranges.{within}
 use Rattle.unicode.specs.Tables.{entryAt, inRanges, indexOf, member}
 use Rattle.unicode.specs.UnicodeData.{
   emojiModifierBases,

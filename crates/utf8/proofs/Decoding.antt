@@ -9,7 +9,7 @@ use lib.ListN.{getD, length}
 use borrow.Author.Tests.{le-leb}
 use Rattle.utf8.specs.Rfc3629.{utf8-tail, utf8-1, utf8-2, utf8-3, utf8-4, utf8-char, value-4, readChar, isScalar, encode}
 use Rattle.utf8.specs.declared.ReadChar.the-variants.{Char}
-use Rattle.utf8.proofs.Tests.{and-both, le-or-lt, within-true}
+use Rattle.base.proofs.Tests.{and-both, le-or-lt, within-true}
 use Rattle.utf8.proofs.FirstBytes.{not-1, not-2-above, not-3-above, two-C2-DF, three-E0, three-E1-EC, three-ED, three-EE-EF, four-F0, four-F1-F3, four-F4}
 use Rattle.utf8.proofs.Fronts.{readFour-1, readFour-2, readFour-3, readFour-4}
 use Rattle.utf8.proofs.Scalars.{isScalar-bounds}

@@ -10,7 +10,8 @@ use borrow.Author.Tests.{le-leb, lt-leb}
 use Rattle.utf8.specs.Rfc3629.{value-2, value-3, value-4, readChar, isScalar, encode}
 use Rattle.utf8.specs.declared.ReadChar.{ReadChar}
 use Rattle.utf8.specs.declared.ReadChar.the-variants.{Char, IllFormed, End}
-use Rattle.utf8.proofs.Tests.{In, Tail, le-or-lt}
+use Rattle.base.proofs.Tests.{In, le-or-lt}
+use Rattle.utf8.proofs.Rows.{Tail}
 use Rattle.utf8.proofs.Rows.{Row, one, two, three₁, three₂, three₃, three₄, four₁, four₂, four₃, none, row}
 use Rattle.utf8.proofs.Scalars.{isScalar-low, isScalar-high}
 

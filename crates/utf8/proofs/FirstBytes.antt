@@ -4,7 +4,8 @@ use mathlib.Core.Bool.{false, _&&_, or-false}
 use Prim.Native.Nat.{ℕ, _≤_, _<_}
 use native.Mathlib.Omega.{arith}
 use borrow.Author.Tests.{le-leb, lt-leb}
-use Rattle.utf8.specs.Rfc3629.{within, utf8-tail, utf8-1, utf8-2, utf8-3, utf8-4}
+use Rattle.base.specs.Ranges.{within}
+use Rattle.utf8.specs.Rfc3629.{utf8-tail, utf8-1, utf8-2, utf8-3, utf8-4}
 use Rattle.utf8.specs.Rows.{IsRow}
 
 module _ (a : ℕ) where

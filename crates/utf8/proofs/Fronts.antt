@@ -7,7 +7,8 @@ use native.Mathlib.Omega.{arith}
 use lib.Dec.{eqb}
 use lib.ListN.{getD, length, drop, length-drop, drop-of-length-le}
 use borrow.Author.Tests.{eq-eqb, ne-eqb}
-use Rattle.utf8.specs.Rfc3629.{within, utf8-tail, utf8-1, utf8-2, utf8-3, utf8-4, value-2, value-3, value-4, readFour, readChar}
+use Rattle.base.specs.Ranges.{within}
+use Rattle.utf8.specs.Rfc3629.{utf8-tail, utf8-1, utf8-2, utf8-3, utf8-4, value-2, value-3, value-4, readFour, readChar}
 use Rattle.utf8.specs.Rows.{IsRow}
 use Rattle.utf8.specs.declared.ReadChar.the-variants.{Char, IllFormed, End}
 

@@ -6,7 +6,7 @@ use Prim.Native.Nat.{ℕ, _+_, _≤_}
 use native.Mathlib.Omega.{arith}
 use lib.ListN.{length, take, drop, length-append}
 use Rattle.utf8.specs.Rfc3629.{utf8-char, WellFormed, none, more, chars, validUpTo, isScalar, allScalar, encode, encodeAll}
-use Rattle.utf8.proofs.Tests.{both-true}
+use Rattle.base.proofs.Tests.{both-true}
 use Rattle.utf8.proofs.Rows.{utf8-1-row, utf8-2-row, utf8-3-row, utf8-4-row}
 use Rattle.utf8.proofs.Encoding.{BeginsWith, row-says}
 use Rattle.utf8.proofs.Decoding.{utf8-char-encode}

@@ -1,5 +1,4 @@
--- The crate's laws. Other crates go by Places (loops over a text), Texts (texts as a whole) and Writer (loops that fill a buffer).
-pub mod Tests
+-- The laws. Other crates go by Places (loops over a text) and Texts (texts as a whole).
 pub mod FirstBytes
 pub mod Fronts
 pub mod Rows
@@ -10,6 +9,5 @@ pub mod Folds
 pub mod Texts
 pub mod Places
 pub mod Answers
-pub mod Writer
 pub mod Grammar
 pub mod Claims

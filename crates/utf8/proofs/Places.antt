@@ -9,7 +9,7 @@ use lib.ListN.{length, drop, length-drop, length-append}
 use lib.Seq.{drop-drop}
 use Rattle.utf8.specs.Rfc3629.{readChar, chars, validUpTo, isScalar, encode}
 use Rattle.utf8.specs.declared.ReadChar.the-variants.{Char, IllFormed, End}
-use Rattle.utf8.proofs.Tests.{le-or-lt}
+use Rattle.base.proofs.Tests.{le-or-lt}
 use Rattle.utf8.proofs.Fronts.{readChar-past-end}
 use Rattle.utf8.proofs.Encoding.{char-begins, end-empty}
 use Rattle.utf8.proofs.Folds.{chars-ill-formed, chars-end, chars-char, validUpTo-ill-formed, validUpTo-end, validUpTo-char}

@@ -3,10 +3,15 @@ use mathlib.Core.Path.{_≡_, refl}
 use mathlib.Core.Logic.{⊎-elim}
 use mathlib.Core.Bool.{Bool, true, false, cond, _&&_}
 use Prim.Native.Nat.{ℕ}
-use Rattle.utf8.specs.Rfc3629.{within, utf8-tail, utf8-1, utf8-2, utf8-3, utf8-4, value-2, value-3, value-4, readFour}
+use Rattle.base.specs.Ranges.{within}
+use Rattle.utf8.specs.Rfc3629.{utf8-tail, utf8-1, utf8-2, utf8-3, utf8-4, value-2, value-3, value-4, readFour}
 use Rattle.utf8.specs.declared.ReadChar.{ReadChar}
 use Rattle.utf8.specs.declared.ReadChar.the-variants.{Char, IllFormed}
-use Rattle.utf8.proofs.Tests.{both-true, either-true, In, Tail, within-in}
+use Rattle.base.proofs.Tests.{both-true, either-true, In, within-in}
+
+-- A byte that may stand behind the second.
+abbrev pub Tail : ℕ → Type 0
+Tail b = In 0x80 0xBF b
 
 -- The rows in the table's order, with the ranges of their bytes and the character that is read.
 pub data Row (a b c d : ℕ) : ReadChar → Type 0 where

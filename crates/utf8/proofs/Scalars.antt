@@ -6,7 +6,7 @@ use Prim.Native.Nat.{ℕ, _≤_}
 use native.Mathlib.Omega.{arith}
 use borrow.Author.Tests.{le-leb, lt-leb}
 use Rattle.utf8.specs.Rfc3629.{isScalar}
-use Rattle.utf8.proofs.Tests.{either-true, within-in}
+use Rattle.base.proofs.Tests.{either-true, within-in}
 
 pub isScalar-low : (v : ℕ) → v ≤ 0xD7FF → isScalar v ≡ true
 unfolding isScalar

@@ -11,7 +11,7 @@ use lib.ListN.{length, take, drop, length-append, length-take, take-append-drop}
 use lib.Seq.{drop-append-seam, drop-drop, take-at, take-length}
 use Rattle.utf8.specs.Rfc3629.{readChar, chars, validUpTo, isScalar, allScalar, encode, encodeAll}
 use Rattle.utf8.specs.declared.ReadChar.the-variants.{Char}
-use Rattle.utf8.proofs.Tests.{both-true}
+use Rattle.base.proofs.Tests.{both-true}
 use Rattle.utf8.proofs.Encoding.{char-begins}
 use Rattle.utf8.proofs.Fronts.{readChar-nil}
 use Rattle.utf8.proofs.Decoding.{readChar-encode}

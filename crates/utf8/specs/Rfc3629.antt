@@ -6,14 +6,11 @@ use mathlib.Core.List.{List, [], _∷_, _++_}
 use Prim.Native.Nat.{ℕ, zero, suc, _+_, _*_, _-_, _/_, _%_}
 use lib.Dec.{leb}
 use lib.ListN.{getD}
+use Rattle.base.specs.Ranges.{within}
 use Rattle.utf8.specs.declared.ReadChar.{ReadChar}
 use Rattle.utf8.specs.declared.ReadChar.the-variants.{Char, IllFormed, End}
 
--- A byte from lo to hi, the ABNF's %xLO-HI.
-abbrev pub within : ℕ → ℕ → ℕ → Bool
-within lo hi b = leb lo b && leb b hi
-
--- Section 4: UTF8-tail = %x80-BF
+-- Section 4: UTF8-tail = %x80-BF. `within lo hi` is the ABNF's %xLO-HI.
 abbrev pub utf8-tail : ℕ → Bool
 utf8-tail b = within 0x80 0xBF b
 

@@ -3,7 +3,8 @@ use mathlib.Core.Path.{_≡_}
 use mathlib.Core.Bool.{_&&_}
 use Prim.Native.Nat.{ℕ, _≤_}
 use lib.Dec.{eqb}
-use Rattle.utf8.specs.Rfc3629.{within, utf8-tail, utf8-1, utf8-2, utf8-3, utf8-4}
+use Rattle.base.specs.Ranges.{within}
+use Rattle.utf8.specs.Rfc3629.{utf8-tail, utf8-1, utf8-2, utf8-3, utf8-4}
 
 -- A character whose first byte is a has `width` bytes, and its second byte is from lo to hi. With width 0 no character begins with a.
 pub record IsRow (a width lo hi : ℕ) : Type 0 where

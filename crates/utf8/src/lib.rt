@@ -7,7 +7,8 @@ ghost use mathlib.Core.List.{[], _∷_};
 ghost use Prim.Native.Nat.{_+_, _/_, _%_, _≤_};
 ghost use lib.ListN.{length, drop, getD};
 ghost use lib.Seq.{sets};
-ghost use Rattle.utf8.specs.Rfc3629.{within, utf8-tail, value-2, value-3, value-4, readChar, validUpTo, isScalar, encode};
+ghost use Rattle.base.specs.Ranges.{within};
+ghost use Rattle.utf8.specs.Rfc3629.{utf8-tail, value-2, value-3, value-4, readChar, validUpTo, isScalar, encode};
 ghost use Rattle.utf8.specs.Rows.{IsRow};
 ghost use Rattle.utf8.specs.Write.{writeChar, afterWriteChar};
 
@@ -65,24 +66,11 @@ fn row_of(a: u32) -> Row
     Row(0, 0, 0)
 }
 
-// A byte as a number of 32 bits.
-fn wide(x: u8) -> u32
-    ensures { λ r. ⌜ r ≡ x ⌝ }
-{
-    x as u32
-}
-
 // The byte i behind the place at, or 0 where there is none.
 fn byte(s: &[u8], at: usize, i: usize) -> u32
     ensures { λ r. ⌜ r ≡ getD (drop at (now (s .entry))) i 0 ⌝ }
 {
-    if s.len() <= at {
-        return 0;
-    }
-    if s.len() - at <= i {
-        return 0;
-    }
-    wide(s[at + i])
+    base::byte_at(s, at, i) as u32
 }
 
 // A byte from lo to hi.

@@ -4,7 +4,7 @@ use mathlib.Core.Logic.{⊎-elim}
 use Prim.Native.Nat.{ℕ, _<_, _≤_, _+_, _-_, _/_}
 use native.Mathlib.Omega.{arith}
 use lib.ListN.{length, getD}
-use Rattle.utf8.proofs.Tests.{le-or-lt}
+use Rattle.base.proofs.Tests.{le-or-lt}
 use Rattle.unicode.proofs.Ascent.{ascending-lt, ascending-le, index-none, index-first}
 use Rattle.unicode.proofs.binary_search.Statement.{statement}
 use Rattle.unicode.proofs.binary_search.Tie as tie

@@ -4,7 +4,7 @@ use mathlib.Core.Logic.{inl, inr, ⊎-elim}
 use Prim.Native.Nat.{ℕ, _<_, _≤_, _+_, _-_, _/_}
 use native.Mathlib.Omega.{arith}
 use lib.ListN.{length}
-use Rattle.utf8.proofs.Tests.{le-or-lt}
+use Rattle.base.proofs.Tests.{le-or-lt}
 use Rattle.unicode.proofs.Ranges.{first, last, ends-before, starts-after, in-no-range, in-range}
 use Rattle.unicode.proofs.in_ranges.Statement.{statement}
 use Rattle.unicode.proofs.in_ranges.Tie as tie

@@ -3,7 +3,7 @@ use mathlib.Core.Path.{_≡_, refl, sym, _∙_}
 use native.Mathlib.Omega.{arith}
 use lib.ListN.{getD, drop}
 use borrow.Author.Tests.{not-true, not-false}
-use Rattle.utf8.proofs.Tests.{within-in}
+use Rattle.base.proofs.Tests.{within-in}
 use Rattle.utf8.proofs.Fronts.{readChar-past-end, readFour-at, width-0, width-1, second-refused, width-2, third-refused, width-3, fourth-refused, width-4}
 use borrow.Author.Needs.{needs}
 use Rattle.utf8.proofs.read_char.Statement.{statement}

@@ -1,11 +1,11 @@
--- Tests and what they say: a conjunction, a disjunction, a comparison, a byte's range.
+-- Tests and what they say: a conjunction, a disjunction, a comparison, a range.
 use mathlib.Core.Path.{_≡_, refl}
 use mathlib.Core.Logic.{_⊎_, inl, inr}
 use mathlib.Core.Bool.{Bool, true, false, _&&_, _||_}
 use Prim.Native.Nat.{ℕ, _≤_, _<_}
 use lib.Dec.{leb}
 use borrow.Author.Tests.{leb-true, leb-false, le-leb}
-use Rattle.utf8.specs.Rfc3629.{within}
+use Rattle.base.specs.Ranges.{within}
 
 pub both-true : (x y : Bool) → (x && y) ≡ true → (x ≡ true) × (y ≡ true)
 both-true true y e = (refl, e)
@@ -29,10 +29,6 @@ le-or-lt m n = go (leb m n) refl
 pub record In (lo hi b : ℕ) : Type 0 where
   pub low : lo ≤ b
   pub high : b ≤ hi
-
--- b is a UTF8-tail.
-abbrev pub Tail : ℕ → Type 0
-Tail b = In 0x80 0xBF b
 
 pub within-in : (lo hi b : ℕ) → within lo hi b ≡ true → In lo hi b
 within-in lo hi b e =

@@ -1,0 +1,69 @@
+-- A number and its bytes, for any number of bytes.
+use mathlib.Core.Path.{_≡_, refl, sym, ap, ap₂, _∙_}
+use mathlib.Core.Bool.{true}
+use mathlib.Core.List.{List, [], _∷_, _++_}
+use Prim.Native.Nat.{ℕ, zero, suc, _+_, _*_, _/_, _%_, _^_, _<_, _≤_}
+use native.Mathlib.Nat.{add-zero, pow-suc}
+use native.Mathlib.Omega.{arith}
+use lib.Dec.{leb}
+use lib.ListN.{drop, getD, length, take}
+use lib.Seq.{getD-drop, sets}
+use borrow.Author.Tests.{leb-true}
+use Rattle.base.proofs.Tests.{both-true}
+use Rattle.base.proofs.Writer.{sets-append}
+use Rattle.base.specs.Words.{allBytes, littleEndian, number, wordBytes}
+
+-- the bytes of a number that they have room for make that number
+pub number-littleEndian : (k x : ℕ) → x < 256 ^ k → number (littleEndian k x) ≡ x
+unfolding number littleEndian
+number-littleEndian zero x h = omega arith
+number-littleEndian (suc k) x h =
+    let h′ : x < 256 ^ k * 256 = rw pow-suc at h in
+    let e = number-littleEndian k (x / 256) (omega arith) in
+    omega arith
+
+-- bytes are those of the number that they make
+pub littleEndian-number : (bs : List ℕ) → allBytes bs ≡ true → littleEndian (length bs) (number bs) ≡ bs
+unfolding number littleEndian allBytes
+littleEndian-number [] t = refl
+littleEndian-number (b ∷ bs) t =
+    let p = both-true (leb b 255) (allBytes bs) t in
+    let l : b ≤ 255 = leb-true b 255 (p .0) in
+    let low : (b + 256 * number bs) % 256 ≡ b = omega arith in
+    let high : (b + 256 * number bs) / 256 ≡ number bs = omega arith in
+    ap₂ (λ (x : ℕ) (y : ℕ). x ∷ littleEndian (length bs) y) low high ∙ ap (λ (l : List ℕ). b ∷ l) (littleEndian-number bs (p .1))
+
+-- four bytes, and four more
+pub number-four : (xs : List ℕ) → number (take 4 xs) ≡ getD xs 0 0 + 256 * (getD xs 1 0 + 256 * (getD xs 2 0 + 256 * getD xs 3 0))
+unfolding number
+number-four [] = refl
+number-four (a ∷ []) = refl
+number-four (a ∷ b ∷ []) = refl
+number-four (a ∷ b ∷ c ∷ []) = refl
+number-four (a ∷ b ∷ c ∷ d ∷ xs) = omega arith
+
+pub number-four-at : (i : ℕ) (xs : List ℕ)
+    → number (take 4 (drop i xs)) ≡ getD xs i 0 + 256 * (getD xs (i + 1) 0 + 256 * (getD xs (i + 2) 0 + 256 * getD xs (i + 3) 0))
+number-four-at i xs =
+    let z : getD xs (i + 0) 0 ≡ getD xs i 0 = ap (λ (k : ℕ). getD xs k 0) (add-zero i) in
+    omega (arith, number-four (drop i xs), getD-drop i xs 0 0, getD-drop i xs 1 0, getD-drop i xs 2 0, getD-drop i xs 3 0)
+
+pub number-eight : (xs : List ℕ) → number (take 8 xs) ≡ number (take 4 xs) + 0x100000000 * number (take 4 (drop 4 xs))
+unfolding number
+number-eight [] = refl
+number-eight (a ∷ []) = omega arith
+number-eight (a ∷ b ∷ []) = omega arith
+number-eight (a ∷ b ∷ c ∷ []) = omega arith
+number-eight (a ∷ b ∷ c ∷ d ∷ xs) = omega arith
+
+-- the lowest four bytes, and four more
+pub word-halves : (x : ℕ) → wordBytes x ≡ littleEndian 4 x ++ littleEndian 4 (x / 0x100000000)
+unfolding wordBytes littleEndian
+word-halves x =
+    let e : x / 256 / 256 / 256 / 256 ≡ x / 0x100000000 = omega arith in
+    ap (λ (y : ℕ). x % 256 ∷ x / 256 % 256 ∷ x / 256 / 256 % 256 ∷ x / 256 / 256 / 256 % 256 ∷ littleEndian 4 y) e
+
+-- two stores of four bytes are one of eight
+pub sets-word : (o : List ℕ) (at x : ℕ) → sets (sets o at (littleEndian 4 x)) (at + 4) (littleEndian 4 (x / 0x100000000)) ≡ sets o at (wordBytes x)
+unfolding littleEndian
+sets-word o at x = sym (sets-append o at (littleEndian 4 x) (littleEndian 4 (x / 0x100000000))) ∙ ap (sets o at) (sym (word-halves x))

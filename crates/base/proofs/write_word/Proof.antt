@@ -1,0 +1,65 @@
+-- `base::write_word` meets its contract.
+use mathlib.Core.Path.{sym, ap, _∙_}
+use mathlib.Core.Bool.{Bool, cond}
+use mathlib.Core.List.{List}
+use Prim.Native.Nat.{ℕ, _+_, _/_}
+use native.Mathlib.Omega.{arith}
+use lib.ListN.{length}
+use lib.Seq.{sets}
+use borrow.Author.Tests.{le-leb, lt-leb}
+use Rattle.base.specs.Words.{littleEndian, wordBytes}
+use Rattle.base.proofs.Words.{sets-word}
+use borrow.Author.Needs.{needs}
+use Rattle.base.proofs.write_word.Statement.{statement}
+use Rattle.base.proofs.write_word.Tie as tie
+
+returns : tie.Need-returns
+returns c =
+    let x = c .before .before .args in
+    let e = lt-leb (x .at + 8) (length (x .out .now)) (omega arith) in
+    (sym e, simp e)
+
+sub-if2 : tie.Need-sub-if2
+sub-if2 c = search needs
+
+returns-2 : tie.Need-returns-2
+returns-2 c =
+    let x = c .before .before .before .args in
+    let e = lt-leb (x .at + 8) (length (x .out .now)) (omega arith) in
+    (sym e, simp e)
+
+put-half-requires : tie.Need-put-half-requires
+put-half-requires c κs = search needs
+
+add-put-half : tie.Need-add-put-half
+add-put-half c = search needs
+
+put-half-requires-2 : tie.Need-put-half-requires-2
+put-half-requires-2 c κs = search needs
+
+same-length : tie.Need-same-length
+same-length c = search needs
+
+returns-3 : tie.Need-returns-3
+returns-3 c =
+    let x = c .before .before .before .before .before .before .before .before .before .before .before .args in
+    let e = le-leb (x .at + 8) (length (x .out .now)) (omega arith) in
+    let first = c .before .before .before .before .before .before .put-half .ensures in
+    let second = c .before .before .put-half2 .ensures in (
+      sym e,
+      second ∙ ap (λ (o : List ℕ). sets o (x .at + 4) (littleEndian 4 (x .x / 0x100000000))) first ∙ sets-word (x .out .now) (x .at) (x .x)
+          ∙ ap (λ (t : Bool). cond t (sets (x .out .now) (x .at) (wordBytes (x .x))) (x .out .now)) (sym e),
+    )
+
+pub write-word-spec : {M : Type 1} → statement M
+write-word-spec =
+    tie.close
+    (tie.spec
+    returns
+    sub-if2
+    returns-2
+    put-half-requires
+    add-put-half
+    put-half-requires-2
+    same-length
+    returns-3)

@@ -1,0 +1,5 @@
+-- What every layer shares: ranges of numbers, numbers of eight bytes, and results that are written into a lent buffer.
+pub mod Ranges
+pub mod Words
+pub mod Output
+pub mod Theorems

@@ -1,0 +1,35 @@
+-- A result that is written into a lent buffer: the answer, and what the buffer holds after the call (document 01,
+-- "Turned back").
+use mathlib.Core.Path.{_≡_}
+use mathlib.Core.Bool.{cond}
+use mathlib.Core.List.{List, _++_}
+use mathlib.Core.Option.{Option, none, some}
+use Prim.Native.Nat.{ℕ}
+use lib.Dec.{leb}
+use lib.ListN.{drop, length}
+use Rattle.base.specs.declared.WriteAnswer.{WriteAnswer}
+use Rattle.base.specs.declared.WriteAnswer.the-variants.{TooShort, Written}
+
+-- a refusal by its number in document 01's table, and what is returned with it, or 0
+pub record Refusal : Type 0 where
+  pub number : ℕ
+  pub value : ℕ
+
+-- "output too short | 8 | length wanted"
+unfoldable pub refusal : WriteAnswer → Option Refusal
+refusal (Written n) = none
+refusal (TooShort n) = some (record { number = 8; value = n })
+
+-- the answer to writing a result into a buffer
+unfoldable pub answerOf : List ℕ → List ℕ → WriteAnswer
+answerOf result out = cond (leb (length result) (length out)) (Written (length result)) (TooShort (length result))
+
+-- "A success writes its result at the front and leaves the bytes or places behind it unchanged"; a refusal leaves
+-- "all buffers" as they were
+unfoldable pub bufferOf : List ℕ → List ℕ → List ℕ
+bufferOf result out = cond (leb (length result) (length out)) (result ++ drop (length result) out) out
+
+-- what a call that is to write a result answers, and what it leaves in the buffer
+pub record Wrote (result before after : List ℕ) (answer : WriteAnswer) : Type 0 where
+  pub answered : answer ≡ answerOf result before
+  pub buffer : after ≡ bufferOf result before

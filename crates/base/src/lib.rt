@@ -1,0 +1,82 @@
+// What every layer shares: a byte of a slice, and numbers of eight bytes, lowest first (document 01: "There a
+// policy word, a start, an end or a count is 8 bytes, lowest first"). `read_word` equals `number` of the eight
+// bytes, and `write_word` puts `wordBytes`.
+ghost use mathlib.Core.Path.{_≡_};
+ghost use mathlib.Core.Bool.{cond};
+ghost use Prim.Native.Nat.{_+_, _*_, _≤_};
+ghost use lib.ListN.{drop, getD, length, take};
+ghost use lib.Seq.{sets};
+ghost use Rattle.base.specs.Words.{hasRoom, littleEndian, number, wordBytes};
+
+pub const WORD_BYTES: usize = 8;
+
+// The answer to writing a result into a lent buffer: how many bytes were written, or how many were wanted.
+pub enum WriteAnswer {
+    Written { len: usize },
+    TooShort { wanted: usize },
+}
+
+// The byte i behind the place at, or 0 where there is none.
+pub fn byte_at(s: &[u8], at: usize, i: usize) -> u8
+    ensures { λ r. ⌜ r ≡ getD (drop at (now (s .entry))) i 0 ⌝ }
+{
+    if s.len() <= at {
+        return 0;
+    }
+    if s.len() - at <= i {
+        return 0;
+    }
+    s[at + i]
+}
+
+// The same byte as a number of 64 bits.
+fn byte(s: &[u8], at: usize, i: usize) -> u64
+    ensures { λ r. ⌜ (r ≡ getD (drop at (now (s .entry))) i 0) × (r ≤ 255) ⌝ }
+{
+    byte_at(s, at, i) as u64
+}
+
+// The number that four bytes make.
+fn half(s: &[u8], at: usize, i: usize) -> u64
+    requires { ⌜ i ≤ 4 ⌝ }
+    ensures { λ r. ⌜ (r ≡ number (take 4 (drop i (drop at (now (s .entry)))))) × (r ≤ 0xFFFFFFFF) ⌝ }
+{
+    byte(s, at, i)
+        + 256 * (byte(s, at, i + 1) + 256 * (byte(s, at, i + 2) + 256 * byte(s, at, i + 3)))
+}
+
+// The number that the eight bytes from a place on make; bytes behind the end count as 0.
+pub fn read_word(s: &[u8], at: usize) -> u64
+    ensures { λ r. ⌜ r ≡ number (take 8 (drop at (now (s .entry)))) ⌝ }
+{
+    half(s, at, 0) + 0x1_0000_0000 * half(s, at, 4)
+}
+
+// Puts the lowest four bytes of a number.
+fn put_half(out: &mut [u8], at: usize, x: u64)
+    requires { ⌜ at + 4 ≤ length (now out) ⌝ }
+    ensures { λ _. ⌜ now (out .exit) ≡ sets (now (out .entry)) at (littleEndian 4 x) ⌝ }
+{
+    let second = x / 256;
+    let third = second / 256;
+    let fourth = third / 256;
+    out[at] = (x % 256) as u8;
+    out[at + 1] = (second % 256) as u8;
+    out[at + 2] = (third % 256) as u8;
+    out[at + 3] = (fourth % 256) as u8;
+}
+
+// Writes a number's eight bytes at a place and answers true, or leaves the buffer where it has no room for them.
+pub fn write_word(out: &mut [u8], at: usize, x: u64) -> bool
+    ensures { λ r. ⌜ (r ≡ hasRoom (now (out .entry)) at) × (now (out .exit) ≡ cond (hasRoom (now (out .entry)) at) (sets (now (out .entry)) at (wordBytes x)) (now (out .entry))) ⌝ }
+{
+    if out.len() < WORD_BYTES {
+        return false;
+    }
+    if out.len() - WORD_BYTES < at {
+        return false;
+    }
+    put_half(out, at, x);
+    put_half(out, at + 4, x / 0x1_0000_0000);
+    true
+}
