@@ -7,7 +7,9 @@
 It reads crates/published_data/data/{emoji-data.txt,emoji-variation-sequences.txt} and writes
 - crates/unicode/src/unicode_data.rt: the tables. A range table has the first and the last number of each range
   in turn; lines of the data file that touch are one range;
-- crates/unicode/specs/UnicodeData.antt: the same numbers as the lists that contracts cite.
+- crates/unicode/specs/UnicodeData.antt: the same numbers as the lists that contracts cite;
+- crates/policy_key_set/src/named_sets.rt: the words of the named sets, entry i at bit i % 64 of word i / 64;
+- crates/policy/src/default_policy.rt and crates/policy/specs/DefaultPolicy.antt: the words of the default policy.
 """
 
 import pathlib
@@ -18,6 +20,9 @@ ROOT = pathlib.Path(__file__).resolve().parent.parent
 DATA = ROOT / "crates" / "published_data" / "data"
 SOURCE = ROOT / "crates" / "unicode" / "src" / "unicode_data.rt"
 SPECS = ROOT / "crates" / "unicode" / "specs" / "UnicodeData.antt"
+NAMED_SETS = ROOT / "crates" / "policy_key_set" / "src" / "named_sets.rt"
+DEFAULT_POLICY = ROOT / "crates" / "policy" / "src" / "default_policy.rt"
+DEFAULT_POLICY_SPECS = ROOT / "crates" / "policy" / "specs" / "DefaultPolicy.antt"
 
 # Document 01, "Character": the data files have no property for the regional indicators.
 REGIONAL_INDICATORS = range(0x1F1E6, 0x1F1FF + 1)
@@ -149,6 +154,103 @@ def specs(numbered, tables):
     return "\n".join(out) + "\n"
 
 
+def words(members, entries):
+    """The words of a character set: entry i at bit i % 64 of word i / 64."""
+    out = [0] * (-(-len(entries) // 64))
+    for i, entry in enumerate(entries):
+        if entry in members:
+            out[i // 64] |= 1 << i % 64
+    return out
+
+
+def members(tables):
+    """The variation entries, and of each named set its members."""
+    of = {name: numbers for name, *_, numbers in tables}
+    entries = of["VARIATION_ENTRIES"]
+    pairs = list(zip(of["EMOJI_PRESENTATION_RANGES"][::2], of["EMOJI_PRESENTATION_RANGES"][1::2]))
+    emoji_defaults = {e for e in entries if any(first <= e <= last for first, last in pairs)}
+    return entries, {
+        "ALL": set(entries),
+        "ASCII": {e for e in entries if e < 0x80},
+        "TEXT_DEFAULT": set(entries) - emoji_defaults,
+        "EMOJI_DEFAULT": emoji_defaults,
+        "KEYCAP_RGI": {e for e in entries if chr(e) in "#*0123456789"},
+    }
+
+
+def named_sets(numbered, tables):
+    major, minor = numbered
+    entries, sets = members(tables)
+    described = {
+        "ALL": "Every entry",
+        "ASCII": "The entries below 80",
+        "TEXT_DEFAULT": "The entries that default to text presentation",
+        "EMOJI_DEFAULT": "The entries that default to emoji presentation",
+        "KEYCAP_RGI": "# and * and the digits",
+    }
+    out = [
+        f"// The words of the named sets of Unicode {major}.{minor}, entry i at bit i % 64 of word i / 64, made by",
+        "// tools/unicode_tables.py.",
+        f"pub const CHARSET_WORDS: usize = {len(words(set(), entries))};",
+    ]
+    for name, what in described.items():
+        out += ["", f"// {what}: {len(sets[name])}."] + constant(name + "_BITS", "u64", words(sets[name], entries), 16)
+    return "\n".join(out) + "\n"
+
+
+def default_policy_words(tables):
+    """The four sets of the default policy (document 01, "Reference: Policy::default for the default policy"): the
+    constant, the list, what it is, and its members; and the variation entries."""
+    entries, sets = members(tables)
+    return [
+        ("PREFER_BARE_BITS", "preferBare", "`prefer_bare`, ordinary: ASCII and the emoji defaults", sets["ASCII"] | sets["EMOJI_DEFAULT"]),
+        (None, "preferBareKeycap", "`prefer_bare`, keycap: none", set()),
+        (None, "bareAsText", "`bare_as_text`, ordinary: the text defaults", sets["TEXT_DEFAULT"]),
+        (None, "bareAsTextKeycap", "`bare_as_text`, keycap: every entry", sets["ALL"]),
+    ], entries
+
+
+def default_policy(numbered, tables):
+    major, minor = numbered
+    (name, _, what, held), *_ = default_policy_words(tables)[0]
+    entries = default_policy_words(tables)[1]
+    out = [
+        f"// The words of the default policy that are no named set's, with the tables of Unicode {major}.{minor}, made by",
+        "// tools/unicode_tables.py.",
+        "",
+        f"// {what}: {len(held)}.",
+    ]
+    return "\n".join(out + constant(name, "u64", words(held, entries), 16)) + "\n"
+
+
+def default_policy_specs(numbered, tables):
+    major, minor = numbered
+    sets, entries = default_policy_words(tables)
+    out = [
+        f"-- The words of the default policy with the tables of Unicode {major}.{minor}, made by tools/unicode_tables.py.",
+        "-- What they hold is the theorem `DefaultPolicyHolds`.",
+        "use mathlib.Core.List.{List, [], _∷_}",
+        "use Prim.Native.Nat.{ℕ}",
+        "use Rattle.policy.specs.declared.Policy.{Policy}",
+    ]
+    for _, name, what, held in sets:
+        numbers = [f"0x{w:016X}" for w in words(held, entries)]
+        out += ["", f"-- {what}: {len(held)}", f"unfoldable pub {name} : List ℕ", f"{name} ="]
+        rows = [numbers[i : i + 4] for i in range(0, len(numbers), 4)]
+        lines = ["    " + " ∷ ".join(row) for row in rows]
+        out += [line + " ∷" for line in lines[:-1]] + [lines[-1] + " ∷ []"]
+    out += [
+        "",
+        '-- "Reference: Policy::default for the default policy"',
+        "unfoldable pub defaultPolicy : Policy",
+        "defaultPolicy = record {",
+        "  «prefer_bare» = record { chars = record { bits = preferBare }; «keycap_chars» = record { bits = preferBareKeycap } };",
+        "  «bare_as_text» = record { chars = record { bits = bareAsText }; «keycap_chars» = record { bits = bareAsTextKeycap } };",
+        "}",
+    ]
+    return "\n".join(out) + "\n"
+
+
 def main(arguments):
     if arguments not in ([], ["--check"]):
         print(__doc__, file=sys.stderr)
@@ -159,7 +261,15 @@ def main(arguments):
         print(f"unicode_tables: {error}", file=sys.stderr)
         return 1
     status = 0
-    for path, text in ((SOURCE, source(*made)), (SPECS, specs(*made))):
+    files = [
+        (SOURCE, source),
+        (SPECS, specs),
+        (NAMED_SETS, named_sets),
+        (DEFAULT_POLICY, default_policy),
+        (DEFAULT_POLICY_SPECS, default_policy_specs),
+    ]
+    for path, make in files:
+        text = make(*made)
         if not arguments:
             path.write_text(text, encoding="utf-8")
         elif not path.is_file() or path.read_text(encoding="utf-8") != text:

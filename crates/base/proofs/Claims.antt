@@ -1,6 +1,9 @@
 -- The proof of each statement of specs/Theorems.antt.
+use lib.ListN.{length}
+use borrow.Author.Tests.{le-leb, lt-leb}
+use Rattle.base.specs.Output.{answerOf, bufferOf, refusal}
 use Rattle.base.specs.Words.{wordBytes}
-use Rattle.base.specs.Theorems.{BytesOfNumber, NumberOfWord}
+use Rattle.base.specs.Theorems.{BytesOfNumber, NumberOfWord, WrittenOrRefused}
 use Rattle.base.proofs.Words.{littleEndian-number, number-littleEndian}
 
 pub number-of-word : NumberOfWord
@@ -10,3 +13,10 @@ number-of-word x h = number-littleEndian 8 x h
 pub bytes-of-number : BytesOfNumber
 unfolding BytesOfNumber
 bytes-of-number = littleEndian-number
+
+pub written-or-refused : WrittenOrRefused
+unfolding WrittenOrRefused answerOf bufferOf refusal
+written-or-refused result out = (
+  λ h. let t = le-leb (length result) (length out) h in (simp t, simp t),
+  λ h. let t = lt-leb (length result) (length out) h in (simp t, simp t),
+)

@@ -1,24 +1,32 @@
 -- The two outcomes of writing a result into a lent buffer.
-use mathlib.Core.Path.{_≡_, sym}
+use mathlib.Core.Path.{_≡_, ap, _∙_}
 use mathlib.Core.List.{List, _++_}
 use Prim.Native.Nat.{ℕ, _<_, _≤_}
+use native.Mathlib.Nat.{zero-add}
+use native.Mathlib.Omega.{arith}
 use lib.ListN.{drop, length}
+use lib.Seq.{sets-eq}
 use borrow.Author.Tests.{le-leb, lt-leb}
-use Rattle.base.specs.Output.{answerOf, bufferOf, Wrote}
+use Rattle.base.specs.Output.{PutAt, Wrote, answerOf, bufferOf}
 use Rattle.base.specs.declared.WriteAnswer.the-variants.{TooShort, Written}
 
-module _ (result out : List ℕ) where
-  -- there is room, and the result stands at the front
-  pub wrote : (after : List ℕ) → length result ≤ length out → after ≡ result ++ drop (length result) out
-      → Wrote result out after (Written (length result))
-  unfolding answerOf bufferOf
-  wrote after h e =
-      let t = le-leb (length result) (length out) h in
-      record { answered = simp t; buffer = simp t e }
+-- there is room, and the result stands at the front
+pub wrote : {before after result : List ℕ} {n r : ℕ} → n ≡ length result → n ≤ length before → PutAt before 0 result after r
+    → Wrote result before after (Written n)
+unfolding answerOf bufferOf
+wrote {before} {after} {result} {n} e h p =
+    let l : length result ≤ length before = omega arith in
+    let t = le-leb (length result) (length before) l in
+    record {
+      answered = ap Written e ∙ simp t;
+      buffer = p .bytes ∙ sets-eq result before 0 (omega arith) ∙ ap (λ (k : ℕ). result ++ drop k before) (zero-add (length result)) ∙ simp t;
+    }
 
-  -- there is none, and the buffer is as it was
-  pub too-short : length out < length result → Wrote result out out (TooShort (length result))
-  unfolding answerOf bufferOf
-  too-short h =
-      let t = lt-leb (length result) (length out) h in
-      record { answered = simp t; buffer = simp t }
+-- there is none, and the buffer is as it was
+pub too-short : {before : List ℕ} {n : ℕ} (result : List ℕ) → n ≡ length result → length before < n
+    → Wrote result before before (TooShort n)
+unfolding answerOf bufferOf
+too-short {before} {n} result e h =
+    let l : length before < length result = omega arith in
+    let t = lt-leb (length result) (length before) l in
+    record { answered = ap TooShort e ∙ simp t; buffer = simp t }

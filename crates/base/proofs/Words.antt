@@ -1,6 +1,6 @@
 -- A number and its bytes, for any number of bytes.
 use mathlib.Core.Path.{_≡_, refl, sym, ap, ap₂, _∙_}
-use mathlib.Core.Bool.{true}
+use mathlib.Core.Bool.{Bool, true, cond}
 use mathlib.Core.List.{List, [], _∷_, _++_}
 use Prim.Native.Nat.{ℕ, zero, suc, _+_, _*_, _/_, _%_, _^_, _<_, _≤_}
 use native.Mathlib.Nat.{add-zero, pow-suc}
@@ -8,10 +8,11 @@ use native.Mathlib.Omega.{arith}
 use lib.Dec.{leb}
 use lib.ListN.{drop, getD, length, take}
 use lib.Seq.{getD-drop, sets}
-use borrow.Author.Tests.{leb-true}
-use Rattle.base.proofs.Tests.{both-true}
+use borrow.Author.Tests.{le-leb, leb-true}
+use Rattle.base.proofs.Tests.{and-both, both-true}
 use Rattle.base.proofs.Writer.{sets-append}
-use Rattle.base.specs.Words.{allBytes, littleEndian, number, wordBytes}
+use Rattle.base.specs.Output.{PutAt}
+use Rattle.base.specs.Words.{allBytes, hasRoom, littleEndian, number, wordBytes}
 
 -- the bytes of a number that they have room for make that number
 pub number-littleEndian : (k x : ℕ) → x < 256 ^ k → number (littleEndian k x) ≡ x
@@ -67,3 +68,30 @@ word-halves x =
 pub sets-word : (o : List ℕ) (at x : ℕ) → sets (sets o at (littleEndian 4 x)) (at + 4) (littleEndian 4 (x / 0x100000000)) ≡ sets o at (wordBytes x)
 unfolding littleEndian
 sets-word o at x = sym (sets-append o at (littleEndian 4 x) (littleEndian 4 (x / 0x100000000))) ∙ ap (sets o at) (sym (word-halves x))
+
+pub length-wordBytes : (x : ℕ) → length (wordBytes x) ≡ 8
+unfolding wordBytes littleEndian
+length-wordBytes x = refl
+
+-- what `write_word` ensures, where there is room
+pub word-put : (o o′ : List ℕ) (at x : ℕ) → at + 8 ≤ length o → o′ ≡ cond (hasRoom o at) (sets o at (wordBytes x)) o
+    → PutAt o at (wordBytes x) o′ (at + 8)
+word-put o o′ at x h e = record {
+  ends = ap (λ (n : ℕ). at + n) (sym (length-wordBytes x));
+  bytes = e ∙ ap (λ (t : Bool). cond t (sets o at (wordBytes x)) o) (le-leb (at + 8) (length o) h);
+}
+
+-- parts of bytes are bytes
+pub allBytes-take : (n : ℕ) (bs : List ℕ) → allBytes bs ≡ true → allBytes (take n bs) ≡ true
+unfolding allBytes
+allBytes-take zero bs t = refl
+allBytes-take (suc n) [] t = refl
+allBytes-take (suc n) (b ∷ bs) t =
+    let p = both-true (leb b 255) (allBytes bs) t in
+    and-both (leb b 255) (allBytes (take n bs)) (p .0) (allBytes-take n bs (p .1))
+
+pub allBytes-drop : (n : ℕ) (bs : List ℕ) → allBytes bs ≡ true → allBytes (drop n bs) ≡ true
+unfolding allBytes
+allBytes-drop zero bs t = t
+allBytes-drop (suc n) [] t = refl
+allBytes-drop (suc n) (b ∷ bs) t = allBytes-drop n bs (both-true (leb b 255) (allBytes bs) t .1)

@@ -4,9 +4,10 @@ use mathlib.Core.Path.{_≡_}
 use mathlib.Core.Bool.{cond}
 use mathlib.Core.List.{List, _++_}
 use mathlib.Core.Option.{Option, none, some}
-use Prim.Native.Nat.{ℕ}
+use Prim.Native.Nat.{ℕ, _+_}
 use lib.Dec.{leb}
 use lib.ListN.{drop, length}
+use lib.Seq.{sets}
 use Rattle.base.specs.declared.WriteAnswer.{WriteAnswer}
 use Rattle.base.specs.declared.WriteAnswer.the-variants.{TooShort, Written}
 
@@ -28,6 +29,11 @@ answerOf result out = cond (leb (length result) (length out)) (Written (length r
 -- "all buffers" as they were
 unfoldable pub bufferOf : List ℕ → List ℕ → List ℕ
 bufferOf result out = cond (leb (length result) (length out)) (result ++ drop (length result) out) out
+
+-- a list written into a buffer at a place: where it ends, and the buffer after it
+pub record PutAt (before : List ℕ) (at : ℕ) (xs after : List ℕ) (r : ℕ) : Type 0 where
+  pub ends : r ≡ at + length xs
+  pub bytes : after ≡ sets before at xs
 
 -- what a call that is to write a result answers, and what it leaves in the buffer
 pub record Wrote (result before after : List ℕ) (answer : WriteAnswer) : Type 0 where

@@ -1,9 +1,11 @@
--- A number and its eight bytes give each other back.
+-- A number and its eight bytes give each other back; a result is written or refused.
 use mathlib.Core.Path.{_≡_}
 use mathlib.Core.Bool.{true}
-use mathlib.Core.List.{List}
-use Prim.Native.Nat.{ℕ, _^_, _<_}
-use lib.ListN.{length}
+use mathlib.Core.List.{List, _++_}
+use mathlib.Core.Option.{none, some}
+use Prim.Native.Nat.{ℕ, _^_, _<_, _≤_}
+use lib.ListN.{drop, length}
+use Rattle.base.specs.Output.{answerOf, bufferOf, refusal}
 use Rattle.base.specs.Words.{allBytes, littleEndian, number, wordBytes}
 
 -- The eight bytes of a number below 2 to the 64th make that number.
@@ -13,3 +15,13 @@ NumberOfWord = (x : ℕ) → x < 2 ^ 64 → number (wordBytes x) ≡ x
 -- Bytes are those of the number that they make.
 unfoldable pub BytesOfNumber : Type 0
 BytesOfNumber = (bs : List ℕ) → allBytes bs ≡ true → littleEndian (length bs) (number bs) ≡ bs
+
+-- A result is written at the front and nothing behind it, or refused with document 01's number 8 and the length
+-- wanted, and then the buffer is as it was.
+unfoldable pub WrittenOrRefused : Type 0
+WrittenOrRefused =
+    (result out : List ℕ)
+    → (length result ≤ length out
+    → (refusal (answerOf result out) ≡ none) × (bufferOf result out ≡ result ++ drop (length result) out))
+    × (length out < length result
+    → (refusal (answerOf result out) ≡ some (record { number = 8; value = length result })) × (bufferOf result out ≡ out))

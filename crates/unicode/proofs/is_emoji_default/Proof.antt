@@ -1,5 +1,5 @@
 -- By what the two questions answered.
-use mathlib.Core.Path.{sym, ap, _∙_}
+use mathlib.Core.Path.{sym}
 use borrow.Author.Needs.{needs}
 use Rattle.unicode.specs.Unicode.{isEmojiDefault}
 use Rattle.unicode.proofs.is_emoji_default.Statement.{statement}

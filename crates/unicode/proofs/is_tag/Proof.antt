@@ -1,5 +1,4 @@
 -- The two tests, in the code's order.
-use mathlib.Core.Path.{refl}
 use borrow.Author.Tests.{le-leb, lt-leb}
 use Rattle.unicode.specs.Unicode.{isTag}
 use Rattle.unicode.proofs.is_tag.Statement.{statement}

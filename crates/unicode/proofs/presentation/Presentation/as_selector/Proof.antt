@@ -1,5 +1,4 @@
 -- By the presentation.
-use mathlib.Core.Path.{sym, ap}
 use borrow.Author.Needs.{needs}
 use Rattle.unicode.specs.Presentation.{asSelector}
 use Rattle.unicode.proofs.presentation.Presentation.as_selector.Statement.{statement}

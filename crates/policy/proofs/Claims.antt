@@ -1,0 +1,132 @@
+-- The proof of each statement of specs/Theorems.antt.
+use mathlib.Core.Path.{_≡_, refl, sym, ap, ap₂, _∙_}
+use mathlib.Core.Bool.{Bool, true, false, cond, _&&_, _||_, not}
+use mathlib.Core.List.{List, _++_}
+use Prim.Native.Nat.{ℕ, _^_, _<_}
+use native.Mathlib.Omega.{arith}
+use lib.ListN.{getD, length}
+use borrow.Author.Tests.{eq-eqb}
+use Rattle.unicode.specs.Tables.{inRanges, member as Tables·member}
+use Rattle.unicode.specs.Unicode.{hasVariationSequence, isEmojiDefault, isEmojiPresentation, isTextDefault}
+use Rattle.unicode.specs.UnicodeData.{emojiPresentationRanges, variationEntries}
+use Rattle.unicode.specs.Theorems.{NoIndexNoEntry}
+use Rattle.unicode.specs.declared.VariationSequenceIndex.{VariationSequenceIndex}
+use Rattle.unicode.proofs.Claims.{no-index-no-entry}
+use Rattle.policy_key_set.specs.Sets.{allBelow, contains, entryCount, member, memberAt, one}
+use Rattle.policy_key_set.specs.KeySets.{isAscii, rightWords}
+use Rattle.policy_key_set.proofs.Contains.{contains-chars}
+use Rattle.policy_key_set.proofs.Entries.{right-words}
+use Rattle.policy.specs.Policy.{holdsBase, ruleOf, singletonRule}
+use Rattle.policy.specs.DefaultPolicy.{bareAsText, bareAsTextKeycap, defaultPolicy, preferBare, preferBareKeycap}
+use Rattle.policy.specs.PolicyBytes.{PolicyValue, bytesOf, isPolicy, keyWords, noUnusedBits, policyBytes, policyOf, policyWords, wordCount, wordsFrom}
+use Rattle.policy.specs.declared.Policy.{Policy}
+use Rattle.policy.specs.declared.SingletonRule.the-variants.{BareToText, EmojiToBare, TextToBare}
+use Rattle.policy.specs.Theorems.{
+  DefaultPolicyHolds,
+  DefaultRules,
+  ReadWritten,
+  RuleWithoutEntry,
+  SameWordsSamePolicy,
+  WriteRead,
+}
+use Rattle.policy.proofs.Bytes.{length-bytesOf}
+use Rattle.policy.proofs.RoundTrips.{Sixes, append-below, many-words, read-words, same-words, sixes-of, words-of, write-words}
+
+-- what each of the default policy's sets holds, by one computed test
+holds-prefer-bare : rightWords (λ (c : ℕ). isAscii c || isEmojiDefault c) preferBare ≡ true
+unfolding rightWords allBelow member one entryCount isEmojiDefault isEmojiPresentation hasVariationSequence inRanges Tables·member emojiPresentationRanges variationEntries preferBare
+holds-prefer-bare = refl
+
+holds-prefer-bare-keycap : rightWords (λ (c : ℕ). false) preferBareKeycap ≡ true
+unfolding rightWords allBelow member one entryCount variationEntries preferBareKeycap
+holds-prefer-bare-keycap = refl
+
+holds-bare-as-text : rightWords isTextDefault bareAsText ≡ true
+unfolding rightWords allBelow member one entryCount isTextDefault isEmojiPresentation hasVariationSequence inRanges Tables·member emojiPresentationRanges variationEntries bareAsText
+holds-bare-as-text = refl
+
+holds-bare-as-text-keycap : rightWords (λ (c : ℕ). true) bareAsTextKeycap ≡ true
+unfolding rightWords allBelow member one entryCount variationEntries bareAsTextKeycap
+holds-bare-as-text-keycap = refl
+
+pub default-policy-holds : DefaultPolicyHolds
+unfolding DefaultPolicyHolds defaultPolicy
+default-policy-holds = (
+  record {
+    ordinary-keys = right-words (λ (c : ℕ). isAscii c || isEmojiDefault c) preferBare holds-prefer-bare;
+    keycap-keys = right-words (λ (c : ℕ). false) preferBareKeycap holds-prefer-bare-keycap;
+  },
+  record {
+    ordinary-keys = right-words isTextDefault bareAsText holds-bare-as-text;
+    keycap-keys = right-words (λ (c : ℕ). true) bareAsTextKeycap holds-bare-as-text-keycap;
+  },
+)
+
+-- what a policy says where its sets answer as the default ones do
+default-rule : (e a : Bool) → ruleOf (a || e) (not e) ≡ cond e EmojiToBare (cond a TextToBare BareToText)
+unfolding ruleOf
+default-rule true true = refl
+default-rule true false = refl
+default-rule false true = refl
+default-rule false false = refl
+
+pub default-rules : DefaultRules
+unfolding DefaultRules DefaultPolicyHolds singletonRule holdsBase ruleOf defaultPolicy isTextDefault isEmojiDefault
+default-rules c h =
+    let in-both : (p : ℕ → Bool) (ws : List ℕ) → rightWords p ws ≡ true → contains c ws ≡ p c =
+    (λ p ws t. contains-chars p ws (right-words p ws t) c ∙ ap (λ (b : Bool). b && p c) h) in
+    let text : isTextDefault c ≡ not (isEmojiDefault c) =
+    ap (λ (b : Bool). b && not (isEmojiPresentation c)) h ∙ ap (λ (b : Bool). not (b && isEmojiPresentation c)) (sym h) in (
+      ap₂ ruleOf (in-both (λ (x : ℕ). isAscii x || isEmojiDefault x) preferBare holds-prefer-bare) (in-both isTextDefault bareAsText holds-bare-as-text ∙ text)
+          ∙ default-rule (isEmojiDefault c) (isAscii c),
+      ap₂ ruleOf (in-both (λ (x : ℕ). false) preferBareKeycap holds-prefer-bare-keycap)
+          (in-both (λ (x : ℕ). true) bareAsTextKeycap holds-bare-as-text-keycap),
+    )
+
+-- a character without an entry is in no set
+in-none : (c : ℕ) (ws : List ℕ) → hasVariationSequence c ≡ false → contains c ws ≡ false
+unfolding contains memberAt NoIndexNoEntry
+in-none c ws h = ap (λ (r : VariationSequenceIndex). memberAt r ws) (no-index-no-entry c .1 h)
+
+pub rule-without-entry : RuleWithoutEntry
+unfolding RuleWithoutEntry singletonRule holdsBase ruleOf
+rule-without-entry p c false h = ap₂ ruleOf (in-none c (p .«prefer_bare» .chars .bits) h) (in-none c (p .«bare_as_text» .chars .bits) h)
+rule-without-entry p c true h =
+    ap₂ ruleOf (in-none c (p .«prefer_bare» .«keycap_chars» .bits) h) (in-none c (p .«bare_as_text» .«keycap_chars» .bits) h)
+
+sixes : (p : Policy) → PolicyValue p → Sixes p
+unfolding wordCount entryCount variationEntries
+sixes p v = record {
+  first = v .prefer-bare .as-many;
+  second = v .prefer-bare-keycap .as-many;
+  third = v .bare-as-text .as-many;
+  fourth = v .bare-as-text-keycap .as-many;
+}
+
+pub same-words-same-policy : SameWordsSamePolicy
+unfolding SameWordsSamePolicy
+same-words-same-policy p q v w e = same-words p q (sixes p v) (sixes q w) e
+
+words-below : (p : Policy) → PolicyValue p → (k : ℕ) → getD (policyWords p) k 0 < 2 ^ 64
+unfolding policyWords keyWords
+words-below p v =
+    let a = p .«prefer_bare» .chars .bits in
+    let b = p .«prefer_bare» .«keycap_chars» .bits in
+    let c = p .«bare_as_text» .chars .bits in
+    let d = p .«bare_as_text» .«keycap_chars» .bits in
+    append-below (2 ^ 64) (a ++ b) (c ++ d) (append-below (2 ^ 64) a b (v .prefer-bare .words) (v .prefer-bare-keycap .words))
+    (append-below (2 ^ 64) c d (v .bare-as-text .words) (v .bare-as-text-keycap .words))
+
+pub read-written : ReadWritten
+unfolding ReadWritten isPolicy policyBytes wordCount entryCount variationEntries
+read-written p v =
+    let ws = policyWords p in
+    let many = many-words p (sixes p v) in
+    let read : wordsFrom 24 0 (bytesOf ws) ≡ ws = ap (λ (n : ℕ). wordsFrom n 0 (bytesOf ws)) (sym many) ∙ read-words ws (words-below p v) in
+    let back : policyOf (bytesOf ws) ≡ p = same-words (policyOf (bytesOf ws)) p (sixes-of (bytesOf ws)) (sixes p v) (words-of (bytesOf ws) ∙ read) in
+    let long : length (bytesOf ws) ≡ 192 = omega (arith, length-bytesOf ws) in
+    (back, ap₂ _&&_ (eq-eqb (length (bytesOf ws)) 192 long) (ap noUnusedBits back))
+
+pub write-read : WriteRead
+unfolding WriteRead policyBytes wordCount entryCount variationEntries
+write-read bs t l = ap bytesOf (words-of bs) ∙ write-words 24 bs l t

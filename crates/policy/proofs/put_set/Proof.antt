@@ -1,0 +1,85 @@
+-- The loop writes the bytes of the words that are left at its place.
+use mathlib.Core.Path.{_≡_, sym, ap, _∙_}
+use Prim.Native.Nat.{_-_, _≤_}
+use native.Mathlib.Omega.{arith}
+use borrow.Author.Needs.{needs}
+use lib.ListN.{drop, drop-of-length-le, length, length-map}
+use Rattle.base.proofs.Writer.{Writing, begin, finish}
+use Rattle.policy.specs.PolicyBytes.{bytesOf}
+use Rattle.policy.proofs.Bytes.{word-room, word-written}
+use Rattle.policy.proofs.put_set.Statement.{statement}
+use Rattle.policy.proofs.put_set.Tie as tie
+
+abbrev Inv-loop : tie.InvT-loop
+Inv-loop out₀ start words at₀ i₀ out at i =
+    (i ≤ 6) × (length words ≡ 6) × Writing (bytesOf words) start out₀ (bytesOf (drop i words)) out at
+
+abbrev μ-loop : tie.MeasureT-loop
+μ-loop out₀ start words at₀ i₀ out at i = 6 - i
+
+loop-holds : tie.Need-loop-holds Inv-loop μ-loop
+loop-holds c =
+    let x = c .before .before .args in
+    let ws = x .set .bits in
+    let six : length ws ≡ 6 = sym (length-map ws (λ v. v)) ∙ c .before .before .good .1 .1 .0 .1 .1 .0 .1 .0 .1 in
+    (omega arith, six, begin (bytesOf ws) (x .start) (x .out .now) (c .before .before .pre))
+
+mul-write-word : tie.Need-mul-write-word Inv-loop μ-loop
+mul-write-word c = omega arith
+
+array-read-write-word : tie.Need-array-read-write-word Inv-loop μ-loop
+array-read-write-word c = omega arith
+
+write-word-requires : tie.Need-write-word-requires Inv-loop μ-loop
+write-word-requires c κs = search needs
+
+add-at : tie.Need-add-at Inv-loop μ-loop
+add-at c =
+    let l = c .before .before .before .before .before .loop in
+    let x = c .before .before .before .before .before .before .before .before .args in
+    let r = word-room (x .set .bits) (x .out .now) (l .out) (x .start) (l .at) (l .i) (omega arith) (l .inv .2) in
+    omega arith
+
+add-i : tie.Need-add-i Inv-loop μ-loop
+add-i c = omega arith
+
+loop-less : tie.Need-loop-less Inv-loop μ-loop
+loop-less c = omega arith
+
+loop-again : tie.Need-loop-again Inv-loop μ-loop
+loop-again c =
+    let l = c .before .before .before .before .before .loop in
+    let x = c .before .before .before .before .before .before .before .before .args in (
+      omega arith,
+      l .inv .1,
+      word-written (x .set .bits) (x .out .now) (l .out) (x .start) (l .at) (l .i) (omega arith) (l .inv .2) _
+          (c .before .before .write-word .ensures .1),
+    )
+
+same-length : tie.Need-same-length Inv-loop μ-loop
+same-length c = c .before .loop .inv .2 .same
+
+returns : tie.Need-returns Inv-loop μ-loop
+unfolding bytesOf
+returns c =
+    let l = c .before .loop in
+    let x = c .before .before .before .before .args in
+    let ws = x .set .bits in
+    finish (bytesOf ws) (x .start) (x .out .now) (bytesOf (drop (l .i) ws)) (l .inv .2) (ap bytesOf (drop-of-length-le ws {i = l .i} (omega arith)))
+
+pub put-set-spec : {M : Type 1} → statement M
+put-set-spec =
+    tie.close
+    (tie.spec
+    Inv-loop
+    μ-loop
+    loop-holds
+    mul-write-word
+    array-read-write-word
+    write-word-requires
+    add-at
+    add-i
+    loop-less
+    loop-again
+    same-length
+    returns)

@@ -1,0 +1,62 @@
+-- The four sets that were read are the policy of the bytes.
+use mathlib.Core.Path.{_≡_, ap, _∙_}
+use mathlib.Core.Bool.{Bool, _&&_}
+use lib.Dec.{eqb}
+use lib.ListN.{length}
+use Rattle.unicode.specs.UnicodeData.{variationEntries}
+use Rattle.policy_key_set.specs.Sets.{entryCount}
+use Rattle.policy.specs.PolicyBytes.{isPolicy, noUnusedBits, readPolicy, wordCount}
+use Rattle.policy.specs.declared.Policy.{Policy}
+use Rattle.policy.specs.declared.ReadPolicy.{ReadPolicy}
+use Rattle.policy.proofs.Bytes.{policy-made}
+use borrow.Author.Needs.{needs}
+use Rattle.policy.proofs.read_policy.Statement.{statement}
+use Rattle.policy.proofs.read_policy.Tie as tie
+
+read-set-requires : tie.Need-read-set-requires
+read-set-requires c κs = search needs
+
+read-set-requires-2 : tie.Need-read-set-requires-2
+read-set-requires-2 c κs = search needs
+
+mul-read-set : tie.Need-mul-read-set
+mul-read-set c = search needs
+
+read-set-requires-3 : tie.Need-read-set-requires-3
+read-set-requires-3 c κs = search needs
+
+mul-read-set-2 : tie.Need-mul-read-set-2
+mul-read-set-2 c = search needs
+
+read-set-requires-4 : tie.Need-read-set-requires-4
+read-set-requires-4 c κs = search needs
+
+is-accepted-requires : tie.Need-is-accepted-requires
+is-accepted-requires c κs = search needs
+
+returns : tie.Need-returns
+unfolding readPolicy isPolicy wordCount entryCount variationEntries
+returns c =
+    let bs = c .before .before .before .before .before .before .args .bytes .now in
+    let a = c .before .before .before .before .read-set in
+    let b = c .before .before .before .read-set2 in
+    let d = c .before .before .read-set3 in
+    let e = c .before .read-set4 in
+    let p = policy-made (a .result) (b .result) (d .result) (e .result) bs (a .ensures) (b .ensures) (d .ensures) (e .ensures) in
+    made (c .is-accepted .ensures ∙ ap (λ (x : Policy). eqb (length bs) 192 && noUnusedBits x) p) p
+  where
+    made : {t u : Bool} {x y : Policy} → t ≡ u → x ≡ y → _≡_ {A = ReadPolicy} (record { accepted = t; policy = x }) (record { accepted = u; policy = y })
+    made e f = cc
+
+pub read-policy-spec : {M : Type 1} → statement M
+read-policy-spec =
+    tie.close
+    (tie.spec
+    read-set-requires
+    read-set-requires-2
+    mul-read-set
+    read-set-requires-3
+    mul-read-set-2
+    read-set-requires-4
+    is-accepted-requires
+    returns)

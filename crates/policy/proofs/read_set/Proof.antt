@@ -1,0 +1,82 @@
+-- The invariant: the words before i are those of the bytes.
+use mathlib.Core.Path.{_≡_, refl, sym, _∙_}
+use Prim.Native.Nat.{ℕ, _+_, _*_, _-_, _<_, _≤_}
+use native.Mathlib.Nat.{not-suc-le-zero}
+use native.Mathlib.Omega.{arith}
+use borrow.Author.Needs.{needs}
+use lib.ListN.{drop, getD, length, length-set, take}
+use lib.Seq.{ext-getD}
+use Rattle.base.specs.Words.{number}
+use Rattle.unicode.specs.UnicodeData.{variationEntries}
+use Rattle.policy_key_set.specs.Sets.{entryCount}
+use Rattle.policy_key_set.proofs.Members.{set-more}
+use Rattle.policy.specs.PolicyBytes.{wordCount, wordsFrom}
+use Rattle.policy.proofs.Bytes.{getD-wordsFrom, length-wordsFrom}
+use Rattle.policy.proofs.read_set.Statement.{statement}
+use Rattle.policy.proofs.read_set.Tie as tie
+
+abbrev Inv-loop : tie.InvT-loop
+Inv-loop bytes at bits₀ i₀ bits i =
+    (i ≤ 6) × (length bits ≡ 6) × ((k : ℕ) → k < i → getD bits k 0 ≡ number (take 8 (drop (at + k * 8) bytes)))
+
+abbrev μ-loop : tie.MeasureT-loop
+μ-loop bytes at bits₀ i₀ bits i = 6 - i
+
+loop-holds : tie.Need-loop-holds Inv-loop μ-loop
+loop-holds c = (omega arith, refl, (λ k l. absurd (not-suc-le-zero l)))
+
+mul-read-word : tie.Need-mul-read-word Inv-loop μ-loop
+mul-read-word c = omega arith
+
+add-read-word : tie.Need-add-read-word Inv-loop μ-loop
+add-read-word c = omega arith
+
+read-word-requires : tie.Need-read-word-requires Inv-loop μ-loop
+read-word-requires c κs = search needs
+
+mul-bits : tie.Need-mul-bits Inv-loop μ-loop
+mul-bits c = omega arith
+
+array-write-bits : tie.Need-array-write-bits Inv-loop μ-loop
+array-write-bits c = omega arith
+
+add-i : tie.Need-add-i Inv-loop μ-loop
+add-i c = omega arith
+
+loop-less : tie.Need-loop-less Inv-loop μ-loop
+loop-less c = omega arith
+
+loop-again : tie.Need-loop-again Inv-loop μ-loop
+loop-again c =
+    let l = c .before .before .loop in
+    let x = c .before .before .before .before .args in (
+      omega arith,
+      simp length-set (l .inv .1),
+      set-more (λ (k v : ℕ). v ≡ number (take 8 (drop (x .at + k * 8) (x .bytes .now)))) (l .bits) (l .i) (c .read-word .result)
+          (omega arith) (l .inv .2) (c .read-word .ensures),
+    )
+
+returns : tie.Need-returns Inv-loop μ-loop
+unfolding wordCount entryCount variationEntries
+returns c =
+    let l = c .before .loop in
+    let x = c .before .before .before .args in
+    ext-getD 0 (l .bits) (wordsFrom 6 (x .at) (x .bytes .now)) (l .inv .1 ∙ sym (length-wordsFrom 6 (x .at) (x .bytes .now)))
+    (λ k h. l .inv .2 k (omega arith) ∙ sym (getD-wordsFrom 6 (x .at) (x .bytes .now) k (omega arith)))
+
+pub read-set-spec : {M : Type 1} → statement M
+read-set-spec =
+    tie.close
+    (tie.spec
+    Inv-loop
+    μ-loop
+    loop-holds
+    mul-read-word
+    add-read-word
+    read-word-requires
+    mul-bits
+    array-write-bits
+    add-i
+    loop-less
+    loop-again
+    returns)

@@ -1,0 +1,59 @@
+-- The two key sets one behind the other.
+use native.Mathlib.Omega.{arith}
+use Rattle.base.proofs.Output.{too-short, wrote}
+use Rattle.policy.specs.PolicyBytes.{keyWords, policyBytes, policyWords}
+use Rattle.policy.proofs.Bytes.{length-both, put-both}
+use borrow.Author.Needs.{needs}
+use Rattle.policy.proofs.write_policy.Statement.{statement}
+use Rattle.policy.proofs.write_policy.Tie as tie
+
+keys-len-requires : tie.Need-keys-len-requires
+keys-len-requires c κs = search needs
+
+keys-len-requires-2 : tie.Need-keys-len-requires-2
+keys-len-requires-2 c κs = search needs
+
+add-wanted : tie.Need-add-wanted
+add-wanted c = search needs
+
+returns : tie.Need-returns
+unfolding policyBytes policyWords
+returns c =
+    let p = c .before .before .before .before .before .before .args .policy in
+    let a = c .before .before .keys-len .ensures in
+    let b = c .before .keys-len2 .ensures in
+    let l = length-both (keyWords (p .«prefer_bare»)) (keyWords (p .«bare_as_text»)) in
+    too-short (policyBytes p) (omega arith) (omega arith)
+
+put-keys-requires : tie.Need-put-keys-requires
+put-keys-requires c κs = search needs
+
+put-keys-requires-2 : tie.Need-put-keys-requires-2
+put-keys-requires-2 c κs = search needs
+
+same-length : tie.Need-same-length
+same-length c = search needs
+
+returns-2 : tie.Need-returns-2
+unfolding policyBytes policyWords
+returns-2 c =
+    let p = c .before .before .before .before .before .before .before .before .before .before .before .before .before .before .args .policy in
+    let a = c .before .before .before .before .before .before .before .before .before .before .keys-len .ensures in
+    let b = c .before .before .before .before .before .before .before .before .before .keys-len2 .ensures in
+    let l = length-both (keyWords (p .«prefer_bare»)) (keyWords (p .«bare_as_text»)) in
+    let h = c .before .before .before .before .before .before .before .before .if1 .left in
+    wrote (omega arith) (omega arith)
+    (put-both (keyWords (p .«prefer_bare»)) (keyWords (p .«bare_as_text»)) (c .before .before .before .before .before .before .put-keys .ensures) (c .before .before .put-keys2 .ensures))
+
+pub write-policy-spec : {M : Type 1} → statement M
+write-policy-spec =
+    tie.close
+    (tie.spec
+    keys-len-requires
+    keys-len-requires-2
+    add-wanted
+    returns
+    put-keys-requires
+    put-keys-requires-2
+    same-length
+    returns-2)

@@ -1,0 +1,5 @@
+-- Policies: what they say of a base, their bytes, and the default policy.
+pub mod Policy
+pub mod DefaultPolicy
+pub mod PolicyBytes
+pub mod Theorems

@@ -1,0 +1,25 @@
+-- What a policy says of a base: document 01, "Key set and policy".
+use mathlib.Core.Bool.{Bool, true, false}
+use Prim.Native.Nat.{ℕ}
+use Rattle.policy_key_set.specs.Sets.{contains}
+use Rattle.policy_key_set.specs.declared.PolicyKeySet.{PolicyKeySet}
+use Rattle.policy.specs.declared.Policy.{Policy}
+use Rattle.policy.specs.declared.SingletonRule.{SingletonRule}
+use Rattle.policy.specs.declared.SingletonRule.the-variants.{BareToEmoji, BareToText, EmojiToBare, TextToBare}
+
+-- a key set holds a base, in its ordinary or in its keycap set; a base without an entry is in neither
+unfoldable pub holdsBase : PolicyKeySet → ℕ → Bool → Bool
+holdsBase s c false = contains c (s .chars .bits)
+holdsBase s c true = contains c (s .«keycap_chars» .bits)
+
+-- "neither set holds the base, BareToEmoji; only bare_as_text, BareToText; only prefer_bare, EmojiToBare; both,
+-- TextToBare": by whether prefer_bare, and whether bare_as_text, holds it
+unfoldable pub ruleOf : Bool → Bool → SingletonRule
+ruleOf false false = BareToEmoji
+ruleOf false true = BareToText
+ruleOf true false = EmojiToBare
+ruleOf true true = TextToBare
+
+-- the rule for a base, ordinary or keycap
+unfoldable pub singletonRule : Policy → ℕ → Bool → SingletonRule
+singletonRule p c keycap = ruleOf (holdsBase (p .«prefer_bare») c keycap) (holdsBase (p .«bare_as_text») c keycap)

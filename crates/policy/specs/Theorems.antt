@@ -1,0 +1,50 @@
+-- What is claimed of policies. The proofs are in proofs/Claims.antt.
+use mathlib.Core.Path.{_≡_}
+use mathlib.Core.Bool.{Bool, true, false, cond, _||_}
+use mathlib.Core.List.{List}
+use Prim.Native.Nat.{ℕ, _*_}
+use lib.ListN.{getD, length}
+use Rattle.base.specs.Words.{allBytes}
+use Rattle.unicode.specs.Unicode.{hasVariationSequence, isEmojiDefault, isTextDefault}
+use Rattle.unicode.specs.UnicodeData.{variationEntries}
+use Rattle.policy_key_set.specs.KeySets.{HoldsKeys, isAscii}
+use Rattle.policy.specs.Policy.{singletonRule}
+use Rattle.policy.specs.DefaultPolicy.{defaultPolicy}
+use Rattle.policy.specs.PolicyBytes.{PolicyValue, isPolicy, noUnusedBits, policyBytes, policyOf, policyWords, wordCount}
+use Rattle.policy.specs.declared.Policy.{Policy}
+use Rattle.policy.specs.declared.SingletonRule.the-variants.{BareToEmoji, BareToText, EmojiToBare, TextToBare}
+
+-- The default policy: of the ordinary keys the ASCII entries and the emoji defaults prefer bare, and the text defaults
+-- are text when bare; no keycap key prefers bare, and every one is text when bare.
+unfoldable pub DefaultPolicyHolds : Type 0
+DefaultPolicyHolds =
+    HoldsKeys (λ (i : ℕ). isAscii (getD variationEntries i 0) || isEmojiDefault (getD variationEntries i 0)) (λ (i : ℕ). false)
+    (defaultPolicy .«prefer_bare»)
+    × HoldsKeys (λ (i : ℕ). isTextDefault (getD variationEntries i 0)) (λ (i : ℕ). true) (defaultPolicy .«bare_as_text»)
+
+-- So it says of a variation entry: an emoji default loses FE0F, an ASCII base loses FE0E, any other gets FE0E when bare;
+-- before 20E3 every base gets FE0E when bare.
+unfoldable pub DefaultRules : Type 0
+DefaultRules =
+    (c : ℕ) → hasVariationSequence c ≡ true
+    → (singletonRule defaultPolicy c false ≡ cond (isEmojiDefault c) EmojiToBare (cond (isAscii c) TextToBare BareToText))
+    × (singletonRule defaultPolicy c true ≡ BareToText)
+
+-- A base without a variation entry is in no set.
+unfoldable pub RuleWithoutEntry : Type 0
+RuleWithoutEntry =
+    (p : Policy) (c : ℕ) (keycap : Bool) → hasVariationSequence c ≡ false → singletonRule p c keycap ≡ BareToEmoji
+
+-- Two policies with the same words are equal.
+unfoldable pub SameWordsSamePolicy : Type 0
+SameWordsSamePolicy = (p q : Policy) → PolicyValue p → PolicyValue q → policyWords p ≡ policyWords q → p ≡ q
+
+-- Reading the written words gives the policy, and it is accepted exactly when it has no unused bit.
+unfoldable pub ReadWritten : Type 0
+ReadWritten =
+    (p : Policy) → PolicyValue p → (policyOf (policyBytes p) ≡ p) × (isPolicy (policyBytes p) ≡ noUnusedBits p)
+
+-- Writing what was read gives the bytes.
+unfoldable pub WriteRead : Type 0
+WriteRead =
+    (bs : List ℕ) → allBytes bs ≡ true → length bs ≡ 4 * (wordCount * 8) → policyBytes (policyOf bs) ≡ bs

@@ -1,0 +1,261 @@
+// Formatter policy: policy.rs of the crate evfmt; document 01, "Key set and policy". A policy is two key sets; it
+// crosses as 4W words of 8 bytes, and `read_policy` is the one test of a policy handed in (refusal 2).
+mod default_policy;
+
+ghost use mathlib.Core.Path.{_≡_};
+ghost use mathlib.Core.Bool.{_&&_, _||_, not};
+ghost use Prim.Native.Nat.{ℕ, _+_, _≤_};
+ghost use lib.Dec.{eqb, ltb};
+ghost use lib.ListN.{length};
+ghost use Rattle.base.specs.Output.{PutAt, Wrote};
+ghost use Rattle.policy_key_set.specs.Sets.{allBelow, one};
+ghost use Rattle.policy.specs.Policy.{holdsBase, singletonRule};
+ghost use Rattle.policy.specs.DefaultPolicy.{defaultPolicy};
+ghost use Rattle.policy.specs.PolicyBytes.{
+  bytesOf,
+  keyWords,
+  noUnusedBit,
+  noUnusedBits,
+  policyBytes,
+  readPolicy,
+  wordCount,
+  wordsFrom,
+};
+use base::WORD_BYTES;
+use base::WriteAnswer;
+use default_policy::PREFER_BARE_BITS;
+use policy_key_set::PolicyKeySet;
+use policy_key_set::char_set::CharSet;
+use policy_key_set::named_sets::ALL_BITS;
+use policy_key_set::named_sets::CHARSET_WORDS;
+use policy_key_set::named_sets::TEXT_DEFAULT_BITS;
+
+// The keys for which bare is canonical, and the keys for which bare means text.
+pub struct Policy {
+    pub prefer_bare: PolicyKeySet,
+    pub bare_as_text: PolicyKeySet,
+}
+
+// What a policy says of a base: what bare becomes, or which selector becomes bare.
+pub enum SingletonRule {
+    BareToEmoji,
+    BareToText,
+    TextToBare,
+    EmojiToBare,
+}
+
+// Whether a key set holds a base, in its ordinary or in its keycap set.
+fn holds(set: PolicyKeySet, base: u32, is_keycap: bool) -> bool
+    ensures { λ r. ⌜ r ≡ holdsBase set base «is_keycap» ⌝ }
+{
+    if is_keycap {
+        return set.contains_keycap(base);
+    }
+    set.contains(base)
+}
+
+impl Policy {
+    // The policy with another `prefer_bare` set.
+    pub fn with_prefer_bare(self, prefer_bare: PolicyKeySet) -> Self
+        ensures { λ r. ⌜ r ≡ record { «prefer_bare» = «prefer_bare»; «bare_as_text» = self .«bare_as_text» } ⌝ }
+    {
+        let bare_as_text = self.bare_as_text;
+        Policy {
+            prefer_bare,
+            bare_as_text,
+        }
+    }
+
+    // The policy with another `bare_as_text` set.
+    pub fn with_bare_as_text(self, bare_as_text: PolicyKeySet) -> Self
+        ensures { λ r. ⌜ r ≡ record { «prefer_bare» = self .«prefer_bare»; «bare_as_text» = «bare_as_text» } ⌝ }
+    {
+        let prefer_bare = self.prefer_bare;
+        Policy {
+            prefer_bare,
+            bare_as_text,
+        }
+    }
+
+    // The default policy: ASCII and emoji defaults bare; text defaults and every keycap base as text.
+    pub fn default() -> Self
+        ensures { λ r. ⌜ r ≡ defaultPolicy ⌝ }
+    {
+        Policy {
+            prefer_bare: PolicyKeySet {
+                chars: CharSet {
+                    bits: PREFER_BARE_BITS,
+                },
+                keycap_chars: CharSet {
+                    bits: [0; CHARSET_WORDS],
+                },
+            },
+            bare_as_text: PolicyKeySet {
+                chars: CharSet {
+                    bits: TEXT_DEFAULT_BITS,
+                },
+                keycap_chars: CharSet { bits: ALL_BITS },
+            },
+        }
+    }
+
+    // What the policy says of a base, ordinary or keycap.
+    pub fn singleton_rule(self, base: u32, is_keycap: bool) -> SingletonRule
+        ensures { λ r. ⌜ r ≡ singletonRule self base «is_keycap» ⌝ }
+    {
+        let prefer_bare = self.prefer_bare;
+        let bare_as_text = self.bare_as_text;
+        if holds(prefer_bare, base, is_keycap) {
+            if holds(bare_as_text, base, is_keycap) {
+                return SingletonRule::TextToBare;
+            }
+            return SingletonRule::EmojiToBare;
+        }
+        if holds(bare_as_text, base, is_keycap) {
+            return SingletonRule::BareToText;
+        }
+        SingletonRule::BareToEmoji
+    }
+}
+
+// What bytes say as a policy, and whether they are one. Only an accepted policy counts.
+pub struct ReadPolicy {
+    pub accepted: bool,
+    pub policy: Policy,
+}
+
+// The bytes of a set, and of a policy.
+const SET_BYTES: usize = CHARSET_WORDS * WORD_BYTES;
+
+pub const POLICY_BYTES: usize = 4 * SET_BYTES;
+
+// The set whose words stand in the bytes from a place on.
+fn read_set(bytes: &[u8], at: usize) -> CharSet
+    requires { ⌜ at ≤ 144 ⌝ }
+    ensures { λ r. ⌜ r .bits ≡ wordsFrom wordCount at (now (bytes .entry)) ⌝ }
+{
+    let mut bits = [0u64; CHARSET_WORDS];
+    let mut i = 0;
+    while i < CHARSET_WORDS {
+        bits[i] = base::read_word(bytes, at + i * WORD_BYTES);
+        i += 1;
+    }
+    CharSet { bits }
+}
+
+// Whether the last word of a set has ones among the used bits only.
+fn last_is_used(last: u64) -> bool
+    ensures { λ r. ⌜ r ≡ allBelow 64 (λ (k : ℕ). ltb (320 + k) 354 || not (one k last)) ⌝ }
+{
+    let used = ALL_BITS;
+    last <= used[CHARSET_WORDS - 1]
+}
+
+// Whether a set has no one among the unused bits.
+fn has_no_unused_bit(set: CharSet) -> bool
+    ensures { λ r. ⌜ r ≡ noUnusedBit (set .bits) ⌝ }
+{
+    let words = set.bits;
+    last_is_used(words[CHARSET_WORDS - 1])
+}
+
+// Whether a key set has no one among the unused bits of its two sets.
+fn keys_have_no_unused_bit(set: PolicyKeySet) -> bool
+    ensures { λ r. ⌜ r ≡ (noUnusedBit (set .chars .bits) && noUnusedBit (set .«keycap_chars» .bits)) ⌝ }
+{
+    let chars = set.chars;
+    let keycap_chars = set.keycap_chars;
+    if has_no_unused_bit(chars) {
+        return has_no_unused_bit(keycap_chars);
+    }
+    false
+}
+
+// Whether a policy that was read from so many bytes is accepted.
+fn is_accepted(len: usize, policy: Policy) -> bool
+    ensures { λ r. ⌜ r ≡ (eqb len 192 && noUnusedBits policy) ⌝ }
+{
+    let prefer_bare = policy.prefer_bare;
+    let bare_as_text = policy.bare_as_text;
+    if len != POLICY_BYTES {
+        return false;
+    }
+    if keys_have_no_unused_bit(prefer_bare) {
+        return keys_have_no_unused_bit(bare_as_text);
+    }
+    false
+}
+
+// The policy of the bytes handed in, and whether they are one: the test of refusal 2.
+pub fn read_policy(bytes: &[u8]) -> ReadPolicy
+    ensures { λ r. ⌜ r ≡ readPolicy (now (bytes .entry)) ⌝ }
+{
+    let policy = Policy {
+        prefer_bare: PolicyKeySet {
+            chars: read_set(bytes, 0),
+            keycap_chars: read_set(bytes, SET_BYTES),
+        },
+        bare_as_text: PolicyKeySet {
+            chars: read_set(bytes, 2 * SET_BYTES),
+            keycap_chars: read_set(bytes, 3 * SET_BYTES),
+        },
+    };
+    let accepted = is_accepted(bytes.len(), policy);
+    ReadPolicy { accepted, policy }
+}
+
+// How many bytes a set has.
+fn set_len(set: CharSet) -> usize
+    ensures { λ r. ⌜ (r ≡ length (bytesOf (set .bits))) × (r ≤ 48) ⌝ }
+{
+    SET_BYTES
+}
+
+// How many bytes a key set has.
+fn keys_len(set: PolicyKeySet) -> usize
+    ensures { λ r. ⌜ (r ≡ length (bytesOf (keyWords set))) × (r ≤ 96) ⌝ }
+{
+    set_len(set.chars) + set_len(set.keycap_chars)
+}
+
+// Writes the words of a set from a place on, and says where they end.
+fn put_set(out: &mut [u8], start: usize, set: CharSet) -> usize
+    requires { ⌜ start + length (bytesOf (set .bits)) ≤ length (now out) ⌝ }
+    ensures { λ r. ⌜ PutAt (now (out .entry)) start (bytesOf (set .bits)) (now (out .exit)) r ⌝ }
+{
+    let words = set.bits;
+    let mut at = start;
+    let mut i = 0;
+    while i < CHARSET_WORDS {
+        base::write_word(out, at, words[i]);
+        at += WORD_BYTES;
+        i += 1;
+    }
+    at
+}
+
+// Writes the words of a key set from a place on, and says where they end.
+fn put_keys(out: &mut [u8], start: usize, set: PolicyKeySet) -> usize
+    requires { ⌜ start + length (bytesOf (keyWords set)) ≤ length (now out) ⌝ }
+    ensures { λ r. ⌜ PutAt (now (out .entry)) start (bytesOf (keyWords set)) (now (out .exit)) r ⌝ }
+{
+    let chars = set.chars;
+    let keycap_chars = set.keycap_chars;
+    let at = put_set(out, start, chars);
+    put_set(out, at, keycap_chars)
+}
+
+// Writes the words of a policy at the front of a lent buffer, or refuses.
+pub fn write_policy(policy: Policy, out: &mut [u8]) -> WriteAnswer
+    ensures { λ r. ⌜ Wrote (policyBytes policy) (now (out .entry)) (now (out .exit)) r ⌝ }
+{
+    let prefer_bare = policy.prefer_bare;
+    let bare_as_text = policy.bare_as_text;
+    let wanted = keys_len(prefer_bare) + keys_len(bare_as_text);
+    if out.len() < wanted {
+        return WriteAnswer::TooShort { wanted };
+    }
+    let at = put_keys(out, 0, prefer_bare);
+    put_keys(out, at, bare_as_text);
+    WriteAnswer::Written { len: wanted }
+}

@@ -1,0 +1,11 @@
+-- Laws about bits, members and sizes for any number of entries and words, about the variation entries, and about texts in
+-- buffers; and the theorems.
+pub mod Bits
+pub mod Below
+pub mod Members
+pub mod Sizes
+pub mod Entries
+pub mod Contains
+pub mod Texts
+pub mod Buffers
+pub mod Claims

@@ -1,0 +1,27 @@
+-- Of all keys those that are not in the set: every entry is a key of the set of all.
+use borrow.Author.Needs.{needs}
+use Rattle.policy_key_set.specs.Sets.{entryCount}
+use Rattle.policy_key_set.proofs.Members.{complement-held}
+use Rattle.policy_key_set.proofs.PolicyKeySet.not.Statement.{statement}
+use Rattle.policy_key_set.proofs.PolicyKeySet.not.Tie as tie
+
+all-requires : tie.Need-all-requires
+all-requires c κs = search needs
+
+sub-requires : tie.Need-sub-requires
+sub-requires c κs = search needs
+
+returns : tie.Need-returns
+returns c =
+    let a = c .before .all in
+    let s = c .before .before .args .self in
+    let r = c .sub in
+    record {
+      ordinary-keys = complement-held entryCount (a .result .chars .bits) (s .chars .bits) (r .result .chars .bits)
+          (a .ensures .ordinary-keys) (r .ensures .ordinary-keys);
+      keycap-keys = complement-held entryCount (a .result .«keycap_chars» .bits) (s .«keycap_chars» .bits) (r .result .«keycap_chars» .bits)
+          (a .ensures .keycap-keys) (r .ensures .keycap-keys);
+    }
+
+pub not-spec : {M : Type 1} → statement M
+not-spec = tie.close (tie.spec all-requires sub-requires returns)

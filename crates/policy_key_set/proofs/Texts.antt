@@ -1,0 +1,105 @@
+-- The texts of the keys: their lengths, the walk along the entries, and texts written one behind the other.
+use mathlib.Core.Path.{_≡_, refl, sym, ap, _∙_}
+use mathlib.Core.Bool.{Bool, true, false, cond}
+use mathlib.Core.List.{List, [], _∷_, _++_, append-assoc, append-nil}
+use Prim.Native.Nat.{ℕ, zero, suc, _+_, _-_, _*_, _/_, _%_, _^_, _<_, _≤_}
+use native.Mathlib.Nat.{add-zero, not-suc-le-zero}
+use native.Mathlib.Numerals.{add-one}
+use native.Mathlib.Omega.{arith}
+use lib.ListN.{drop, drop-of-length-le, getD, length, length-append}
+use lib.Seq.{drop-cons}
+use Rattle.policy_key_set.specs.Sets.{member}
+use Rattle.policy_key_set.specs.Display.{
+  hexDigit,
+  hexDigits,
+  hexWidth,
+  joined,
+  keyText,
+  keyTexts,
+  opening,
+  piece,
+  written,
+}
+
+pub hex-length : (k n : ℕ) → length (hexDigits k n) ≡ k
+unfolding hexDigits
+hex-length zero n = refl
+hex-length (suc k) n = ap suc (hex-length k n)
+
+-- the highest digit of k, and the others
+pub hex-step : (k n : ℕ) → 0 < k → hexDigits k n ≡ hexDigit (n / 2 ^ (4 * (k - 1)) % 16) ∷ hexDigits (k - 1) n
+unfolding hexDigits
+hex-step zero n h = absurd (not-suc-le-zero h)
+hex-step (suc k) n h =
+    let e : k ≡ suc k - 1 = omega arith in
+    ap (λ (m : ℕ). hexDigit (n / 2 ^ (4 * m) % 16) ∷ hexDigits m n) e
+
+pub text-length : (keycap : Bool) (c : ℕ) → length (keyText keycap c) ≡ length (opening keycap) + (hexWidth c + 1)
+unfolding keyText
+text-length keycap c =
+    length-append (opening keycap) (hexDigits (hexWidth c) c ++ (0x29 ∷ []))
+    ∙ ap (λ (n : ℕ). length (opening keycap) + n)
+    (length-append (hexDigits (hexWidth c) c) (0x29 ∷ []) ∙ ap (λ (n : ℕ). n + 1) (hex-length (hexWidth c) c))
+
+pub piece-later : (j : ℕ) (t : List ℕ) → 0 < j → piece j t ≡ 0x2C ∷ t
+unfolding piece
+piece-later zero t h = absurd (not-suc-le-zero h)
+piece-later (suc j) t h = refl
+
+-- what the members from an entry on take from place j on: where the entry is a member, with the character ch, where it
+-- is not, and past the entries
+module _ (keycap : Bool) (ws cs : List ℕ) (i j : ℕ) where
+  pub keys-in : {ch : ℕ} → i < length cs → ch ≡ getD cs i 0 → member i ws ≡ true
+      → written j (keyTexts keycap ws i (drop i cs))
+      ≡ piece j (keyText keycap ch) ++ written (j + length (piece j (keyText keycap ch))) (keyTexts keycap ws (i + 1) (drop (i + 1) cs))
+  unfolding keyTexts written
+  keys-in h e m = rw (add-one, drop-cons cs i 0, m, e) refl
+
+  pub keys-out : i < length cs → member i ws ≡ false
+      → written j (keyTexts keycap ws i (drop i cs)) ≡ written j (keyTexts keycap ws (i + 1) (drop (i + 1) cs))
+  unfolding keyTexts
+  keys-out h m = rw (add-one, drop-cons cs i 0, m) refl
+
+  pub keys-done : length cs ≤ i → written j (keyTexts keycap ws i (drop i cs)) ≡ []
+  unfolding keyTexts written
+  keys-done h = rw (drop-of-length-le cs h) refl
+
+-- texts behind other texts
+pub written-append : (j : ℕ) (ts us : List (List ℕ)) → written j (ts ++ us) ≡ written j ts ++ written (j + length (written j ts)) us
+unfolding written
+written-append j [] us = ap (λ (n : ℕ). written n us) (sym (add-zero j))
+written-append j (t ∷ ts) us =
+    let p = piece j t in
+    let w = written (j + length p) ts in
+    let e : j + length p + length w ≡ j + length (p ++ w) = omega (arith, length-append p w) in
+    ap (λ (xs : List ℕ). p ++ xs) (written-append (j + length p) ts us ∙ ap (λ (n : ℕ). w ++ written n us) e)
+    ∙ sym (append-assoc p w (written (j + length (p ++ w)) us))
+
+-- behind a first text there is a comma before each
+behind : (j : ℕ) (t : List ℕ) (ts : List (List ℕ)) → 0 < j → written j (t ∷ ts) ≡ 0x2C ∷ joined (t ∷ ts)
+unfolding written joined
+behind j t [] h = rw (piece-later j t h) (ap (λ (xs : List ℕ). 0x2C ∷ xs) (append-nil t))
+behind j t (u ∷ ts) h =
+    rw (piece-later j t h) (ap (λ (xs : List ℕ). 0x2C ∷ (t ++ xs)) (behind (j + length (0x2C ∷ t)) u ts (omega arith)))
+
+-- texts of which the first is not empty, written from the front on
+pub written-joined : (t : List ℕ) (ts : List (List ℕ)) → 0 < length t → written 0 (t ∷ ts) ≡ joined (t ∷ ts)
+unfolding written joined piece
+written-joined t [] h = append-nil t
+written-joined t (u ∷ ts) h = ap (λ (xs : List ℕ). t ++ xs) (behind (0 + length t) u ts (omega arith))
+
+-- the texts of keys are not empty
+text-full : (keycap : Bool) (c : ℕ) → 0 < length (keyText keycap c)
+text-full keycap c = let e = text-length keycap c in omega arith
+
+pub written-texts : (keycap : Bool) (ws : List ℕ) (i : ℕ) (cs : List ℕ) (us : List (List ℕ)) → written 0 us ≡ joined us
+    → written 0 (keyTexts keycap ws i cs ++ us) ≡ joined (keyTexts keycap ws i cs ++ us)
+unfolding keyTexts
+written-texts keycap ws i [] us h = h
+written-texts keycap ws i (c ∷ cs) us h = go (member i ws) (written-texts keycap ws (suc i) cs us h)
+  where
+    go : (b : Bool) → written 0 (keyTexts keycap ws (suc i) cs ++ us) ≡ joined (keyTexts keycap ws (suc i) cs ++ us)
+        → written 0 (cond b (keyText keycap c ∷ keyTexts keycap ws (suc i) cs) (keyTexts keycap ws (suc i) cs) ++ us)
+        ≡ joined (cond b (keyText keycap c ∷ keyTexts keycap ws (suc i) cs) (keyTexts keycap ws (suc i) cs) ++ us)
+    go true e = written-joined (keyText keycap c) (keyTexts keycap ws (suc i) cs ++ us) (text-full keycap c)
+    go false e = e

@@ -1,0 +1,91 @@
+-- Each word so far is made of the two words at its place; the law `word-wise` carries that to the entries.
+use mathlib.Core.Path.{_≡_}
+use Prim.Native.Nat.{ℕ, _-_, _<_, _≤_}
+use native.Mathlib.Omega.{arith}
+use lib.ListN.{getD, length, length-set}
+use Rattle.policy_key_set.specs.Sets.{entryCount, keeps}
+use Rattle.policy_key_set.proofs.Entries.{all-words, allWords, entry-count}
+use Rattle.policy_key_set.proofs.Members.{Combined, set-more, word-wise}
+use Rattle.policy_key_set.proofs.char_set.combine.Statement.{statement}
+use Rattle.policy_key_set.proofs.char_set.combine.Tie as tie
+
+abbrev Inv-loop : tie.InvT-loop
+Inv-loop op x y used z₀ i₀ z i =
+    (i ≤ 6) × (length z ≡ 6) × ((k : ℕ) → k < i → Combined (keeps op) (getD used k 0) (getD x k 0) (getD y k 0) (getD z k 0))
+
+abbrev μ-loop : tie.MeasureT-loop
+μ-loop op x y used z₀ i₀ z i = 6 - i
+
+loop-holds : tie.Need-loop-holds Inv-loop μ-loop
+loop-holds c = (omega arith, omega arith, (λ k h. absurd (omega arith)))
+
+mul-combine-words : tie.Need-mul-combine-words Inv-loop μ-loop
+mul-combine-words c = omega arith
+
+array-read-combine-words : tie.Need-array-read-combine-words Inv-loop μ-loop
+array-read-combine-words c = omega arith
+
+mul-combine-words-2 : tie.Need-mul-combine-words-2 Inv-loop μ-loop
+mul-combine-words-2 c = omega arith
+
+array-read-combine-words-2 : tie.Need-array-read-combine-words-2 Inv-loop μ-loop
+array-read-combine-words-2 c = omega arith
+
+mul-combine-words-3 : tie.Need-mul-combine-words-3 Inv-loop μ-loop
+mul-combine-words-3 c = omega arith
+
+array-read-combine-words-3 : tie.Need-array-read-combine-words-3 Inv-loop μ-loop
+array-read-combine-words-3 c = omega arith
+
+combine-words-requires : tie.Need-combine-words-requires Inv-loop μ-loop
+combine-words-requires c κs = omega arith
+
+mul-z : tie.Need-mul-z Inv-loop μ-loop
+mul-z c = omega arith
+
+array-write-z : tie.Need-array-write-z Inv-loop μ-loop
+array-write-z c = omega arith
+
+add-i : tie.Need-add-i Inv-loop μ-loop
+add-i c = omega arith
+
+loop-less : tie.Need-loop-less Inv-loop μ-loop
+loop-less c = omega arith
+
+loop-again : tie.Need-loop-again Inv-loop μ-loop
+loop-again c =
+    let l = c .before .before .loop in
+    let a = c .before .before .before .before .before .args in (
+      omega arith,
+      simp length-set (omega arith),
+      set-more (λ (k w : ℕ). Combined (keeps (a .op)) (getD allWords k 0) (getD (a .a .bits) k 0) (getD (a .b .bits) k 0) w) (l .z) (l .i)
+          (c .combine-words .result) (omega arith) (l .inv .2) (c .combine-words .ensures),
+    )
+
+returns : tie.Need-returns Inv-loop μ-loop
+returns c =
+    let a = c .before .before .before .before .args in
+    let l = c .before .loop in
+    word-wise (keeps (a .op)) entryCount allWords (a .a .bits) (a .b .bits) (l .z) all-words (omega (arith, entry-count))
+    (λ k h. l .inv .2 k (omega arith))
+
+pub combine-spec : {M : Type 1} → statement M
+combine-spec =
+    tie.close
+    (tie.spec
+    Inv-loop
+    μ-loop
+    loop-holds
+    mul-combine-words
+    array-read-combine-words
+    mul-combine-words-2
+    array-read-combine-words-2
+    mul-combine-words-3
+    array-read-combine-words-3
+    combine-words-requires
+    mul-z
+    array-write-z
+    add-i
+    loop-less
+    loop-again
+    returns)

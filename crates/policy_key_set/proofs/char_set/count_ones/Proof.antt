@@ -1,0 +1,11 @@
+-- The count of ones is the count of the places that have one.
+use lib.Count.{ones-le}
+use Rattle.policy_key_set.proofs.Sizes.{ones-count}
+use Rattle.policy_key_set.proofs.char_set.count_ones.Statement.{statement}
+use Rattle.policy_key_set.proofs.char_set.count_ones.Tie as tie
+
+returns : tie.Need-returns
+returns c = (ones-count 64 (c .args .w) (c .fits .w .fits), ones-le 64 (c .args .w) (c .fits .w .fits))
+
+pub count-ones-spec : {M : Type 1} → statement M
+count-ones-spec = tie.close (tie.spec returns)

@@ -1,0 +1,100 @@
+-- The loop writes the keys from its entry on at its place.
+use mathlib.Core.Path.{sym, ap, _∙_}
+use mathlib.Core.Logic.{⊎-elim}
+use Prim.Native.Nat.{ℕ, _+_, _-_, _<_, _≤_}
+use native.Mathlib.Omega.{arith}
+use lib.ListN.{drop, length}
+use Rattle.unicode.specs.UnicodeData.{variationEntries}
+use Rattle.policy_key_set.specs.Display.{keyText, keyTexts, piece, written}
+use Rattle.policy_key_set.proofs.Contains.{contains-place}
+use Rattle.policy_key_set.proofs.Entries.{entries-length}
+use Rattle.policy_key_set.proofs.Texts.{keys-done, keys-in, keys-out}
+use Rattle.base.proofs.Writer.{Writing, begin, finish, moved, pass, put, room}
+use Rattle.policy_key_set.proofs.display.put_keys.Statement.{statement}
+use Rattle.policy_key_set.proofs.display.put_keys.Tie as tie
+
+abbrev Inv-loop : tie.InvT-loop
+Inv-loop out₀ start keycap set at₀ i₀ out at i =
+    (i ≤ 354)
+    × Writing (written start (keyTexts keycap (set .bits) 0 variationEntries)) start out₀
+    (written at (keyTexts keycap (set .bits) i (drop i variationEntries))) out at
+
+abbrev μ-loop : tie.MeasureT-loop
+μ-loop out₀ start keycap set at₀ i₀ out at i = 354 - i
+
+loop-holds : tie.Need-loop-holds Inv-loop μ-loop
+loop-holds c = (omega arith, begin _ _ _ (c .before .pre))
+
+entry-requires : tie.Need-entry-requires Inv-loop μ-loop
+entry-requires c κs = omega arith
+
+contains-requires : tie.Need-contains-requires Inv-loop μ-loop
+contains-requires c κs = omega arith
+
+put-key-requires : tie.Need-put-key-requires Inv-loop μ-loop
+put-key-requires c κs =
+    let l = c .before .before .before .before .before .loop in
+    let a = c .before .before .before .before .before .before .before .args in
+    let e = c .before .before .before .entry in
+    let m = contains-place (a .set .bits) (l .i) (omega arith) (e .ensures) (c .before .before .contains .ensures) in
+    room _ _ _ _ (piece (l .at) (keyText (a .keycap) (e .result))) _ (l .inv .1)
+    (keys-in (a .keycap) (a .set .bits) variationEntries (l .i) (l .at) (omega (arith, entries-length)) (e .ensures) (m ∙ c .before .if1 .taken))
+
+add-i : tie.Need-add-i Inv-loop μ-loop
+add-i c = omega arith
+
+loop-less : tie.Need-loop-less Inv-loop μ-loop
+loop-less c = omega arith
+
+loop-again : tie.Need-loop-again Inv-loop μ-loop
+loop-again c =
+    let l = c .before .before .before .before .loop in
+    let a = c .before .before .before .before .before .before .args in
+    let all = written (a .start) (keyTexts (a .keycap) (a .set .bits) 0 variationEntries) in
+    let e = c .before .before .entry in
+    let h : l .i < length variationEntries = omega (arith, entries-length) in
+    let m = contains-place (a .set .bits) (l .i) (omega arith) (e .ensures) (c .before .contains .ensures) in
+    let texts = keyTexts (a .keycap) (a .set .bits) (l .i + 1) (drop (l .i + 1) variationEntries) in
+    ⊎-elim
+    (λ w.
+    let k = w .2 .ensures in (
+      omega arith,
+      moved all (a .start) (a .out .now) _ (w .5) (w .6)
+          (pass all (a .start) (a .out .now) _ _
+          (put all (a .start) (a .out .now) _ _ (l .inv .1) k
+          (keys-in (a .keycap) (a .set .bits) variationEntries (l .i) (l .at) h (e .ensures) (m ∙ w .0 .taken)))
+          (ap (λ (n : ℕ). written n texts) (sym (w .6 ∙ k .ends)))),
+    ))
+    (λ w. (
+      omega arith,
+      moved all (a .start) (a .out .now) _ (w .1) (w .2)
+          (pass all (a .start) (a .out .now) _ _ (l .inv .1)
+          (keys-out (a .keycap) (a .set .bits) variationEntries (l .i) (l .at) h (m ∙ w .0 .left)
+          ∙ ap (λ (n : ℕ). written n texts) (sym (w .2)))),
+    ))
+    (c .if1 .came)
+
+same-length : tie.Need-same-length Inv-loop μ-loop
+same-length c = c .before .loop .inv .1 .same
+
+returns : tie.Need-returns Inv-loop μ-loop
+returns c =
+    let l = c .before .loop in
+    let a = c .before .before .before .args in
+    finish _ _ _ _ (l .inv .1) (keys-done (a .keycap) (a .set .bits) variationEntries (l .i) (l .at) (omega (arith, entries-length)))
+
+pub put-keys-spec : {M : Type 1} → statement M
+put-keys-spec =
+    tie.close
+    (tie.spec
+    Inv-loop
+    μ-loop
+    loop-holds
+    entry-requires
+    contains-requires
+    put-key-requires
+    add-i
+    loop-less
+    loop-again
+    same-length
+    returns)

@@ -1,0 +1,57 @@
+-- The measured length is that of the list; the two domains are written one behind the other.
+use mathlib.Core.Path.{_≡_, _∙_, sym}
+use native.Mathlib.Omega.{arith}
+use Rattle.policy_key_set.specs.Display.{keyList}
+use Rattle.policy_key_set.proofs.Buffers.{list-length, list-put}
+use Rattle.base.proofs.Output.{too-short, wrote}
+use borrow.Author.Needs.{needs}
+use Rattle.policy_key_set.proofs.display.show_keys.Statement.{statement}
+use Rattle.policy_key_set.proofs.display.show_keys.Tie as tie
+
+keys-end-requires : tie.Need-keys-end-requires
+keys-end-requires c κs = omega arith
+
+keys-end-requires-2 : tie.Need-keys-end-requires-2
+keys-end-requires-2 c κs = omega arith
+
+put-keys-requires : tie.Need-put-keys-requires
+put-keys-requires c κs = omega arith
+
+put-keys-requires-2 : tie.Need-put-keys-requires-2
+put-keys-requires-2 c κs =
+    let x = c .before .before .before in
+    let k = x .before .before .before .before in
+    let e : x .put-keys .result ≡ k .keys-end .result = x .put-keys .ensures .ends ∙ sym (k .keys-end .ensures .0) in
+    rw e (omega arith)
+
+same-length : tie.Need-same-length
+same-length c = search needs
+
+returns : tie.Need-returns
+returns c =
+    let y = c .before .before in
+    let x = y .before .before .before .before in
+    let l = x .before .before .before in
+    let k = l .before in
+    let s = k .before .before .before .before .args .set in
+    wrote (list-length s (k .keys-end .ensures .0) (l .keys-end2 .ensures .0)) (x .before .before .if1 .taken)
+    (list-put s (x .put-keys .ensures) (y .put-keys2 .ensures))
+
+returns-2 : tie.Need-returns-2
+returns-2 c =
+    let l = c .before in
+    let k = l .before in
+    let s = k .before .before .before .before .args .set in
+    too-short (keyList s) (list-length s (k .keys-end .ensures .0) (l .keys-end2 .ensures .0)) (c .if1 .left)
+
+pub show-keys-spec : {M : Type 1} → statement M
+show-keys-spec =
+    tie.close
+    (tie.spec
+    keys-end-requires
+    keys-end-requires-2
+    put-keys-requires
+    put-keys-requires-2
+    same-length
+    returns
+    returns-2)

@@ -1,0 +1,100 @@
+-- Sets of variation entries as words of 64 bits: document 01, "Key set and policy". `Holds` says what a set
+-- holds, and every operation's contract cites it.
+use mathlib.Core.Path.{_≡_}
+use mathlib.Core.Bool.{Bool, true, false, Bool·beq, _&&_, _||_, not}
+use mathlib.Core.List.{List}
+use Prim.Native.Nat.{ℕ, zero, suc, _+_, _/_, _%_, _^_}
+use lib.Dec.{eqb, ltb}
+use lib.ListN.{getD, length}
+use Rattle.unicode.specs.Unicode.{variationSequenceIndex}
+use Rattle.unicode.specs.UnicodeData.{variationEntries}
+use Rattle.unicode.specs.declared.VariationSequenceIndex.{VariationSequenceIndex}
+use Rattle.unicode.specs.declared.VariationSequenceIndex.the-variants as Index
+use Rattle.policy_key_set.specs.declared.char_set.CharSet.{CharSet}
+use Rattle.policy_key_set.specs.declared.char_set.SetOperation.{SetOperation}
+use Rattle.policy_key_set.specs.declared.char_set.SetOperation.the-variants.{
+  Difference,
+  Intersection,
+  SymmetricDifference,
+  Union,
+}
+
+-- bit k of a word
+unfoldable pub one : ℕ → ℕ → Bool
+one k w = eqb (w / 2 ^ k % 2) 1
+
+-- "entry i at bit i mod 64 of word i/64"; past the words there is no member
+unfoldable pub member : ℕ → List ℕ → Bool
+member i ws = one (i % 64) (getD ws (i / 64) 0)
+
+-- "V variation entries"
+unfoldable pub entryCount : ℕ
+entryCount = length variationEntries
+
+-- the words hold the entries below n that pass a test, and no other bit is one
+abbrev pub HoldsBelow : ℕ → (ℕ → Bool) → List ℕ → Type 0
+HoldsBelow n p ws = (i : ℕ) → member i ws ≡ (ltb i n && p i)
+
+-- the words hold the variation entries that pass a test, and "unused bits" are 0
+abbrev pub Holds : (ℕ → Bool) → List ℕ → Type 0
+Holds p ws = HoldsBelow entryCount p ws
+
+-- the entries that are characters of a kind
+abbrev pub HoldsChars : (ℕ → Bool) → List ℕ → Type 0
+HoldsChars p ws = Holds (λ (i : ℕ). p (getD variationEntries i 0)) ws
+
+-- in the first and not in the second
+abbrev pub butNot : Bool → Bool → Bool
+butNot x y = x && not y
+
+-- in just one of the two
+abbrev pub differ : Bool → Bool → Bool
+differ x y = not (Bool·beq x y)
+
+-- whether an operation keeps an entry, of whether it is in each of two sets
+abbrev pub keeps : SetOperation → Bool → Bool → Bool
+keeps Union = _||_
+keeps Intersection = _&&_
+keeps SymmetricDifference = differ
+keeps Difference = butNot
+
+-- "Union, intersection, difference and complement take whole sets and give a new one": entry by entry
+abbrev pub MadeBy : (Bool → Bool → Bool) → CharSet → CharSet → CharSet → Type 0
+MadeBy f a b r = Holds (λ (i : ℕ). f (member i (a .bits)) (member i (b .bits))) (r .bits)
+
+-- a test counts 1 where it passes
+abbrev pub number : Bool → ℕ
+number true = 1
+number false = 0
+
+-- how many of the numbers below n pass a test
+unfoldable pub countBelow : ℕ → (ℕ → Bool) → ℕ
+countBelow zero p = 0
+countBelow (suc n) p = countBelow n p + number (p n)
+
+-- the sum of a function's values below n
+unfoldable pub sumBelow : ℕ → (ℕ → ℕ) → ℕ
+sumBelow zero f = 0
+sumBelow (suc n) f = sumBelow n f + f n
+
+-- "The size of a set is the number of its one bits after that", the unused bits being cleared
+unfoldable pub sizeOf : List ℕ → ℕ
+sizeOf ws = countBelow entryCount (λ (i : ℕ). member i ws)
+
+-- each number below n passes a test
+unfoldable pub allBelow : ℕ → (ℕ → Bool) → Bool
+allBelow zero p = true
+allBelow (suc n) p = p n && allBelow n p
+
+-- two sets hold the same entries
+unfoldable pub sameEntries : List ℕ → List ℕ → Bool
+sameEntries ws vs = allBelow entryCount (λ (i : ℕ). Bool·beq (member i ws) (member i vs))
+
+-- whether a set holds the entry at a character's index
+unfoldable pub memberAt : VariationSequenceIndex → List ℕ → Bool
+memberAt (Index.At i) ws = member i ws
+memberAt Index.NoEntry ws = false
+
+-- whether a set holds a character: `CharSet::contains` of policy_key_set.rs
+unfoldable pub contains : ℕ → List ℕ → Bool
+contains ch ws = memberAt (variationSequenceIndex ch) ws

@@ -1,0 +1,172 @@
+// Sets of variation entries by value: `CharSet` of policy_key_set.rs of the crate evfmt; document 01, "Key set
+// and policy". What a set holds is `Holds` of specs/Sets.antt, which also says that the unused bits are 0; a one
+// among them in a set handed in is cleared first. The four operations on two sets are one loop over the words.
+ghost use mathlib.Core.Path.{_≡_};
+ghost use mathlib.Core.Bool.{_&&_, _||_, true, false};
+ghost use Prim.Native.Nat.{ℕ, _<_, _≤_};
+ghost use lib.Dec.{eqb};
+ghost use Rattle.policy_key_set.specs.Sets.{
+  butNot,
+  contains,
+  countBelow,
+  differ,
+  Holds,
+  HoldsChars,
+  keeps,
+  MadeBy,
+  one,
+  sameEntries,
+  sizeOf,
+};
+use crate::named_sets::ALL_BITS;
+use crate::named_sets::CHARSET_WORDS;
+use unicode::VariationSequenceIndex;
+
+pub struct CharSet {
+    pub bits: [u64; CHARSET_WORDS],
+}
+
+// An operation on two sets.
+pub enum SetOperation {
+    Union,
+    Intersection,
+    SymmetricDifference,
+    Difference,
+}
+
+// One word of an operation's result: of the used bits, those that it keeps.
+fn combine_words(op: SetOperation, x: u64, y: u64, used: u64) -> u64
+    ensures { λ r. ⌜ ((k : ℕ) → k < 64 → one k r ≡ (one k used && keeps op (one k x) (one k y))) ⌝ }
+{
+    match op {
+        SetOperation::Union => used & (x | y),
+        SetOperation::Intersection => used & (x & y),
+        SetOperation::SymmetricDifference => used & (x ^ y),
+        SetOperation::Difference => used & (x & !y),
+    }
+}
+
+// An operation, word by word.
+fn combine(op: SetOperation, a: CharSet, b: CharSet) -> CharSet
+    ensures { λ r. ⌜ MadeBy (keeps op) a b r ⌝ }
+{
+    let x = a.bits;
+    let y = b.bits;
+    let used = ALL_BITS;
+    let mut z = [0u64; CHARSET_WORDS];
+    let mut i = 0;
+    while i < CHARSET_WORDS {
+        z[i] = combine_words(op, x[i], y[i], used[i]);
+        i += 1;
+    }
+    CharSet { bits: z }
+}
+
+// The number of ones of a word.
+fn count_ones(w: u64) -> u32
+    ensures { λ r. ⌜ (r ≡ countBelow 64 (λ (k : ℕ). one k w)) × (r ≤ 64) ⌝ }
+{
+    u64::count_ones(w)
+}
+
+// The word with one bit set.
+fn bit(k: usize) -> u64
+    requires { ⌜ k < 64 ⌝ }
+    ensures { λ r. ⌜ ((j : ℕ) → one j r ≡ eqb j k) ⌝ }
+{
+    1u64 << k
+}
+
+// Whether a bit of a word is one.
+fn has_bit(w: u64, k: usize) -> bool
+    requires { ⌜ k < 64 ⌝ }
+    ensures { λ r. ⌜ r ≡ one k w ⌝ }
+{
+    (w >> k) % 2 == 1
+}
+
+impl CharSet {
+    pub fn all() -> Self
+        ensures { λ r. ⌜ Holds (λ (i : ℕ). true) (r .bits) ⌝ }
+    {
+        Self { bits: ALL_BITS }
+    }
+
+    pub fn none() -> Self
+        ensures { λ r. ⌜ Holds (λ (i : ℕ). false) (r .bits) ⌝ }
+    {
+        Self {
+            bits: [0; CHARSET_WORDS],
+        }
+    }
+
+    // The set of one character, or no character where it is no variation entry.
+    pub fn singleton(ch: u32) -> Self
+        ensures { λ r. ⌜ HoldsChars (λ (c : ℕ). eqb c ch) (r .bits) ⌝ }
+    {
+        let mut z = [0u64; CHARSET_WORDS];
+        match unicode::variation_sequence_index(ch) {
+            VariationSequenceIndex::At(index) => {
+                z[index / 64] = bit(index % 64);
+                CharSet { bits: z }
+            }
+            VariationSequenceIndex::NoEntry => CharSet { bits: z },
+        }
+    }
+
+    pub fn contains(self, ch: u32) -> bool
+        ensures { λ r. ⌜ r ≡ contains ch (self .bits) ⌝ }
+    {
+        let words = self.bits;
+        match unicode::variation_sequence_index(ch) {
+            VariationSequenceIndex::At(index) => has_bit(words[index / 64], index % 64),
+            VariationSequenceIndex::NoEntry => false,
+        }
+    }
+
+    pub fn bitor(self, rhs: Self) -> Self
+        ensures { λ r. ⌜ MadeBy _||_ self rhs r ⌝ }
+    {
+        combine(SetOperation::Union, self, rhs)
+    }
+
+    pub fn bitand(self, rhs: Self) -> Self
+        ensures { λ r. ⌜ MadeBy _&&_ self rhs r ⌝ }
+    {
+        combine(SetOperation::Intersection, self, rhs)
+    }
+
+    pub fn bitxor(self, rhs: Self) -> Self
+        ensures { λ r. ⌜ MadeBy differ self rhs r ⌝ }
+    {
+        combine(SetOperation::SymmetricDifference, self, rhs)
+    }
+
+    pub fn sub(self, rhs: Self) -> Self
+        ensures { λ r. ⌜ MadeBy butNot self rhs r ⌝ }
+    {
+        combine(SetOperation::Difference, self, rhs)
+    }
+
+    // The number of entries in the set.
+    pub fn size(self) -> u32
+        ensures { λ r. ⌜ r ≡ sizeOf (self .bits) ⌝ }
+    {
+        let cleared = CharSet::bitand(self, CharSet::all());
+        let words = cleared.bits;
+        let mut n: u32 = 0;
+        let mut i = 0;
+        while i < CHARSET_WORDS {
+            n += count_ones(words[i]);
+            i += 1;
+        }
+        n
+    }
+
+    // Whether two sets hold the same entries: no entry is in just one of them.
+    pub fn eq(self, rhs: Self) -> bool
+        ensures { λ r. ⌜ r ≡ sameEntries (self .bits) (rhs .bits) ⌝ }
+    {
+        CharSet::size(CharSet::bitxor(self, rhs)) == 0
+    }
+}

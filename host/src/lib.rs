@@ -1,0 +1,173 @@
+//! The answers of the crate evfmt, for the port to be compared with.
+//!
+//! Each part of the stored answers is a module with a function `answers`, listed in [`PARTS`]; the program
+//! `stored-answers` prints a part. This file has what the parts share: a line of fields, the words of a key
+//! set, and pseudo-random numbers from a fixed seed, so that a part is the same text at every run.
+
+#![forbid(unsafe_code)]
+#![warn(missing_docs)]
+
+use std::fmt::{Display, Write};
+
+use evfmt::PolicyKeySet;
+use evfmt::internals::VARIATION_ENTRIES;
+
+pub mod policy;
+
+/// A part of the stored answers.
+pub struct Part {
+    /// What `stored-answers` is asked for.
+    pub name: &'static str,
+    /// Makes the text.
+    pub answers: fn() -> String,
+}
+
+/// The parts of the stored answers.
+pub const PARTS: [Part; 1] = [Part {
+    name: "policy",
+    answers: policy::answers,
+}];
+
+/// A record: a keyword and fields, each after one blank.
+pub struct Record(String);
+
+impl Record {
+    /// A record with its keyword alone.
+    #[must_use]
+    pub fn new(keyword: &str) -> Self {
+        Self(keyword.to_owned())
+    }
+
+    /// Adds a name.
+    #[must_use]
+    pub fn name(self, name: &str) -> Self {
+        self.field(name)
+    }
+
+    /// Adds a number in three decimal digits.
+    #[must_use]
+    pub fn number(self, number: usize) -> Self {
+        self.field(format_args!("{number:03}"))
+    }
+
+    /// Adds a digit.
+    #[must_use]
+    pub fn digit(self, digit: u8) -> Self {
+        self.field(digit)
+    }
+
+    /// Adds a truth value: 0 or 1.
+    #[must_use]
+    pub fn truth(self, truth: bool) -> Self {
+        self.digit(truth.into())
+    }
+
+    /// Adds a code point in six hexadecimal digits.
+    #[must_use]
+    pub fn code_point(self, character: char) -> Self {
+        self.field(format_args!("{:06X}", u32::from(character)))
+    }
+
+    /// Adds words in sixteen hexadecimal digits each.
+    #[must_use]
+    pub fn words(self, words: &[u64]) -> Self {
+        words.iter().fold(self, |record, word| {
+            record.field(format_args!("{word:016X}"))
+        })
+    }
+
+    /// Adds the words of a key set and its two sizes.
+    #[must_use]
+    pub fn key_set(self, set: &PolicyKeySet) -> Self {
+        let [ordinary, keycap] = sizes(set);
+        self.words(&words(set)).number(ordinary).number(keycap)
+    }
+
+    /// Adds a text, two hexadecimal digits a byte.
+    #[must_use]
+    pub fn text(self, text: &str) -> Self {
+        let bytes = text.bytes().map(|byte| format!("{byte:02X}"));
+        self.field(bytes.collect::<String>())
+    }
+
+    /// Ends the record as a line of `out`.
+    pub fn end(self, out: &mut String) {
+        out.push_str(&self.0);
+        out.push('\n');
+    }
+
+    fn field(mut self, field: impl Display) -> Self {
+        // Writing to a string does not fail.
+        let _ = write!(self.0, " {field}");
+        self
+    }
+}
+
+/// The words of a key set: the ordinary ones, then the keycap ones. The member with number i of
+/// `VARIATION_ENTRIES` is at bit i mod 64 of word i/64.
+#[must_use]
+pub fn words(set: &PolicyKeySet) -> Vec<u64> {
+    let ordinary = character_words(|entry| set.contains(entry));
+    let keycap = character_words(|entry| set.contains_keycap(entry));
+    [ordinary, keycap].concat()
+}
+
+/// The words of the entries with a property.
+fn character_words(has: impl Fn(char) -> bool) -> Vec<u64> {
+    let bits = |entries: &[char]| {
+        (0..)
+            .zip(entries)
+            .map(|(bit, &entry)| u64::from(has(entry)) << bit)
+            .sum()
+    };
+    VARIATION_ENTRIES.chunks(64).map(bits).collect()
+}
+
+/// The numbers of ordinary and of keycap members of a key set.
+#[must_use]
+pub fn sizes(set: &PolicyKeySet) -> [usize; 2] {
+    let count = |has: &dyn Fn(char) -> bool| VARIATION_ENTRIES.iter().filter(|&&e| has(e)).count();
+    [
+        count(&|entry| set.contains(entry)),
+        count(&|entry| set.contains_keycap(entry)),
+    ]
+}
+
+/// Pseudo-random numbers: the generator SplitMix64, from a fixed seed.
+pub struct Random(u64);
+
+impl Random {
+    /// The seed of every part: the letters TILGHORZ.
+    const SEED: u64 = 0x5449_4C47_484F_525A;
+
+    /// A generator at its start.
+    #[must_use]
+    pub const fn new() -> Self {
+        Self(Self::SEED)
+    }
+
+    /// The next 64 bits.
+    pub const fn bits(&mut self) -> u64 {
+        self.0 = self.0.wrapping_add(0x9E37_79B9_7F4A_7C15);
+        let mixed = (self.0 ^ (self.0 >> 30)).wrapping_mul(0xBF58_476D_1CE4_E5B9);
+        let mixed = (mixed ^ (mixed >> 27)).wrapping_mul(0x94D0_49BB_1331_11EB);
+        mixed ^ (mixed >> 31)
+    }
+
+    /// True or false, each as likely.
+    pub const fn coin(&mut self) -> bool {
+        self.bits() & 1 == 1
+    }
+
+    /// An element of a list that is not empty.
+    pub fn element<T: Copy>(&mut self, list: &[T]) -> T {
+        let length = list.len() as u64;
+        list[(self.bits() % length) as usize]
+    }
+}
+
+impl Default for Random {
+    fn default() -> Self {
+        Self::new()
+    }
+}

@@ -1,0 +1,32 @@
+"""Tests of unused_imports.py."""
+
+import unittest
+
+import unused_imports
+
+
+class Cleaned(unittest.TestCase):
+    def test_names_operators_and_modules(self):
+        text = (
+            "-- ap stands in a comment only\n"
+            "use a.B.{_≡_, refl, ap, cond}\n"
+            "use a.C.{\n  Longer,\n  Other,\n}\n"
+            "use a.D as D\n"
+            "use a.E as E\n"
+            "use a.F.{gone}\n"
+            "\nx : D.T ≡ Longer\nx = refl\n"
+        )
+        made, unused = unused_imports.cleaned(text)
+        self.assertEqual(sorted(unused), ["E", "Other", "ap", "cond", "gone"])
+        self.assertIn("use a.B.{_≡_, refl}\n", made)
+        self.assertIn("use a.C.{Longer}\n", made)
+        self.assertIn("use a.D as D\n", made)
+        self.assertNotIn("a.F", made)
+
+    def test_names_in_brackets_and_escapes(self):
+        made, unused = unused_imports.cleaned("use a.B.{f, g, «x_y»}\n\nh = (f) .«x_y» [g]\n")
+        self.assertEqual(unused, [])
+
+
+if __name__ == "__main__":
+    unittest.main()

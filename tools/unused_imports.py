@@ -1,0 +1,79 @@
+#!/usr/bin/env python3
+"""Finds names that an antt or Rattle file imports for its statements and proofs and does not use.
+
+    tools/unused_imports.py            fail, with a line for each, if there are any
+    tools/unused_imports.py --remove   take them out of the files
+"""
+
+import pathlib
+import re
+import sys
+
+ROOT = pathlib.Path(__file__).resolve().parent.parent
+USE = re.compile(r"^(?P<head>(?:ghost )?use \S+?\.)\{(?P<names>[^}]*)\}(?P<tail>;?)\n", re.M)
+AS = re.compile(r"^(?:ghost )?use \S+ as (?P<name>\S+?);?\n", re.M)
+
+
+def tokens(text):
+    """The words of a text: what stands between blanks, brackets, commas, semicolons and dots."""
+    found = set(re.split(r"[\s(){},;.⌜⌝⟦⟧]+", text))
+    return found | {token.strip("«»") for token in found}
+
+
+def parts(name):
+    """What a use of the name shows: the name, or the signs of an operator."""
+    own = name.split(" as ")[-1].strip()
+    signs = [sign for sign in own.split("_") if sign] if own.startswith("_") or own.endswith("_") else []
+    return [own] + ([" ".join(signs)] if len(signs) == 1 else [])
+
+
+def cleaned(text):
+    """The text without what it imports in vain, and the names of that."""
+    body = re.sub(r"^\s*(?:--|//).*$", "", AS.sub("", USE.sub("", text)), flags=re.M)
+    used = tokens(body) | tokens(re.sub(r"[()\[\]]", " ", body))
+    unused = []
+
+    def keep(match):
+        names = [name.strip() for name in match["names"].split(",") if name.strip()]
+        kept = [name for name in names if any(part in used for part in parts(name))]
+        unused.extend(name for name in names if name not in kept)
+        if kept == names:
+            return match[0]
+        return f"{match['head']}{{{', '.join(kept)}}}{match['tail']}\n" if kept else ""
+
+    text = USE.sub(keep, text)
+
+    def keep_module(match):
+        if match["name"] in used:
+            return match[0]
+        unused.append(match["name"])
+        return ""
+
+    return AS.sub(keep_module, text), unused
+
+
+def main(arguments):
+    if arguments not in ([], ["--remove"]):
+        print(__doc__, file=sys.stderr)
+        return 2
+    status = 0
+    for path in sorted([*ROOT.glob("crates/*/specs/**/*.antt"), *ROOT.glob("crates/*/proofs/**/*.antt"), *ROOT.glob("crates/*/src/**/*.rt")]):
+        text = path.read_text(encoding="utf-8")
+        if path.suffix == ".rt":
+            ghost = re.sub(r"^use .*\n", "", text, flags=re.M)
+            _, unused = cleaned(ghost)
+            made = text
+            for name in unused:
+                made = re.sub(rf"(?<=[{{ ,]){re.escape(name)}(?:, |(?=\}}))", "", made, count=1)
+        else:
+            made, unused = cleaned(text)
+        if unused and arguments:
+            path.write_text(made, encoding="utf-8")
+        elif unused:
+            print(f"{path.relative_to(ROOT)}: imported and not used: {', '.join(unused)}", file=sys.stderr)
+            status = 1
+    return status
+
+
+if __name__ == "__main__":
+    sys.exit(main(sys.argv[1:]))
