@@ -203,6 +203,15 @@ pub fn char_width(ch: u32) -> usize
     4
 }
 
+// A byte, and behind it the tail with the lowest six bits of a number.
+fn put_pair(first: u32, ch: u32, out: &mut [u8], at: usize)
+    requires { ⌜ (first ≤ 0xFF) × (at + 2 ≤ length (now out)) ⌝ }
+    ensures { λ _. ⌜ now (out .exit) ≡ sets (now (out .entry)) at (first ∷ (0x80 + ch % 64) ∷ []) ⌝ }
+{
+    out[at] = first as u8;
+    out[at + 1] = (0x80 + ch % 64) as u8;
+}
+
 // The stores of one, two, three and four bytes (RFC 3629, section 3).
 fn put_1(ch: u32, out: &mut [u8], at: usize)
     requires { ⌜ (ch ≤ 0x7F) × (at + 1 ≤ length (now out)) ⌝ }
@@ -215,8 +224,7 @@ fn put_2(ch: u32, out: &mut [u8], at: usize)
     requires { ⌜ (ch ≤ 0x7FF) × (at + 2 ≤ length (now out)) ⌝ }
     ensures { λ _. ⌜ now (out .exit) ≡ sets (now (out .entry)) at ((0xC0 + ch / 64) ∷ (0x80 + ch % 64) ∷ []) ⌝ }
 {
-    out[at] = (0xC0 + ch / 64) as u8;
-    out[at + 1] = (0x80 + ch % 64) as u8;
+    put_pair(0xC0 + ch / 64, ch, out, at);
 }
 
 fn put_3(ch: u32, out: &mut [u8], at: usize)
@@ -224,18 +232,15 @@ fn put_3(ch: u32, out: &mut [u8], at: usize)
     ensures { λ _. ⌜ now (out .exit) ≡ sets (now (out .entry)) at ((0xE0 + ch / 4096) ∷ (0x80 + ch / 64 % 64) ∷ (0x80 + ch % 64) ∷ []) ⌝ }
 {
     out[at] = (0xE0 + ch / 4096) as u8;
-    out[at + 1] = (0x80 + ch / 64 % 64) as u8;
-    out[at + 2] = (0x80 + ch % 64) as u8;
+    put_pair(0x80 + ch / 64 % 64, ch, out, at + 1);
 }
 
 fn put_4(ch: u32, out: &mut [u8], at: usize)
     requires { ⌜ (ch ≤ 0x10FFFF) × (at + 4 ≤ length (now out)) ⌝ }
     ensures { λ _. ⌜ now (out .exit) ≡ sets (now (out .entry)) at ((0xF0 + ch / 262144) ∷ (0x80 + ch / 4096 % 64) ∷ (0x80 + ch / 64 % 64) ∷ (0x80 + ch % 64) ∷ []) ⌝ }
 {
-    out[at] = (0xF0 + ch / 262144) as u8;
-    out[at + 1] = (0x80 + ch / 4096 % 64) as u8;
-    out[at + 2] = (0x80 + ch / 64 % 64) as u8;
-    out[at + 3] = (0x80 + ch % 64) as u8;
+    put_pair(0xF0 + ch / 262144, ch / 4096, out, at);
+    put_pair(0x80 + ch / 64 % 64, ch, out, at + 2);
 }
 
 // Writes the bytes of a character, for which there is room.

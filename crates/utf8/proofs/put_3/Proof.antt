@@ -1,7 +1,11 @@
--- `utf8::put_3` meets its contract: three stores are `sets` of three bytes.
-use native.Mathlib.Numerals.{unary-clauses}
-use lib.ListN.{length-set}
+-- `utf8::put_3` meets its contract: a byte, and a pair behind it.
+use mathlib.Core.Path.{ap, _∙_}
+use mathlib.Core.List.{[], _∷_}
+use Prim.Native.Nat.{ℕ, _+_, _/_, _%_}
+use native.Mathlib.Numerals.{add-one}
 use native.Mathlib.Omega.{arith}
+use lib.ListN.{length, length-set, set}
+use lib.Seq.{length-sets, sets}
 use borrow.Author.Needs.{needs}
 use Rattle.utf8.proofs.put_3.Statement.{statement}
 use Rattle.utf8.proofs.put_3.Tie as tie
@@ -15,35 +19,26 @@ cast-out c = search needs
 slice-write-out : tie.Need-slice-write-out
 slice-write-out c = search needs
 
-add-out-2 : tie.Need-add-out-2
-add-out-2 c = search needs
+add-put-pair : tie.Need-add-put-pair
+add-put-pair c = search needs
 
-cast-out-2 : tie.Need-cast-out-2
-cast-out-2 c = search needs
+add-put-pair-2 : tie.Need-add-put-pair-2
+add-put-pair-2 c = search needs
 
-add-out-3 : tie.Need-add-out-3
-add-out-3 c = search needs
-
-slice-write-out-2 : tie.Need-slice-write-out-2
-slice-write-out-2 c = simp length-set (omega arith)
-
-add-out-4 : tie.Need-add-out-4
-add-out-4 c = search needs
-
-cast-out-3 : tie.Need-cast-out-3
-cast-out-3 c = search needs
-
-add-out-5 : tie.Need-add-out-5
-add-out-5 c = search needs
-
-slice-write-out-3 : tie.Need-slice-write-out-3
-slice-write-out-3 c = simp length-set (omega arith)
+put-pair-requires : tie.Need-put-pair-requires
+put-pair-requires c κs = (omega arith, simp length-set (omega arith))
 
 same-length : tie.Need-same-length
-same-length c = search needs
+same-length c =
+    let x = c .before .before .before .before .before .args in
+    ap length (c .before .before .put-pair .ensures) ∙ simp (length-sets, length-set)
 
 returns : tie.Need-returns
-returns c = simp unary-clauses
+returns c =
+    let x = c .before .before .before .before .before .args in
+    let lead = 0xE0 + x .ch / 4096 in
+    let pair = (0x80 + x .ch / 64 % 64) ∷ (0x80 + x .ch % 64) ∷ [] in
+    c .before .before .put-pair .ensures ∙ ap (λ (n : ℕ). sets (set (x .out .now) (x .at) lead) n pair) (add-one (x .at))
 
 pub put-3-spec : {M : Type 1} → statement M
 put-3-spec =
@@ -52,13 +47,8 @@ put-3-spec =
     add-out
     cast-out
     slice-write-out
-    add-out-2
-    cast-out-2
-    add-out-3
-    slice-write-out-2
-    add-out-4
-    cast-out-3
-    add-out-5
-    slice-write-out-3
+    add-put-pair
+    add-put-pair-2
+    put-pair-requires
     same-length
     returns)

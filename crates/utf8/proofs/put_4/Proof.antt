@@ -1,80 +1,47 @@
--- `utf8::put_4` meets its contract: four stores are `sets` of four bytes.
-use native.Mathlib.Numerals.{unary-clauses}
-use lib.ListN.{length-set}
-use native.Mathlib.Omega.{arith}
+-- `utf8::put_4` meets its contract: two pairs.
+use mathlib.Core.Path.{ap, sym, _∙_}
+use mathlib.Core.List.{List, [], _∷_}
+use Prim.Native.Nat.{ℕ, _+_, _/_, _%_}
+use lib.Seq.{sets}
+use Rattle.base.proofs.Writer.{sets-append}
 use borrow.Author.Needs.{needs}
 use Rattle.utf8.proofs.put_4.Statement.{statement}
 use Rattle.utf8.proofs.put_4.Tie as tie
 
-add-out : tie.Need-add-out
-add-out c = search needs
+add-put-pair : tie.Need-add-put-pair
+add-put-pair c = search needs
 
-cast-out : tie.Need-cast-out
-cast-out c = search needs
+put-pair-requires : tie.Need-put-pair-requires
+put-pair-requires c κs = search needs
 
-slice-write-out : tie.Need-slice-write-out
-slice-write-out c = search needs
+add-put-pair-2 : tie.Need-add-put-pair-2
+add-put-pair-2 c = search needs
 
-add-out-2 : tie.Need-add-out-2
-add-out-2 c = search needs
+add-put-pair-3 : tie.Need-add-put-pair-3
+add-put-pair-3 c = search needs
 
-cast-out-2 : tie.Need-cast-out-2
-cast-out-2 c = search needs
-
-add-out-3 : tie.Need-add-out-3
-add-out-3 c = search needs
-
-slice-write-out-2 : tie.Need-slice-write-out-2
-slice-write-out-2 c = simp length-set (omega arith)
-
-add-out-4 : tie.Need-add-out-4
-add-out-4 c = search needs
-
-cast-out-3 : tie.Need-cast-out-3
-cast-out-3 c = search needs
-
-add-out-5 : tie.Need-add-out-5
-add-out-5 c = search needs
-
-slice-write-out-3 : tie.Need-slice-write-out-3
-slice-write-out-3 c = simp length-set (omega arith)
-
-add-out-6 : tie.Need-add-out-6
-add-out-6 c = search needs
-
-cast-out-4 : tie.Need-cast-out-4
-cast-out-4 c = search needs
-
-add-out-7 : tie.Need-add-out-7
-add-out-7 c = search needs
-
-slice-write-out-4 : tie.Need-slice-write-out-4
-slice-write-out-4 c = simp length-set (omega arith)
+put-pair-requires-2 : tie.Need-put-pair-requires-2
+put-pair-requires-2 c κs = search needs
 
 same-length : tie.Need-same-length
 same-length c = search needs
 
 returns : tie.Need-returns
-returns c = simp unary-clauses
+returns c =
+    let x = c .before .before .before .before .before .before .before .before .before .args in
+    let first = (0xF0 + x .ch / 262144) ∷ (0x80 + x .ch / 4096 % 64) ∷ [] in
+    let second = (0x80 + x .ch / 64 % 64) ∷ (0x80 + x .ch % 64) ∷ [] in
+    c .before .before .put-pair2 .ensures ∙ ap (λ (o : List ℕ). sets o (x .at + 2) second) (c .before .before .before .before .before .before .put-pair .ensures)
+    ∙ sym (sets-append (x .out .now) (x .at) first second)
 
 pub put-4-spec : {M : Type 1} → statement M
 put-4-spec =
     tie.close
     (tie.spec
-    add-out
-    cast-out
-    slice-write-out
-    add-out-2
-    cast-out-2
-    add-out-3
-    slice-write-out-2
-    add-out-4
-    cast-out-3
-    add-out-5
-    slice-write-out-3
-    add-out-6
-    cast-out-4
-    add-out-7
-    slice-write-out-4
+    add-put-pair
+    put-pair-requires
+    add-put-pair-2
+    add-put-pair-3
+    put-pair-requires-2
     same-length
     returns)

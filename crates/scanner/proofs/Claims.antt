@@ -1,0 +1,217 @@
+-- The proof of each statement of specs/Theorems.antt.
+use mathlib.Core.Path.{_≡_, refl, ap, sym, _∙_, subst}
+use mathlib.Core.Logic.{_↔_, inr, ⊎-elim}
+use mathlib.Core.Bool.{true}
+use mathlib.Core.List.{List, [], _∷_, _++_, getLastD, head-eq-of-cons-eq, List·Memᴰ}
+use Prim.Native.Nat.{ℕ, _+_}
+use native.Mathlib.Nat.{zero-add}
+use lib.ListN.{drop, drop-of-length-le}
+use Rattle.utf8.specs.Rfc3629.{encode, encodeAll, readChar, readFour, foldChars, foldStep, chars, utf8-1, utf8-2, utf8-3, utf8-4, validUpTo}
+use Rattle.utf8.proofs.Folds.{chars-end}
+use Rattle.utf8.proofs.Fronts.{readChar-nil}
+use Rattle.utf8.proofs.Grammar.{well-formed-whole}
+use Rattle.unicode.specs.Presentation.{isSelector}
+use Rattle.unicode.specs.Tables.{inRanges, member}
+use Rattle.unicode.specs.Unicode.{isEmoji, isEmojiModifier, isRi, isTag}
+use Rattle.unicode.specs.UnicodeData.{emojiModifiers, emojiRanges, riRanges}
+use Rattle.scanner.specs.Classes.{classOf}
+use Rattle.scanner.specs.Grammar.{Derives}
+use Rattle.scanner.specs.Items.{Item, begin, cut, items, kindOf, step}
+use Rattle.scanner.specs.Runs.{behindRun, linkAt, run, selectorsAt}
+use Rattle.scanner.specs.Structure.{
+  behindSecondRi,
+  cutAtLinks,
+  emojiLike,
+  joinOne,
+  joinedOf,
+  modificationsOf,
+  riStem,
+  sequenceOf,
+  structure,
+  tagToModifications,
+  tagToRuns,
+  toModifications,
+}
+use Rattle.scanner.specs.Spans.{firstOf, scan, scanAt, scanFrom, spans, width}
+use Rattle.scanner.specs.Tags.{allComplete, complete, tagModifications, tagRuns, tagsComplete, withTags}
+use Rattle.scanner.specs.Theorems.{
+  CursorAtItemEnd,
+  CursorAtStart,
+  CursorEnds,
+  CursorInsideCharacter,
+  CursorPastEnd,
+  FirstItemByRuns,
+  ItemAlone,
+  ItemsAfresh,
+  ItemsAreAReading,
+  ItemsTile,
+  NoItemIsEmpty,
+  OnlyReading,
+  RestByRuns,
+  RunsAreDerived,
+  SelectorsMoveNothing,
+  SpansAfresh,
+  SpansCover,
+  SpansSpellItems,
+  SpansTile,
+  SpansTileFrom,
+  StructureFlattens,
+  StructureIsDerived,
+  Structured,
+  TagsAreInStructure,
+  TagsCompleteMeans,
+  Tiles,
+  WorkedItems,
+  WorkedStructure,
+  WorkedTags,
+}
+use Rattle.scanner.specs.declared.ScanKind.{ScanKind}
+use Rattle.scanner.specs.declared.ScanStep.the-variants.{End}
+use Rattle.scanner.proofs.Bytes.{chars-inside}
+use Rattle.scanner.proofs.Complete.{Ends, all-complete-means}
+use Rattle.scanner.proofs.EmojiRuns.{unit-item}
+use Rattle.scanner.proofs.RestRuns.{unit-ends, unit-joins, unit-left}
+use Rattle.scanner.proofs.ItemRuns.{item-links, item-passthrough, item-selectors}
+use Rattle.scanner.proofs.RunLaws.{
+  link-derived,
+  links-derived,
+  modification-derived,
+  modifications-derived,
+  selectors-derived,
+  stem-derived,
+  unit-derived,
+}
+use Rattle.scanner.proofs.Runs.{Stops, at-char, at-end}
+use Rattle.scanner.proofs.Spans.{scan-behind, scan-spells, scan-tiles}
+use Rattle.scanner.proofs.Tiling.{afresh, never-empty, tiling}
+use Rattle.scanner.proofs.Reading.{derive-inner, derives-alike, item-alone, item-derives, only-reading, reading}
+use Rattle.scanner.proofs.Structure.{StructureRead, emoji-headed-read, links-only-read}
+
+pub items-tile : ItemsTile
+unfolding ItemsTile
+items-tile = tiling
+
+pub no-item-is-empty : NoItemIsEmpty
+unfolding NoItemIsEmpty
+no-item-is-empty = never-empty
+
+pub items-are-a-reading : ItemsAreAReading
+unfolding ItemsAreAReading
+items-are-a-reading = reading
+
+pub no-other-reading : OnlyReading
+unfolding OnlyReading
+no-other-reading = only-reading
+
+pub items-afresh : ItemsAfresh
+unfolding ItemsAfresh
+items-afresh = afresh
+
+pub item-is-alone : ItemAlone
+unfolding ItemAlone
+item-is-alone = item-alone
+
+pub selectors-move-nothing : SelectorsMoveNothing
+unfolding SelectorsMoveNothing
+selectors-move-nothing k c s t o e d = derives-alike c s t (derive-inner c s o d) e d
+
+pub runs-are-derived : RunsAreDerived
+unfolding RunsAreDerived
+runs-are-derived = (selectors-derived, modification-derived, modifications-derived, stem-derived, unit-derived, link-derived, links-derived)
+
+pub first-item-by-runs : FirstItemByRuns
+unfolding FirstItemByRuns items
+first-item-by-runs c t x xs e =
+    let f : x .chars ≡ c ∷ (cut (begin (classOf c)) t) .0 = ap (λ (i : Item). i .chars) (sym (head-eq-of-cons-eq e)) in
+    (λ s. f ∙ item-selectors c t s, λ l. f ∙ item-links c t l, λ m. f ∙ unit-item c t m .item, λ p. f ∙ item-passthrough c t p)
+
+pub rest-by-runs : RestByRuns
+unfolding RestByRuns linkAt
+rest-by-runs = (
+  λ c t e f. unit-ends (at-char e) (at-char f),
+  λ t c u e f. ap (λ (a : List ℕ × List Item). a .0) (unit-joins t c u e f) ∙ ap (λ (l : List ℕ). 0x200D ∷ (selectorsAt t ++ l)) (unit-item c u f .item),
+  λ t e. unit-left t (subst (Stops isEmoji) (sym e) at-end),
+  λ t c u e f. unit-left t (subst (Stops isEmoji) (sym e) (at-char f)),
+)
+
+pub spans-tile-from : SpansTileFrom
+unfolding SpansTileFrom
+spans-tile-from = scan-tiles
+
+pub spans-tile : SpansTile
+unfolding SpansTile scan
+spans-tile text = subst (Tiles 0 (scanFrom text 0)) (zero-add (validUpTo text)) (scan-tiles text 0)
+
+pub spans-cover : SpansCover
+unfolding SpansCover SpansTile
+spans-cover text w = subst (Tiles 0 (scan text)) (well-formed-whole w) (spans-tile text)
+
+pub spans-spell-items : SpansSpellItems
+unfolding SpansSpellItems scan
+spans-spell-items text = scan-spells text 0
+
+pub spans-afresh : SpansAfresh
+unfolding SpansAfresh scan
+spans-afresh text before behind x e = scan-behind text 0 before x behind e
+
+pub cursor-at-start : CursorAtStart
+unfolding CursorAtStart scanAt scan
+cursor-at-start text = refl
+
+pub cursor-at-item-end : CursorAtItemEnd
+unfolding CursorAtItemEnd scanAt scan
+cursor-at-item-end text before behind x e = ap firstOf (scan-behind text 0 before x behind e)
+
+pub cursor-ends : CursorEnds
+unfolding CursorEnds scanAt scanFrom spans items firstOf
+cursor-ends text at = (go (chars (drop at text)), λ e. ap (λ (t : List ℕ). firstOf (spans at (items t))) e)
+  where
+    go : (t : List ℕ) → firstOf (spans at (items t)) ≡ End → t ≡ []
+    go [] e = refl
+    go (c ∷ t) e = cc
+
+pub cursor-past-end : CursorPastEnd
+unfolding CursorPastEnd CursorEnds
+cursor-past-end text at h = cursor-ends text at .1 (ap chars (drop-of-length-le text h) ∙ chars-end [] readChar-nil)
+
+pub cursor-inside-character : CursorInsideCharacter
+unfolding CursorInsideCharacter CursorEnds
+cursor-inside-character text at v w k e p q = cursor-ends text (at + k) .1 (chars-inside text at v w k e p q)
+
+-- The structure of an item of links or units.
+item-structure : (t : List ℕ) (x : Item) → List·Memᴰ x (items t) → Structured (x .kind) → StructureRead (x .chars)
+item-structure t x m k =
+    ⊎-elim (λ e. links-only-read (subst (λ (i : ScanKind). Derives i (x .chars)) e (item-derives t x m)))
+    (λ e. emoji-headed-read (subst (λ (i : ScanKind). Derives i (x .chars)) e (item-derives t x m))) k
+
+pub structure-flattens : StructureFlattens
+unfolding StructureFlattens
+structure-flattens t x m k = item-structure t x m k .flat
+
+pub structure-is-derived : StructureIsDerived
+unfolding StructureIsDerived
+structure-is-derived t x m k = item-structure t x m k .derives
+
+pub tags-are-in-structure : TagsAreInStructure
+unfolding TagsAreInStructure
+tags-are-in-structure t x m k = item-structure t x m k .tags
+
+pub tags-complete-means : TagsCompleteMeans
+unfolding TagsCompleteMeans tagsComplete
+tags-complete-means t x m k =
+    subst (λ (l : List (List ℕ)). (tagsComplete (x .kind) (x .chars) ≡ true) ↔ ((ts : List ℕ) → List·Memᴰ ts l → Ends ts))
+    (item-structure t x m (inr k) .tags)
+    (subst (λ (i : ScanKind). (tagsComplete i (x .chars) ≡ true) ↔ ((ts : List ℕ) → List·Memᴰ ts (tagModifications (x .chars)) → Ends ts)) (sym k)
+    (all-complete-means (tagModifications (x .chars))))
+
+pub worked-items : WorkedItems
+unfolding WorkedItems classOf isSelector isTag isRi isEmojiModifier isEmoji inRanges member emojiModifiers emojiRanges riRanges step begin kindOf cut items utf8-1 utf8-2 utf8-3 utf8-4 readFour readChar foldStep foldChars chars encode encodeAll width spans scanFrom scan tagsComplete tagModifications tagRuns withTags allComplete
+worked-items = (refl, refl, refl, refl, refl, refl, refl, refl, refl)
+
+pub worked-tags : WorkedTags
+unfolding WorkedTags classOf isSelector isTag isRi isEmojiModifier isEmoji inRanges member emojiModifiers emojiRanges riRanges step begin kindOf cut items utf8-1 utf8-2 utf8-3 utf8-4 readFour readChar foldStep foldChars chars encode encodeAll width spans scanFrom scan tagsComplete tagModifications tagRuns withTags allComplete complete getLastD
+worked-tags = (refl, refl, refl, refl, refl)
+
+pub worked-structure : WorkedStructure
+unfolding WorkedStructure classOf isSelector isTag isRi isEmojiModifier isEmoji inRanges member emojiModifiers emojiRanges riRanges run behindRun tagToRuns tagToModifications toModifications modificationsOf riStem behindSecondRi emojiLike cutAtLinks joinOne joinedOf sequenceOf structure
+worked-structure = refl

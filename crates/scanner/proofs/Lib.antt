@@ -1,0 +1,22 @@
+-- The laws of the items, and the theorems.
+pub mod Classes
+pub mod Tiling
+pub mod Places
+pub mod Walk
+pub mod DerivedWalks
+pub mod WalksDerive
+pub mod Reading
+pub mod Rescan
+pub mod Bytes
+pub mod Spans
+pub mod Runs
+pub mod Modifications
+pub mod Units
+pub mod Tags
+pub mod Structure
+pub mod Complete
+pub mod ItemRuns
+pub mod EmojiRuns
+pub mod RestRuns
+pub mod RunLaws
+pub mod Claims

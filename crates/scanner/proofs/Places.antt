@@ -1,0 +1,225 @@
+-- Facts of all places and classes, each by one computed test: which steps keep to passthrough, and where selectors are taken in.
+use mathlib.Core.Path.{_≡_, refl, sym, subst}
+use mathlib.Core.Bool.{Bool, true, false, _&&_, Bool·beq, false≢true, true≢false}
+use mathlib.Core.Option.{Option, none, some}
+use lib.Dec.{T}
+use Rattle.base.proofs.Tests.{both-true}
+use Rattle.scanner.specs.Classes.{Class, selector, link, ri, modifier, emoji, keycap, tag, other}
+use Rattle.scanner.specs.Items.{Place, plain, selectors, links, oneRi, unit, joined, leftOver, step, begin, kindOf}
+use Rattle.scanner.specs.declared.ScanKind.the-variants.{EmojiHeaded, LinksOnly, Passthrough, UnsanctionedPresentationSelectors}
+
+-- ---- a fact of all places and classes is one computed test
+
+abbrev pub Row : (Class → Bool) → Type 0
+Row f = T (f selector) × T (f link) × T (f ri) × T (f modifier) × T (f emoji) × T (f keycap) × T (f tag) × T (f other)
+
+abbrev pub Every : (Place → Class → Bool) → Type 0
+Every f = Row (f plain) × Row (f selectors) × Row (f links) × Row (f oneRi) × Row (f unit) × Row (f joined) × Row (f leftOver)
+
+pub row-of : (f : Class → Bool) → Row f → (k : Class) → T (f k)
+row-of f e selector = e .0
+row-of f e link = e .1
+row-of f e ri = e .2
+row-of f e modifier = e .3
+row-of f e emoji = e .4
+row-of f e keycap = e .5
+row-of f e tag = e .6
+row-of f e other = e .7
+
+pub everywhere : (f : Place → Class → Bool) → Every f → (p : Place) (k : Class) → T (f p k)
+everywhere f e plain = row-of (f plain) (e .0)
+everywhere f e selectors = row-of (f selectors) (e .1)
+everywhere f e links = row-of (f links) (e .2)
+everywhere f e oneRi = row-of (f oneRi) (e .3)
+everywhere f e unit = row-of (f unit) (e .4)
+everywhere f e joined = row-of (f joined) (e .5)
+everywhere f e leftOver = row-of (f leftOver) (e .6)
+
+-- The proof of such a test.
+abbrev pub always : Every (λ p k. true)
+always = let r : Row (λ k. true) = (tt, tt, tt, tt, tt, tt, tt, tt) in (r, r, r, r, r, r, r)
+
+pub same-bool : (a b : Bool) → T (Bool·beq a b) → a ≡ b
+same-bool true true e = refl
+same-bool true false e = absurd e
+same-bool false true e = absurd e
+same-bool false false e = refl
+
+pub is-true : (b : Bool) → T b → b ≡ true
+is-true true h = refl
+is-true false h = absurd h
+
+-- A test of the place that a step leads to.
+abbrev pub onSome : (Place → Bool) → Option Place → Bool
+onSome f (some q) = f q
+onSome f none = true
+
+abbrev pub onStep : (Place → Place → Bool) → Place → Class → Bool
+onStep f p k = onSome (f p) (step p k)
+
+pub on-step : (f : Place → Place → Bool) → Every (onStep f) → (p q : Place) (k : Class) → step p k ≡ some q → T (f p q)
+on-step f h p q k e = subst (λ (o : Option Place). T (onSome (f p) o)) e (everywhere (onStep f) h p k)
+
+-- ---- passthrough
+
+abbrev pub isPlain : Place → Bool
+isPlain plain = true
+isPlain selectors = false
+isPlain links = false
+isPlain oneRi = false
+isPlain unit = false
+isPlain joined = false
+isPlain leftOver = false
+
+pub same-side : (p q : Place) (k : Class) → step p k ≡ some q → isPlain p ≡ isPlain q
+unfolding step
+same-side p q k e = same-bool (isPlain p) (isPlain q) (on-step (λ p q. Bool·beq (isPlain p) (isPlain q)) always p q k e)
+
+pub is-plain : (p : Place) → isPlain p ≡ true → p ≡ plain
+is-plain plain e = refl
+is-plain selectors e = absurd (false≢true e)
+is-plain links e = absurd (false≢true e)
+is-plain oneRi e = absurd (false≢true e)
+is-plain unit e = absurd (false≢true e)
+is-plain joined e = absurd (false≢true e)
+is-plain leftOver e = absurd (false≢true e)
+
+pub kind-plain : (p : Place) → isPlain p ≡ true → kindOf p ≡ Passthrough
+unfolding kindOf
+kind-plain p e = subst (λ (q : Place). kindOf q ≡ Passthrough) (sym (is-plain p e)) refl
+
+-- Passthrough goes on with what would begin as passthrough.
+plainOn : Class → Place → Bool
+plainOn k q = isPlain q && isPlain (begin k)
+
+pub plain-step : (k : Class) (q : Place) → step plain k ≡ some q → (q ≡ plain) × (begin k ≡ plain)
+unfolding step begin plainOn
+plain-step k q e =
+    let t : T (plainOn k q) = subst (λ (o : Option Place). T (onSome (plainOn k) o)) e (row-of (λ k. onSome (plainOn k) (step plain k)) (tt, tt, tt, tt, tt, tt, tt, tt) k) in
+    let b = both-true (isPlain q) (isPlain (begin k)) (is-true (plainOn k q) t) in
+    (is-plain q (b .0), is-plain (begin k) (b .1))
+
+-- ---- where selectors are taken in: inside links and units
+
+abbrev pub inner : Place → Bool
+inner plain = false
+inner selectors = false
+inner links = true
+inner oneRi = true
+inner unit = true
+inner joined = true
+inner leftOver = true
+
+pub inner-step : (p q : Place) (k : Class) → step p k ≡ some q → inner p ≡ inner q
+unfolding step
+inner-step p q k e = same-bool (inner p) (inner q) (on-step (λ p q. Bool·beq (inner p) (inner q)) always p q k e)
+
+-- A selector moves no place that is not passthrough.
+pub solid-selector : (p : Place) → isPlain p ≡ false → step p selector ≡ some p
+unfolding step
+solid-selector plain e = absurd (true≢false e)
+solid-selector selectors e = refl
+solid-selector links e = refl
+solid-selector oneRi e = refl
+solid-selector unit e = refl
+solid-selector joined e = refl
+solid-selector leftOver e = refl
+
+pub inner-selector : (p : Place) → inner p ≡ true → step p selector ≡ some p
+unfolding step
+inner-selector plain e = absurd (false≢true e)
+inner-selector selectors e = absurd (false≢true e)
+inner-selector links e = refl
+inner-selector oneRi e = refl
+inner-selector unit e = refl
+inner-selector joined e = refl
+inner-selector leftOver e = refl
+
+-- Only behind passthrough, or at the start, a selector begins an item.
+pub selector-ends : (p : Place) → step p selector ≡ none → p ≡ plain
+unfolding step
+selector-ends plain e = refl
+selector-ends selectors e = cc
+selector-ends links e = cc
+selector-ends oneRi e = cc
+selector-ends unit e = cc
+selector-ends joined e = cc
+selector-ends leftOver e = cc
+
+pub inner-solid : (p : Place) → inner p ≡ true → isPlain p ≡ false
+inner-solid plain e = absurd (false≢true e)
+inner-solid selectors e = refl
+inner-solid links e = refl
+inner-solid oneRi e = refl
+inner-solid unit e = refl
+inner-solid joined e = refl
+inner-solid leftOver e = refl
+
+-- A run of selectors goes on with a selector only.
+pub selectors-step : (k : Class) (q : Place) → step selectors k ≡ some q → (k ≡ selector) × (q ≡ selectors)
+unfolding step
+selectors-step selector q e = (refl, cc)
+selectors-step link q e = (cc, cc)
+selectors-step ri q e = (cc, cc)
+selectors-step modifier q e = (cc, cc)
+selectors-step emoji q e = (cc, cc)
+selectors-step keycap q e = (cc, cc)
+selectors-step tag q e = (cc, cc)
+selectors-step other q e = (cc, cc)
+
+-- A base stands in a unit whose stem is whole.
+pub emoji-step : (p q : Place) → step p emoji ≡ some q → q ≡ unit
+unfolding step
+emoji-step plain r e = cc
+emoji-step selectors r e = cc
+emoji-step links r e = cc
+emoji-step oneRi r e = cc
+emoji-step unit r e = cc
+emoji-step joined r e = cc
+emoji-step leftOver r e = cc
+
+-- ---- the kind of an item by its first class
+
+pub kind-passthrough : (k : Class) → kindOf (begin k) ≡ Passthrough → begin k ≡ plain
+unfolding kindOf begin
+kind-passthrough selector e = cc
+kind-passthrough link e = cc
+kind-passthrough ri e = cc
+kind-passthrough modifier e = cc
+kind-passthrough emoji e = cc
+kind-passthrough keycap e = refl
+kind-passthrough tag e = refl
+kind-passthrough other e = refl
+
+pub kind-selector : (k : Class) → kindOf (begin k) ≡ UnsanctionedPresentationSelectors → k ≡ selector
+unfolding kindOf begin
+kind-selector selector e = refl
+kind-selector link e = cc
+kind-selector ri e = cc
+kind-selector modifier e = cc
+kind-selector emoji e = cc
+kind-selector keycap e = cc
+kind-selector tag e = cc
+kind-selector other e = cc
+
+pub kind-links : (k : Class) → kindOf (begin k) ≡ LinksOnly → inner (begin k) ≡ true
+unfolding kindOf begin
+kind-links selector e = cc
+kind-links link e = refl
+kind-links ri e = refl
+kind-links modifier e = refl
+kind-links emoji e = refl
+kind-links keycap e = cc
+kind-links tag e = cc
+kind-links other e = cc
+
+pub kind-emoji : (k : Class) → kindOf (begin k) ≡ EmojiHeaded → inner (begin k) ≡ true
+unfolding kindOf begin
+kind-emoji selector e = cc
+kind-emoji link e = refl
+kind-emoji ri e = refl
+kind-emoji modifier e = refl
+kind-emoji emoji e = refl
+kind-emoji keycap e = cc
+kind-emoji tag e = cc
+kind-emoji other e = cc

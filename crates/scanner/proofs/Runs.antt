@@ -1,0 +1,85 @@
+-- The longest run at the front: what it and what is left behind it are, in front of any text.
+use mathlib.Core.Path.{_≡_, refl, ap, _∙_}
+use mathlib.Core.Bool.{Bool, true, false, cond}
+use mathlib.Core.List.{List, [], _∷_, _++_}
+use Prim.Native.Nat.{ℕ}
+use Rattle.unicode.specs.Presentation.{isSelector}
+use Rattle.scanner.specs.Grammar.{S, no-selectors, selector-and}
+use Rattle.scanner.specs.Runs.{run, behindRun}
+
+module _ (f : ℕ → Bool) where
+  -- All characters pass the test.
+  pub data Passes : List ℕ → Type 0 where
+    all-pass : Passes []
+    pass-and : {c : ℕ} {s : List ℕ} → f c ≡ true → Passes s → Passes (c ∷ s)
+
+  -- No character that passes the test stands at the front.
+  pub data Stops : List ℕ → Type 0 where
+    at-end : Stops []
+    at-char : {c : ℕ} {s : List ℕ} → f c ≡ false → Stops (c ∷ s)
+
+  pub run-true : (c : ℕ) (t : List ℕ) → f c ≡ true → run f (c ∷ t) ≡ c ∷ run f t
+  unfolding run
+  run-true c t e = ap (λ (b : Bool). cond b (c ∷ run f t) []) e
+
+  pub run-false : (c : ℕ) (t : List ℕ) → f c ≡ false → run f (c ∷ t) ≡ []
+  unfolding run
+  run-false c t e = ap (λ (b : Bool). cond b (c ∷ run f t) []) e
+
+  pub behind-true : (c : ℕ) (t : List ℕ) → f c ≡ true → behindRun f (c ∷ t) ≡ behindRun f t
+  unfolding behindRun
+  behind-true c t e = ap (λ (b : Bool). cond b (behindRun f t) (c ∷ t)) e
+
+  pub behind-false : (c : ℕ) (t : List ℕ) → f c ≡ false → behindRun f (c ∷ t) ≡ c ∷ t
+  unfolding behindRun
+  behind-false c t e = ap (λ (b : Bool). cond b (behindRun f t) (c ∷ t)) e
+
+  pub run-all : {s t : List ℕ} → Passes s → Stops t → run f (s ++ t) ≡ s
+  unfolding run
+  run-all all-pass at-end = refl
+  run-all all-pass (at-char {c = c} {s = s} e) = run-false c s e
+  run-all {t = t} (pass-and {c = c} {s = s} e h) p = run-true c (s ++ t) e ∙ ap (λ (l : List ℕ). c ∷ l) (run-all h p)
+
+  pub behind-all : {s t : List ℕ} → Passes s → Stops t → behindRun f (s ++ t) ≡ t
+  unfolding behindRun
+  behind-all all-pass at-end = refl
+  behind-all all-pass (at-char {c = c} {s = s} e) = behind-false c s e
+  behind-all {t = t} (pass-and {c = c} {s = s} e h) p = behind-true c (s ++ t) e ∙ behind-all h p
+
+  -- The run is a beginning of the text, all of it passes, and behind it stands nothing that does.
+  pub run-behind : (t : List ℕ) → run f t ++ behindRun f t ≡ t
+  unfolding run behindRun
+  run-behind [] = refl
+  run-behind (c ∷ t) = go (f c) (run-behind t)
+    where
+      go : (b : Bool) → run f t ++ behindRun f t ≡ t → cond b (c ∷ run f t) [] ++ cond b (behindRun f t) (c ∷ t) ≡ c ∷ t
+      go true h = ap (λ (l : List ℕ). c ∷ l) h
+      go false h = refl
+
+  pub run-passes : (t : List ℕ) → Passes (run f t)
+  unfolding run
+  run-passes [] = all-pass
+  run-passes (c ∷ t) = go (f c) refl (run-passes t)
+    where
+      go : (b : Bool) → f c ≡ b → Passes (run f t) → Passes (cond b (c ∷ run f t) [])
+      go true e h = pass-and e h
+      go false e h = all-pass
+
+  pub behind-stops : (t : List ℕ) → Stops (behindRun f t)
+  unfolding behindRun
+  behind-stops [] = at-end
+  behind-stops (c ∷ t) = go (f c) refl (behind-stops t)
+    where
+      go : (b : Bool) → f c ≡ b → Stops (behindRun f t) → Stops (cond b (behindRun f t) (c ∷ t))
+      go true e h = h
+      go false e h = at-char e
+
+-- ---- S is a run of selectors
+
+pub S-passes : {s : List ℕ} → S s → Passes isSelector s
+S-passes no-selectors = all-pass
+S-passes (selector-and e h) = pass-and e (S-passes h)
+
+pub passes-S : {s : List ℕ} → Passes isSelector s → S s
+passes-S all-pass = no-selectors
+passes-S (pass-and e h) = selector-and e (passes-S h)

@@ -1,0 +1,89 @@
+-- Spans tile the bytes, spell their items, and a scan or a cursor at a span's end goes on with the spans behind it.
+use mathlib.Core.Path.{_≡_, refl, ap, sym, _∙_, subst}
+use mathlib.Core.List.{List, [], _∷_, _++_, append-nil, cons-ne-nil, head-eq-of-cons-eq, tail-eq-of-cons-eq}
+use Prim.Native.Nat.{ℕ, _+_, _-_, _≤_}
+use native.Mathlib.Omega.{arith}
+use lib.ListN.{length, take, drop}
+use Rattle.utf8.specs.Rfc3629.{chars, encodeAll, validUpTo}
+use Rattle.scanner.specs.Items.{Item, items, join}
+use Rattle.scanner.specs.Spans.{scanFrom, size, spans, width}
+use Rattle.scanner.specs.Theorems.{Spells, no-spans, span-and, Tiles}
+use Rattle.scanner.specs.declared.ScanItem.{ScanItem}
+use Rattle.scanner.proofs.Tiling.{Filled, no-item, and-item, filled, tiling, items-behind, join-append}
+use Rattle.scanner.proofs.Rescan.{size-append}
+use Rattle.scanner.proofs.Bytes.{size-width, width-some, take-chars, chars-from, size-chars}
+
+-- ---- spans tile
+
+pub spans-tile : {xs : List Item} (at : ℕ) → Filled xs → Tiles at (spans at xs) (at + size width (join xs))
+unfolding spans
+spans-tile at no-item = omega arith
+spans-tile at (and-item {x = x} {xs = xs} c s l h) =
+    let end = at + size width (x .chars) in
+    let n : 1 ≤ size width (x .chars) = let k = width-some c in omega (arith, ap (size width) l) in
+    let b : end + size width (join xs) ≡ at + size width (x .chars ++ join xs) = omega (arith, size-append width (x .chars) (join xs)) in
+    (refl, omega arith, subst (Tiles end (spans end xs)) b (spans-tile end h))
+
+pub scan-tiles : (text : List ℕ) (at : ℕ) → Tiles at (scanFrom text at) (at + validUpTo (drop at text))
+unfolding scanFrom
+scan-tiles text at =
+    let t = chars (drop at text) in
+    subst (λ (n : ℕ). Tiles at (spans at (items t)) (at + n)) (ap (size width) (tiling t) ∙ size-chars (drop at text)) (spans-tile at (filled t))
+
+-- ---- spans spell their items
+
+spans-spell : (text : List ℕ) (at : ℕ) (xs : List Item) → chars (drop at text) ≡ join xs → Spells text (spans at xs) xs
+unfolding spans
+spans-spell text at [] e = no-spans
+spans-spell text at (x ∷ xs) e =
+    let n = size width (x .chars) in
+    let d : at + n - at ≡ length (encodeAll (x .chars)) = let w = size-width (x .chars) in omega arith in
+    span-and (ap (λ (m : ℕ). take m (drop at text)) d ∙ take-chars (drop at text) (x .chars) (join xs) e) refl refl
+    (spans-spell text (at + n) xs (chars-from text at (x .chars) (join xs) e))
+
+pub scan-spells : (text : List ℕ) (at : ℕ) → Spells text (scanFrom text at) (items (chars (drop at text)))
+unfolding scanFrom
+scan-spells text at = spans-spell text at (items (chars (drop at text))) (sym (tiling (chars (drop at text))))
+
+-- ---- afresh from a span's end
+
+-- The items of the spans up to a span, and those behind it.
+record Parted (at : ℕ) (xs : List Item) (end : ℕ) (behind : List ScanItem) : Type 0 where
+  upTo : List Item
+  rest : List Item
+  whole : xs ≡ upTo ++ rest
+  ends : end ≡ at + size width (join upTo)
+  spanned : behind ≡ spans end rest
+
+part : (at : ℕ) (xs : List Item) (before : List ScanItem) (x : ScanItem) (behind : List ScanItem) → spans at xs ≡ before ++ x ∷ behind → Parted at xs (x .end) behind
+unfolding spans
+part at [] [] x behind e = absurd (cons-ne-nil x behind (sym e))
+part at [] (y ∷ before) x behind e = absurd (cons-ne-nil y (before ++ x ∷ behind) (sym e))
+part at (i ∷ xs) [] x behind e =
+    let f : x .end ≡ at + size width (i .chars) = ap (λ (s : ScanItem). s .end) (sym (head-eq-of-cons-eq e)) in
+    record {
+      upTo = i ∷ [];
+      rest = xs;
+      whole = refl;
+      ends = f ∙ ap (λ (l : List ℕ). at + size width l) (sym (append-nil (i .chars)));
+      spanned = sym (tail-eq-of-cons-eq e) ∙ ap (λ (n : ℕ). spans n xs) (sym f);
+    }
+part at (i ∷ xs) (y ∷ before) x behind e =
+    let r = part (at + size width (i .chars)) xs before x behind (tail-eq-of-cons-eq e) in
+    record {
+      upTo = i ∷ r .upTo;
+      rest = r .rest;
+      whole = ap (λ (l : List Item). i ∷ l) (r .whole);
+      ends = let f = r .ends in omega (arith, size-append width (i .chars) (join (r .upTo)));
+      spanned = r .spanned;
+    }
+
+pub scan-behind : (text : List ℕ) (at : ℕ) (before : List ScanItem) (x : ScanItem) (behind : List ScanItem)
+    → scanFrom text at ≡ before ++ x ∷ behind → scanFrom text (x .end) ≡ behind
+unfolding scanFrom
+scan-behind text at before x behind e =
+    let t = chars (drop at text) in
+    let r = part at (items t) before x behind e in
+    let c : t ≡ join (r .upTo) ++ join (r .rest) = sym (tiling t) ∙ ap join (r .whole) ∙ join-append (r .upTo) (r .rest) in
+    let d : chars (drop (x .end) text) ≡ join (r .rest) = ap (λ (n : ℕ). chars (drop n text)) (r .ends) ∙ chars-from text at (join (r .upTo)) (join (r .rest)) c in
+    ap (spans (x .end)) (ap items d ∙ items-behind t (r .upTo) (r .rest) (r .whole)) ∙ sym (r .spanned)

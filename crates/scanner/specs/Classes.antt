@@ -1,0 +1,27 @@
+-- What the scanner asks of a character: one of eight classes (document 01, "Character").
+use mathlib.Core.Bool.{cond}
+use mathlib.Core.List.{List, [], _∷_}
+use Prim.Native.Nat.{ℕ}
+use lib.Dec.{eqb}
+use Rattle.unicode.specs.Presentation.{isSelector}
+use Rattle.unicode.specs.Unicode.{isEmoji, isEmojiModifier, isRi, isTag}
+
+-- Selectors, links, regional indicators (RI), modifiers, the other emoji, 20E3, tags, and the rest.
+pub data Class : Type 0 where
+  selector link ri modifier emoji keycap tag other : Class
+
+-- The first class that fits: the tables of document 01 say which characters are emoji, RI and modifiers.
+unfoldable pub classOf : ℕ → Class
+classOf c =
+    cond (isSelector c) selector
+    (cond (eqb c 0x200D) link
+    (cond (eqb c 0x20E3) keycap
+    (cond (isTag c) tag
+    (cond (isRi c) ri
+    (cond (isEmojiModifier c) modifier
+    (cond (isEmoji c) emoji other))))))
+
+-- The characters that are no selectors.
+unfoldable pub strip : List ℕ → List ℕ
+strip [] = []
+strip (c ∷ t) = cond (isSelector c) (strip t) (c ∷ strip t)

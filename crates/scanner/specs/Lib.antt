@@ -1,0 +1,9 @@
+-- The items of a text: document 01, "Item".
+pub mod Classes
+pub mod Items
+pub mod Grammar
+pub mod Runs
+pub mod Structure
+pub mod Tags
+pub mod Spans
+pub mod Theorems

@@ -1,0 +1,97 @@
+-- The grammar's parts at the front of a text, each the longest: S, a modification, a stem, a unit, links, passthrough (document 01, "Item").
+use mathlib.Core.Bool.{Bool, cond, not, _||_}
+use mathlib.Core.List.{List, [], _∷_, _++_}
+use Prim.Native.Nat.{ℕ}
+use lib.Dec.{eqb}
+use lib.ListN.{length, drop}
+use Rattle.unicode.specs.Presentation.{isSelector}
+use Rattle.unicode.specs.Unicode.{isEmoji, isEmojiModifier, isRi, isTag}
+
+module _ (test : ℕ → Bool) where
+  -- The longest run at the front whose characters pass a test.
+  unfoldable pub run : List ℕ → List ℕ
+  run [] = []
+  run (c ∷ t) = cond (test c) (c ∷ run t) []
+
+  -- What is left behind it.
+  unfoldable pub behindRun : List ℕ → List ℕ
+  behindRun [] = []
+  behindRun (c ∷ t) = cond (test c) (behindRun t) (c ∷ t)
+
+-- S: the selectors at the front.
+abbrev pub selectorsAt : List ℕ → List ℕ
+selectorsAt t = run isSelector t
+
+-- What is left behind them.
+abbrev pub behindSelectors : List ℕ → List ℕ
+behindSelectors t = behindRun isSelector t
+
+-- A tag or a selector.
+abbrev pub inTags : ℕ → Bool
+inTags c = isTag c || isSelector c
+
+-- "A tag modification ends at the first character that is neither tag nor selector."
+unfoldable pub tagModificationAt : List ℕ → List ℕ
+tagModificationAt t = run inTags t
+
+-- A modification begins with a modifier, with 20E3 or with a tag.
+unfoldable pub isModification : ℕ → Bool
+isModification c = isEmojiModifier c || (eqb c 0x20E3 || isTag c)
+
+-- The modification at the front, if one begins there.
+unfoldable pub modificationAt : List ℕ → List ℕ
+modificationAt [] = []
+modificationAt (c ∷ t) = cond (isTag c) (tagModificationAt (c ∷ t)) (cond (isModification c) (c ∷ selectorsAt t) [])
+
+-- A character of modifications: one begins with it, or it is a selector.
+abbrev pub inModifications : ℕ → Bool
+inModifications c = isModification c || isSelector c
+
+-- All modifications at the front, if one begins there.
+unfoldable pub modificationsAt : List ℕ → List ℕ
+modificationsAt [] = []
+modificationsAt (c ∷ t) = cond (isModification c) (run inModifications (c ∷ t)) []
+
+-- The second RI of a flag and its S, if an RI stands there.
+unfoldable pub secondRiAt : List ℕ → List ℕ
+secondRiAt [] = []
+secondRiAt (c ∷ t) = cond (isRi c) (c ∷ selectorsAt t) []
+
+-- The stem at the front, if an emoji stands there.
+unfoldable pub stemAt : List ℕ → List ℕ
+stemAt [] = []
+stemAt (c ∷ t) = cond (isEmoji c) (c ∷ (selectorsAt t ++ cond (isRi c) (secondRiAt (behindSelectors t)) [])) []
+
+-- What is left behind the stem.
+unfoldable pub behindStem : List ℕ → List ℕ
+behindStem t = drop (length (stemAt t)) t
+
+-- The unit at the front: the stem, and the modifications behind it.
+unfoldable pub unitAt : List ℕ → List ℕ
+unitAt t = stemAt t ++ modificationsAt (behindStem t)
+
+-- What is left behind the unit.
+unfoldable pub behindUnit : List ℕ → List ℕ
+behindUnit t = drop (length (unitAt t)) t
+
+-- The link at the front, if 200D stands there.
+unfoldable pub linkAt : List ℕ → List ℕ
+linkAt [] = []
+linkAt (c ∷ t) = cond (eqb c 0x200D) (c ∷ selectorsAt t) []
+
+-- 200D or a selector.
+abbrev pub inLinks : ℕ → Bool
+inLinks c = eqb c 0x200D || isSelector c
+
+-- All links at the front, if 200D stands there.
+unfoldable pub linksAt : List ℕ → List ℕ
+linksAt [] = []
+linksAt (c ∷ t) = cond (eqb c 0x200D) (run inLinks (c ∷ t)) []
+
+-- Neither a selector nor 200D nor emoji.
+abbrev pub isPassthrough : ℕ → Bool
+isPassthrough c = not (isSelector c || (eqb c 0x200D || isEmoji c))
+
+-- "Otherwise passthrough, up to the next selector, 200D or emoji."
+unfoldable pub passthroughAt : List ℕ → List ℕ
+passthroughAt t = run isPassthrough t

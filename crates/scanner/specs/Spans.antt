@@ -1,0 +1,58 @@
+-- The items of a text by their bytes: `scan` of a text, and `scanAt`, what a cursor at a byte offset answers (document 01, "Item").
+use mathlib.Core.Bool.{Bool, cond}
+use mathlib.Core.List.{List, [], _∷_}
+use Prim.Native.Nat.{ℕ, _+_}
+use lib.ListN.{length, drop}
+use Rattle.utf8.specs.Rfc3629.{chars, encode}
+use Rattle.scanner.specs.Items.{Item, items}
+use Rattle.scanner.specs.Tags.{tagsComplete}
+use Rattle.scanner.specs.declared.ScanItem.{ScanItem}
+use Rattle.scanner.specs.declared.ScanStep.{ScanStep}
+use Rattle.scanner.specs.declared.ScanStep.the-variants as Step
+
+module _ (weight : ℕ → ℕ) where
+  -- The length of characters, each weighed by a number of its own.
+  abbrev pub size : List ℕ → ℕ
+  size [] = 0
+  size (c ∷ t) = weight c + size t
+
+-- The number of bytes of a character.
+unfoldable pub width : ℕ → ℕ
+width c = length (encode c)
+
+-- "Spans tile the text": the items one after the other, the first from the byte offset on.
+unfoldable pub spans : ℕ → List Item → List ScanItem
+spans at [] = []
+spans at (x ∷ xs) =
+    let end = at + size width (x .chars) in
+    record { start = at; end = end; kind = x .kind; «tags_complete» = tagsComplete (x .kind) (x .chars) } ∷ spans end xs
+
+-- The items of a text from a byte offset on. The text ends at the first place, from the offset on, where no well-formed character begins.
+unfoldable pub scanFrom : List ℕ → ℕ → List ScanItem
+scanFrom text at = spans at (items (chars (drop at text)))
+
+-- The items of a text.
+unfoldable pub scan : List ℕ → List ScanItem
+scan text = scanFrom text 0
+
+-- The first item of a list, or the end.
+unfoldable pub firstOf : List ScanItem → ScanStep
+firstOf [] = Step.End
+firstOf (x ∷ xs) = Step.Item x
+
+-- What a cursor at a byte offset answers: "After the last item it says end".
+unfoldable pub scanAt : List ℕ → ℕ → ScanStep
+scanAt text at = firstOf (scanFrom text at)
+
+-- An item and where it starts.
+pub record Found : Type 0 where
+  pub start : ℕ
+  pub item : Item
+
+module _ (test : Item → Bool) (weight : ℕ → ℕ) where
+  -- The items that pass a test, in text order, the first item of the list standing at the number.
+  unfoldable pub found : ℕ → List Item → List Found
+  found n [] = []
+  found n (x ∷ xs) =
+      let l = found (n + size weight (x .chars)) xs in
+      cond (test x) (record { start = n; item = x } ∷ l) l

@@ -1,0 +1,276 @@
+-- What is claimed of items and spans. Each statement is proved in proofs/Claims.antt.
+use mathlib.Core.Path.{_≡_}
+use mathlib.Core.Logic.{_≢_, _⊎_, _↔_}
+use mathlib.Core.Bool.{Bool, true, false}
+use mathlib.Core.List.{List, [], _∷_, _++_, List·Memᴰ}
+use Prim.Native.Nat.{ℕ, _+_, _-_, _≤_, _<_}
+use lib.Dec.{eqb}
+use lib.ListN.{length, take, drop}
+use Rattle.unicode.specs.Presentation.{isSelector}
+use Rattle.unicode.specs.Unicode.{isEmoji}
+use Rattle.utf8.specs.Rfc3629.{WellFormed, chars, encodeAll, readChar, validUpTo}
+use Rattle.utf8.specs.declared.ReadChar.the-variants as Read
+use Rattle.scanner.specs.Classes.{strip}
+use Rattle.scanner.specs.Items.{Item, cut, items, join, unit}
+use Rattle.scanner.specs.Runs.{
+  behindSelectors,
+  behindUnit,
+  inModifications,
+  isModification,
+  isPassthrough,
+  linkAt,
+  linksAt,
+  modificationAt,
+  modificationsAt,
+  passthroughAt,
+  selectorsAt,
+  stemAt,
+  unitAt,
+}
+use Rattle.scanner.specs.Grammar.{Derives, EmojiUnit, Link, Links, Modification, Modifications, Reads, S, Stem}
+use Rattle.scanner.specs.Structure.{
+  EmojiLike,
+  EmojiModification,
+  EmojiSequence,
+  EnclosingKeycap,
+  Flag,
+  SingletonBase,
+  TagModifier,
+  ZwjJoinedEmoji,
+  ZwjLink,
+  emojiHeaded,
+  flatten,
+  flattenLink,
+  flattenModification,
+  flattenStem,
+  linksOnly,
+  structure,
+  tagsOf,
+}
+use Rattle.scanner.specs.Tags.{tagModifications, tagsComplete}
+use Rattle.scanner.specs.Spans.{firstOf, scan, scanAt, scanFrom}
+use Rattle.scanner.specs.declared.ScanItem.{ScanItem}
+use Rattle.scanner.specs.declared.ScanKind.{ScanKind}
+use Rattle.scanner.specs.declared.ScanKind.the-variants.{EmojiHeaded, LinksOnly, Passthrough, UnsanctionedPresentationSelectors}
+use Rattle.scanner.specs.declared.ScanStep.the-variants.{End}
+
+-- ---- items
+
+-- The kinds of item that have links or units.
+abbrev pub Structured : ScanKind → Type 0
+Structured k = (k ≡ LinksOnly) ⊎ (k ≡ EmojiHeaded)
+
+-- The items' characters, joined, are the text.
+unfoldable pub ItemsTile : Type 0
+ItemsTile = (t : List ℕ) → join (items t) ≡ t
+
+-- No item is empty.
+unfoldable pub NoItemIsEmpty : Type 0
+NoItemIsEmpty = (t : List ℕ) (x : Item) → List·Memᴰ x (items t) → x .chars ≢ []
+
+-- The items are a reading of the text by document 01's grammar, with each choice the longest.
+unfoldable pub ItemsAreAReading : Type 0
+ItemsAreAReading = (t : List ℕ) → Reads t (items t)
+
+-- And there is no other reading.
+unfoldable pub OnlyReading : Type 0
+OnlyReading = (t : List ℕ) (xs : List Item) → Reads t xs → xs ≡ items t
+
+-- A scan that starts afresh at an item's end gives the remaining items.
+unfoldable pub ItemsAfresh : Type 0
+ItemsAfresh = (t : List ℕ) (xs ys : List Item) → items t ≡ xs ++ ys → items (drop (length (join xs)) t) ≡ ys
+
+-- An item is determined by its own characters: alone, they are that one item.
+unfoldable pub ItemAlone : Type 0
+ItemAlone = (t : List ℕ) (x : Item) → List·Memᴰ x (items t) → items (x .chars) ≡ x ∷ []
+
+-- Behind its first character, selectors do not make or unmake an item of links or units.
+unfoldable pub SelectorsMoveNothing : Type 0
+SelectorsMoveNothing =
+    (k : ScanKind) (c : ℕ) (s t : List ℕ) → Structured k → strip s ≡ strip t → Derives k (c ∷ s) → Derives k (c ∷ t)
+
+-- ---- items by the runs at the front of a text
+
+-- The runs at the front of a text are derived by the grammar.
+unfoldable pub RunsAreDerived : Type 0
+RunsAreDerived =
+    ((t : List ℕ) → S (selectorsAt t))
+    × ((c : ℕ) (t : List ℕ) → isModification c ≡ true → Modification (modificationAt (c ∷ t)))
+    × ((t : List ℕ) → Modifications (modificationsAt t))
+    × ((c : ℕ) (t : List ℕ) → isEmoji c ≡ true → Stem (stemAt (c ∷ t)))
+    × ((c : ℕ) (t : List ℕ) → isEmoji c ≡ true → EmojiUnit (unitAt (c ∷ t)))
+    × ((t : List ℕ) → Link (linkAt (0x200D ∷ t)))
+    × ((t : List ℕ) → Links (linksAt t))
+
+-- The first item of a text: at a selector, at 200D and otherwise it is the run there; at an emoji it is the unit there and the
+-- rest of the item behind that.
+unfoldable pub FirstItemByRuns : Type 0
+FirstItemByRuns =
+    (c : ℕ) (t : List ℕ) (x : Item) (xs : List Item) → items (c ∷ t) ≡ x ∷ xs
+    → (isSelector c ≡ true → x .chars ≡ selectorsAt (c ∷ t))
+    × (eqb c 0x200D ≡ true → x .chars ≡ linksAt (c ∷ t))
+    × (isEmoji c ≡ true → x .chars ≡ unitAt (c ∷ t) ++ (cut unit (behindUnit (c ∷ t))) .0)
+    × (isPassthrough c ≡ true → x .chars ≡ passthroughAt (c ∷ t))
+
+-- The rest of an item behind a unit: nothing where no link stands; a link and the next unit where exactly one link stands before
+-- an emoji; otherwise all links there.
+unfoldable pub RestByRuns : Type 0
+RestByRuns =
+    ((c : ℕ) (t : List ℕ) → inModifications c ≡ false → eqb c 0x200D ≡ false → (cut unit (c ∷ t)) .0 ≡ [])
+    × ((t : List ℕ) (c : ℕ) (u : List ℕ) → behindSelectors t ≡ c ∷ u → isEmoji c ≡ true
+    → (cut unit (0x200D ∷ t)) .0 ≡ linkAt (0x200D ∷ t) ++ (unitAt (c ∷ u) ++ (cut unit (behindUnit (c ∷ u))) .0))
+    × ((t : List ℕ) → behindSelectors t ≡ [] → (cut unit (0x200D ∷ t)) .0 ≡ linksAt (0x200D ∷ t))
+    × ((t : List ℕ) (c : ℕ) (u : List ℕ) → behindSelectors t ≡ c ∷ u → isEmoji c ≡ false → (cut unit (0x200D ∷ t)) .0 ≡ linksAt (0x200D ∷ t))
+
+-- ---- spans
+
+-- Spans that go from the byte a to the byte b: each starts where the one before ended, and none is empty.
+abbrev pub Tiles : ℕ → List ScanItem → ℕ → Type 0
+Tiles a [] b = a ≡ b
+Tiles a (x ∷ xs) b = (x .start ≡ a) × (x .start < x .end) × Tiles (x .end) xs b
+
+-- "Spans tile the text with no empty item": from 0 to the first place where no well-formed character begins.
+unfoldable pub SpansTile : Type 0
+SpansTile = (text : List ℕ) → Tiles 0 (scan text) (validUpTo text)
+
+-- The spans of a well-formed text cover all of it.
+unfoldable pub SpansCover : Type 0
+SpansCover = (text : List ℕ) → WellFormed text → Tiles 0 (scan text) (length text)
+
+-- From any offset on: the spans go to the first place where no well-formed character begins.
+unfoldable pub SpansTileFrom : Type 0
+SpansTileFrom = (text : List ℕ) (at : ℕ) → Tiles at (scanFrom text at) (at + validUpTo (drop at text))
+
+-- Spans that spell items: the bytes of each span are the encoding of its item's characters, and it has the item's kind and tag report.
+pub data Spells (text : List ℕ) : List ScanItem → List Item → Type 0 where
+  no-spans : Spells text [] []
+  span-and :
+      {s : ScanItem} {ss : List ScanItem} {x : Item} {xs : List Item}
+      → take (s .end - s .start) (drop (s .start) text) ≡ encodeAll (x .chars) → s .kind ≡ x .kind → s .«tags_complete» ≡ tagsComplete (x .kind) (x .chars) → Spells text ss xs
+      → Spells text (s ∷ ss) (x ∷ xs)
+
+unfoldable pub SpansSpellItems : Type 0
+SpansSpellItems = (text : List ℕ) → Spells text (scan text) (items (chars text))
+
+-- From an item's end the scan of the same text gives the items behind it.
+unfoldable pub SpansAfresh : Type 0
+SpansAfresh =
+    (text : List ℕ) (before behind : List ScanItem) (x : ScanItem)
+    → scan text ≡ before ++ x ∷ behind → scanFrom text (x .end) ≡ behind
+
+-- ---- the cursor
+
+-- At 0 a cursor answers the first item.
+unfoldable pub CursorAtStart : Type 0
+CursorAtStart = (text : List ℕ) → scanAt text 0 ≡ firstOf (scan text)
+
+-- At an item's end it answers the next item, or the end.
+unfoldable pub CursorAtItemEnd : Type 0
+CursorAtItemEnd =
+    (text : List ℕ) (before behind : List ScanItem) (x : ScanItem)
+    → scan text ≡ before ++ x ∷ behind → scanAt text (x .end) ≡ firstOf behind
+
+-- Past the end of the text it answers the end.
+unfoldable pub CursorPastEnd : Type 0
+CursorPastEnd = (text : List ℕ) (at : ℕ) → length text ≤ at → scanAt text at ≡ End
+
+-- Inside a character it answers the end.
+unfoldable pub CursorInsideCharacter : Type 0
+CursorInsideCharacter =
+    (text : List ℕ) (at v w k : ℕ) → readChar (drop at text) ≡ Read.Char v w → 0 < k → k < w → scanAt text (at + k) ≡ End
+
+-- It answers the end exactly where no well-formed character begins.
+unfoldable pub CursorEnds : Type 0
+CursorEnds = (text : List ℕ) (at : ℕ) → (scanAt text at ≡ End) ↔ (chars (drop at text) ≡ [])
+
+-- ---- the structure of links-only and emoji-headed items
+
+-- The stem and the modifications of a unit are the grammar's.
+pub record UnitDerives (u : EmojiLike) : Type 0 where
+  pub stem-derives : Stem (flattenStem (u .stem))
+  pub modifications-derive : (m : EmojiModification) → List·Memᴰ m (u .modifiers) → Modification (flattenModification m)
+
+-- So are the links and the units of a structure.
+unfoldable pub StructureDerives : EmojiSequence → Type 0
+StructureDerives (linksOnly ls) = (l : ZwjLink) → List·Memᴰ l ls → Link (flattenLink l)
+StructureDerives (emojiHeaded u js ls) =
+    UnitDerives u
+    × ((j : ZwjJoinedEmoji) → List·Memᴰ j js → Link (flattenLink (j .link)) × UnitDerives (j .emoji))
+    × ((l : ZwjLink) → List·Memᴰ l ls → Link (flattenLink l))
+
+-- Of such an item the structure gives back the characters.
+unfoldable pub StructureFlattens : Type 0
+StructureFlattens = (t : List ℕ) (x : Item) → List·Memᴰ x (items t) → Structured (x .kind) → flatten (structure (x .chars)) ≡ x .chars
+
+-- And its parts are derived by the grammar.
+unfoldable pub StructureIsDerived : Type 0
+StructureIsDerived = (t : List ℕ) (x : Item) → List·Memᴰ x (items t) → Structured (x .kind) → StructureDerives (structure (x .chars))
+
+-- The tags of each tag modification are those in the structure.
+unfoldable pub TagsAreInStructure : Type 0
+TagsAreInStructure = (t : List ℕ) (x : Item) → List·Memᴰ x (items t) → Structured (x .kind) → tagModifications (x .chars) ≡ tagsOf (structure (x .chars))
+
+-- "each item carries whether its tags are complete, which they are when every tag modification in it has E007F as its last tag"
+unfoldable pub TagsCompleteMeans : Type 0
+TagsCompleteMeans =
+    (t : List ℕ) (x : Item) → List·Memᴰ x (items t) → x .kind ≡ EmojiHeaded
+    → (tagsComplete (x .kind) (x .chars) ≡ true)
+    ↔ ((tags : List ℕ) → List·Memᴰ tags (tagsOf (structure (x .chars))) → (before : List ℕ) × (tags ≡ before ++ (0xE007F ∷ [])))
+
+-- ---- worked texts
+
+-- An item as the worked texts write it.
+abbrev pub item : ScanKind → List ℕ → Item
+item k t = record { kind = k; chars = t }
+
+-- A span as the worked texts write it.
+abbrev pub span : ℕ → ℕ → ScanKind → Bool → ScanItem
+span a e k b = record { start = a; end = e; kind = k; «tags_complete» = b }
+
+-- Document 01's worked texts that concern items, by their bytes, and texts that a scanner can get wrong.
+unfoldable pub WorkedItems : Type 0
+WorkedItems =
+    -- 1: the empty text has no item
+    (items [] ≡ [])
+    -- 11: 1F1E6 FE0F 1F1E7 is one item
+    × (items (0x1F1E6 ∷ 0xFE0F ∷ 0x1F1E7 ∷ []) ≡ item EmojiHeaded (0x1F1E6 ∷ 0xFE0F ∷ 0x1F1E7 ∷ []) ∷ [])
+    -- 12: 231A 200D 200D 231A has the items 0 to 9 and 9 to 12
+    × (scan (encodeAll (0x231A ∷ 0x200D ∷ 0x200D ∷ 0x231A ∷ [])) ≡ span 0 9 EmojiHeaded true ∷ span 9 12 EmojiHeaded true ∷ [])
+    -- 14: 20E3 alone is passthrough
+    × (items (0x20E3 ∷ []) ≡ item Passthrough (0x20E3 ∷ []) ∷ [])
+    -- 61 FE0E 61 has two passthroughs and a selector run
+    × (items (0x61 ∷ 0xFE0E ∷ 0x61 ∷ []) ≡ item Passthrough (0x61 ∷ []) ∷ item UnsanctionedPresentationSelectors (0xFE0E ∷ []) ∷ item Passthrough (0x61 ∷ []) ∷ [])
+    -- tags after a link are passthrough
+    × (items (0x231A ∷ 0x200D ∷ 0xE0061 ∷ []) ≡ item EmojiHeaded (0x231A ∷ 0x200D ∷ []) ∷ item Passthrough (0xE0061 ∷ []) ∷ [])
+    -- a leading modifier is a stem
+    × (items (0x1F3FB ∷ 0x200D ∷ 0x231A ∷ []) ≡ item EmojiHeaded (0x1F3FB ∷ 0x200D ∷ 0x231A ∷ []) ∷ [])
+    -- links alone, with selectors
+    × (items (0x200D ∷ 0xFE0F ∷ 0x200D ∷ 0x231A ∷ []) ≡ item LinksOnly (0x200D ∷ 0xFE0F ∷ 0x200D ∷ []) ∷ item EmojiHeaded (0x231A ∷ []) ∷ [])
+    -- three regional indicators are a flag and a unit
+    × (items (0x1F1E6 ∷ 0x1F1E7 ∷ 0x1F1E8 ∷ []) ≡ item EmojiHeaded (0x1F1E6 ∷ 0x1F1E7 ∷ []) ∷ item EmojiHeaded (0x1F1E8 ∷ []) ∷ [])
+
+-- Tags: a flag whose tags end in E007F, one that has E007F only before its last tag, one with a selector behind E007F,
+-- two tag modifications of which one is not complete, and tags that are no modification.
+unfoldable pub WorkedTags : Type 0
+WorkedTags =
+    (scan (encodeAll (0x1F3F4 ∷ 0xE0067 ∷ 0xE007F ∷ [])) ≡ span 0 12 EmojiHeaded true ∷ [])
+    × (scan (encodeAll (0x1F3F4 ∷ 0xE007F ∷ 0xE0067 ∷ [])) ≡ span 0 12 EmojiHeaded false ∷ [])
+    × (scan (encodeAll (0x1F3F4 ∷ 0xE0067 ∷ 0xFE0F ∷ 0xE007F ∷ 0xFE0F ∷ [])) ≡ span 0 18 EmojiHeaded true ∷ [])
+    × (scan (encodeAll (0x1F3F4 ∷ 0xE0067 ∷ 0x20E3 ∷ 0xE007F ∷ [])) ≡ span 0 15 EmojiHeaded false ∷ [])
+    × (scan (encodeAll (0x61 ∷ 0xE0067 ∷ [])) ≡ span 0 5 Passthrough true ∷ [])
+
+-- The structure of 1F1E6 FE0F 1F1E7 E0067 FE0E E007F 200D 231A 20E3 FE0F 200D 200D: a flag with one tag modification of two runs,
+-- a further unit with a keycap, and two links left over.
+unfoldable pub WorkedStructure : Type 0
+WorkedStructure =
+    structure (0x1F1E6 ∷ 0xFE0F ∷ 0x1F1E7 ∷ 0xE0067 ∷ 0xFE0E ∷ 0xE007F ∷ 0x200D ∷ 0x231A ∷ 0x20E3 ∷ 0xFE0F ∷ 0x200D ∷ 0x200D ∷ [])
+    ≡ emojiHeaded
+    (record {
+      stem = Flag 0x1F1E6 (0xFE0F ∷ []) 0x1F1E7 [];
+      modifiers = TagModifier (record { tags = 0xE0067 ∷ []; after = 0xFE0E ∷ [] } ∷ record { tags = 0xE007F ∷ []; after = [] } ∷ []) ∷ [];
+    })
+    (record {
+      link = record { after = [] };
+      emoji = record { stem = SingletonBase 0x231A []; modifiers = EnclosingKeycap (0xFE0F ∷ []) ∷ [] };
+    } ∷ [])
+    (record { after = [] } ∷ record { after = [] } ∷ [])
