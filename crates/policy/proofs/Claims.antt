@@ -18,13 +18,14 @@ use Rattle.policy_key_set.proofs.Contains.{contains-chars}
 use Rattle.policy_key_set.proofs.Entries.{right-words}
 use Rattle.policy.specs.Policy.{holdsBase, ruleOf, singletonRule}
 use Rattle.policy.specs.DefaultPolicy.{bareAsText, bareAsTextKeycap, defaultPolicy, preferBare, preferBareKeycap}
-use Rattle.policy.specs.PolicyBytes.{PolicyValue, bytesOf, isPolicy, keyWords, noUnusedBits, policyBytes, policyOf, policyWords, wordCount, wordsFrom}
+use Rattle.policy.specs.PolicyBytes.{PolicyValue, bytesOf, isPolicy, keyWords, noUnusedBits, policyBytes, policyOf, policyRefusal, policyWords, readPolicy, wordCount, wordsFrom}
 use Rattle.policy.specs.declared.Policy.{Policy}
 use Rattle.policy.specs.declared.SingletonRule.the-variants.{BareToText, EmojiToBare, TextToBare}
 use Rattle.policy.specs.Theorems.{
   DefaultPolicyHolds,
   DefaultRules,
   ReadWritten,
+  RefusedByTwo,
   RuleWithoutEntry,
   SameWordsSamePolicy,
   WriteRead,
@@ -130,3 +131,7 @@ read-written p v =
 pub write-read : WriteRead
 unfolding WriteRead policyBytes wordCount entryCount variationEntries
 write-read bs t l = ap bytesOf (words-of bs) ∙ write-words 24 bs l t
+
+pub refused-by-two : RefusedByTwo
+unfolding RefusedByTwo policyRefusal readPolicy
+refused-by-two bs = ((λ e. simp e), (λ e. simp e))

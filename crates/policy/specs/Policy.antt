@@ -2,10 +2,15 @@
 use mathlib.Core.Bool.{Bool, true, false}
 use Prim.Native.Nat.{ℕ}
 use Rattle.policy_key_set.specs.Sets.{contains}
+use Rattle.policy_key_set.specs.KeySets.{HoldsKeys, keycap, ordinary}
 use Rattle.policy_key_set.specs.declared.PolicyKeySet.{PolicyKeySet}
 use Rattle.policy.specs.declared.Policy.{Policy}
 use Rattle.policy.specs.declared.SingletonRule.{SingletonRule}
 use Rattle.policy.specs.declared.SingletonRule.the-variants.{BareToEmoji, BareToText, EmojiToBare, TextToBare}
+
+-- "In a set handed in, a one among the unused bits is cleared first": the same keys, and no unused bit
+abbrev pub Cleared : PolicyKeySet → PolicyKeySet → Type 0
+Cleared s r = HoldsKeys (ordinary s) (keycap s) r
 
 -- a key set holds a base, in its ordinary or in its keycap set; a base without an entry is in neither
 unfoldable pub holdsBase : PolicyKeySet → ℕ → Bool → Bool

@@ -1,11 +1,13 @@
 -- A policy as bytes: document 01, "A policy is 4W words: prefer_bare ordinary, prefer_bare keycap, then bare_as_text
 -- likewise", a word being 8 bytes, lowest first; and the test of a policy handed in (refusal 2).
 use mathlib.Core.Path.{_≡_}
-use mathlib.Core.Bool.{Bool, _&&_, _||_, not}
+use mathlib.Core.Bool.{Bool, cond, _&&_, _||_, not}
 use mathlib.Core.List.{List, [], _∷_, _++_}
 use Prim.Native.Nat.{ℕ, zero, suc, _+_, _*_, _/_, _^_, _<_}
 use lib.Dec.{eqb, ltb}
 use lib.ListN.{drop, getD, length, take}
+use mathlib.Core.Option.{Option, none, some}
+use Rattle.base.specs.Output.{Refusal}
 use Rattle.base.specs.Words.{number, wordBytes}
 use Rattle.policy_key_set.specs.Sets.{allBelow, entryCount, member}
 use Rattle.policy_key_set.specs.declared.char_set.CharSet.{CharSet}
@@ -63,6 +65,10 @@ isPolicy bs = eqb (length bs) (4 * (wordCount * 8)) && noUnusedBits (policyOf bs
 -- what reading a policy answers
 unfoldable pub readPolicy : List ℕ → ReadPolicy
 readPolicy bs = record { accepted = isPolicy bs; policy = policyOf bs }
+
+-- "policy not 4W words, or an unused bit set | 2 | nothing more"
+unfoldable pub policyRefusal : ReadPolicy → Option Refusal
+policyRefusal r = cond (r .accepted) none (some (record { number = 2; value = 0 }))
 
 -- what every value of the type is: W words of 64 bits in each of the four sets
 pub record SetValue (ws : List ℕ) : Type 0 where

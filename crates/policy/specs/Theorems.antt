@@ -2,6 +2,7 @@
 use mathlib.Core.Path.{_≡_}
 use mathlib.Core.Bool.{Bool, true, false, cond, _||_}
 use mathlib.Core.List.{List}
+use mathlib.Core.Option.{none, some}
 use Prim.Native.Nat.{ℕ, _*_}
 use lib.ListN.{getD, length}
 use Rattle.base.specs.Words.{allBytes}
@@ -10,7 +11,7 @@ use Rattle.unicode.specs.UnicodeData.{variationEntries}
 use Rattle.policy_key_set.specs.KeySets.{HoldsKeys, isAscii}
 use Rattle.policy.specs.Policy.{singletonRule}
 use Rattle.policy.specs.DefaultPolicy.{defaultPolicy}
-use Rattle.policy.specs.PolicyBytes.{PolicyValue, isPolicy, noUnusedBits, policyBytes, policyOf, policyWords, wordCount}
+use Rattle.policy.specs.PolicyBytes.{PolicyValue, isPolicy, noUnusedBits, policyBytes, policyOf, policyRefusal, policyWords, readPolicy, wordCount}
 use Rattle.policy.specs.declared.Policy.{Policy}
 use Rattle.policy.specs.declared.SingletonRule.the-variants.{BareToEmoji, BareToText, EmojiToBare, TextToBare}
 
@@ -48,3 +49,10 @@ ReadWritten =
 unfoldable pub WriteRead : Type 0
 WriteRead =
     (bs : List ℕ) → allBytes bs ≡ true → length bs ≡ 4 * (wordCount * 8) → policyBytes (policyOf bs) ≡ bs
+
+-- Bytes are refused, by number 2, exactly when they are not 4W words or have an unused bit set.
+unfoldable pub RefusedByTwo : Type 0
+RefusedByTwo =
+    (bs : List ℕ)
+    → (isPolicy bs ≡ true → policyRefusal (readPolicy bs) ≡ none)
+    × (isPolicy bs ≡ false → policyRefusal (readPolicy bs) ≡ some (record { number = 2; value = 0 }))

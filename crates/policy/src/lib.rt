@@ -9,7 +9,7 @@ ghost use lib.Dec.{eqb, ltb};
 ghost use lib.ListN.{length};
 ghost use Rattle.base.specs.Output.{PutAt, Wrote};
 ghost use Rattle.policy_key_set.specs.Sets.{allBelow, one};
-ghost use Rattle.policy.specs.Policy.{holdsBase, singletonRule};
+ghost use Rattle.policy.specs.Policy.{Cleared, holdsBase, singletonRule};
 ghost use Rattle.policy.specs.DefaultPolicy.{defaultPolicy};
 ghost use Rattle.policy.specs.PolicyBytes.{
   bytesOf,
@@ -54,26 +54,33 @@ fn holds(set: PolicyKeySet, base: u32, is_keycap: bool) -> bool
     set.contains(base)
 }
 
+// A key set with its unused bits cleared.
+fn cleared(set: PolicyKeySet) -> PolicyKeySet
+    ensures { λ r. ⌜ Cleared set r ⌝ }
+{
+    PolicyKeySet::bitand(set, PolicyKeySet::all())
+}
+
 impl Policy {
     // The policy with another `prefer_bare` set.
     pub fn with_prefer_bare(self, prefer_bare: PolicyKeySet) -> Self
-        ensures { λ r. ⌜ r ≡ record { «prefer_bare» = «prefer_bare»; «bare_as_text» = self .«bare_as_text» } ⌝ }
+        ensures { λ r. ⌜ Cleared «prefer_bare» (r .«prefer_bare») × (r .«bare_as_text» ≡ self .«bare_as_text») ⌝ }
     {
         let bare_as_text = self.bare_as_text;
         Policy {
-            prefer_bare,
+            prefer_bare: cleared(prefer_bare),
             bare_as_text,
         }
     }
 
     // The policy with another `bare_as_text` set.
     pub fn with_bare_as_text(self, bare_as_text: PolicyKeySet) -> Self
-        ensures { λ r. ⌜ r ≡ record { «prefer_bare» = self .«prefer_bare»; «bare_as_text» = «bare_as_text» } ⌝ }
+        ensures { λ r. ⌜ (r .«prefer_bare» ≡ self .«prefer_bare») × Cleared «bare_as_text» (r .«bare_as_text») ⌝ }
     {
         let prefer_bare = self.prefer_bare;
         Policy {
             prefer_bare,
-            bare_as_text,
+            bare_as_text: cleared(bare_as_text),
         }
     }
 
