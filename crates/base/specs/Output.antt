@@ -11,13 +11,13 @@ use lib.Seq.{sets}
 use Rattle.base.specs.declared.WriteAnswer.{WriteAnswer}
 use Rattle.base.specs.declared.WriteAnswer.the-variants.{TooShort, Written}
 
--- a refusal by its number in document 01's table, and what is returned with it, or 0
-pub record Refusal : Type 0 where
+-- a row of document 01's table of refusals: the number, and what is returned with it, or 0
+pub record RefusalRow : Type 0 where
   pub number : ℕ
   pub value : ℕ
 
 -- "output too short | 8 | length wanted"
-unfoldable pub refusal : WriteAnswer → Option Refusal
+unfoldable pub refusal : WriteAnswer → Option RefusalRow
 refusal (Written n) = none
 refusal (TooShort n) = some (record { number = 8; value = n })
 

@@ -7,7 +7,7 @@ use Prim.Native.Nat.{ℕ, zero, suc, _+_, _*_, _/_, _^_, _<_}
 use lib.Dec.{eqb, ltb}
 use lib.ListN.{drop, getD, length, take}
 use mathlib.Core.Option.{Option, none, some}
-use Rattle.base.specs.Output.{Refusal}
+use Rattle.base.specs.Output.{RefusalRow}
 use Rattle.base.specs.Words.{number, wordBytes}
 use Rattle.policy_key_set.specs.Sets.{allBelow, entryCount, member}
 use Rattle.policy_key_set.specs.declared.char_set.CharSet.{CharSet}
@@ -67,7 +67,7 @@ unfoldable pub readPolicy : List ℕ → ReadPolicy
 readPolicy bs = record { accepted = isPolicy bs; policy = policyOf bs }
 
 -- "policy not 4W words, or an unused bit set | 2 | nothing more"
-unfoldable pub policyRefusal : ReadPolicy → Option Refusal
+unfoldable pub policyRefusal : ReadPolicy → Option RefusalRow
 policyRefusal r = cond (r .accepted) none (some (record { number = 2; value = 0 }))
 
 -- what every value of the type is: W words of 64 bits in each of the four sets
