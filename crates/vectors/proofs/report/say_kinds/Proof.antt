@@ -1,0 +1,29 @@
+-- `say_kinds` is safe and ends: each turn leaves fewer kinds.
+use borrow.Author.Needs.{needs}
+use Prim.Native.Nat.{_-_}
+use Rattle.vectors.proofs.report.say_kinds.Statement.{statement}
+use Rattle.vectors.proofs.report.say_kinds.Tie as tie
+
+abbrev Inv-loop : tie.InvT-loop
+Inv-loop name keywords seen differ last kind₀ kind = Unit {0}
+
+abbrev μ-loop : tie.MeasureT-loop
+μ-loop name keywords seen differ last kind₀ kind = last - kind
+
+pub say-kinds-spec : {M : Type 1} → statement M
+say-kinds-spec =
+    tie.close
+    (tie.spec
+    Inv-loop
+    μ-loop
+    (λ c κs. search needs)
+    (λ c. search needs)
+    (λ c κs. search needs)
+    (λ c κs. search needs)
+    (λ c κs. search needs)
+    (λ c κs. search needs)
+    (λ c κs. search needs)
+    (λ c. search needs)
+    (λ c. search needs)
+    (λ c. search needs)
+    (λ c. search needs))

@@ -1,0 +1,130 @@
+// The lines of a text, and the words of a line: a line ends with a line feed, and between two words
+// stands one blank. A list of words, as the keywords of a file, is a line too.
+ghost use Prim.Native.Nat.{_≤_, _<_};
+ghost use lib.ListN.{length};
+
+// The number of a word in a list of words.
+pub enum Listed {
+    At(usize),
+    Unlisted,
+}
+
+// Where the run of bytes other than `stop` that starts at `at` ends.
+fn run_end(text: &[u8], at: usize, stop: u8) -> usize
+    requires { ⌜ at ≤ length (now text) ⌝ }
+    ensures { λ r. ⌜ (at ≤ r) × (r ≤ length (now (text .entry))) ⌝ }
+{
+    let mut i = at;
+    while i < text.len() {
+        if text[i] == stop {
+            return i;
+        }
+        i += 1;
+    }
+    i
+}
+
+// Where the run after that at `at` starts.
+fn next_run(text: &[u8], at: usize, stop: u8) -> usize
+    requires { ⌜ at < length (now text) ⌝ }
+    ensures { λ r. ⌜ (at < r) × (r ≤ length (now (text .entry))) ⌝ }
+{
+    let end = run_end(text, at, stop);
+    if end < text.len() {
+        return end + 1;
+    }
+    text.len()
+}
+
+// The line that starts at `at`, without its line feed.
+pub(crate) fn line_at(text: &[u8], at: usize) -> &[u8]
+    requires { ⌜ at ≤ length (now text) ⌝ }
+{
+    let end = run_end(text, at, b'\n');
+    &text[at..end]
+}
+
+// Where the line after that at `at` starts.
+pub(crate) fn next_line(text: &[u8], at: usize) -> usize
+    requires { ⌜ at < length (now text) ⌝ }
+    ensures { λ r. ⌜ (at < r) × (r ≤ length (now (text .entry))) ⌝ }
+{
+    next_run(text, at, b'\n')
+}
+
+// Whether the text ends with a line feed.
+pub(crate) fn is_ended(text: &[u8]) -> bool {
+    if text.len() == 0 {
+        return false;
+    }
+    text[text.len() - 1] == b'\n'
+}
+
+// Where the word that starts at `at` ends: before a blank, or at the end.
+pub(crate) fn word_end(text: &[u8], at: usize) -> usize
+    requires { ⌜ at ≤ length (now text) ⌝ }
+    ensures { λ r. ⌜ (at ≤ r) × (r ≤ length (now (text .entry))) ⌝ }
+{
+    run_end(text, at, b' ')
+}
+
+// The word that starts at `at`.
+pub(crate) fn word_at(text: &[u8], at: usize) -> &[u8]
+    requires { ⌜ at ≤ length (now text) ⌝ }
+{
+    let end = word_end(text, at);
+    &text[at..end]
+}
+
+// Whether two words are the same.
+fn is_word(a: &[u8], b: &[u8]) -> bool {
+    if a.len() != b.len() {
+        return false;
+    }
+    let mut i = 0;
+    while i < a.len() {
+        if a[i] != b[i] {
+            return false;
+        }
+        i += 1;
+    }
+    true
+}
+
+// The number of a word in a list with a blank between the words, counted from 0.
+pub(crate) fn number_of(list: &[u8], word: &[u8]) -> Listed {
+    let mut at = 0;
+    let mut number = 0;
+    while at < list.len() {
+        if is_word(word_at(list, at), word) {
+            return Listed::At(number);
+        }
+        at = next_run(list, at, b' ');
+        number += 1;
+    }
+    Listed::Unlisted
+}
+
+// Where the word after that at `at` starts, or the end of the list.
+fn next_word(list: &[u8], at: usize) -> usize
+    requires { ⌜ at ≤ length (now list) ⌝ }
+    ensures { λ r. ⌜ r ≤ length (now (list .entry)) ⌝ }
+{
+    if at == list.len() {
+        return at;
+    }
+    next_run(list, at, b' ')
+}
+
+// Where the word of this number starts, or the end of the list.
+pub(crate) fn word_start(list: &[u8], number: usize) -> usize
+    ensures { λ r. ⌜ r ≤ length (now (list .entry)) ⌝ }
+{
+    let mut at = 0;
+    let mut k = 0;
+    while k < number {
+        at = next_word(list, at);
+        k += 1;
+    }
+    at
+}

@@ -1,0 +1,149 @@
+// Policies as bytes: `write_policy` and `read_policy`. A policy crosses as the bytes of its words,
+// lowest first, and is read back as it was. Of the bytes that are tried here only 192 are a policy,
+// and only if no bit is set that is no entry's.
+ghost use Prim.Native.Nat.{_<_};
+use crate::report;
+use crate::sets::same_policy;
+use crate::sets::word;
+use base::WORD_BYTES;
+use base::WriteAnswer;
+use policy::POLICY_BYTES;
+use policy::Policy;
+use std::num::wrapping_add_u64;
+use unicode::unicode_data::VARIATION_ENTRY_COUNT;
+
+// The bytes of a character set, and its last bit.
+const SET_BYTES: usize = POLICY_BYTES / 4;
+
+const LAST_BIT: usize = 8 * SET_BYTES - 1;
+
+// Byte i of a word, counted from the lowest.
+fn byte_of(w: u64, i: usize) -> u64
+    requires { ⌜ i < 8 ⌝ }
+{
+    (w >> (8 * i)) % 256
+}
+
+// Whether a byte is the number n.
+fn is_number(b: u8, n: u64) -> bool {
+    b as u64 == n
+}
+
+// Whether the bytes are those of the words from a place on.
+fn are_bytes_of(bytes: &[u8; POLICY_BYTES], words: &[u64], at: usize) -> bool {
+    let mut i = 0;
+    while i < POLICY_BYTES {
+        let w = word(words, at, i / WORD_BYTES);
+        if !is_number(bytes[i], byte_of(w, i % WORD_BYTES)) {
+            return false;
+        }
+        i += 1;
+    }
+    true
+}
+
+// Whether the policy is read back from its bytes.
+fn is_read_back(bytes: &[u8; POLICY_BYTES], policy: Policy) -> bool {
+    let read = policy::read_policy(bytes);
+    if read.accepted {
+        return same_policy(read.policy, policy);
+    }
+    false
+}
+
+// Whether the policy, whose words stand from a place on, is written as their bytes and read back.
+pub(crate) fn crosses(policy: Policy, words: &[u64], at: usize) -> bool {
+    let mut bytes = [0u8; POLICY_BYTES];
+    let WriteAnswer::Written { len } = policy::write_policy(policy, &mut bytes) else {
+        return false;
+    };
+    if len != POLICY_BYTES {
+        return false;
+    }
+    if are_bytes_of(&bytes, words, at) {
+        return is_read_back(&bytes, policy);
+    }
+    false
+}
+
+// How many were accepted and how many were not, and for how many of them that is wrong.
+pub struct Tried {
+    pub accepted: u64,
+    pub refused: u64,
+    pub wrong: u64,
+}
+
+// One more, which was accepted or not.
+fn counted(tried: Tried, accepted: bool) -> Tried {
+    if accepted {
+        return Tried {
+            accepted: wrapping_add_u64(tried.accepted, 1),
+            refused: tried.refused,
+            wrong: tried.wrong,
+        };
+    }
+    Tried {
+        accepted: tried.accepted,
+        refused: wrapping_add_u64(tried.refused, 1),
+        wrong: tried.wrong,
+    }
+}
+
+// One more, which should have been answered otherwise.
+fn mistaken(tried: Tried) -> Tried {
+    Tried {
+        accepted: tried.accepted,
+        refused: tried.refused,
+        wrong: wrapping_add_u64(tried.wrong, 1),
+    }
+}
+
+// With bytes that should be accepted or not.
+fn with_bytes(tried: Tried, bytes: &[u8], is_policy: bool) -> Tried {
+    let read = policy::read_policy(bytes);
+    let next = counted(tried, read.accepted);
+    if read.accepted == is_policy {
+        return next;
+    }
+    mistaken(next)
+}
+
+// With the policy that has one bit of one set.
+fn with_bit(tried: Tried, set: usize, bit: usize, is_policy: bool) -> Tried
+    requires { ⌜ (set < 4) × (bit < 384) ⌝ }
+{
+    let mut bytes = [0u8; POLICY_BYTES];
+    bytes[set * SET_BYTES + bit / 8] = 1u8 << (bit % 8);
+    with_bytes(tried, &bytes, is_policy)
+}
+
+// With the last used bit of a set, and the first and the last unused one.
+fn with_set(tried: Tried, set: usize) -> Tried
+    requires { ⌜ set < 4 ⌝ }
+{
+    let used = with_bit(tried, set, VARIATION_ENTRY_COUNT - 1, true);
+    let unused = with_bit(used, set, VARIATION_ENTRY_COUNT, false);
+    with_bit(unused, set, LAST_BIT, false)
+}
+
+// With policies of four lengths, without a key where they have the right one.
+fn with_lengths(tried: Tried) -> Tried {
+    let bytes = [0u8; POLICY_BYTES + 1];
+    let empty = with_bytes(tried, &bytes[..0], false);
+    let short = with_bytes(empty, &bytes[..POLICY_BYTES - 1], false);
+    let right = with_bytes(short, &bytes[..POLICY_BYTES], true);
+    with_bytes(right, &bytes, false)
+}
+
+// Tries the policies and says how they fared.
+pub(crate) fn try_policies() {
+    let none = Tried {
+        accepted: 0,
+        refused: 0,
+        wrong: 0,
+    };
+    let lengths = with_lengths(none);
+    let first = with_set(with_set(lengths, 0), 1);
+    let tried = with_set(with_set(first, 2), 3);
+    report::say_policy_bytes(tried.accepted, tried.refused, tried.wrong);
+}

@@ -1,0 +1,121 @@
+// What the program writes to standard output: lines that begin with the name of the file that they
+// are about. Counts stand in the order of the keywords, the first for comments, the last for the end.
+use crate::lines::word_at;
+use crate::lines::word_start;
+use libc::STDOUT_FILENO;
+use std::num::wrapping_add_u64;
+use std::num::wrapping_sub_u64;
+
+// A part of a line.
+fn say(text: &[u8]) {
+    io::write_all(STDOUT_FILENO, text);
+}
+
+// A number in base 10.
+fn say_number(n: u64) {
+    io::print_decimal(STDOUT_FILENO, n);
+}
+
+// What is wrong with a file: "policy.txt: cannot be opened".
+pub(crate) fn say_file(name: &[u8], what: &[u8]) {
+    say(name);
+    say(b": ");
+    say(what);
+    say(b"\n");
+}
+
+// What is wrong with a line: "policy.txt: line 24 differs".
+pub(crate) fn say_line(name: &[u8], number: usize, what: &[u8]) {
+    say(name);
+    say(b": line ");
+    say_number(number as u64);
+    say(b" ");
+    say(what);
+    say(b"\n");
+}
+
+// How many are as stored, and how many differ if any does: "37 as stored, 1 not".
+fn say_counts(seen: u64, differ: u64) {
+    say_number(wrapping_sub_u64(seen, differ));
+    say(b" as stored");
+    if differ > 0 {
+        say(b", ");
+        say_number(differ);
+        say(b" not");
+    }
+}
+
+// A kind of line: "policy.txt: union 38 as stored".
+fn say_kind(name: &[u8], keyword: &[u8], seen: u64, differ: u64) {
+    say(name);
+    say(b": ");
+    say(keyword);
+    say(b" ");
+    say_counts(seen, differ);
+    say(b"\n");
+}
+
+// The count of a kind, or 0 where there is no such kind.
+fn count_of(counts: &[u64], kind: usize) -> u64 {
+    if kind < counts.len() {
+        return counts[kind];
+    }
+    0
+}
+
+// The last kind, the end.
+fn last_kind(counts: &[u64]) -> usize {
+    if counts.len() == 0 {
+        return 0;
+    }
+    counts.len() - 1
+}
+
+// Each kind of line but the first, the comments, and the last, the end.
+pub(crate) fn say_kinds(name: &[u8], keywords: &[u8], seen: &[u64], differ: &[u64]) {
+    let last = last_kind(seen);
+    let mut kind = 1;
+    while kind < last {
+        let keyword = word_at(keywords, word_start(keywords, kind));
+        say_kind(name, keyword, count_of(seen, kind), count_of(differ, kind));
+        kind += 1;
+    }
+}
+
+// The sum of the counts of the same kinds.
+fn total(counts: &[u64]) -> u64 {
+    let last = last_kind(counts);
+    let mut sum = 0;
+    let mut kind = 1;
+    while kind < last {
+        sum = wrapping_add_u64(sum, count_of(counts, kind));
+        kind += 1;
+    }
+    sum
+}
+
+// The last line of a file: "policy.txt: in all 601 as stored, Adler-32 0123abcd".
+pub(crate) fn say_total(name: &[u8], seen: &[u64], differ: &[u64], checksum: u32) {
+    say(name);
+    say(b": in all ");
+    say_counts(total(seen), total(differ));
+    say(b", Adler-32 ");
+    io::print_hex(STDOUT_FILENO, checksum as u64, 8);
+    say(b"\n");
+}
+
+// How the bytes fared that were tried as policies:
+// "policy bytes: 5 accepted, 11 not accepted, as it should be".
+pub(crate) fn say_policy_bytes(accepted: u64, refused: u64, wrong: u64) {
+    say(b"policy bytes: ");
+    say_number(accepted);
+    say(b" accepted, ");
+    say_number(refused);
+    say(b" not accepted, ");
+    if wrong > 0 {
+        say_number(wrong);
+        say(b" of them wrongly\n");
+    } else {
+        say(b"as it should be\n");
+    }
+}
