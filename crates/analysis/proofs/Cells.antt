@@ -1,0 +1,173 @@
+-- Characters and their cells: each gives the other back, and both have the same characters and the same number of selectors.
+use mathlib.Core.Path.{_≡_, refl, ap, sym, _∙_, subst}
+use mathlib.Core.Bool.{Bool, true, false, cond, _||_}
+use mathlib.Core.List.{List, [], _∷_, _++_, map, append-nil}
+use mathlib.Core.Logic.{⊎-elim}
+use Prim.Native.Nat.{ℕ, suc, _+_}
+use native.Mathlib.Omega.{arith}
+use lib.Dec.{eqb}
+use lib.ListN.{length}
+use borrow.Author.Tests.{eqb-true}
+use Rattle.base.proofs.Tests.{either-true}
+use Rattle.unicode.specs.Presentation.{asSelector, fromSelector, isSelector}
+use Rattle.unicode.specs.declared.presentation.FromSelector.{FromSelector}
+use Rattle.unicode.specs.declared.presentation.FromSelector.the-variants.{NoSelector, Selector}
+use Rattle.unicode.specs.declared.presentation.Presentation.{Presentation}
+use Rattle.unicode.specs.declared.presentation.Presentation.the-variants.{Emoji, Text}
+use Rattle.scanner.specs.Classes.{strip}
+use Rattle.scanner.specs.Grammar.{S, no-selectors, selector-and}
+use Rattle.scanner.proofs.Walk.{strip-char, strip-selector}
+use Rattle.analysis.specs.Cells.{Cell, addChar, cells, leading, selectorCount, split, unsplit}
+
+-- ---- a character is a selector or not
+
+pub data CharIs (c : ℕ) : Type 0 where
+  a-selector : (q : Presentation) → c ≡ asSelector q → CharIs c
+  no-selector : isSelector c ≡ false → CharIs c
+
+pub char-is : (c : ℕ) → CharIs c
+unfolding isSelector asSelector
+char-is c = go (isSelector c) refl
+  where
+    go : (b : Bool) → isSelector c ≡ b → CharIs c
+    go true e = ⊎-elim (λ t. a-selector Text (eqb-true c 0xFE0E t)) (λ t. a-selector Emoji (eqb-true c 0xFE0F t)) (either-true (eqb c 0xFE0E) (eqb c 0xFE0F) e)
+    go false e = no-selector e
+
+pub selector-is : (q : Presentation) → isSelector (asSelector q) ≡ true
+unfolding isSelector asSelector
+selector-is Text = refl
+selector-is Emoji = refl
+
+from-selector : (q : Presentation) → fromSelector (asSelector q) ≡ Selector q
+unfolding fromSelector asSelector
+from-selector Text = refl
+from-selector Emoji = refl
+
+from-other : (c : ℕ) → isSelector c ≡ false → fromSelector c ≡ NoSelector
+unfolding isSelector fromSelector
+from-other c e = go (eqb c 0xFE0E) (eqb c 0xFE0F) e
+  where
+    go : (a b : Bool) → (a || b) ≡ false → cond a (Selector Text) (cond b (Selector Emoji) NoSelector) ≡ NoSelector
+    go true b e = cc
+    go false true e = cc
+    go false false e = refl
+
+-- ---- one character more
+
+pub split-selector : (q : Presentation) (t : List ℕ) → split (asSelector q ∷ t) ≡ (q ∷ leading t, cells t)
+unfolding split addChar
+split-selector q t = ap (λ (f : FromSelector). addChar (asSelector q) f (split t)) (from-selector q)
+
+pub split-char : (c : ℕ) (t : List ℕ) → isSelector c ≡ false → split (c ∷ t) ≡ ([], record { char = c; after = leading t } ∷ cells t)
+unfolding split addChar
+split-char c t e = ap (λ (f : FromSelector). addChar c f (split t)) (from-other c e)
+
+-- Induction over characters: selectors, and the others.
+module _ (P : List ℕ → Type 0) (end : P []) (sel : (q : Presentation) (t : List ℕ) → P t → P (asSelector q ∷ t)) (char : (c : ℕ) (t : List ℕ) → isSelector c ≡ false → P t → P (c ∷ t)) where
+  pub by-chars : (t : List ℕ) → P t
+  by-chars [] = end
+  by-chars (c ∷ t) = go (char-is c) (by-chars t)
+    where
+      go : CharIs c → P t → P (c ∷ t)
+      go (a-selector q e) h = subst (λ (x : ℕ). P (x ∷ t)) (sym e) (sel q t h)
+      go (no-selector e) h = char c t e h
+
+-- The cells and the leading selectors give the characters back.
+pub split-whole : (t : List ℕ) → map asSelector (leading t) ++ unsplit (cells t) ≡ t
+unfolding split
+split-whole =
+    by-chars (λ t. map asSelector (leading t) ++ unsplit (cells t) ≡ t) refl
+    (λ q t h. ap (λ (a : List Presentation × List Cell). map asSelector (a .0) ++ unsplit (a .1)) (split-selector q t) ∙ ap (λ (l : List ℕ). asSelector q ∷ l) h)
+    (λ c t e h. ap (λ (a : List Presentation × List Cell). map asSelector (a .0) ++ unsplit (a .1)) (split-char c t e) ∙ ap (λ (l : List ℕ). c ∷ l) h)
+
+-- ---- cells whose characters are no selectors
+
+pub data Clean : List Cell → Type 0 where
+  no-cell : Clean []
+  cell-and : {x : Cell} {xs : List Cell} → isSelector (x .char) ≡ false → Clean xs → Clean (x ∷ xs)
+
+pub clean-cells : (t : List ℕ) → Clean (cells t)
+unfolding split
+clean-cells =
+    by-chars (λ t. Clean (cells t)) no-cell
+    (λ q t h. subst (λ (a : List Presentation × List Cell). Clean (a .1)) (sym (split-selector q t)) h)
+    (λ c t e h. subst (λ (a : List Presentation × List Cell). Clean (a .1)) (sym (split-char c t e)) (cell-and e h))
+
+pub split-selectors : (qs : List Presentation) (t : List ℕ) → split (map asSelector qs ++ t) ≡ (qs ++ leading t, cells t)
+split-selectors [] t = refl
+split-selectors (q ∷ qs) t =
+    split-selector q (map asSelector qs ++ t) ∙ ap (λ (a : List Presentation × List Cell). (q ∷ a .0, a .1)) (split-selectors qs t)
+
+pub split-unsplit : {xs : List Cell} → Clean xs → split (unsplit xs) ≡ ([], xs)
+unfolding split
+split-unsplit no-cell = refl
+split-unsplit (cell-and {x = x} {xs = xs} e h) =
+    let i : split (map asSelector (x .after) ++ unsplit xs) ≡ (x .after ++ [], xs) =
+    split-selectors (x .after) (unsplit xs) ∙ ap (λ (a : List Presentation × List Cell). (x .after ++ a .0, a .1)) (split-unsplit h) in
+    split-char (x .char) (map asSelector (x .after) ++ unsplit xs) e
+    ∙ ap (λ (a : List Presentation × List Cell). ([], record { char = x .char; after = a .0 } ∷ a .1)) i
+    ∙ ap (λ (s : List Presentation). ([], record { char = x .char; after = s } ∷ xs)) (append-nil (x .after))
+
+-- The cells of one text behind another that does not begin with a selector.
+pub split-append : (s t : List ℕ) → leading t ≡ [] → split (s ++ t) ≡ (leading s, cells s ++ cells t)
+unfolding split
+split-append s t e =
+    by-chars (λ s. split (s ++ t) ≡ (leading s, cells s ++ cells t))
+    (ap (λ (l : List Presentation). (l, cells t)) e)
+    (λ q s h. split-selector q (s ++ t) ∙ ap (λ (a : List Presentation × List Cell). (q ∷ a .0, a .1)) h ∙ sym (ap (λ (a : List Presentation × List Cell). (a .0, a .1 ++ cells t)) (split-selector q s)))
+    (λ c s f h. split-char c (s ++ t) f ∙ ap (λ (a : List Presentation × List Cell). ([], record { char = c; after = a .0 } ∷ a .1)) h ∙ sym (ap (λ (a : List Presentation × List Cell). (a .0, a .1 ++ cells t)) (split-char c s f)))
+    s
+
+-- ---- the characters that are no selectors
+
+abbrev pub charsOf : List Cell → List ℕ
+charsOf [] = []
+charsOf (x ∷ xs) = x .char ∷ charsOf xs
+
+pub strip-selectors : (qs : List Presentation) (t : List ℕ) → strip (map asSelector qs ++ t) ≡ strip t
+strip-selectors [] t = refl
+strip-selectors (q ∷ qs) t = strip-selector (asSelector q) (map asSelector qs ++ t) (selector-is q) ∙ strip-selectors qs t
+
+pub strip-unsplit : {xs : List Cell} → Clean xs → strip (unsplit xs) ≡ charsOf xs
+unfolding strip
+strip-unsplit no-cell = refl
+strip-unsplit (cell-and {x = x} {xs = xs} e h) =
+    strip-char (x .char) (map asSelector (x .after) ++ unsplit xs) e
+    ∙ ap (λ (l : List ℕ). x .char ∷ l) (strip-selectors (x .after) (unsplit xs) ∙ strip-unsplit h)
+
+pub strip-split : (t : List ℕ) → strip t ≡ charsOf (cells t)
+strip-split t =
+    ap strip (sym (split-whole t)) ∙ strip-selectors (leading t) (unsplit (cells t)) ∙ strip-unsplit (clean-cells t)
+
+-- ---- the number of selectors
+
+abbrev pub heldIn : List Cell → ℕ
+heldIn [] = 0
+heldIn (x ∷ xs) = length (x .after) + heldIn xs
+
+pub count-char : (c : ℕ) (t : List ℕ) → isSelector c ≡ false → selectorCount (c ∷ t) ≡ selectorCount t
+unfolding selectorCount
+count-char c t e = let z : _≡_ {A = ℕ} (cond (isSelector c) 1 0) 0 = simp e in omega arith
+
+pub count-selector : (c : ℕ) (t : List ℕ) → isSelector c ≡ true → selectorCount (c ∷ t) ≡ suc (selectorCount t)
+unfolding selectorCount
+count-selector c t e = let z : _≡_ {A = ℕ} (cond (isSelector c) 1 0) 1 = simp e in omega arith
+
+pub count-selectors : (qs : List Presentation) (t : List ℕ) → selectorCount (map asSelector qs ++ t) ≡ length qs + selectorCount t
+count-selectors [] t = omega arith
+count-selectors (q ∷ qs) t = omega (arith, count-selector (asSelector q) (map asSelector qs ++ t) (selector-is q), count-selectors qs t)
+
+pub count-unsplit : {xs : List Cell} → Clean xs → selectorCount (unsplit xs) ≡ heldIn xs
+unfolding selectorCount
+count-unsplit no-cell = refl
+count-unsplit (cell-and {x = x} {xs = xs} e h) =
+    count-char (x .char) (map asSelector (x .after) ++ unsplit xs) e ∙ count-selectors (x .after) (unsplit xs) ∙ ap (λ (n : ℕ). length (x .after) + n) (count-unsplit h)
+
+pub count-split : (t : List ℕ) → selectorCount t ≡ length (leading t) + heldIn (cells t)
+count-split t =
+    ap selectorCount (sym (split-whole t)) ∙ count-selectors (leading t) (unsplit (cells t)) ∙ ap (λ (n : ℕ). length (leading t) + n) (count-unsplit (clean-cells t))
+
+pub count-S : {s : List ℕ} → S s → selectorCount s ≡ length s
+unfolding selectorCount
+count-S no-selectors = refl
+count-S (selector-and {c = c} {s = s} e h) = count-selector c s e ∙ ap suc (count-S h)

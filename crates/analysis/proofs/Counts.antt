@@ -1,0 +1,34 @@
+-- The eight counts under the sum: it is associative, `empty` is its zero, and only `empty` has the total 0.
+use mathlib.Core.Path.{_≡_}
+use native.Mathlib.Omega.{arith}
+use Rattle.analysis.specs.Counts.{_⊕_, empty, total}
+use Rattle.analysis.specs.declared.NonCanonicality.{NonCanonicality}
+
+pub counts-path : (m n : NonCanonicality)
+    → m .«unsanctioned_selectors» ≡ n .«unsanctioned_selectors»
+    → m .«modifier_defective_selectors» ≡ n .«modifier_defective_selectors»
+    → m .«additional_defective_selectors» ≡ n .«additional_defective_selectors»
+    → m .«tag_conflicting_selectors» ≡ n .«tag_conflicting_selectors»
+    → m .«tag_forced_presentations» ≡ n .«tag_forced_presentations»
+    → m .«tag_redundant_selectors» ≡ n .«tag_redundant_selectors»
+    → m .«policy_redundant_selectors» ≡ n .«policy_redundant_selectors»
+    → m .«presentation_decisions» ≡ n .«presentation_decisions» → m ≡ n
+counts-path m n a b c d e f g h = λ i. record {
+  «unsanctioned_selectors» = a i;
+  «modifier_defective_selectors» = b i;
+  «additional_defective_selectors» = c i;
+  «tag_conflicting_selectors» = d i;
+  «tag_forced_presentations» = e i;
+  «tag_redundant_selectors» = f i;
+  «policy_redundant_selectors» = g i;
+  «presentation_decisions» = h i;
+}
+
+pub plus-assoc : (l m n : NonCanonicality) → l ⊕ m ⊕ n ≡ l ⊕ (m ⊕ n)
+plus-assoc l m n = counts-path _ _ (omega arith) (omega arith) (omega arith) (omega arith) (omega arith) (omega arith) (omega arith) (omega arith)
+
+pub empty-plus : (n : NonCanonicality) → empty ⊕ n ≡ n
+empty-plus n = counts-path _ _ (omega arith) (omega arith) (omega arith) (omega arith) (omega arith) (omega arith) (omega arith) (omega arith)
+
+pub total-empty : (n : NonCanonicality) → total n ≡ 0 → n ≡ empty
+total-empty n e = counts-path _ _ (omega arith) (omega arith) (omega arith) (omega arith) (omega arith) (omega arith) (omega arith) (omega arith)

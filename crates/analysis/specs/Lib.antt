@@ -1,0 +1,8 @@
+-- Counts, rules, replacements and choices: document 01, "Counts and finding", "Replacement and text".
+pub mod Cells
+pub mod Counts
+pub mod Rules
+pub mod Analysis
+pub mod Components
+pub mod Worked
+pub mod Theorems

@@ -1,0 +1,263 @@
+-- What is claimed of rules, counts, replacements and choices. Each statement is proved in proofs/Claims.antt.
+use mathlib.Core.Path.{_≡_}
+use mathlib.Core.Logic.{_↔_, _≢_}
+use mathlib.Core.Bool.{true, false}
+use mathlib.Core.List.{List, [], _∷_, map, List·Memᴰ}
+use Prim.Native.Nat.{ℕ, _+_, _*_, _≤_}
+use lib.ListN.{length}
+use Rattle.unicode.specs.Unicode.{hasVariationSequence, isEmojiDefault, isEmojiModifierBase}
+use Rattle.unicode.specs.declared.presentation.Presentation.{Presentation}
+use Rattle.unicode.specs.declared.presentation.Presentation.the-variants.{Emoji, Text}
+use Rattle.policy.specs.DefaultPolicy.{defaultPolicy}
+use Rattle.policy.specs.Policy.{singletonRule}
+use Rattle.policy.specs.declared.Policy.{Policy}
+use Rattle.policy.specs.declared.SingletonRule.the-variants.{BareToEmoji, BareToText, EmojiToBare, TextToBare}
+use Rattle.scanner.specs.Classes.{Class, modifier, strip, tag}
+use Rattle.scanner.specs.Items.{Item, items}
+use Rattle.scanner.specs.Spans.{size, width}
+use Rattle.scanner.specs.Structure.{structure}
+use Rattle.scanner.specs.Theorems.{Structured, item}
+use Rattle.scanner.specs.declared.ScanKind.the-variants.{EmojiHeaded}
+use Rattle.analysis.specs.Analysis.{
+  Choice,
+  choices,
+  chosen,
+  defaultDecisions,
+  defaultReplacement,
+  isFinding,
+  nonCanonicality,
+  replacement,
+}
+use Rattle.analysis.specs.Cells.{selectorCount}
+use Rattle.analysis.specs.Components.{assemble, choicesIn, elements, sequenceCounts}
+use Rattle.analysis.specs.Counts.{
+  _⊕_,
+  additionalDefective,
+  adding,
+  decision,
+  empty,
+  modifierDefective,
+  policyRedundant,
+  removing,
+  tagConflicting,
+  tagForced,
+  tagRedundant,
+  unsanctioned,
+}
+use Rattle.analysis.specs.Rules.{bare, byKeycap, decided, fixed, gives, outcome}
+use Rattle.analysis.specs.Worked.{worked, workedItems}
+
+-- ---- the rules, case by case
+
+-- 1: a base without a variation entry.
+unfoldable pub WithoutEntry : Type 0
+WithoutEntry =
+    (p : Policy) (c : ℕ) (k : Class) (s : List Presentation) → hasVariationSequence c ≡ false
+    → outcome p c k s ≡ gives (unsanctioned (length s)) bare
+
+-- 2 and 3: before a modifier.
+unfoldable pub BeforeModifier : Type 0
+BeforeModifier =
+    (p : Policy) (c : ℕ) (s : List Presentation) → hasVariationSequence c ≡ true
+    → (outcome p c modifier (Text ∷ s) ≡ gives (unsanctioned (length s)) (fixed Text))
+    × (outcome p c modifier [] ≡ gives empty bare)
+    × (isEmojiModifierBase c ≡ true → outcome p c modifier (Emoji ∷ s) ≡ gives (modifierDefective ⊕ unsanctioned (length s)) bare)
+    × (isEmojiModifierBase c ≡ false → outcome p c modifier (Emoji ∷ s) ≡ gives (additionalDefective ⊕ unsanctioned (length s)) bare)
+
+-- 4 and 5: before tags.
+unfoldable pub BeforeTags : Type 0
+BeforeTags =
+    (p : Policy) (c : ℕ) (s : List Presentation) → hasVariationSequence c ≡ true
+    → (isEmojiDefault c ≡ true
+    → (outcome p c tag [] ≡ gives empty bare)
+    × (outcome p c tag (Emoji ∷ s) ≡ gives (tagRedundant ⊕ unsanctioned (length s)) bare)
+    × (outcome p c tag (Text ∷ s) ≡ gives (tagConflicting ⊕ unsanctioned (length s)) bare))
+    × (isEmojiDefault c ≡ false
+    → (outcome p c tag [] ≡ gives tagForced (fixed Emoji))
+    × (outcome p c tag (Emoji ∷ s) ≡ gives (unsanctioned (length s)) (fixed Emoji))
+    × (outcome p c tag (Text ∷ s) ≡ gives (tagConflicting ⊕ tagForced ⊕ unsanctioned (length s)) (fixed Emoji)))
+
+-- 6: before anything else, and at the end; the keycap sets before 20E3.
+unfoldable pub ByPolicy : Type 0
+ByPolicy =
+    (p : Policy) (c : ℕ) (k : Class) (s : List Presentation) → hasVariationSequence c ≡ true → k ≢ modifier → k ≢ tag
+    → let keycaps = byKeycap k in
+    (singletonRule p c keycaps ≡ TextToBare
+    → (outcome p c k [] ≡ gives empty bare)
+    × (outcome p c k (Text ∷ s) ≡ gives (policyRedundant ⊕ unsanctioned (length s)) bare)
+    × (outcome p c k (Emoji ∷ s) ≡ gives (unsanctioned (length s)) (fixed Emoji)))
+    × (singletonRule p c keycaps ≡ EmojiToBare
+    → (outcome p c k [] ≡ gives empty bare)
+    × (outcome p c k (Emoji ∷ s) ≡ gives (policyRedundant ⊕ unsanctioned (length s)) bare)
+    × (outcome p c k (Text ∷ s) ≡ gives (unsanctioned (length s)) (fixed Text)))
+    × (singletonRule p c keycaps ≡ BareToText
+    → (outcome p c k [] ≡ gives decision (decided Text))
+    × ((q : Presentation) → outcome p c k (q ∷ s) ≡ gives (unsanctioned (length s)) (fixed q)))
+    × (singletonRule p c keycaps ≡ BareToEmoji
+    → (outcome p c k [] ≡ gives decision (decided Emoji))
+    × ((q : Presentation) → outcome p c k (q ∷ s) ≡ gives (unsanctioned (length s)) (fixed q)))
+
+-- ---- what the rules leave
+
+-- A rule leaves no count: behind a base that got what its rule says, under any decisions, the same rules count nothing.
+unfoldable pub RulesLeaveNoCount : Type 0
+RulesLeaveNoCount =
+    (p : Policy) (c : ℕ) (k : Class) (s ds : List Presentation) → outcome p c k (chosen (outcome p c k s .slot) ds) .counts ≡ empty
+
+-- A rule that counts nothing leaves the selectors as they are.
+unfoldable pub NoCountKeepsSelectors : Type 0
+NoCountKeepsSelectors =
+    (p : Policy) (c : ℕ) (k : Class) (s : List Presentation) → outcome p c k s .counts ≡ empty → chosen (outcome p c k s .slot) [] ≡ s
+
+-- ---- counts and replacement
+
+-- "A finding exists if some count is not 0": there is none exactly where all eight are 0.
+unfoldable pub NoFindingNoCount : Type 0
+NoFindingNoCount = (p : Policy) (x : Item) → (isFinding p x ≡ false) ↔ (nonCanonicality p x ≡ empty)
+
+-- The replacement of an item, under any decisions, has no count: none of its items has.
+unfoldable pub ReplacementHasNoCount : Type 0
+ReplacementHasNoCount =
+    (p : Policy) (t : List ℕ) (x : Item) (ds : List Presentation) → List·Memᴰ x (items t)
+    → (y : Item) → List·Memᴰ y (items (replacement p x ds)) → nonCanonicality p y ≡ empty
+
+-- It has the item's characters other than selectors, in order.
+unfoldable pub ReplacementKeepsCharacters : Type 0
+ReplacementKeepsCharacters =
+    (p : Policy) (t : List ℕ) (x : Item) (ds : List Presentation) → List·Memᴰ x (items t)
+    → strip (replacement p x ds) ≡ strip (x .chars)
+
+-- For links and units it is again one item, of the same kind.
+unfoldable pub ReplacementIsOneItem : Type 0
+ReplacementIsOneItem =
+    (p : Policy) (t : List ℕ) (x : Item) (ds : List Presentation) → List·Memᴰ x (items t) → Structured (x .kind)
+    → items (replacement p x ds) ≡ item (x .kind) (replacement p x ds) ∷ []
+
+-- There is no finding exactly where the default replacement is the item itself.
+unfoldable pub NoFindingNoChange : Type 0
+NoFindingNoChange =
+    (p : Policy) (t : List ℕ) (x : Item) → List·Memᴰ x (items t)
+    → (isFinding p x ≡ false) ↔ (defaultReplacement p x ≡ x .chars)
+
+-- "The fifth and eighth add a selector each, the other six remove one each."
+unfoldable pub SelectorsAddUp : Type 0
+SelectorsAddUp =
+    (p : Policy) (t : List ℕ) (x : Item) (ds : List Presentation) → List·Memᴰ x (items t)
+    → selectorCount (replacement p x ds) + removing (nonCanonicality p x) ≡ selectorCount (x .chars) + adding (nonCanonicality p x)
+
+-- So the length in characters is the item's, less the removing counts, plus the adding ones.
+unfoldable pub ReplacementLength : Type 0
+ReplacementLength =
+    (p : Policy) (t : List ℕ) (x : Item) (ds : List Presentation) → List·Memᴰ x (items t)
+    → length (replacement p x ds) + removing (nonCanonicality p x) ≡ length (x .chars) + adding (nonCanonicality p x)
+
+-- And in bytes, with 3 for each selector.
+unfoldable pub ReplacementBytes : Type 0
+ReplacementBytes =
+    (p : Policy) (t : List ℕ) (x : Item) (ds : List Presentation) → List·Memᴰ x (items t)
+    → size width (replacement p x ds) + 3 * removing (nonCanonicality p x) ≡ size width (x .chars) + 3 * adding (nonCanonicality p x)
+
+-- It has at most four times the item's bytes.
+unfoldable pub AtMostFourTimes : Type 0
+AtMostFourTimes =
+    (p : Policy) (t : List ℕ) (x : Item) (ds : List Presentation) → List·Memᴰ x (items t)
+    → size width (replacement p x ds) ≤ 4 * size width (x .chars)
+
+-- ---- choices
+
+-- There are as many choices as the eighth count says.
+unfoldable pub ChoicesAreCounted : Type 0
+ChoicesAreCounted = (p : Policy) (x : Item) → length (choices p x) ≡ nonCanonicality p x .«presentation_decisions»
+
+-- The default decisions are the choices' defaults.
+unfoldable pub DefaultsAreChoices : Type 0
+DefaultsAreChoices = (p : Policy) (x : Item) → defaultDecisions p x ≡ map (λ (c : Choice). c .default) (choices p x)
+
+-- The replacement under the default decisions is the default replacement.
+unfoldable pub DefaultDecisionsReplace : Type 0
+DefaultDecisionsReplace = (p : Policy) (x : Item) → replacement p x (defaultDecisions p x) ≡ defaultReplacement p x
+
+-- ---- by the nested structure
+
+-- The counts in document 01's own words: selectors after links, flag letters and modifications are unsanctioned, and a single base
+-- goes by the rules with its first modification.
+unfoldable pub CountsByStructure : Type 0
+CountsByStructure =
+    (p : Policy) (t : List ℕ) (x : Item) → List·Memᴰ x (items t) → Structured (x .kind)
+    → nonCanonicality p x ≡ sequenceCounts p (structure (x .chars))
+
+-- The replacement is put together from links and units, under any decisions.
+unfoldable pub ReplacementByStructure : Type 0
+ReplacementByStructure =
+    (p : Policy) (t : List ℕ) (x : Item) (ds : List Presentation) → List·Memᴰ x (items t) → Structured (x .kind)
+    → replacement p x ds ≡ assemble (elements p (structure (x .chars))) ds
+
+-- The choices are the units with a decided base: a choice's two replacements are the whole unit under either decision.
+unfoldable pub ChoicesByStructure : Type 0
+ChoicesByStructure =
+    (p : Policy) (t : List ℕ) (x : Item) → List·Memᴰ x (items t) → Structured (x .kind)
+    → choices p x ≡ choicesIn (elements p (structure (x .chars)))
+
+-- ---- worked texts
+
+-- Document 01's worked texts that concern counts and replacements, by its numbers.
+unfoldable pub WorkedTexts : Type 0
+WorkedTexts =
+    -- 1
+    (workedItems [] ≡ [])
+    -- 2
+    × (workedItems (0x31 ∷ 0xFE0E ∷ []) ≡ worked (0x31 ∷ 0xFE0E ∷ []) policyRedundant (0x31 ∷ []) ∷ [])
+    -- 3
+    × (workedItems (0x31 ∷ 0x20E3 ∷ []) ≡ worked (0x31 ∷ 0x20E3 ∷ []) decision (0x31 ∷ 0xFE0E ∷ 0x20E3 ∷ []) ∷ [])
+    -- 4
+    × (workedItems (0x231A ∷ 0xFE0F ∷ []) ≡ worked (0x231A ∷ 0xFE0F ∷ []) policyRedundant (0x231A ∷ []) ∷ [])
+    -- 5
+    × (workedItems (0x231A ∷ 0xFE0E ∷ 0xFE0F ∷ []) ≡ worked (0x231A ∷ 0xFE0E ∷ 0xFE0F ∷ []) (unsanctioned 1) (0x231A ∷ 0xFE0E ∷ []) ∷ [])
+    -- 6
+    × (workedItems (0x231A ∷ 0xFE0F ∷ 0xFE0E ∷ []) ≡ worked (0x231A ∷ 0xFE0F ∷ 0xFE0E ∷ []) (policyRedundant ⊕ unsanctioned 1) (0x231A ∷ []) ∷ [])
+    -- 7
+    × (workedItems (0x261D ∷ 0xFE0F ∷ 0x1F3FB ∷ []) ≡ worked (0x261D ∷ 0xFE0F ∷ 0x1F3FB ∷ []) modifierDefective (0x261D ∷ 0x1F3FB ∷ []) ∷ [])
+    -- 8
+    × (workedItems (0x261D ∷ 0xFE0E ∷ 0x1F3FB ∷ []) ≡ worked (0x261D ∷ 0xFE0E ∷ 0x1F3FB ∷ []) empty (0x261D ∷ 0xFE0E ∷ 0x1F3FB ∷ []) ∷ [])
+    -- 9
+    × (workedItems (0x2764 ∷ 0xFE0F ∷ 0x1F3FB ∷ []) ≡ worked (0x2764 ∷ 0xFE0F ∷ 0x1F3FB ∷ []) additionalDefective (0x2764 ∷ 0x1F3FB ∷ []) ∷ [])
+    -- 10
+    × (workedItems (0x2764 ∷ 0xFE0E ∷ 0xE0061 ∷ []) ≡ worked (0x2764 ∷ 0xFE0E ∷ 0xE0061 ∷ []) (tagConflicting ⊕ tagForced) (0x2764 ∷ 0xFE0F ∷ 0xE0061 ∷ []) ∷ [])
+    -- 11
+    × (workedItems (0x1F1E6 ∷ 0xFE0F ∷ 0x1F1E7 ∷ []) ≡ worked (0x1F1E6 ∷ 0xFE0F ∷ 0x1F1E7 ∷ []) (unsanctioned 1) (0x1F1E6 ∷ 0x1F1E7 ∷ []) ∷ [])
+    -- 12
+    × (workedItems (0x231A ∷ 0x200D ∷ 0x200D ∷ 0x231A ∷ []) ≡ worked (0x231A ∷ 0x200D ∷ 0x200D ∷ []) empty (0x231A ∷ 0x200D ∷ 0x200D ∷ []) ∷ worked (0x231A ∷ []) empty (0x231A ∷ []) ∷ [])
+    -- 13
+    × (workedItems (0x61 ∷ 0xFE0F ∷ []) ≡ worked (0x61 ∷ []) empty (0x61 ∷ []) ∷ worked (0xFE0F ∷ []) (unsanctioned 1) [] ∷ [])
+    -- 14
+    × (workedItems (0x20E3 ∷ []) ≡ worked (0x20E3 ∷ []) empty (0x20E3 ∷ []) ∷ [])
+
+-- Texts for what these leave open: rule 1 before rule 3 (1F476 is a modifier base without an entry), rule 4, tag-forced alone,
+-- and selectors after a link and after modifications.
+unfoldable pub WorkedRules : Type 0
+WorkedRules =
+    (workedItems (0x1F476 ∷ 0xFE0F ∷ 0x1F3FB ∷ []) ≡ worked (0x1F476 ∷ 0xFE0F ∷ 0x1F3FB ∷ []) (unsanctioned 1) (0x1F476 ∷ 0x1F3FB ∷ []) ∷ [])
+    × (workedItems (0x231A ∷ 0xFE0F ∷ 0xE0061 ∷ []) ≡ worked (0x231A ∷ 0xFE0F ∷ 0xE0061 ∷ []) tagRedundant (0x231A ∷ 0xE0061 ∷ []) ∷ [])
+    × (workedItems (0x231A ∷ 0xFE0E ∷ 0xE0061 ∷ []) ≡ worked (0x231A ∷ 0xFE0E ∷ 0xE0061 ∷ []) tagConflicting (0x231A ∷ 0xE0061 ∷ []) ∷ [])
+    × (workedItems (0x2764 ∷ 0xE0061 ∷ []) ≡ worked (0x2764 ∷ 0xE0061 ∷ []) tagForced (0x2764 ∷ 0xFE0F ∷ 0xE0061 ∷ []) ∷ [])
+    × (workedItems (0x2764 ∷ 0xFE0F ∷ 0x200D ∷ 0xFE0F ∷ 0x1F525 ∷ 0xFE0F ∷ []) ≡ worked (0x2764 ∷ 0xFE0F ∷ 0x200D ∷ 0xFE0F ∷ 0x1F525 ∷ 0xFE0F ∷ []) (unsanctioned 2) (0x2764 ∷ 0xFE0F ∷ 0x200D ∷ 0x1F525 ∷ []) ∷ [])
+    × (workedItems (0x31 ∷ 0xFE0F ∷ 0x20E3 ∷ 0xFE0F ∷ []) ≡ worked (0x31 ∷ 0xFE0F ∷ 0x20E3 ∷ 0xFE0F ∷ []) (unsanctioned 1) (0x31 ∷ 0xFE0F ∷ 0x20E3 ∷ []) ∷ [])
+
+-- A decision's two replacements are the whole unit, without the selectors of its modifications; each unit has its own.
+unfoldable pub WorkedChoices : Type 0
+WorkedChoices =
+    (choices defaultPolicy (item EmojiHeaded (0x31 ∷ 0x20E3 ∷ 0xFE0F ∷ []))
+    ≡ record { default = Text; text = 0x31 ∷ 0xFE0E ∷ 0x20E3 ∷ []; emoji = 0x31 ∷ 0xFE0F ∷ 0x20E3 ∷ [] } ∷ [])
+    × (choices defaultPolicy (item EmojiHeaded (0x2764 ∷ 0x200D ∷ 0x231A ∷ 0x200D ∷ 0x23 ∷ 0x20E3 ∷ 0x200D ∷ []))
+    ≡ record { default = Text; text = 0x2764 ∷ 0xFE0E ∷ []; emoji = 0x2764 ∷ 0xFE0F ∷ [] }
+    ∷ record { default = Text; text = 0x23 ∷ 0xFE0E ∷ 0x20E3 ∷ []; emoji = 0x23 ∷ 0xFE0F ∷ 0x20E3 ∷ [] } ∷ [])
+
+-- Decisions go in text order, and a missing one means the default.
+unfoldable pub WorkedDecisions : Type 0
+WorkedDecisions =
+    (replacement defaultPolicy (item EmojiHeaded (0x2764 ∷ 0x200D ∷ 0x23 ∷ 0x20E3 ∷ [])) (Emoji ∷ Text ∷ [])
+    ≡ 0x2764 ∷ 0xFE0F ∷ 0x200D ∷ 0x23 ∷ 0xFE0E ∷ 0x20E3 ∷ [])
+    × (replacement defaultPolicy (item EmojiHeaded (0x2764 ∷ 0x200D ∷ 0x23 ∷ 0x20E3 ∷ [])) (Text ∷ Emoji ∷ [])
+    ≡ 0x2764 ∷ 0xFE0E ∷ 0x200D ∷ 0x23 ∷ 0xFE0F ∷ 0x20E3 ∷ [])
+    × (replacement defaultPolicy (item EmojiHeaded (0x2764 ∷ 0x200D ∷ 0x23 ∷ 0x20E3 ∷ [])) (Emoji ∷ [])
+    ≡ 0x2764 ∷ 0xFE0F ∷ 0x200D ∷ 0x23 ∷ 0xFE0E ∷ 0x20E3 ∷ [])

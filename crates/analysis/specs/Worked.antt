@@ -1,0 +1,21 @@
+-- The form in which the worked texts of document 01 are stated.
+use mathlib.Core.List.{List, map}
+use Prim.Native.Nat.{ℕ}
+use Rattle.policy.specs.DefaultPolicy.{defaultPolicy}
+use Rattle.scanner.specs.Items.{Item, items}
+use Rattle.analysis.specs.Analysis.{defaultReplacement, nonCanonicality}
+use Rattle.analysis.specs.declared.NonCanonicality.{NonCanonicality}
+
+-- An item of a worked text: its characters, its counts and its default replacement.
+pub record Worked : Type 0 where
+  pub chars : List ℕ
+  pub counts : NonCanonicality
+  pub replacement : List ℕ
+
+-- The same as one line.
+abbrev pub worked : List ℕ → NonCanonicality → List ℕ → Worked
+worked t n r = record { chars = t; counts = n; replacement = r }
+
+-- The items of a text, with their counts and default replacements under the default policy.
+abbrev pub workedItems : List ℕ → List Worked
+workedItems t = map (λ (x : Item). worked (x .chars) (nonCanonicality defaultPolicy x) (defaultReplacement defaultPolicy x)) (items t)
