@@ -27,6 +27,11 @@ class Cleaned(unittest.TestCase):
         made, unused = unused_imports.cleaned("use a.B.{f, g, «x_y»}\n\nh = (f) .«x_y» [g]\n")
         self.assertEqual(unused, [])
 
+    def test_a_renamed_name_alone_in_its_import(self):
+        text = "use a.B.{the-type as the-class}\n\nx : the-class\n"
+        self.assertEqual(unused_imports.cleaned(text), (text, []))
+        self.assertEqual(unused_imports.cleaned("use a.B.{the-type as the-class}\n\nx : y\n")[1], ["the-type as the-class"])
+
 
 if __name__ == "__main__":
     unittest.main()

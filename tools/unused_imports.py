@@ -11,7 +11,7 @@ import sys
 
 ROOT = pathlib.Path(__file__).resolve().parent.parent
 USE = re.compile(r"^(?P<head>(?:ghost )?use \S+?\.)\{(?P<names>[^}]*)\}(?P<tail>;?)\n", re.M)
-AS = re.compile(r"^(?:ghost )?use \S+ as (?P<name>\S+?);?\n", re.M)
+AS = re.compile(r"^(?:ghost )?use [^\s{]+ as (?P<name>\S+?);?\n", re.M)
 
 
 def tokens(text):

@@ -9,7 +9,7 @@ use Rattle.unicode.specs.declared.presentation.Presentation.the-variants.{Emoji
 use Rattle.policy.specs.Policy.{singletonRule}
 use Rattle.policy.specs.declared.SingletonRule.{SingletonRule}
 use Rattle.policy.specs.declared.SingletonRule.the-variants.{BareToEmoji, BareToText, EmojiToBare, TextToBare}
-use Rattle.scanner.specs.Classes.{modifier, tag}
+use Rattle.scanner.specs.declared.char_class.Class.the-variants.{Modifier as modifier, Tag as tag}
 use Rattle.scanner.specs.Structure.{structure}
 use Rattle.scanner.proofs.Reading.{item-derives}
 use Rattle.analysis.specs.Analysis.{choices, choicesOf, countsOf, nonCanonicality, replacement, replacementOf}

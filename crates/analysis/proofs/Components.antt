@@ -11,7 +11,8 @@ use Rattle.unicode.specs.Unicode.{hasVariationSequence, isRi}
 use Rattle.unicode.specs.declared.presentation.Presentation.{Presentation}
 use Rattle.unicode.specs.declared.presentation.Presentation.the-variants.{Emoji, Text}
 use Rattle.policy.specs.declared.Policy.{Policy}
-use Rattle.scanner.specs.Classes.{Class, strip}
+use Rattle.scanner.specs.Classes.{strip}
+use Rattle.scanner.specs.declared.char_class.Class.{Class}
 use Rattle.scanner.specs.Grammar.{Derives, Link, Modification, Modifications, S, Stem, a-link, flag, modified, single, unmodified}
 use Rattle.scanner.specs.Structure.{
   EmojiLike,

@@ -27,6 +27,9 @@ counts-path m n a b c d e f g h = λ i. record {
 pub plus-assoc : (l m n : NonCanonicality) → l ⊕ m ⊕ n ≡ l ⊕ (m ⊕ n)
 plus-assoc l m n = counts-path _ _ (omega arith) (omega arith) (omega arith) (omega arith) (omega arith) (omega arith) (omega arith) (omega arith)
 
+pub plus-swap : (l m n : NonCanonicality) → l ⊕ (m ⊕ n) ≡ m ⊕ (l ⊕ n)
+plus-swap l m n = counts-path _ _ (omega arith) (omega arith) (omega arith) (omega arith) (omega arith) (omega arith) (omega arith) (omega arith)
+
 pub empty-plus : (n : NonCanonicality) → empty ⊕ n ≡ n
 empty-plus n = counts-path _ _ (omega arith) (omega arith) (omega arith) (omega arith) (omega arith) (omega arith) (omega arith) (omega arith)
 

@@ -27,7 +27,8 @@ use Rattle.scanner.specs.Grammar.{
   selector-and,
   selector-run,
 }
-use Rattle.scanner.specs.Items.{Item, Place, begin, items, kindOf}
+use Rattle.scanner.specs.Items.{Item, begin, items, kindOf}
+use Rattle.scanner.specs.declared.place.Place.{Place}
 use Rattle.scanner.specs.Theorems.{Structured, item}
 use Rattle.scanner.specs.declared.ScanKind.{ScanKind}
 use Rattle.scanner.specs.declared.ScanKind.the-variants.{EmojiHeaded, LinksOnly, Passthrough, UnsanctionedPresentationSelectors}

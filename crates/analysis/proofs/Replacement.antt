@@ -9,8 +9,9 @@ use lib.ListN.{length}
 use Rattle.unicode.specs.Presentation.{asSelector, isSelector}
 use Rattle.unicode.specs.declared.presentation.Presentation.{Presentation}
 use Rattle.policy.specs.declared.Policy.{Policy}
-use Rattle.scanner.specs.Classes.{Class, strip}
-use Rattle.scanner.specs.Items.{Place}
+use Rattle.scanner.specs.Classes.{strip}
+use Rattle.scanner.specs.declared.char_class.Class.{Class}
+use Rattle.scanner.specs.declared.place.Place.{Place}
 use Rattle.scanner.proofs.Places.{inner}
 use Rattle.scanner.proofs.Walk.{Walk, same-walk}
 use Rattle.analysis.specs.Analysis.{chosen, countCells, following, remaining, outcomeAt, render, renew}

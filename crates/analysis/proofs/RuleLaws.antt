@@ -10,7 +10,7 @@ use Rattle.unicode.specs.declared.presentation.Presentation.the-variants.{Emoji
 use Rattle.policy.specs.declared.Policy.{Policy}
 use Rattle.policy.specs.declared.SingletonRule.{SingletonRule}
 use Rattle.policy.specs.declared.SingletonRule.the-variants.{BareToEmoji, BareToText, EmojiToBare, TextToBare}
-use Rattle.scanner.specs.Classes.{Class}
+use Rattle.scanner.specs.declared.char_class.Class.{Class}
 use Rattle.analysis.specs.Analysis.{chosen}
 use Rattle.analysis.specs.Counts.{adding, empty, removing, total}
 use Rattle.analysis.specs.Rules.{Outcome, Slot, bare, byFirst, decided, fixed, isBareSide, outcome, rule1, rule2, rule3, rule4, rule5, rule6, textFirst, withoutSelector}

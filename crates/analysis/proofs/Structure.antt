@@ -6,7 +6,9 @@ use mathlib.Core.Logic.{⊎-elim}
 use Prim.Native.Nat.{ℕ}
 use Rattle.unicode.specs.Presentation.{isSelector}
 use Rattle.unicode.specs.Unicode.{isRi}
-use Rattle.scanner.specs.Classes.{Class, selector, link, ri, modifier, emoji, keycap, tag, other, classOf}
+use Rattle.scanner.specs.Classes.{classOf}
+use Rattle.scanner.specs.declared.char_class.Class.{Class}
+use Rattle.scanner.specs.declared.char_class.Class.the-variants.{Selector as selector, Link as link, Ri as ri, Modifier as modifier, Emoji as emoji, Keycap as keycap, Tag as tag, Other as other}
 use Rattle.scanner.specs.Grammar.{S}
 use Rattle.scanner.specs.Runs.{behindSelectors, selectorsAt}
 use Rattle.scanner.specs.Structure.{EmojiLike, EmojiModification, EmojiModifier, EmojiSequence, EmojiStem, EmojiTagRun, EnclosingKeycap, Flag, SingletonBase, TagModifier, ZwjJoinedEmoji, behindSecondRi, cutAtLinks, emojiHeaded, emojiLike, flattenModification, flattenModifications, flattenRuns, joinOne, joinedOf, linkOf, linksOnly, modificationsOf, riStem, sequenceOf, structure, tagToModifications, tagToRuns, toModifications}

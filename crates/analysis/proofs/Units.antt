@@ -10,7 +10,8 @@ use Rattle.unicode.specs.Presentation.{asSelector, isSelector}
 use Rattle.unicode.specs.Unicode.{hasVariationSequence}
 use Rattle.unicode.specs.declared.presentation.Presentation.{Presentation}
 use Rattle.policy.specs.declared.Policy.{Policy}
-use Rattle.scanner.specs.Classes.{Class, emoji, link}
+use Rattle.scanner.specs.declared.char_class.Class.{Class}
+use Rattle.scanner.specs.declared.char_class.Class.the-variants.{Emoji as emoji, Link as link}
 use Rattle.scanner.specs.Grammar.{S, no-selectors, selector-and}
 use Rattle.scanner.proofs.Classes.{
   HasClass,

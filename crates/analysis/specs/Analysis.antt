@@ -7,7 +7,9 @@ use lib.ListN.{length}
 use Rattle.unicode.specs.declared.presentation.Presentation.{Presentation}
 use Rattle.unicode.specs.declared.presentation.Presentation.the-variants.{Emoji, Text}
 use Rattle.policy.specs.declared.Policy.{Policy}
-use Rattle.scanner.specs.Classes.{Class, classOf, other}
+use Rattle.scanner.specs.Classes.{classOf}
+use Rattle.scanner.specs.declared.char_class.Class.{Class}
+use Rattle.scanner.specs.declared.char_class.Class.the-variants.{Other as other}
 use Rattle.scanner.specs.Items.{Item}
 use Rattle.scanner.specs.declared.ScanKind.{ScanKind}
 use Rattle.scanner.specs.declared.ScanKind.the-variants.{EmojiHeaded, LinksOnly, Passthrough, UnsanctionedPresentationSelectors}

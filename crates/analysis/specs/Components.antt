@@ -7,7 +7,9 @@ use Rattle.unicode.specs.Presentation.{asSelector}
 use Rattle.unicode.specs.declared.presentation.Presentation.{Presentation}
 use Rattle.unicode.specs.declared.presentation.Presentation.the-variants.{Emoji, Text}
 use Rattle.policy.specs.declared.Policy.{Policy}
-use Rattle.scanner.specs.Classes.{Class, keycap, modifier, other, strip, tag}
+use Rattle.scanner.specs.Classes.{strip}
+use Rattle.scanner.specs.declared.char_class.Class.{Class}
+use Rattle.scanner.specs.declared.char_class.Class.the-variants.{Keycap as keycap, Modifier as modifier, Other as other, Tag as tag}
 use Rattle.scanner.specs.Structure.{
   EmojiLike,
   EmojiModification,

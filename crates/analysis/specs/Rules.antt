@@ -10,7 +10,8 @@ use Rattle.policy.specs.Policy.{singletonRule}
 use Rattle.policy.specs.declared.Policy.{Policy}
 use Rattle.policy.specs.declared.SingletonRule.{SingletonRule}
 use Rattle.policy.specs.declared.SingletonRule.the-variants.{BareToEmoji, BareToText, EmojiToBare, TextToBare}
-use Rattle.scanner.specs.Classes.{Class, selector, link, ri, modifier, emoji, keycap, tag, other}
+use Rattle.scanner.specs.declared.char_class.Class.{Class}
+use Rattle.scanner.specs.declared.char_class.Class.the-variants.{Selector as selector, Link as link, Ri as ri, Modifier as modifier, Emoji as emoji, Keycap as keycap, Tag as tag, Other as other}
 use Rattle.analysis.specs.Counts.{
   _⊕_,
   additionalDefective,

@@ -12,7 +12,9 @@ use Rattle.policy.specs.DefaultPolicy.{defaultPolicy}
 use Rattle.policy.specs.Policy.{singletonRule}
 use Rattle.policy.specs.declared.Policy.{Policy}
 use Rattle.policy.specs.declared.SingletonRule.the-variants.{BareToEmoji, BareToText, EmojiToBare, TextToBare}
-use Rattle.scanner.specs.Classes.{Class, modifier, strip, tag}
+use Rattle.scanner.specs.Classes.{strip}
+use Rattle.scanner.specs.declared.char_class.Class.{Class}
+use Rattle.scanner.specs.declared.char_class.Class.the-variants.{Modifier as modifier, Tag as tag}
 use Rattle.scanner.specs.Items.{Item, items}
 use Rattle.scanner.specs.Spans.{size, width}
 use Rattle.scanner.specs.Structure.{structure}

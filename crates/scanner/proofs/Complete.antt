@@ -33,7 +33,7 @@ unfolding getLastD
 last-ends c [] e = ([], ap (λ (x : ℕ). x ∷ []) e)
 last-ends c (d ∷ ts) e = let h = last-ends d ts e in (c ∷ h .0, ap (λ (l : List ℕ). c ∷ l) (h .1))
 
-last-of : (before : List ℕ) (c : ℕ) → getLastD (before ++ (c ∷ [])) 0 ≡ c
+pub last-of : (before : List ℕ) (c : ℕ) → getLastD (before ++ (c ∷ [])) 0 ≡ c
 unfolding getLastD
 last-of [] c = refl
 last-of (b ∷ []) c = refl

@@ -1,5 +1,6 @@
 -- The laws of the items, and the theorems.
 pub mod Classes
+pub mod Arms
 pub mod Tiling
 pub mod Places
 pub mod Walk
@@ -15,8 +16,14 @@ pub mod Units
 pub mod Tags
 pub mod Structure
 pub mod Complete
+pub mod TagReport
+pub mod Cursor
 pub mod ItemRuns
 pub mod EmojiRuns
 pub mod RestRuns
 pub mod RunLaws
+pub mod ClassTests
+pub mod RunsAt
+pub mod PartsAt
+pub mod SelectorRun
 pub mod Claims

@@ -117,11 +117,11 @@ tag-modification-derived c t e = subst TagGroups (sym (tag-run c t e)) (tag-befo
 
 -- ---- a modification, and all of them
 
-modification-tag : (c : ℕ) (t : List ℕ) → isTag c ≡ true → modificationAt (c ∷ t) ≡ tagModificationAt (c ∷ t)
+pub modification-tag : (c : ℕ) (t : List ℕ) → isTag c ≡ true → modificationAt (c ∷ t) ≡ tagModificationAt (c ∷ t)
 unfolding modificationAt
 modification-tag c t e = ap (λ (b : Bool). cond b (tagModificationAt (c ∷ t)) (cond (isModification c) (c ∷ selectorsAt t) [])) e
 
-modification-other : (c : ℕ) (t : List ℕ) (b : Bool) → isTag c ≡ false → isModification c ≡ b → modificationAt (c ∷ t) ≡ cond b (c ∷ selectorsAt t) []
+pub modification-other : (c : ℕ) (t : List ℕ) (b : Bool) → isTag c ≡ false → isModification c ≡ b → modificationAt (c ∷ t) ≡ cond b (c ∷ selectorsAt t) []
 unfolding modificationAt
 modification-other c t b e f = ap₂ (λ (x y : Bool). cond x (tagModificationAt (c ∷ t)) (cond y (c ∷ selectorsAt t) [])) e f
 

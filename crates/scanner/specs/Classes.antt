@@ -5,10 +5,18 @@ use Prim.Native.Nat.{ℕ}
 use lib.Dec.{eqb}
 use Rattle.unicode.specs.Presentation.{isSelector}
 use Rattle.unicode.specs.Unicode.{isEmoji, isEmojiModifier, isRi, isTag}
-
 -- Selectors, links, regional indicators (RI), modifiers, the other emoji, 20E3, tags, and the rest.
-pub data Class : Type 0 where
-  selector link ri modifier emoji keycap tag other : Class
+pub use Rattle.scanner.specs.declared.char_class.Class.{Class}
+pub use Rattle.scanner.specs.declared.char_class.Class.the-variants.{
+  Selector as selector,
+  Link as link,
+  Ri as ri,
+  Modifier as modifier,
+  Emoji as emoji,
+  Keycap as keycap,
+  Tag as tag,
+  Other as other,
+}
 
 -- The first class that fits: the tables of document 01 say which characters are emoji, RI and modifiers.
 unfoldable pub classOf : ℕ → Class

@@ -4,18 +4,22 @@ use mathlib.Core.Option.{Option, none, some}
 use mathlib.Core.List.{List, [], _∷_, _++_}
 use Prim.Native.Nat.{ℕ}
 use Rattle.scanner.specs.Classes.{Class, selector, link, ri, modifier, emoji, keycap, tag, other, classOf}
+use Rattle.scanner.specs.declared.place.Next.{Next}
+use Rattle.scanner.specs.declared.place.Next.the-variants.{On, Stop}
 use Rattle.scanner.specs.declared.ScanKind.{ScanKind}
 use Rattle.scanner.specs.declared.ScanKind.the-variants.{EmojiHeaded, LinksOnly, Passthrough, UnsanctionedPresentationSelectors}
-
--- Where in an item a character stands.
-pub data Place : Type 0 where
-  plain : Place  -- in passthrough
-  selectors : Place  -- in a run of selectors
-  links : Place  -- in a run of links
-  oneRi : Place  -- in a unit whose stem is one RI so far
-  unit : Place  -- in a unit whose stem is whole
-  joined : Place  -- behind a unit and one link
-  leftOver : Place  -- behind a unit and two links or more
+-- Where in an item a character stands: in passthrough; in a run of selectors; in a run of links; in a unit whose stem is one RI so
+-- far; in a unit whose stem is whole; behind a unit and one link; behind a unit and two links or more.
+pub use Rattle.scanner.specs.declared.place.Place.{Place}
+pub use Rattle.scanner.specs.declared.place.Place.the-variants.{
+  Plain as plain,
+  Selectors as selectors,
+  Links as links,
+  OneRi as oneRi,
+  Unit as unit,
+  Joined as joined,
+  LeftOver as leftOver,
+}
 
 -- Where a character of the class stands if the item goes on with it; `none` if the item ends before it.
 unfoldable pub step : Place → Class → Option Place
@@ -82,6 +86,11 @@ step leftOver emoji = none
 step leftOver keycap = none
 step leftOver tag = none
 step leftOver other = none
+
+-- The code's answer for it.
+abbrev pub nextOf : Option Place → Next
+nextOf (some q) = On q
+nextOf none = Stop
 
 -- Where the first character of an item stands.
 unfoldable pub begin : Class → Place

@@ -3,7 +3,10 @@ pub mod Classes
 pub mod Items
 pub mod Grammar
 pub mod Runs
+pub mod RunKinds
 pub mod Structure
 pub mod Tags
+pub mod TagReport
 pub mod Spans
+pub mod SelectorRun
 pub mod Theorems

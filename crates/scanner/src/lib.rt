@@ -1,5 +1,21 @@
 // The items of a text: scanner.rs of the crate evfmt; document 01, "Item".
-// These are the types of a scan's answers; what they hold for a text is set out in specs/Spans.antt.
+// `next_item` is the cursor: it starts afresh at each offset, reads the item there once, character by character, and
+// equals `scanAt` of specs/Spans.antt for every slice and offset. `item_rest` is its loop, over the places of an item.
+pub mod char_class;
+pub mod consume;
+pub mod place;
+pub mod selectors;
+pub mod tag_report;
+
+ghost use mathlib.Core.Path.{_≡_};
+ghost use Prim.Native.Nat.{_+_};
+ghost use Rattle.scanner.specs.Spans.{restAt, scanAt, size, width};
+ghost use Rattle.scanner.specs.TagReport.{noTags, tagsOver};
+use char_class::class_of;
+use place::Next;
+use place::Place;
+use tag_report::TagReport;
+use utf8::ReadChar;
 
 // What an item is.
 pub enum ScanKind {
@@ -21,4 +37,65 @@ pub struct ScanItem {
 pub enum ScanStep {
     Item(ScanItem),
     End,
+}
+
+// What is read of an item behind its first character: the offset of its end, and its tags.
+struct ItemRest {
+    end: usize,
+    tags: TagReport,
+}
+
+// The rest of an item that has a character at the place, from an offset on.
+fn item_rest(text: &[u8], from: usize, first: Place) -> ItemRest
+    ensures end { λ r. ⌜ r .end ≡ from + size width (restAt (now (text .entry)) from first) ⌝ }
+    ensures tags { λ r. ⌜ r .tags ≡ tagsOver noTags (restAt (now (text .entry)) from first) ⌝ }
+{
+    let mut at = from;
+    let mut place = first;
+    let mut tags = tag_report::no_tags();
+    loop {
+        match utf8::read_char(text, at) {
+            ReadChar::Char { value, width } => {
+                let class = class_of(value);
+                match place::step(place, class) {
+                    Next::On(next) => {
+                        place = next;
+                    }
+                    Next::Stop => {
+                        return ItemRest { end: at, tags };
+                    }
+                }
+                tags = tag_report::tags_after(tags, class, value);
+                at += width;
+            }
+            ReadChar::IllFormed => {
+                return ItemRest { end: at, tags };
+            }
+            ReadChar::End => {
+                return ItemRest { end: at, tags };
+            }
+        }
+    }
+}
+
+// The item at an offset, or the end: no item begins past the end of the text or inside a character.
+pub fn next_item(text: &[u8], at: usize) -> ScanStep
+    ensures { λ r. ⌜ r ≡ scanAt (now (text .entry)) at ⌝ }
+{
+    match utf8::read_char(text, at) {
+        ReadChar::Char { value, width } => {
+            let first = place::begin(class_of(value));
+            let ItemRest { end, tags } = item_rest(text, at + width, first);
+            let kind = place::kind_of(first);
+            let tags_complete = tag_report::tags_complete(kind, tags);
+            ScanStep::Item(ScanItem {
+                start: at,
+                end,
+                kind,
+                tags_complete,
+            })
+        }
+        ReadChar::IllFormed => ScanStep::End,
+        ReadChar::End => ScanStep::End,
+    }
 }

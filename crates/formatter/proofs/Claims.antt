@@ -1,0 +1,30 @@
+-- The proof of each statement of specs/Theorems.antt and specs/Worked.antt.
+use Rattle.formatter.specs.Theorems.{EveryFormattedText, EveryList, FiledIsFormatted, IntakeComesFirst, IntakeInOrder}
+use Rattle.formatter.specs.Worked.{WorkedList, WorkedTexts}
+use Rattle.formatter.proofs.FormattedClaim.{formatted-claim}
+use Rattle.formatter.proofs.ListClaim.{list-claim}
+use Rattle.formatter.proofs.Outcomes.{comes-first, filed, in-order}
+use Rattle.formatter.proofs.Worked.{calls, texts}
+
+pub intake-in-order : IntakeInOrder
+intake-in-order = in-order
+
+pub intake-comes-first : IntakeComesFirst
+intake-comes-first = comes-first
+
+pub filed-is-formatted : FiledIsFormatted
+filed-is-formatted = filed
+
+pub every-list : EveryList
+unfolding EveryList
+every-list policy first a h calls = list-claim policy first a h calls
+
+pub every-formatted-text : EveryFormattedText
+unfolding EveryFormattedText
+every-formatted-text policy first a = formatted-claim policy first a
+
+pub worked-texts : WorkedTexts
+worked-texts = texts
+
+pub worked-list : WorkedList
+worked-list = calls

@@ -1,0 +1,20 @@
+-- The proofs of the claims on formatting, listing and mending.
+pub mod Worked
+pub mod Replacements
+pub mod Mending
+pub mod Books
+pub mod Splicing
+pub mod Judging
+pub mod Marks
+pub mod Alike
+pub mod Order
+pub mod Calls
+pub mod Acceptance
+pub mod Runs
+pub mod Listing
+pub mod Formatting
+pub mod Outcomes
+pub mod FirstBook
+pub mod ListClaim
+pub mod FormattedClaim
+pub mod Claims

@@ -1,0 +1,81 @@
+-- The tests of a text and a policy in their order, and the filed text.
+use mathlib.Core.Path.{_≡_, refl, ap, sym, _∙_}
+use mathlib.Core.Bool.{Bool, true, false, cond, not}
+use mathlib.Core.Option.{Option, none, some}
+use mathlib.Core.List.{List, _++_, map}
+use Prim.Native.Nat.{ℕ}
+use native.Mathlib.Omega.{arith}
+use lib.Dec.{eqb, leb}
+use lib.ListN.{drop, length, length-append, take}
+use lib.Seq.{take-append-seam}
+use borrow.Author.Tests.{le-leb, lt-leb, ne-eqb}
+use Rattle.utf8.specs.Rfc3629.{validUpTo}
+use Rattle.utf8.proofs.Grammar.{whole-well-formed}
+use Rattle.policy.specs.PolicyBytes.{isPolicy, policyOf}
+use Rattle.formatter.specs.Filed.{filedText}
+use Rattle.formatter.specs.Findings.{findingRow, findings}
+use Rattle.formatter.specs.Format.{format, formatted, sameBytes}
+use Rattle.formatter.specs.List.{list}
+use Rattle.formatter.specs.Mend.{exchanged, findingAt, judge, meaning, mend}
+use Rattle.formatter.specs.Refusals.{After, intakeRefusal, kept, orElse}
+use Rattle.formatter.specs.Theorems.{FiledIsFormatted, IntakeComesFirst, IntakeInOrder}
+use Rattle.formatter.specs.declared.FormatAnswer.{FormatAnswer}
+use Rattle.formatter.specs.declared.FormatAnswer.the-variants as Format
+use Rattle.formatter.specs.declared.ListAnswer.the-variants as Listing
+use Rattle.formatter.specs.declared.MendAnswer.the-variants as Mend
+use Rattle.formatter.specs.declared.Refusal.{Refusal}
+use Rattle.formatter.specs.declared.Refusal.the-variants.{NotAPolicy, NotWellFormed, TextTooLong}
+use Rattle.formatter.proofs.Calls.{pass-intake}
+use Rattle.formatter.proofs.Formatting.{format-is, formatTests, same-true}
+use Rattle.formatter.proofs.Listing.{listRows}
+
+pub in-order : IntakeInOrder
+unfolding IntakeInOrder intakeRefusal
+in-order text policy =
+    let formed : Bool → Option Refusal = λ q. cond (not q) (some (NotWellFormed (validUpTo text))) none in
+    let rest : Bool → Option Refusal = λ q. cond (not q) (some NotAPolicy) (formed (eqb (validUpTo text) (length text))) in
+    let all : Bool → Option Refusal = λ q. cond (not q) (some TextTooLong) (rest (isPolicy policy)) in (
+      (λ h. ap all (lt-leb (length text) 16777216 (omega arith))),
+      (λ h e. ap all (le-leb (length text) 16777216 h) ∙ ap rest e),
+      (λ h e w. ap all (le-leb (length text) 16777216 h) ∙ ap rest e ∙ ap formed (ne-eqb (validUpTo text) (length text) (λ i. w (whole-well-formed text i)))),
+      pass-intake policy text,
+    )
+
+pub comes-first : IntakeComesFirst
+unfolding IntakeComesFirst format list mend
+comes-first text policy r e =
+    let F = formatted text policy in
+    let p = policyOf policy in (
+      (λ out. ap (λ (o : Option Refusal). orElse o (λ (f : Refusal). kept (Format.Refused f) out) (formatTests (sameBytes F text) (leb (length F) (length out)) F out)) e),
+      (λ table. ap (λ (o : Option Refusal). orElse o (λ (f : Refusal). kept (Listing.Refused f) table) (listRows (map (findingRow p) (findings text policy)) table)) e),
+      (λ offset ds out.
+          let x = findingAt offset (findings text policy) in
+          ap (λ (o : Option Refusal). orElse o (λ (f : Refusal). kept (Mend.Refused f) out) (judge p x ds (exchanged text p offset (map meaning ds) x) out)) e),
+    )
+
+-- What is filed, by the answers of the tests.
+filed-tests : (same fits : Bool) (text r out : List ℕ) (len : ℕ) → (same ≡ true → r ≡ text)
+    → (formatTests same fits r out .answer ≡ Format.Changed len → filedText text (formatTests same fits r out .buffer) true len ≡ r)
+    × (formatTests same fits r out .answer ≡ Format.Unchanged → filedText text (formatTests same fits r out .buffer) false len ≡ r)
+unfolding filedText
+filed-tests true fits text r out len s = ((λ e. cc), (λ e. sym (s refl)))
+filed-tests false true text r out len s = (
+  (λ e.
+      let n : length r ≡ len = cc in
+      let b = r ++ drop (length r) out in
+      ap (λ (n : ℕ). cond (leb n (length b)) (take n b) b) (sym n)
+      ∙ ap (λ (q : Bool). cond q (take (length r) b) b) (le-leb (length r) (length b) (omega (arith, length-append r (drop (length r) out))))
+      ∙ take-append-seam r (drop (length r) out)),
+  (λ e. cc),
+)
+filed-tests false false text r out len s = ((λ e. cc), (λ e. cc))
+
+pub filed : FiledIsFormatted
+unfolding FiledIsFormatted
+filed text policy out len a =
+    let F = formatted text policy in
+    let q = format-is policy text out a in
+    let t = filed-tests (sameBytes F text) (leb (length F) (length out)) text F out len (same-true F text) in (
+      (λ e. ap (λ (x : After FormatAnswer ℕ). filedText text (x .buffer) true len) q ∙ t .0 (ap (λ (x : After FormatAnswer ℕ). x .answer) (sym q) ∙ e)),
+      (λ e. ap (λ (x : After FormatAnswer ℕ). filedText text (x .buffer) false len) q ∙ t .1 (ap (λ (x : After FormatAnswer ℕ). x .answer) (sym q) ∙ e)),
+    )

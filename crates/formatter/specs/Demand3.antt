@@ -1,0 +1,287 @@
+-- Demand 3: one claim about a list of mending calls as a whole, `ListClaim`, and the same of a formatted text, `FormattedClaim` (document 01, "Mending in sequence").
+use mathlib.Core.Path.{_≡_}
+use mathlib.Core.Logic.{_↔_}
+use mathlib.Core.Bool.{Bool, true, false, cond}
+use mathlib.Core.List.{List, [], _∷_, _++_, map, List·Memᴰ}
+use Prim.Native.Nat.{ℕ, suc, _+_, _*_, _≤_, _<_}
+use lib.ListN.{drop, length, take}
+use Rattle.utf8.specs.Rfc3629.{WellFormed, chars, encodeAll}
+use Rattle.unicode.specs.declared.presentation.Presentation.{Presentation}
+use Rattle.policy.specs.declared.Policy.{Policy}
+use Rattle.policy.specs.PolicyBytes.{isPolicy, policyOf}
+use Rattle.scanner.specs.Classes.{strip}
+use Rattle.scanner.specs.Items.{Item, items}
+use Rattle.scanner.specs.Spans.{Found, size, width}
+use Rattle.analysis.specs.Analysis.{Choice, choices, defaultDecisions, isFinding, nonCanonicality}
+use Rattle.analysis.specs.Cells.{selectorCount}
+use Rattle.analysis.specs.Counts.{_⊕_, adding, removing}
+use Rattle.analysis.specs.declared.NonCanonicality.{NonCanonicality}
+use Rattle.formatter.specs.Book.{
+  Entry,
+  Mark,
+  Mending,
+  Opening,
+  atFirst,
+  bookAfter,
+  bookStep,
+  bookText,
+  firstBook,
+  itemsOf,
+  marked,
+  mended,
+  mendingOf,
+  openingAt,
+  openings,
+  place,
+  untouched,
+}
+use Rattle.formatter.specs.Findings.{findings, textTotals, totals}
+use Rattle.formatter.specs.Format.{format, formatted}
+use Rattle.formatter.specs.List.{list}
+use Rattle.formatter.specs.Mend.{Call, meaning, mend, nextText, outcomes, textAfter}
+use Rattle.formatter.specs.Refusals.{After}
+use Rattle.formatter.specs.declared.Finding.{Finding}
+use Rattle.formatter.specs.declared.FormatAnswer.the-variants as Format
+use Rattle.formatter.specs.declared.ListAnswer.the-variants as Listing
+use Rattle.formatter.specs.declared.MendAnswer.{MendAnswer}
+use Rattle.formatter.specs.declared.MendAnswer.the-variants.{Mended, Refused}
+use Rattle.formatter.specs.declared.Refusal.the-variants.{BadDecision, NoFinding, OutputTooShort, TableTooShort, WrongNumberOfDecisions}
+
+-- ---- words of the claim
+
+-- Every one of a list is as said.
+pub data Each {A : Type 0} (P : A → Type 0) : List A → Type 0 where
+  no-more : Each P []
+  and-each : {x : A} {xs : List A} → P x → Each P xs → Each P (x ∷ xs)
+
+-- A call is accepted.
+abbrev pub isMended : MendAnswer → Bool
+isMended (Mended n) = true
+isMended (Refused r) = false
+
+-- How many calls were accepted.
+abbrev pub acceptedCalls : List (After MendAnswer ℕ) → ℕ
+acceptedCalls [] = 0
+acceptedCalls (a ∷ l) = cond (isMended (a .answer)) (suc (acceptedCalls l)) (acceptedCalls l)
+
+-- What is said of a mended finding, before others; an open one adds nothing.
+abbrev pub onlyMended : {A : Type 0} → Mark → (List Presentation → A) → List A → List A
+onlyMended untouched say others = others
+onlyMended (mended ds) say others = say ds ∷ others
+
+-- The mended findings of a book.
+abbrev pub mendedItems : List Entry → List Item
+mendedItems [] = []
+mendedItems (e ∷ es) = onlyMended (e .mark) (λ (ds : List Presentation). e .item) (mendedItems es)
+
+-- The mended findings by their starts in the first text, with their decisions; the first entry starts at the number.
+unfoldable pub mendedFrom : ℕ → List Entry → List Mending
+mendedFrom n [] = []
+mendedFrom n (e ∷ es) =
+    onlyMended (e .mark) (λ (ds : List Presentation). record { start = n; decisions = ds }) (mendedFrom (n + size width (e .item .chars)) es)
+
+-- Alike but for order and repetition.
+abbrev pub Alike : List Mending → List Mending → Type 0
+Alike k l = (m : Mending) → List·Memᴰ m k ↔ List·Memᴰ m l
+
+-- A call of a list, and the calls before it.
+pub record Behind (cs before : List Call) (c : Call) : Type 0 where
+  pub after : List Call
+  pub whole : cs ≡ before ++ c ∷ after
+
+-- What a reader of a text sees of a finding: its bytes there, its counts, its choices.
+pub record Seen : Type 0 where
+  pub bytesThere : List ℕ
+  pub counts : NonCanonicality
+  pub choices : List Choice
+
+module _ (p : Policy) where
+  -- What is mended is a finding, with as many decisions as it wants.
+  pub record IsRight (x : Item) (ds : List Presentation) : Type 0 where
+    pub is-finding : isFinding p x ≡ true
+    pub as-many : length ds ≡ nonCanonicality p x .«presentation_decisions»
+
+  -- The same of a mark: an open item may be any.
+  abbrev pub Right : Mark → Item → Type 0
+  Right untouched x = Unit {0}
+  Right (mended ds) x = IsRight x ds
+
+  -- What is mended is mended by its default decisions.
+  abbrev pub ByDefault : Mark → Item → Type 0
+  ByDefault untouched x = Unit {0}
+  ByDefault (mended ds) x = ds ≡ defaultDecisions p x
+
+  -- The book in which all findings are mended by their default decisions.
+  abbrev pub allMended : List Item → List Entry
+  allMended xs = map (λ (x : Item). record { item = x; mark = cond (isFinding p x) (mended (defaultDecisions p x)) untouched }) xs
+
+  -- What is seen of a finding in a text.
+  abbrev pub seen : List ℕ → Found → Seen
+  seen text f = record {
+    bytesThere = take (length (encodeAll (f .item .chars))) (drop (f .start) text);
+    counts = nonCanonicality p (f .item);
+    choices = choices p (f .item);
+  }
+
+  -- The row of an open finding, "with starts and ends counted in that text".
+  abbrev pub openRow : Opening → Finding
+  openRow o = record { start = place o; end = place o + length (encodeAll (o .item .chars)); counts = nonCanonicality p (o .item) }
+
+module _ (policy : List ℕ) where
+  -- A text that passes the tests 1, 2 and 3.
+  pub record Accepted (text : List ℕ) : Type 0 where
+    pub short : length text ≤ 16777216
+    pub is-policy : isPolicy policy ≡ true
+    pub well-formed : WellFormed text
+
+  -- An open finding has the call's offset for its place.
+  pub record At (es : List Entry) (c : Call) (o : Opening) : Type 0 where
+    pub is-open : List·Memᴰ o (openings policy es)
+    pub there : c .offset ≡ place o
+
+  -- "as many as the finding's eighth count"
+  abbrev pub AsMany : Call → Opening → Type 0
+  AsMany c o = length (c .decisions) ≡ nonCanonicality (policyOf policy) (o .item) .«presentation_decisions»
+
+  -- "A call mends an open finding if its offset is that finding's place, its decisions are valid (as many as the finding's
+  -- eighth count, each 0 or 1) and its output holds the book's text after this."
+  pub record Names (es : List Entry) (c : Call) : Type 0 where
+    pub finding : Opening
+    pub at : At es c finding
+    pub as-many : AsMany c finding
+    pub valid : Each (λ (d : ℕ). d ≤ 1) (c .decisions)
+    pub room : length (bookText policy (marked policy es c)) ≤ length (c .out)
+
+  -- "the first refusal below that fits", with what is returned.
+  pub data FirstRefusal (es : List Entry) (c : Call) : MendAnswer → Type 0 where
+    no-finding : ((o : Opening) → At es c o → ⊥) → FirstRefusal es c (Refused NoFinding)
+    few-or-many : (o : Opening) → At es c o → (AsMany c o → ⊥)
+        → FirstRefusal es c (Refused (WrongNumberOfDecisions (nonCanonicality (policyOf policy) (o .item) .«presentation_decisions»)))
+    above-one : (o : Opening) → At es c o → AsMany c o → (ds later : List ℕ) (d : ℕ) → c .decisions ≡ ds ++ d ∷ later
+        → Each (λ (d : ℕ). d ≤ 1) ds → 1 < d → FirstRefusal es c (Refused (BadDecision (length ds)))
+    no-room : (o : Opening) → At es c o → AsMany c o → Each (λ (d : ℕ). d ≤ 1) (c .decisions)
+        → length (c .out) < length (bookText policy (marked policy es c))
+        → FirstRefusal es c (Refused (OutputTooShort (length (bookText policy (marked policy es c)))))
+
+  -- The findings that the accepted calls of a list mend, with the decisions that they give, in the order of the calls.
+  unfoldable pub mendings : List ℕ → List Entry → List Call → List Mending
+  mendings text es [] = []
+  mendings text es (c ∷ cs) =
+      let a = mend text policy (c .offset) (c .decisions) (c .out) in
+      cond (isMended (a .answer)) (mendingOf (map meaning (c .decisions)) (openingAt (c .offset) (openings policy es))) []
+      ++ mendings (nextText text a) (bookStep policy es c) cs
+
+  module _ (first : List ℕ) where
+    -- The book after the calls of a list on the first text.
+    abbrev pub book : List Call → List Entry
+    book cs = bookAfter policy (firstBook policy first) cs
+
+    -- The text after them.
+    abbrev pub text : List Call → List ℕ
+    text cs = textAfter first policy cs
+
+    -- The findings that are open after them.
+    abbrev pub open-after : List Call → List Opening
+    open-after cs = openings policy (book cs)
+
+    -- The findings that its accepted calls mend, with their decisions.
+    abbrev pub given : List Call → List Mending
+    given cs = mendings first (firstBook policy first) cs
+
+    -- What a call behind other calls leaves.
+    abbrev pub outcome : List Call → Call → After MendAnswer ℕ
+    outcome before c = mend (text before) policy (c .offset) (c .decisions) (c .out)
+
+    -- The counts of the mended findings, added up.
+    abbrev pub mendedCounts : List Call → NonCanonicality
+    mendedCounts cs = totals (policyOf policy) (mendedItems (book cs))
+
+    -- ---- the claim on a list
+
+    pub record ListClaim (cs : List Call) : Type 0 where
+      -- A call is accepted exactly when it names an open finding, with valid decisions and room.
+      pub accepted : (before : List Call) (c : Call) → Behind cs before c → (isMended (outcome before c .answer) ≡ true) ↔ Names (book before) c
+      -- It writes the book's text after it at the front, and leaves the bytes behind.
+      pub writes : (before : List Call) (c : Call) → Behind cs before c → isMended (outcome before c .answer) ≡ true
+          → outcome before c ≡ record {
+            answer = Mended (length (text (before ++ c ∷ [])));
+            buffer = text (before ++ c ∷ []) ++ drop (length (text (before ++ c ∷ []))) (c .out);
+          }
+      -- Any other call gets the first refusal that fits; its buffer, the book and the text stay as they were.
+      pub turned-back : (before : List Call) (c : Call) → Behind cs before c → isMended (outcome before c .answer) ≡ false
+          → FirstRefusal (book before) c (outcome before c .answer) × (outcome before c .buffer ≡ c .out)
+          × (book (before ++ c ∷ []) ≡ book before) × (text (before ++ c ∷ []) ≡ text before)
+      -- After it the text is the first one with only the mended findings replaced, under the decisions given.
+      pub at-first : bookText policy (firstBook policy first) ≡ first
+      pub after : text cs ≡ bookText policy (book cs)
+      pub same-items : itemsOf (book cs) ≡ items (chars first)
+      pub only-findings : Each (λ (e : Entry). Right (policyOf policy) (e .mark) (e .item)) (book cs)
+      pub as-given : Alike (mendedFrom 0 (book cs)) (given cs)
+      -- A place and the bytes taken before it are the start in the first text and the replacements put before it.
+      pub places : Each (λ (o : Opening). place o + o .taken ≡ o .was + o .put) (open-after cs)
+      -- Listing with room gives exactly the open findings; without room, their number.
+      pub listed : (table : List Finding) → length (open-after cs) ≤ length table
+          → list (text cs) policy table ≡ record {
+            answer = Listing.Listed (length (open-after cs));
+            buffer = map (openRow (policyOf policy)) (open-after cs) ++ drop (length (open-after cs)) table;
+          }
+      pub unlisted : (table : List Finding) → length table < length (open-after cs)
+          → list (text cs) policy table ≡ record { answer = Listing.Refused (TableTooShort (length (open-after cs))); buffer = table }
+      pub were-findings : (o : Opening) → List·Memᴰ o (open-after cs) → List·Memᴰ (atFirst o) (findings first policy)
+      -- Their bytes, counts and choices are as at first.
+      pub unaltered : map (seen (policyOf policy) (text cs)) (findings (text cs) policy) ≡ map (seen (policyOf policy) first) (map atFirst (open-after cs))
+      -- Each of the eight totals is that at first less the mended findings' own.
+      pub eight-totals : textTotals (text cs) policy ⊕ mendedCounts cs ≡ textTotals first policy
+      -- The accepted calls number the findings at first less those open.
+      pub number : acceptedCalls (outcomes first policy cs) + length (open-after cs) ≡ length (findings first policy)
+      -- Lists alike in the findings that their accepted calls mend and in the decisions end in the same text, whatever the order.
+      pub any-order : (ds : List Call) → Alike (given cs) (given ds) → text cs ≡ text ds
+      -- With all mended no finding is left.
+      pub none-left : open-after cs ≡ [] → findings (text cs) policy ≡ []
+      -- And default decisions give the formatted text.
+      pub by-default : open-after cs ≡ [] → Each (λ (e : Entry). ByDefault (policyOf policy) (e .mark) (e .item)) (book cs)
+          → text cs ≡ formatted first policy
+      -- The selectors number those in the first text, less the mended findings' six removing counts, plus their two adding ones.
+      pub selectors-number : selectorCount (chars (text cs)) + removing (mendedCounts cs) ≡ selectorCount (chars first) + adding (mendedCounts cs)
+      -- All other characters stand in their old order.
+      pub others : strip (chars (text cs)) ≡ strip (chars first)
+      -- No text of the list passes 16,777,216 bytes; each is accepted.
+      pub bounded : (before later : List Call) → cs ≡ before ++ later → Accepted (text before)
+
+    -- ---- the same of a formatted text, whatever its length, with all findings
+
+    -- The first text's book with all findings mended by default.
+    abbrev pub mendedAll : List Entry
+    mendedAll = allMended (policyOf policy) (items (chars first))
+
+    -- The formatted text.
+    abbrev pub result : List ℕ
+    result = formatted first policy
+
+    pub record FormattedClaim : Type 0 where
+      -- It is the first text with all findings replaced, under the default decisions.
+      pub at-first : bookText policy (firstBook policy first) ≡ first
+      pub after : result ≡ bookText policy mendedAll
+      pub well-formed : WellFormed result
+      -- No finding is left, of whatever length the text is, and formatting again changes nothing.
+      pub none-left : findings result policy ≡ []
+      pub none-listed : (table : List Finding) → length result ≤ 16777216 → list result policy table ≡ record { answer = Listing.Listed 0; buffer = table }
+      pub again : formatted result policy ≡ result
+      pub again-unchanged : (out : List ℕ) → length result ≤ 16777216 → format result policy out ≡ record { answer = Format.Unchanged; buffer = out }
+      -- Each of the eight totals is that at first less all findings' own.
+      pub eight-totals : textTotals result policy ⊕ totals (policyOf policy) (mendedItems mendedAll) ≡ textTotals first policy
+      -- The selectors number those in the first text, less all findings' six removing counts, plus their two adding ones.
+      pub selectors-number : selectorCount (chars result) + removing (textTotals first policy) ≡ selectorCount (chars first) + adding (textTotals first policy)
+      -- All other characters stand in their old order.
+      pub others : strip (chars result) ≡ strip (chars first)
+      -- "Formatted text is at most 4 times the input."
+      pub four-times : length result ≤ 4 * length first
+      -- A text is its own formatted text exactly when it has no finding.
+      pub no-change : (result ≡ first) ↔ (findings first policy ≡ [])
+      -- The call says so, writes nothing and never gives 8; else it writes the text, or gives 8 with its length.
+      pub unchanged-said : (out : List ℕ) → (format first policy out .answer ≡ Format.Unchanged) ↔ (findings first policy ≡ [])
+      pub unchanged-kept : (out : List ℕ) → findings first policy ≡ [] → format first policy out ≡ record { answer = Format.Unchanged; buffer = out }
+      pub changed-written : (out : List ℕ) → 0 < length (findings first policy) → length result ≤ length out
+          → format first policy out ≡ record { answer = Format.Changed (length result); buffer = result ++ drop (length result) out }
+      pub changed-short : (out : List ℕ) → 0 < length (findings first policy) → length out < length result
+          → format first policy out ≡ record { answer = Format.Refused (OutputTooShort (length result)); buffer = out }

@@ -1,0 +1,42 @@
+-- Formatting: the formatted text, and the whole outcome of the call, `format` (document 01, "Replacement and text", `format_text`).
+use mathlib.Core.Bool.{Bool, true, false, cond, _&&_}
+use mathlib.Core.List.{List, [], _∷_, _++_}
+use Prim.Native.Nat.{ℕ}
+use lib.Dec.{eqb, leb}
+use lib.ListN.{length}
+use Rattle.utf8.specs.Rfc3629.{chars, encodeAll}
+use Rattle.policy.specs.declared.Policy.{Policy}
+use Rattle.policy.specs.PolicyBytes.{policyOf}
+use Rattle.scanner.specs.Items.{Item, items}
+use Rattle.analysis.specs.Analysis.{defaultReplacement, isFinding}
+use Rattle.formatter.specs.Refusals.{After, intakeRefusal, kept, orElse, written}
+use Rattle.formatter.specs.declared.FormatAnswer.{FormatAnswer}
+use Rattle.formatter.specs.declared.FormatAnswer.the-variants.{Changed, Refused, Unchanged}
+use Rattle.formatter.specs.declared.Refusal.{Refusal}
+use Rattle.formatter.specs.declared.Refusal.the-variants.{OutputTooShort}
+
+-- Items written out: each finding as its replacement with every decision at its default, any other item as it is.
+unfoldable pub formatItems : Policy → List Item → List ℕ
+formatItems p [] = []
+formatItems p (x ∷ xs) = cond (isFinding p x) (defaultReplacement p x) (x .chars) ++ formatItems p xs
+
+-- The formatted text, by the bytes of a text and of a policy.
+unfoldable pub formatted : List ℕ → List ℕ → List ℕ
+formatted text policy = encodeAll (formatItems (policyOf policy) (items (chars text)))
+
+-- Two texts have the same bytes.
+unfoldable pub sameBytes : List ℕ → List ℕ → Bool
+sameBytes [] [] = true
+sameBytes [] (b ∷ t) = false
+sameBytes (a ∷ s) [] = false
+sameBytes (a ∷ s) (b ∷ t) = eqb a b && sameBytes s t
+
+-- The call: refusals 1, 2, 3 and 8 in this order. "Formatting a text that needs no change says so, writes nothing and never
+-- gives 8."
+unfoldable pub format : List ℕ → List ℕ → List ℕ → After FormatAnswer ℕ
+format text policy out =
+    let result = formatted text policy in
+    orElse (intakeRefusal text policy) (λ (r : Refusal). kept (Refused r) out)
+    (cond (sameBytes result text) (kept Unchanged out)
+    (cond (leb (length result) (length out)) (written (Changed (length result)) result out)
+    (kept (Refused (OutputTooShort (length result))) out)))

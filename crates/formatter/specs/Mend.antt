@@ -1,0 +1,97 @@
+-- Mending: the whole outcome of the call, `mend`, and a list of such calls, each reading what the last accepted one wrote (document 01, "Replacement and text", "Mending in sequence").
+use mathlib.Core.Bool.{cond, not}
+use mathlib.Core.List.{List, [], _∷_, _++_, map}
+use mathlib.Core.Option.{Option, none, some}
+use Prim.Native.Nat.{ℕ, suc, _+_}
+use lib.Dec.{eqb, leb}
+use lib.ListN.{drop, length, take}
+use Rattle.utf8.specs.Rfc3629.{encodeAll}
+use Rattle.unicode.specs.declared.presentation.Presentation.{Presentation}
+use Rattle.unicode.specs.declared.presentation.Presentation.the-variants.{Emoji, Text}
+use Rattle.policy.specs.declared.Policy.{Policy}
+use Rattle.policy.specs.PolicyBytes.{policyOf}
+use Rattle.scanner.specs.Items.{Item}
+use Rattle.scanner.specs.Spans.{Found}
+use Rattle.analysis.specs.Analysis.{nonCanonicality, replacement}
+use Rattle.formatter.specs.Findings.{findings}
+use Rattle.formatter.specs.Refusals.{After, intakeRefusal, kept, orElse, written}
+use Rattle.formatter.specs.declared.MendAnswer.{MendAnswer}
+use Rattle.formatter.specs.declared.MendAnswer.the-variants.{Mended, Refused}
+use Rattle.formatter.specs.declared.Refusal.{Refusal}
+use Rattle.formatter.specs.declared.Refusal.the-variants.{BadDecision, NoFinding, OutputTooShort, WrongNumberOfDecisions}
+
+-- ---- decisions
+
+-- "Decisions are bytes, 0 text, 1 emoji".
+abbrev pub meaning : ℕ → Presentation
+meaning d = cond (eqb d 0) Text Emoji
+
+-- "decision byte above 1 | 6 | index of the first": the first index is the number.
+unfoldable pub badDecision : ℕ → List ℕ → Option Refusal
+badDecision n [] = none
+badDecision n (d ∷ ds) = cond (leb d 1) (badDecision (suc n) ds) (some (BadDecision n))
+
+-- The number of decisions that a finding wants: its eighth count.
+abbrev pub wanted : Policy → Item → ℕ
+wanted p x = nonCanonicality p x .«presentation_decisions»
+
+-- ---- a call
+
+-- "Mending takes a finding's first offset": the finding that starts there, if one does.
+unfoldable pub findingAt : ℕ → List Found → Option Item
+findingAt offset [] = none
+findingAt offset (f ∷ fs) = cond (eqb (f .start) offset) (some (f .item)) (findingAt offset fs)
+
+-- ".. and writes the whole text with that replacement": the bytes before the finding, its replacement, the bytes behind it.
+abbrev pub exchanged : List ℕ → Policy → ℕ → List Presentation → Option Item → List ℕ
+exchanged text p offset ds none = text
+exchanged text p offset ds (some x) =
+    take offset text ++ encodeAll (replacement p x ds) ++ drop (offset + length (encodeAll (x .chars))) text
+
+-- Refusals 4, 5, 6 and 8 in this order, for the finding at the offset, the decisions, the text to be written and the output.
+unfoldable pub judge : Policy → Option Item → List ℕ → List ℕ → List ℕ → After MendAnswer ℕ
+judge p none decisions result out = kept (Refused NoFinding) out
+judge p (some x) decisions result out =
+    cond (not (eqb (length decisions) (wanted p x))) (kept (Refused (WrongNumberOfDecisions (wanted p x))) out)
+    (orElse (badDecision 0 decisions) (λ (r : Refusal). kept (Refused r) out)
+    (cond (leb (length result) (length out)) (written (Mended (length result)) result out)
+    (kept (Refused (OutputTooShort (length result))) out)))
+
+-- The call: refusals 1, 2, 3, 4, 5, 6 and 8 in this order.
+unfoldable pub mend : List ℕ → List ℕ → ℕ → List ℕ → List ℕ → After MendAnswer ℕ
+mend text policy offset decisions out =
+    let p = policyOf policy in
+    let x = findingAt offset (findings text policy) in
+    orElse (intakeRefusal text policy) (λ (r : Refusal). kept (Refused r) out)
+    (judge p x decisions (exchanged text p offset (map meaning decisions) x) out)
+
+-- ---- a list of calls
+
+-- What a call of a list brings: "each call's offset, decisions", and its output as it was before.
+pub record Call : Type 0 where
+  pub offset : ℕ
+  pub decisions : List ℕ
+  pub out : List ℕ
+
+-- A call of a list on a text.
+abbrev pub mendCall : List ℕ → List ℕ → Call → After MendAnswer ℕ
+mendCall text policy c = mend text policy (c .offset) (c .decisions) (c .out)
+
+-- What the next call reads: the front that an accepted call wrote, or the same text again.
+abbrev pub nextFrom : List ℕ → MendAnswer → List ℕ → List ℕ
+nextFrom text (Mended n) out = take n out
+nextFrom text (Refused r) out = text
+
+-- The same, of what the call left.
+abbrev pub nextText : List ℕ → After MendAnswer ℕ → List ℕ
+nextText text a = nextFrom text (a .answer) (a .buffer)
+
+-- "Each call reads the text that the last accepted one wrote, or the first text before that": the text after a list.
+unfoldable pub textAfter : List ℕ → List ℕ → List Call → List ℕ
+textAfter text policy [] = text
+textAfter text policy (c ∷ cs) = textAfter (nextText text (mendCall text policy c)) policy cs
+
+-- What each call of a list leaves.
+unfoldable pub outcomes : List ℕ → List ℕ → List Call → List (After MendAnswer ℕ)
+outcomes text policy [] = []
+outcomes text policy (c ∷ cs) = mendCall text policy c ∷ outcomes (nextText text (mendCall text policy c)) policy cs

@@ -1,0 +1,59 @@
+-- What is claimed of formatting, listing and mending. Each statement is proved in proofs/Claims.antt.
+use mathlib.Core.Path.{_≡_}
+use mathlib.Core.Bool.{true, false}
+use mathlib.Core.Option.{some, none}
+use mathlib.Core.List.{List}
+use Prim.Native.Nat.{ℕ, _≤_}
+use lib.ListN.{length}
+use Rattle.utf8.specs.Rfc3629.{WellFormed, validUpTo}
+use Rattle.policy.specs.PolicyBytes.{isPolicy}
+use Rattle.formatter.specs.Demand3.{Accepted, FormattedClaim, ListClaim}
+use Rattle.formatter.specs.Filed.{filedText}
+use Rattle.formatter.specs.Format.{format, formatted}
+use Rattle.formatter.specs.List.{list}
+use Rattle.formatter.specs.Mend.{Call, mend}
+use Rattle.formatter.specs.Refusals.{intakeRefusal, listLimit}
+use Rattle.formatter.specs.declared.Finding.{Finding}
+use Rattle.formatter.specs.declared.FormatAnswer.the-variants as Format
+use Rattle.formatter.specs.declared.ListAnswer.the-variants.{Refused}
+use Rattle.formatter.specs.declared.MendAnswer.the-variants as Mend
+use Rattle.formatter.specs.declared.Refusal.{Refusal}
+use Rattle.formatter.specs.declared.Refusal.the-variants.{NotAPolicy, NotWellFormed, TextTooLong}
+
+-- ---- refusals
+
+-- "Tested in this order": the first cause that fits is the refusal. "16,777,216 bytes pass, 16,777,217 don't."
+unfoldable pub IntakeInOrder : Type 0
+IntakeInOrder =
+    (text policy : List ℕ)
+    → (16777217 ≤ length text → intakeRefusal text policy ≡ some TextTooLong)
+    × (length text ≤ 16777216 → isPolicy policy ≡ false → intakeRefusal text policy ≡ some NotAPolicy)
+    × (length text ≤ 16777216 → isPolicy policy ≡ true → (WellFormed text → ⊥) → intakeRefusal text policy ≡ some (NotWellFormed (validUpTo text)))
+    × (Accepted policy text → intakeRefusal text policy ≡ none)
+
+-- Each call gives such a refusal before any other, and then leaves its buffer or table as it was.
+unfoldable pub IntakeComesFirst : Type 0
+IntakeComesFirst =
+    (text policy : List ℕ) (r : Refusal) → intakeRefusal text policy ≡ some r
+    → ((out : List ℕ) → format text policy out ≡ record { answer = Format.Refused r; buffer = out })
+    × ((table : List Finding) → list text policy table ≡ record { answer = Refused r; buffer = table })
+    × ((offset : ℕ) (decisions out : List ℕ) → mend text policy offset decisions out ≡ record { answer = Mend.Refused r; buffer = out })
+
+-- ---- the filed text
+
+-- After formatting an accepted text, the filed text is the formatted text, whether it was changed or not.
+unfoldable pub FiledIsFormatted : Type 0
+FiledIsFormatted =
+    (text policy out : List ℕ) (len : ℕ) → Accepted policy text
+    → (format text policy out .answer ≡ Format.Changed len → filedText text (format text policy out .buffer) true len ≡ formatted text policy)
+    × (format text policy out .answer ≡ Format.Unchanged → filedText text (format text policy out .buffer) false len ≡ formatted text policy)
+
+-- ---- a list of mending calls, and a formatted text
+
+-- Demand 3, for every accepted text of at most 4,194,304 bytes and every list of calls.
+unfoldable pub EveryList : Type 0
+EveryList = (policy first : List ℕ) → Accepted policy first → length first ≤ listLimit → (calls : List Call) → ListClaim policy first calls
+
+-- The same of a formatted text, for every accepted text: among it that formatting again changes nothing (`again`).
+unfoldable pub EveryFormattedText : Type 0
+EveryFormattedText = (policy first : List ℕ) → Accepted policy first → FormattedClaim policy first

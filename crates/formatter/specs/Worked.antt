@@ -1,0 +1,177 @@
+-- Document 01's worked texts, and a worked list of calls.
+use mathlib.Core.Path.{_≡_}
+use mathlib.Core.List.{List, [], _∷_, _++_, map}
+use Prim.Native.Nat.{ℕ}
+use lib.ListN.{drop, length}
+use Rattle.utf8.specs.Rfc3629.{encodeAll}
+use Rattle.policy.specs.DefaultPolicy.{defaultPolicy}
+use Rattle.policy.specs.PolicyBytes.{policyBytes}
+use Rattle.scanner.specs.Spans.{scan}
+use Rattle.scanner.specs.declared.ScanItem.{ScanItem}
+use Rattle.analysis.specs.Counts.{eight, empty}
+use Rattle.analysis.specs.declared.NonCanonicality.{NonCanonicality}
+use Rattle.formatter.specs.Book.{bookAfter, firstBook, openings, place}
+use Rattle.formatter.specs.Findings.{textTotals}
+use Rattle.formatter.specs.Format.{format}
+use Rattle.formatter.specs.List.{list}
+use Rattle.formatter.specs.Mend.{Call, mend, outcomes, textAfter}
+use Rattle.formatter.specs.Refusals.{After}
+use Rattle.formatter.specs.declared.Finding.{Finding}
+use Rattle.formatter.specs.declared.FormatAnswer.{FormatAnswer}
+use Rattle.formatter.specs.declared.FormatAnswer.the-variants as Format
+use Rattle.formatter.specs.declared.ListAnswer.{ListAnswer}
+use Rattle.formatter.specs.declared.ListAnswer.the-variants.{Listed, Refused}
+use Rattle.formatter.specs.declared.MendAnswer.{MendAnswer}
+use Rattle.formatter.specs.declared.MendAnswer.the-variants as Mend
+use Rattle.formatter.specs.declared.Refusal.the-variants.{BadDecision, NoFinding, OutputTooShort, TableTooShort, WrongNumberOfDecisions}
+
+-- ---- worked texts
+
+-- "Worked texts, default policy": its bytes, as a call takes them.
+unfoldable pub theDefault : List ℕ
+theDefault = policyBytes defaultPolicy
+
+-- The output that the worked texts are given.
+abbrev pub room : List ℕ
+room = 7 ∷ 7 ∷ 7 ∷ 7 ∷ 7 ∷ 7 ∷ 7 ∷ 7 ∷ 7 ∷ 7 ∷ 7 ∷ 7 ∷ []
+
+-- A row of a table.
+abbrev pub finding : ℕ → ℕ → NonCanonicality → Finding
+finding start end n = record { start = start; end = end; counts = n }
+
+-- A row that nothing was written to.
+abbrev pub blank : Finding
+blank = finding 0 0 empty
+
+-- A worked text: its characters, what formatting it leaves, what listing it leaves, and its eight totals.
+pub record WorkedText : Type 0 where
+  pub text : List ℕ
+  pub formatting : After FormatAnswer ℕ
+  pub listing : After ListAnswer Finding
+  pub totals : NonCanonicality
+
+-- What the definitions make of the characters.
+unfoldable pub workedText : List ℕ → WorkedText
+workedText t = record {
+  text = t;
+  formatting = format (encodeAll t) theDefault room;
+  listing = list (encodeAll t) theDefault (blank ∷ blank ∷ []);
+  totals = textTotals (encodeAll t) theDefault;
+}
+
+-- A text that is one finding, up to the byte, becomes the other under formatting.
+abbrev pub becomes : List ℕ → ℕ → List ℕ → NonCanonicality → WorkedText
+becomes t end r n = record {
+  text = t;
+  formatting = record { answer = Format.Changed (length (encodeAll r)); buffer = encodeAll r ++ drop (length (encodeAll r)) room };
+  listing = record { answer = Listed 1; buffer = finding 0 end n ∷ blank ∷ [] };
+  totals = n;
+}
+
+-- A text that is unchanged.
+abbrev pub stays : List ℕ → WorkedText
+stays t = record {
+  text = t;
+  formatting = record { answer = Format.Unchanged; buffer = room };
+  listing = record { answer = Listed 0; buffer = blank ∷ blank ∷ [] };
+  totals = empty;
+}
+
+-- The starred texts 1 to 12, by document 01's numbers.
+unfoldable pub workedTable : List WorkedText
+workedTable =
+    -- 1
+    stays []
+    -- 2
+    ∷ becomes (0x31 ∷ 0xFE0E ∷ []) 4 (0x31 ∷ []) (eight 0 0 0 0 0 0 1 0)
+    -- 3
+    ∷ becomes (0x31 ∷ 0x20E3 ∷ []) 4 (0x31 ∷ 0xFE0E ∷ 0x20E3 ∷ []) (eight 0 0 0 0 0 0 0 1)
+    -- 4
+    ∷ becomes (0x231A ∷ 0xFE0F ∷ []) 6 (0x231A ∷ []) (eight 0 0 0 0 0 0 1 0)
+    -- 5
+    ∷ becomes (0x231A ∷ 0xFE0E ∷ 0xFE0F ∷ []) 9 (0x231A ∷ 0xFE0E ∷ []) (eight 1 0 0 0 0 0 0 0)
+    -- 6
+    ∷ becomes (0x231A ∷ 0xFE0F ∷ 0xFE0E ∷ []) 9 (0x231A ∷ []) (eight 1 0 0 0 0 0 1 0)
+    -- 7
+    ∷ becomes (0x261D ∷ 0xFE0F ∷ 0x1F3FB ∷ []) 10 (0x261D ∷ 0x1F3FB ∷ []) (eight 0 1 0 0 0 0 0 0)
+    -- 8
+    ∷ stays (0x261D ∷ 0xFE0E ∷ 0x1F3FB ∷ [])
+    -- 9
+    ∷ becomes (0x2764 ∷ 0xFE0F ∷ 0x1F3FB ∷ []) 10 (0x2764 ∷ 0x1F3FB ∷ []) (eight 0 0 1 0 0 0 0 0)
+    -- 10
+    ∷ becomes (0x2764 ∷ 0xFE0E ∷ 0xE0061 ∷ []) 10 (0x2764 ∷ 0xFE0F ∷ 0xE0061 ∷ []) (eight 0 0 0 1 1 0 0 0)
+    -- 11
+    ∷ becomes (0x1F1E6 ∷ 0xFE0F ∷ 0x1F1E7 ∷ []) 11 (0x1F1E6 ∷ 0x1F1E7 ∷ []) (eight 1 0 0 0 0 0 0 0)
+    -- 12
+    ∷ stays (0x231A ∷ 0x200D ∷ 0x200D ∷ 0x231A ∷ [])
+    ∷ []
+
+-- "Input bytes 31 EF B8 8E 20 E2 9D A4"
+abbrev pub exampleBytes : List ℕ
+exampleBytes = 0x31 ∷ 0xEF ∷ 0xB8 ∷ 0x8E ∷ 0x20 ∷ 0xE2 ∷ 0x9D ∷ 0xA4 ∷ []
+
+-- Its two rows.
+abbrev pub exampleRows : List Finding
+exampleRows = finding 0 4 (eight 0 0 0 0 0 0 1 0) ∷ finding 5 8 (eight 0 0 0 0 0 0 0 1) ∷ []
+
+-- The starred texts are as the table says, through the definitions of the calls; text 12 has the items 0 to 9 and 9 to 12; and
+-- the example of "Programs" gives its two rows and its totals, by listing, formatting and mending.
+unfoldable pub WorkedTexts : Type 0
+WorkedTexts =
+    (map workedText (map (λ (w : WorkedText). w .text) workedTable) ≡ workedTable)
+    × (map {B = ℕ × ℕ} (λ (x : ScanItem). (x .start, x .end)) (scan (encodeAll (0x231A ∷ 0x200D ∷ 0x200D ∷ 0x231A ∷ []))) ≡ (0, 9) ∷ (9, 12) ∷ [])
+    × (list exampleBytes theDefault (blank ∷ blank ∷ blank ∷ []) ≡ record { answer = Listed 2; buffer = exampleRows ++ blank ∷ [] })
+    × (list exampleBytes theDefault (blank ∷ []) ≡ record { answer = Refused (TableTooShort 2); buffer = blank ∷ [] })
+    × (textTotals exampleBytes theDefault ≡ eight 0 0 0 0 0 0 1 1)
+    × (format exampleBytes theDefault room
+    ≡ record { answer = Format.Changed 8; buffer = 0x31 ∷ 0x20 ∷ 0xE2 ∷ 0x9D ∷ 0xA4 ∷ 0xEF ∷ 0xB8 ∷ 0x8E ∷ 7 ∷ 7 ∷ 7 ∷ 7 ∷ [] })
+    × (mend exampleBytes theDefault 5 (1 ∷ []) room
+    ≡ record { answer = Mend.Mended 11; buffer = 0x31 ∷ 0xEF ∷ 0xB8 ∷ 0x8E ∷ 0x20 ∷ 0xE2 ∷ 0x9D ∷ 0xA4 ∷ 0xEF ∷ 0xB8 ∷ 0x8F ∷ 7 ∷ [] })
+
+-- ---- a worked list
+
+-- A call of a list.
+abbrev pub call : ℕ → List ℕ → List ℕ → Call
+call offset decisions out = record { offset = offset; decisions = decisions; out = out }
+
+-- What a call leaves.
+abbrev pub leaves : MendAnswer → List ℕ → After MendAnswer ℕ
+leaves a out = record { answer = a; buffer = out }
+
+-- The bytes of FE0F 2764: a finding at 0, and one at 3 that wants a decision.
+abbrev pub twoFindings : List ℕ
+twoFindings = 0xEF ∷ 0xB8 ∷ 0x8F ∷ 0xE2 ∷ 0x9D ∷ 0xA4 ∷ []
+
+-- An output of six bytes.
+abbrev pub six : List ℕ
+six = 9 ∷ 9 ∷ 9 ∷ 9 ∷ 9 ∷ 9 ∷ []
+
+-- No finding at the offset; a decision too few; a decision byte of 2; no room; the first, at 0; the second, now at 0 too; the
+-- second again, which is mended.
+unfoldable pub workedCalls : List Call
+workedCalls =
+    call 1 [] six
+    ∷ call 3 [] six
+    ∷ call 3 (2 ∷ []) six
+    ∷ call 3 (0 ∷ []) six
+    ∷ call 0 [] six
+    ∷ call 0 (0 ∷ []) six
+    ∷ call 0 (0 ∷ []) six
+    ∷ []
+
+-- What each call of this list leaves, the text after it, and the second finding's places: 3 at first, 0 once the first is mended.
+unfoldable pub WorkedList : Type 0
+WorkedList =
+    (outcomes twoFindings theDefault workedCalls
+    ≡ leaves (Mend.Refused NoFinding) six
+    ∷ leaves (Mend.Refused (WrongNumberOfDecisions 1)) six
+    ∷ leaves (Mend.Refused (BadDecision 0)) six
+    ∷ leaves (Mend.Refused (OutputTooShort 9)) six
+    ∷ leaves (Mend.Mended 3) (0xE2 ∷ 0x9D ∷ 0xA4 ∷ 9 ∷ 9 ∷ 9 ∷ [])
+    ∷ leaves (Mend.Mended 6) (0xE2 ∷ 0x9D ∷ 0xA4 ∷ 0xEF ∷ 0xB8 ∷ 0x8E ∷ [])
+    ∷ leaves (Mend.Refused NoFinding) six
+    ∷ [])
+    × (textAfter twoFindings theDefault workedCalls ≡ 0xE2 ∷ 0x9D ∷ 0xA4 ∷ 0xEF ∷ 0xB8 ∷ 0x8E ∷ [])
+    × (map place (openings theDefault (firstBook theDefault twoFindings)) ≡ 0 ∷ 3 ∷ [])
+    × (map place (openings theDefault (bookAfter theDefault (firstBook theDefault twoFindings) (call 0 [] six ∷ []))) ≡ 0 ∷ [])
+    × (map place (openings theDefault (bookAfter theDefault (firstBook theDefault twoFindings) workedCalls)) ≡ [])

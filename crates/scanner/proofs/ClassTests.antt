@@ -1,0 +1,205 @@
+-- What the class of a character says of document 01's tests: each is a test of the class, and so are the runs by these tests.
+use mathlib.Core.Path.{_≡_, refl, ap, ap₂, sym, _∙_}
+use mathlib.Core.Logic.{⊎-elim}
+use mathlib.Core.Bool.{Bool, true, false, cond, not, _||_, false≢true}
+use mathlib.Core.List.{List, [], _∷_}
+use Prim.Native.Nat.{ℕ}
+use lib.Dec.{eqb}
+use borrow.Author.Tests.{eq-eqb, eqb-true}
+use Rattle.base.proofs.Tests.{either-true}
+use Rattle.unicode.specs.Presentation.{isSelector}
+use Rattle.unicode.specs.Unicode.{isEmoji, isEmojiModifier, isRi, isTag}
+use Rattle.scanner.specs.Classes.{Class, selector, link, ri, modifier, emoji, keycap, tag, other, classOf}
+use Rattle.scanner.specs.RunKinds.{byClass, inRun, runOf}
+use Rattle.scanner.specs.Runs.{inLinks, inModifications, inTags, isModification, isPassthrough, passthroughAt, run, selectorsAt}
+use Rattle.scanner.specs.declared.consume.RunKind.the-variants.{Links, Modifications, Passthrough, Selectors}
+use Rattle.scanner.proofs.Classes.{
+  HasClass,
+  is-emoji,
+  is-keycap,
+  is-link,
+  is-modifier,
+  is-other,
+  is-ri,
+  is-selector,
+  is-tag,
+  class-is,
+  EmojiClass,
+  an-emoji,
+  an-ri,
+  a-modifier,
+  emoji-class,
+  hasClass,
+  modifier-emoji,
+  ri-emoji,
+}
+use Rattle.scanner.proofs.ItemRuns.{either-left, either-right}
+
+-- Two tests that pass together are equal.
+same-test : (a b : Bool) → (a ≡ true → b ≡ true) → (b ≡ true → a ≡ true) → a ≡ b
+same-test true b f g = sym (f refl)
+same-test false true f g = g refl
+same-test false false f g = refl
+
+-- ---- the tests by class: a selector, a link, an RI, a modifier, another emoji, 20E3, a tag, any other
+
+abbrev pub forSelector : Class → Bool
+forSelector = byClass true false false false false false false false
+
+abbrev pub forLink : Class → Bool
+forLink = byClass false true false false false false false false
+
+abbrev pub forRi : Class → Bool
+forRi = byClass false false true false false false false false
+
+abbrev pub forEmoji : Class → Bool
+forEmoji = byClass false false true true true false false false
+
+abbrev pub forTag : Class → Bool
+forTag = byClass false false false false false false true false
+
+abbrev pub forModification : Class → Bool
+forModification = byClass false false false true false true true false
+
+-- A class that the test passes, at a character of which the test holds.
+at-class : (f : Class → Bool) {c : ℕ} {k : Class} → HasClass c k → f k ≡ true → f (classOf c) ≡ true
+at-class f h e = ap f (class-is h) ∙ e
+
+pub selector-test : (c : ℕ) → isSelector c ≡ forSelector (classOf c)
+selector-test c = same-test (isSelector c) (forSelector (classOf c)) (λ e. at-class forSelector (is-selector e) refl) (back (hasClass c))
+  where
+    back : {k : Class} → HasClass c k → forSelector k ≡ true → isSelector c ≡ true
+    back (is-selector s) e = s
+    back (is-link s) e = absurd (false≢true e)
+    back (is-keycap s) e = absurd (false≢true e)
+    back (is-tag s) e = absurd (false≢true e)
+    back (is-ri s) e = absurd (false≢true e)
+    back (is-modifier s) e = absurd (false≢true e)
+    back (is-emoji s r m) e = absurd (false≢true e)
+    back (is-other s k t) e = absurd (false≢true e)
+
+pub link-test : (c : ℕ) → eqb c 0x200D ≡ forLink (classOf c)
+link-test c = same-test (eqb c 0x200D) (forLink (classOf c)) (λ e. at-class forLink (is-link (eqb-true c 0x200D e)) refl) (back (hasClass c))
+  where
+    back : {k : Class} → HasClass c k → forLink k ≡ true → eqb c 0x200D ≡ true
+    back (is-selector s) e = absurd (false≢true e)
+    back (is-link s) e = eq-eqb c 0x200D s
+    back (is-keycap s) e = absurd (false≢true e)
+    back (is-tag s) e = absurd (false≢true e)
+    back (is-ri s) e = absurd (false≢true e)
+    back (is-modifier s) e = absurd (false≢true e)
+    back (is-emoji s r m) e = absurd (false≢true e)
+    back (is-other s k t) e = absurd (false≢true e)
+
+pub ri-test : (c : ℕ) → isRi c ≡ forRi (classOf c)
+ri-test c = same-test (isRi c) (forRi (classOf c)) (λ e. at-class forRi (is-ri e) refl) (back (hasClass c))
+  where
+    back : {k : Class} → HasClass c k → forRi k ≡ true → isRi c ≡ true
+    back (is-selector s) e = absurd (false≢true e)
+    back (is-link s) e = absurd (false≢true e)
+    back (is-keycap s) e = absurd (false≢true e)
+    back (is-tag s) e = absurd (false≢true e)
+    back (is-ri s) e = s
+    back (is-modifier s) e = absurd (false≢true e)
+    back (is-emoji s r m) e = absurd (false≢true e)
+    back (is-other s k t) e = absurd (false≢true e)
+
+pub tag-test : (c : ℕ) → isTag c ≡ forTag (classOf c)
+tag-test c = same-test (isTag c) (forTag (classOf c)) (λ e. at-class forTag (is-tag e) refl) (back (hasClass c))
+  where
+    back : {k : Class} → HasClass c k → forTag k ≡ true → isTag c ≡ true
+    back (is-selector s) e = absurd (false≢true e)
+    back (is-link s) e = absurd (false≢true e)
+    back (is-keycap s) e = absurd (false≢true e)
+    back (is-tag s) e = s
+    back (is-ri s) e = absurd (false≢true e)
+    back (is-modifier s) e = absurd (false≢true e)
+    back (is-emoji s r m) e = absurd (false≢true e)
+    back (is-other s k t) e = absurd (false≢true e)
+
+pub emoji-test : (c : ℕ) → isEmoji c ≡ forEmoji (classOf c)
+emoji-test c = same-test (isEmoji c) (forEmoji (classOf c)) (λ e. forth (emoji-class c e)) (back (hasClass c))
+  where
+    forth : EmojiClass c → forEmoji (classOf c) ≡ true
+    forth (an-ri r) = at-class forEmoji (is-ri r) refl
+    forth (a-modifier m) = at-class forEmoji (is-modifier m) refl
+    forth (an-emoji h) = at-class forEmoji h refl
+
+    back : {k : Class} → HasClass c k → forEmoji k ≡ true → isEmoji c ≡ true
+    back (is-selector s) e = absurd (false≢true e)
+    back (is-link s) e = absurd (false≢true e)
+    back (is-keycap s) e = absurd (false≢true e)
+    back (is-tag s) e = absurd (false≢true e)
+    back (is-ri s) e = ri-emoji c s
+    back (is-modifier s) e = modifier-emoji c s
+    back (is-emoji s r m) e = s
+    back (is-other s k t) e = absurd (false≢true e)
+
+pub modification-test : (c : ℕ) → isModification c ≡ forModification (classOf c)
+unfolding isModification
+modification-test c = same-test (isModification c) (forModification (classOf c)) forth (back (hasClass c))
+  where
+    forth : isModification c ≡ true → forModification (classOf c) ≡ true
+    forth e =
+        ⊎-elim (λ m. at-class forModification (is-modifier m) refl)
+        (λ o. ⊎-elim (λ k. at-class forModification (is-keycap (eqb-true c 0x20E3 k)) refl) (λ t. at-class forModification (is-tag t) refl) (either-true (eqb c 0x20E3) (isTag c) o))
+        (either-true (isEmojiModifier c) (eqb c 0x20E3 || isTag c) e)
+
+    back : {k : Class} → HasClass c k → forModification k ≡ true → isModification c ≡ true
+    back (is-selector s) e = absurd (false≢true e)
+    back (is-link s) e = absurd (false≢true e)
+    back (is-keycap s) e = either-right (isEmojiModifier c) (eqb c 0x20E3 || isTag c) (either-left (eqb c 0x20E3) (isTag c) (eq-eqb c 0x20E3 s))
+    back (is-tag s) e = either-right (isEmojiModifier c) (eqb c 0x20E3 || isTag c) (either-right (eqb c 0x20E3) (isTag c) s)
+    back (is-ri s) e = absurd (false≢true e)
+    back (is-modifier s) e = either-left (isEmojiModifier c) (eqb c 0x20E3 || isTag c) s
+    back (is-emoji s r m) e = absurd (false≢true e)
+    back (is-other s k t) e = absurd (false≢true e)
+
+abbrev pub forTags : Class → Bool
+forTags k = forTag k || forSelector k
+
+pub tags-test : (c : ℕ) → inTags c ≡ forTags (classOf c)
+tags-test c = ap₂ (λ (x y : Bool). x || y) (tag-test c) (selector-test c)
+
+-- ---- the runs by class
+
+run-same : (f g : ℕ → Bool) → ((c : ℕ) → f c ≡ g c) → (t : List ℕ) → run f t ≡ run g t
+unfolding run
+run-same f g e [] = refl
+run-same f g e (c ∷ t) = ap₂ (λ (b : Bool) (l : List ℕ). cond b (c ∷ l) []) (e c) (run-same f g e t)
+
+-- Two tests by class that agree on each class.
+class-by-class : (f g : Class → Bool) → f selector ≡ g selector → f link ≡ g link → f ri ≡ g ri → f modifier ≡ g modifier → f emoji ≡ g emoji
+    → f keycap ≡ g keycap → f tag ≡ g tag → f other ≡ g other → (k : Class) → f k ≡ g k
+class-by-class f g s l r m e k t o selector = s
+class-by-class f g s l r m e k t o link = l
+class-by-class f g s l r m e k t o ri = r
+class-by-class f g s l r m e k t o modifier = m
+class-by-class f g s l r m e k t o emoji = e
+class-by-class f g s l r m e k t o keycap = k
+class-by-class f g s l r m e k t o tag = t
+class-by-class f g s l r m e k t o other = o
+
+pub run-selectors : (t : List ℕ) → runOf Selectors t ≡ selectorsAt t
+run-selectors = run-same _ isSelector (λ c. sym (selector-test c))
+
+pub run-links : (t : List ℕ) → runOf Links t ≡ run inLinks t
+run-links = run-same _ inLinks (λ c. in-class (classOf c) ∙ sym (ap₂ (λ (x y : Bool). x || y) (link-test c) (selector-test c)))
+  where
+    in-class : (k : Class) → inRun Links k ≡ (forLink k || forSelector k)
+    in-class = class-by-class (inRun Links) (λ k. forLink k || forSelector k) refl refl refl refl refl refl refl refl
+
+pub run-modifications : (t : List ℕ) → runOf Modifications t ≡ run inModifications t
+run-modifications = run-same _ inModifications (λ c. in-class (classOf c) ∙ sym (ap₂ (λ (x y : Bool). x || y) (modification-test c) (selector-test c)))
+  where
+    in-class : (k : Class) → inRun Modifications k ≡ (forModification k || forSelector k)
+    in-class = class-by-class (inRun Modifications) (λ k. forModification k || forSelector k) refl refl refl refl refl refl refl refl
+
+pub run-passthrough : (t : List ℕ) → runOf Passthrough t ≡ passthroughAt t
+unfolding passthroughAt
+run-passthrough =
+    run-same _ isPassthrough
+    (λ c. in-class (classOf c) ∙ sym (ap₂ (λ (x y : Bool). not (x || y)) (selector-test c) (ap₂ (λ (x y : Bool). x || y) (link-test c) (emoji-test c))))
+  where
+    in-class : (k : Class) → inRun Passthrough k ≡ not (forSelector k || (forLink k || forEmoji k))
+    in-class = class-by-class (inRun Passthrough) (λ k. not (forSelector k || (forLink k || forEmoji k))) refl refl refl refl refl refl refl refl

@@ -1,0 +1,66 @@
+-- `scanner::consume::in_run` meets its contract: each arm is a line of the definition.
+use mathlib.Core.Path.{refl}
+use mathlib.Core.Bool.{true, false}
+use mathlib.Core.List.{[], _∷_}
+use borrow.Author.Needs.{needs}
+use Rattle.scanner.specs.declared.consume.RunKind.the-variants.{Links, Modifications, Passthrough, Selectors}
+use Rattle.scanner.proofs.Arms.{run-arm}
+use Rattle.scanner.proofs.consume.in_run.Statement.{statement}
+use Rattle.scanner.proofs.consume.in_run.Tie as tie
+
+enum-told : tie.Need-enum-told
+enum-told c = search needs
+
+enum-told-2 : tie.Need-enum-told-2
+enum-told-2 c = search needs
+
+enum-told-3 : tie.Need-enum-told-3
+enum-told-3 c = search needs
+
+enum-told-4 : tie.Need-enum-told-4
+enum-told-4 c = search needs
+
+enum-told-5 : tie.Need-enum-told-5
+enum-told-5 c = search needs
+
+returns : tie.Need-returns
+returns c = search needs
+
+returns-2 : tie.Need-returns-2
+returns-2 c = let x = c .before .before .before .args in run-arm (1 ∷ 2 ∷ 3 ∷ 4 ∷ 5 ∷ 6 ∷ 7 ∷ []) Selectors false (tt, refl, refl, refl, refl, refl, refl, refl) (x .kind) (x .class) (c .before .enum-told .given .1) (c .match2 .keys2)
+
+returns-3 : tie.Need-returns-3
+returns-3 c = let x = c .before .before .before .args in run-arm (0 ∷ 1 ∷ []) Links true (refl, refl, tt, tt, tt, tt, tt, tt) (x .kind) (x .class) (c .before .enum-told3 .given .1) (c .match3 .keys1)
+
+returns-4 : tie.Need-returns-4
+returns-4 c = let x = c .before .before .before .args in run-arm (2 ∷ 3 ∷ 4 ∷ 5 ∷ 6 ∷ 7 ∷ []) Links false (tt, tt, refl, refl, refl, refl, refl, refl) (x .kind) (x .class) (c .before .enum-told3 .given .1) (c .match3 .keys2)
+
+returns-5 : tie.Need-returns-5
+returns-5 c = let x = c .before .before .before .args in run-arm (0 ∷ 3 ∷ 5 ∷ 6 ∷ []) Modifications true (refl, tt, tt, refl, tt, refl, refl, tt) (x .kind) (x .class) (c .before .enum-told4 .given .1) (c .match4 .keys1)
+
+returns-6 : tie.Need-returns-6
+returns-6 c = let x = c .before .before .before .args in run-arm (1 ∷ 2 ∷ 4 ∷ 7 ∷ []) Modifications false (tt, refl, refl, tt, refl, tt, tt, refl) (x .kind) (x .class) (c .before .enum-told4 .given .1) (c .match4 .keys2)
+
+returns-7 : tie.Need-returns-7
+returns-7 c = let x = c .before .before .before .args in run-arm (5 ∷ 6 ∷ 7 ∷ []) Passthrough true (tt, tt, tt, tt, tt, refl, refl, refl) (x .kind) (x .class) (c .before .enum-told5 .given .1) (c .match5 .keys1)
+
+returns-8 : tie.Need-returns-8
+returns-8 c = let x = c .before .before .before .args in run-arm (0 ∷ 1 ∷ 2 ∷ 3 ∷ 4 ∷ []) Passthrough false (refl, refl, refl, refl, refl, tt, tt, tt) (x .kind) (x .class) (c .before .enum-told5 .given .1) (c .match5 .keys2)
+
+pub in-run-spec : {M : Type 1} → statement M
+in-run-spec =
+    tie.close
+    (tie.spec
+    enum-told
+    enum-told-2
+    enum-told-3
+    enum-told-4
+    enum-told-5
+    returns
+    returns-2
+    returns-3
+    returns-4
+    returns-5
+    returns-6
+    returns-7
+    returns-8)

@@ -1,0 +1,170 @@
+-- `scanner::place::step` meets its contract: each arm is a line of the definition, or several with one answer.
+use mathlib.Core.Path.{refl}
+use mathlib.Core.List.{[], _∷_}
+use borrow.Author.Needs.{needs}
+use Rattle.scanner.specs.Items.{joined, leftOver, links, oneRi, plain, selectors, step, unit}
+use Rattle.scanner.specs.declared.place.Next.the-variants.{On, Stop}
+use Rattle.scanner.proofs.Arms.{step-arm}
+use Rattle.scanner.proofs.place.step.Statement.{statement}
+use Rattle.scanner.proofs.place.step.Tie as tie
+
+enum-told : tie.Need-enum-told
+enum-told c = search needs
+
+enum-told-2 : tie.Need-enum-told-2
+enum-told-2 c = search needs
+
+enum-told-3 : tie.Need-enum-told-3
+enum-told-3 c = search needs
+
+enum-told-4 : tie.Need-enum-told-4
+enum-told-4 c = search needs
+
+enum-told-5 : tie.Need-enum-told-5
+enum-told-5 c = search needs
+
+enum-told-6 : tie.Need-enum-told-6
+enum-told-6 c = search needs
+
+enum-told-7 : tie.Need-enum-told-7
+enum-told-7 c = search needs
+
+enum-told-8 : tie.Need-enum-told-8
+enum-told-8 c = search needs
+
+enum-told-9 : tie.Need-enum-told-9
+enum-told-9 c = search needs
+
+enum-told-10 : tie.Need-enum-told-10
+enum-told-10 c = search needs
+
+enum-told-11 : tie.Need-enum-told-11
+enum-told-11 c = search needs
+
+enum-told-12 : tie.Need-enum-told-12
+enum-told-12 c = search needs
+
+enum-told-13 : tie.Need-enum-told-13
+enum-told-13 c = search needs
+
+enum-told-14 : tie.Need-enum-told-14
+enum-told-14 c = search needs
+
+returns : tie.Need-returns
+unfolding step
+returns c = let x = c .before .before .before .args in step-arm (5 ∷ 6 ∷ 7 ∷ []) plain (On plain) (tt, tt, tt, tt, tt, refl, refl, refl) (x .p) (x .k) (c .before .enum-told .given .1) (c .match2 .keys1)
+
+returns-2 : tie.Need-returns-2
+unfolding step
+returns-2 c = let x = c .before .before .before .args in step-arm (0 ∷ 1 ∷ 2 ∷ 3 ∷ 4 ∷ []) plain Stop (refl, refl, refl, refl, refl, tt, tt, tt) (x .p) (x .k) (c .before .enum-told .given .1) (c .match2 .keys2)
+
+returns-3 : tie.Need-returns-3
+unfolding step
+returns-3 c = cc
+
+returns-4 : tie.Need-returns-4
+unfolding step
+returns-4 c = let x = c .before .before .before .args in step-arm (1 ∷ 2 ∷ 3 ∷ 4 ∷ 5 ∷ 6 ∷ 7 ∷ []) selectors Stop (tt, refl, refl, refl, refl, refl, refl, refl) (x .p) (x .k) (c .before .enum-told2 .given .1) (c .match3 .keys2)
+
+returns-5 : tie.Need-returns-5
+unfolding step
+returns-5 c = let x = c .before .before .before .args in step-arm (0 ∷ 1 ∷ []) links (On links) (refl, refl, tt, tt, tt, tt, tt, tt) (x .p) (x .k) (c .before .enum-told4 .given .1) (c .match4 .keys1)
+
+returns-6 : tie.Need-returns-6
+unfolding step
+returns-6 c = let x = c .before .before .before .args in step-arm (2 ∷ 3 ∷ 4 ∷ 5 ∷ 6 ∷ 7 ∷ []) links Stop (tt, tt, refl, refl, refl, refl, refl, refl) (x .p) (x .k) (c .before .enum-told4 .given .1) (c .match4 .keys2)
+
+returns-7 : tie.Need-returns-7
+unfolding step
+returns-7 c = cc
+
+returns-8 : tie.Need-returns-8
+unfolding step
+returns-8 c = cc
+
+returns-9 : tie.Need-returns-9
+unfolding step
+returns-9 c = let x = c .before .before .before .args in step-arm (2 ∷ 3 ∷ 5 ∷ 6 ∷ []) oneRi (On unit) (tt, tt, refl, refl, tt, refl, refl, tt) (x .p) (x .k) (c .before .enum-told5 .given .1) (c .match5 .keys3)
+
+returns-10 : tie.Need-returns-10
+unfolding step
+returns-10 c = let x = c .before .before .before .args in step-arm (4 ∷ 7 ∷ []) oneRi Stop (tt, tt, tt, tt, refl, tt, tt, refl) (x .p) (x .k) (c .before .enum-told5 .given .1) (c .match5 .keys4)
+
+returns-11 : tie.Need-returns-11
+unfolding step
+returns-11 c = let x = c .before .before .before .args in step-arm (0 ∷ 3 ∷ 5 ∷ 6 ∷ []) unit (On unit) (refl, tt, tt, refl, tt, refl, refl, tt) (x .p) (x .k) (c .before .enum-told8 .given .1) (c .match6 .keys1)
+
+returns-12 : tie.Need-returns-12
+unfolding step
+returns-12 c = cc
+
+returns-13 : tie.Need-returns-13
+unfolding step
+returns-13 c = let x = c .before .before .before .args in step-arm (2 ∷ 4 ∷ 7 ∷ []) unit Stop (tt, tt, refl, tt, refl, tt, tt, refl) (x .p) (x .k) (c .before .enum-told8 .given .1) (c .match6 .keys3)
+
+returns-14 : tie.Need-returns-14
+unfolding step
+returns-14 c = cc
+
+returns-15 : tie.Need-returns-15
+unfolding step
+returns-15 c = cc
+
+returns-16 : tie.Need-returns-16
+unfolding step
+returns-16 c = cc
+
+returns-17 : tie.Need-returns-17
+unfolding step
+returns-17 c = let x = c .before .before .before .args in step-arm (3 ∷ 4 ∷ []) joined (On unit) (tt, tt, tt, refl, refl, tt, tt, tt) (x .p) (x .k) (c .before .enum-told10 .given .1) (c .match7 .keys4)
+
+returns-18 : tie.Need-returns-18
+unfolding step
+returns-18 c = let x = c .before .before .before .args in step-arm (5 ∷ 6 ∷ 7 ∷ []) joined Stop (tt, tt, tt, tt, tt, refl, refl, refl) (x .p) (x .k) (c .before .enum-told10 .given .1) (c .match7 .keys5)
+
+returns-19 : tie.Need-returns-19
+unfolding step
+returns-19 c = let x = c .before .before .before .args in step-arm (0 ∷ 1 ∷ []) leftOver (On leftOver) (refl, refl, tt, tt, tt, tt, tt, tt) (x .p) (x .k) (c .before .enum-told14 .given .1) (c .match8 .keys1)
+
+returns-20 : tie.Need-returns-20
+unfolding step
+returns-20 c = let x = c .before .before .before .args in step-arm (2 ∷ 3 ∷ 4 ∷ 5 ∷ 6 ∷ 7 ∷ []) leftOver Stop (tt, tt, refl, refl, refl, refl, refl, refl) (x .p) (x .k) (c .before .enum-told14 .given .1) (c .match8 .keys2)
+
+pub step-spec : {M : Type 1} → statement M
+step-spec =
+    tie.close
+    (tie.spec
+    enum-told
+    enum-told-2
+    enum-told-3
+    enum-told-4
+    enum-told-5
+    enum-told-6
+    enum-told-7
+    enum-told-8
+    enum-told-9
+    enum-told-10
+    enum-told-11
+    enum-told-12
+    enum-told-13
+    enum-told-14
+    returns
+    returns-2
+    returns-3
+    returns-4
+    returns-5
+    returns-6
+    returns-7
+    returns-8
+    returns-9
+    returns-10
+    returns-11
+    returns-12
+    returns-13
+    returns-14
+    returns-15
+    returns-16
+    returns-17
+    returns-18
+    returns-19
+    returns-20)

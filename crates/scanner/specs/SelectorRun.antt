@@ -1,0 +1,26 @@
+-- The selectors at an offset as the code gives them: "a unit's selector run held as its first two and its length" (document 01).
+use mathlib.Core.List.{List, [], _∷_}
+use Prim.Native.Nat.{ℕ, _+_}
+use lib.ListN.{length, drop}
+use Rattle.utf8.specs.Rfc3629.{chars}
+use Rattle.unicode.specs.Presentation.{fromSelector}
+use Rattle.unicode.specs.declared.presentation.FromSelector.{FromSelector}
+use Rattle.unicode.specs.declared.presentation.FromSelector.the-variants.{NoSelector}
+use Rattle.scanner.specs.Runs.{selectorsAt}
+use Rattle.scanner.specs.Spans.{size, width}
+use Rattle.scanner.specs.declared.selectors.PresentationSelectors.{PresentationSelectors}
+
+-- What the first character asks for as a selector, and what the second does.
+unfoldable pub firstSelector : List ℕ → FromSelector
+firstSelector [] = NoSelector
+firstSelector (c ∷ t) = fromSelector c
+
+unfoldable pub secondSelector : List ℕ → FromSelector
+secondSelector [] = NoSelector
+secondSelector (c ∷ t) = firstSelector t
+
+-- The selectors at an offset: the first two, how many, and the offset of their end.
+unfoldable pub selectorRun : List ℕ → ℕ → PresentationSelectors
+selectorRun text at =
+    let s = selectorsAt (chars (drop at text)) in
+    record { first = firstSelector s; second = secondSelector s; count = length s; end = at + size width s }
