@@ -1,10 +1,11 @@
 -- The proof of each statement of specs/Theorems.antt and specs/Worked.antt.
-use Rattle.formatter.specs.Theorems.{EveryFormattedText, EveryList, FiledIsFormatted, IntakeComesFirst, IntakeInOrder}
-use Rattle.formatter.specs.Worked.{WorkedList, WorkedTexts}
+use Rattle.formatter.specs.Theorems.{CellByCell, EveryFormattedText, EveryList, FiledIsFormatted, IntakeComesFirst, IntakeInOrder}
+use Rattle.formatter.specs.Worked.{WorkedList, WorkedListClaimed, WorkedTexts}
+use Rattle.formatter.proofs.CellView.{cell-view}
 use Rattle.formatter.proofs.FormattedClaim.{formatted-claim}
 use Rattle.formatter.proofs.ListClaim.{list-claim}
 use Rattle.formatter.proofs.Outcomes.{comes-first, filed, in-order}
-use Rattle.formatter.proofs.Worked.{calls, texts}
+use Rattle.formatter.proofs.Worked.{calls, claimed, texts}
 
 pub intake-in-order : IntakeInOrder
 intake-in-order = in-order
@@ -23,8 +24,15 @@ pub every-formatted-text : EveryFormattedText
 unfolding EveryFormattedText
 every-formatted-text policy first a = formatted-claim policy first a
 
+pub cell-by-cell : CellByCell
+unfolding CellByCell
+cell-by-cell text policy = cell-view text policy
+
 pub worked-texts : WorkedTexts
 worked-texts = texts
 
 pub worked-list : WorkedList
 worked-list = calls
+
+pub worked-list-claimed : WorkedListClaimed
+worked-list-claimed = claimed

@@ -6,6 +6,7 @@ pub mod Books
 pub mod Splicing
 pub mod Judging
 pub mod Marks
+pub mod CellView
 pub mod Alike
 pub mod Order
 pub mod Calls

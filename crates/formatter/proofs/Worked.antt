@@ -1,7 +1,9 @@
 -- The worked texts and lists, by computation.
 use mathlib.Core.Path.{refl}
+use native.Mathlib.Omega.{arith}
 use Rattle.base.specs.Words.{littleEndian, number, wordBytes}
 use Rattle.utf8.specs.Rfc3629.{chars, encode, encodeAll, foldChars, foldStep, readChar, readFour, utf8-1, utf8-2, utf8-3, utf8-4, validUpTo}
+use Rattle.utf8.proofs.Grammar.{whole-well-formed}
 use Rattle.unicode.specs.Presentation.{asSelector, fromSelector, isSelector}
 use Rattle.unicode.specs.Tables.{inRanges, indexOf, member, next}
 use Rattle.unicode.specs.Unicode.{hasVariationSequence, isEmoji, isEmojiDefault, isEmojiModifier, isEmojiModifierBase, isEmojiPresentation, isRi, isTag, variationSequenceIndex}
@@ -18,12 +20,14 @@ use Rattle.analysis.specs.Cells.{addChar, split}
 use Rattle.analysis.specs.Analysis.{countCells, countsOf, following, nonCanonicality, render, renew, replacement, replacementOf}
 use Rattle.analysis.specs.Rules.{byFirst, byKeycap, byModifier, byTags, isBareSide, outcome, rule1, rule2, rule3, rule4, rule5, rule6, textFirst, withoutSelector}
 use Rattle.formatter.specs.Book.{allBinary, bookAfter, bookChars, markFrom, mendsAt, openingAt, openingsFrom}
+use Rattle.formatter.specs.Demand3.{Accepted}
 use Rattle.formatter.specs.Findings.{findingRow, findings, textTotals, totals}
 use Rattle.formatter.specs.Format.{format, formatItems, formatted, sameBytes}
 use Rattle.formatter.specs.List.{list}
 use Rattle.formatter.specs.Mend.{badDecision, findingAt, judge, mend, outcomes, textAfter}
 use Rattle.formatter.specs.Refusals.{intakeRefusal}
-use Rattle.formatter.specs.Worked.{WorkedList, WorkedTexts, theDefault, workedCalls, workedTable, workedText}
+use Rattle.formatter.specs.Worked.{WorkedList, WorkedListClaimed, WorkedTexts, theDefault, twoFindings, workedCalls, workedTable, workedText}
+use Rattle.formatter.proofs.ListClaim.{list-claim}
 
 pub texts : WorkedTexts
 unfolding WorkedTexts workedTable workedText scan scanFrom spans tagsComplete tagModifications tagRuns withTags allComplete badDecision findingAt judge mend theDefault format formatItems formatted sameBytes list intakeRefusal findingRow findings textTotals totals littleEndian number wordBytes chars encode encodeAll foldChars foldStep readChar readFour utf8-1 utf8-2 utf8-3 utf8-4 validUpTo asSelector fromSelector isSelector inRanges indexOf member next hasVariationSequence isEmoji isEmojiDefault isEmojiModifier isEmojiModifierBase isEmojiPresentation isRi isTag variationSequenceIndex emojiModifierBases emojiModifiers emojiPresentationRanges emojiRanges riRanges variationEntries allBelow contains entryCount Sets·member memberAt one bareAsText bareAsTextKeycap defaultPolicy preferBare preferBareKeycap holdsBase ruleOf singletonRule bytesOf isPolicy keyWords noUnusedBit noUnusedBits policyBytes policyOf policyWords wordCount wordsFrom classOf begin cut items kindOf step found width addChar split countCells countsOf following nonCanonicality render renew replacement replacementOf byFirst byKeycap byModifier byTags isBareSide outcome rule1 rule2 rule3 rule4 rule5 rule6 textFirst withoutSelector
@@ -32,3 +36,11 @@ texts = (refl, refl, refl, refl, refl, refl, refl)
 pub calls : WorkedList
 unfolding WorkedList workedCalls badDecision findingAt judge mend outcomes textAfter allBinary bookAfter bookChars markFrom mendsAt openingAt openingsFrom theDefault format formatItems formatted sameBytes list intakeRefusal findingRow findings textTotals totals littleEndian number wordBytes chars encode encodeAll foldChars foldStep readChar readFour utf8-1 utf8-2 utf8-3 utf8-4 validUpTo asSelector fromSelector isSelector inRanges indexOf member next hasVariationSequence isEmoji isEmojiDefault isEmojiModifier isEmojiModifierBase isEmojiPresentation isRi isTag variationSequenceIndex emojiModifierBases emojiModifiers emojiPresentationRanges emojiRanges riRanges variationEntries allBelow contains entryCount Sets·member memberAt one bareAsText bareAsTextKeycap defaultPolicy preferBare preferBareKeycap holdsBase ruleOf singletonRule bytesOf isPolicy keyWords noUnusedBit noUnusedBits policyBytes policyOf policyWords wordCount wordsFrom classOf begin cut items kindOf step found width addChar split countCells countsOf following nonCanonicality render renew replacement replacementOf byFirst byKeycap byModifier byTags isBareSide outcome rule1 rule2 rule3 rule4 rule5 rule6 textFirst withoutSelector
 calls = (refl, refl, refl, refl, refl)
+
+accepted : Accepted theDefault twoFindings
+unfolding theDefault littleEndian number wordBytes allBelow one entryCount foldChars foldStep readChar readFour utf8-1 utf8-2 utf8-3 utf8-4 validUpTo variationEntries bareAsText bareAsTextKeycap defaultPolicy preferBare preferBareKeycap bytesOf isPolicy keyWords noUnusedBit noUnusedBits policyBytes policyWords wordCount wordsFrom policyOf Sets·member
+accepted = record { short = omega arith; is-policy = refl; well-formed = whole-well-formed twoFindings refl }
+
+pub claimed : WorkedListClaimed
+unfolding WorkedListClaimed
+claimed = (accepted, omega arith, list-claim theDefault twoFindings accepted (omega arith) workedCalls)

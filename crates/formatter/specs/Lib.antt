@@ -7,5 +7,6 @@ pub mod Mend
 pub mod Filed
 pub mod Book
 pub mod Demand3
+pub mod CellView
 pub mod Worked
 pub mod Theorems

@@ -19,12 +19,6 @@ use Rattle.formatter.specs.declared.Refusal.the-variants.{
   TextTooLong,
   WrongNumberOfDecisions,
 }
-use Rattle.formatter.specs.declared.FormatAnswer.{FormatAnswer}
-use Rattle.formatter.specs.declared.FormatAnswer.the-variants as Format
-use Rattle.formatter.specs.declared.ListAnswer.{ListAnswer}
-use Rattle.formatter.specs.declared.ListAnswer.the-variants as Listing
-use Rattle.formatter.specs.declared.MendAnswer.{MendAnswer}
-use Rattle.formatter.specs.declared.MendAnswer.the-variants as Mend
 
 -- ---- the table
 
@@ -38,22 +32,6 @@ refusalRow (WrongNumberOfDecisions n) = record { number = 5; value = n }
 refusalRow (BadDecision n) = record { number = 6; value = n }
 refusalRow (TableTooShort n) = record { number = 7; value = n }
 refusalRow (OutputTooShort n) = record { number = 8; value = n }
-
--- The row of a refused formatting call; none where it is not refused.
-unfoldable pub formatRefusal : FormatAnswer → Option RefusalRow
-formatRefusal Format.Unchanged = none
-formatRefusal (Format.Changed n) = none
-formatRefusal (Format.Refused r) = some (refusalRow r)
-
--- The same of a listing call.
-unfoldable pub listRefusal : ListAnswer → Option RefusalRow
-listRefusal (Listing.Listed n) = none
-listRefusal (Listing.Refused r) = some (refusalRow r)
-
--- The same of a mending call.
-unfoldable pub mendRefusal : MendAnswer → Option RefusalRow
-mendRefusal (Mend.Mended n) = none
-mendRefusal (Mend.Refused r) = some (refusalRow r)
 
 -- ---- limits
 

@@ -5,10 +5,12 @@ use mathlib.Core.Option.{some, none}
 use mathlib.Core.List.{List}
 use Prim.Native.Nat.{ℕ, _≤_}
 use lib.ListN.{length}
-use Rattle.utf8.specs.Rfc3629.{WellFormed, validUpTo}
-use Rattle.policy.specs.PolicyBytes.{isPolicy}
+use Rattle.utf8.specs.Rfc3629.{WellFormed, chars, encodeAll, validUpTo}
+use Rattle.policy.specs.PolicyBytes.{isPolicy, policyOf}
+use Rattle.formatter.specs.CellView.{formatCells, totalCells}
 use Rattle.formatter.specs.Demand3.{Accepted, FormattedClaim, ListClaim}
 use Rattle.formatter.specs.Filed.{filedText}
+use Rattle.formatter.specs.Findings.{textTotals}
 use Rattle.formatter.specs.Format.{format, formatted}
 use Rattle.formatter.specs.List.{list}
 use Rattle.formatter.specs.Mend.{Call, mend}
@@ -57,3 +59,10 @@ EveryList = (policy first : List ℕ) → Accepted policy first → length first
 -- The same of a formatted text, for every accepted text: among it that formatting again changes nothing (`again`).
 unfoldable pub EveryFormattedText : Type 0
 EveryFormattedText = (policy first : List ℕ) → Accepted policy first → FormattedClaim policy first
+
+-- Cell by cell: formatting a text and adding up its counts go by its cells, each with the next cell's character in view.
+unfoldable pub CellByCell : Type 0
+CellByCell =
+    (text policy : List ℕ)
+    → (formatted text policy ≡ encodeAll (formatCells (policyOf policy) (chars text)))
+    × (textTotals text policy ≡ totalCells (policyOf policy) (chars text))

@@ -1,7 +1,7 @@
 -- Document 01's worked texts, and a worked list of calls.
 use mathlib.Core.Path.{_≡_}
 use mathlib.Core.List.{List, [], _∷_, _++_, map}
-use Prim.Native.Nat.{ℕ}
+use Prim.Native.Nat.{ℕ, _≤_}
 use lib.ListN.{drop, length}
 use Rattle.utf8.specs.Rfc3629.{encodeAll}
 use Rattle.policy.specs.DefaultPolicy.{defaultPolicy}
@@ -11,11 +11,12 @@ use Rattle.scanner.specs.declared.ScanItem.{ScanItem}
 use Rattle.analysis.specs.Counts.{eight, empty}
 use Rattle.analysis.specs.declared.NonCanonicality.{NonCanonicality}
 use Rattle.formatter.specs.Book.{bookAfter, firstBook, openings, place}
+use Rattle.formatter.specs.Demand3.{Accepted, ListClaim}
 use Rattle.formatter.specs.Findings.{textTotals}
 use Rattle.formatter.specs.Format.{format}
 use Rattle.formatter.specs.List.{list}
 use Rattle.formatter.specs.Mend.{Call, mend, outcomes, textAfter}
-use Rattle.formatter.specs.Refusals.{After}
+use Rattle.formatter.specs.Refusals.{After, listLimit}
 use Rattle.formatter.specs.declared.Finding.{Finding}
 use Rattle.formatter.specs.declared.FormatAnswer.{FormatAnswer}
 use Rattle.formatter.specs.declared.FormatAnswer.the-variants as Format
@@ -175,3 +176,7 @@ WorkedList =
     × (map place (openings theDefault (firstBook theDefault twoFindings)) ≡ 0 ∷ 3 ∷ [])
     × (map place (openings theDefault (bookAfter theDefault (firstBook theDefault twoFindings) (call 0 [] six ∷ []))) ≡ 0 ∷ [])
     × (map place (openings theDefault (bookAfter theDefault (firstBook theDefault twoFindings) workedCalls)) ≡ [])
+
+-- The claim on a list holds of this one: its premises do, so that it is no claim about nothing.
+unfoldable pub WorkedListClaimed : Type 0
+WorkedListClaimed = Accepted theDefault twoFindings × (length twoFindings ≤ listLimit) × ListClaim theDefault twoFindings workedCalls
