@@ -14,7 +14,7 @@ use Rattle.formatter.specs.Findings.{textTotals}
 use Rattle.formatter.specs.Format.{format, formatted}
 use Rattle.formatter.specs.List.{list}
 use Rattle.formatter.specs.Mend.{Call, mend}
-use Rattle.formatter.specs.Refusals.{intakeRefusal, listLimit}
+use Rattle.formatter.specs.Refusals.{intakeRefusal, listLimit, refusalRow}
 use Rattle.formatter.specs.declared.Finding.{Finding}
 use Rattle.formatter.specs.declared.FormatAnswer.the-variants as Format
 use Rattle.formatter.specs.declared.ListAnswer.the-variants.{Refused}
@@ -40,6 +40,10 @@ IntakeComesFirst =
     → ((out : List ℕ) → format text policy out ≡ record { answer = Format.Refused r; buffer = out })
     × ((table : List Finding) → list text policy table ≡ record { answer = Refused r; buffer = table })
     × ((offset : ℕ) (decisions out : List ℕ) → mend text policy offset decisions out ≡ record { answer = Mend.Refused r; buffer = out })
+
+-- The row of the table tells the refusal: no two causes have the same number, and the value is returned whole.
+unfoldable pub RowsTellRefusals : Type 0
+RowsTellRefusals = (r s : Refusal) → refusalRow r ≡ refusalRow s → r ≡ s
 
 -- ---- the filed text
 

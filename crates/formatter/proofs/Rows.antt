@@ -1,0 +1,44 @@
+-- A row of the table of refusals tells the refusal.
+use mathlib.Core.Path.{_≡_, refl, ap, sym, _∙_}
+use mathlib.Core.Bool.{cond}
+use lib.Dec.{eqb}
+use Rattle.base.specs.Output.{RefusalRow}
+use Rattle.formatter.specs.Refusals.{refusalRow}
+use Rattle.formatter.specs.Theorems.{RowsTellRefusals}
+use Rattle.formatter.specs.declared.Refusal.{Refusal}
+use Rattle.formatter.specs.declared.Refusal.the-variants.{
+  BadDecision,
+  NoFinding,
+  NotAPolicy,
+  NotWellFormed,
+  OutputTooShort,
+  TableTooShort,
+  TextTooLong,
+  WrongNumberOfDecisions,
+}
+
+-- The refusal of a row.
+told : RefusalRow → Refusal
+told w =
+    cond (eqb (w .number) 1) TextTooLong
+    (cond (eqb (w .number) 2) NotAPolicy
+    (cond (eqb (w .number) 3) (NotWellFormed (w .value))
+    (cond (eqb (w .number) 4) NoFinding
+    (cond (eqb (w .number) 5) (WrongNumberOfDecisions (w .value))
+    (cond (eqb (w .number) 6) (BadDecision (w .value))
+    (cond (eqb (w .number) 7) (TableTooShort (w .value)) (OutputTooShort (w .value))))))))
+
+told-row : (r : Refusal) → told (refusalRow r) ≡ r
+unfolding told refusalRow
+told-row TextTooLong = refl
+told-row NotAPolicy = refl
+told-row (NotWellFormed n) = refl
+told-row NoFinding = refl
+told-row (WrongNumberOfDecisions n) = refl
+told-row (BadDecision n) = refl
+told-row (TableTooShort n) = refl
+told-row (OutputTooShort n) = refl
+
+pub rows-tell : RowsTellRefusals
+unfolding RowsTellRefusals
+rows-tell r s e = sym (told-row r) ∙ ap told e ∙ told-row s
