@@ -1,4 +1,4 @@
--- The cells of a list of characters: each character that is no selector, with the selectors behind it.
+-- The cells of a list of characters: each character that is no selector, with the selectors behind it: S of document 01, "Item".
 use mathlib.Core.Bool.{cond}
 use mathlib.Core.List.{List, [], _∷_, _++_, map}
 use Prim.Native.Nat.{ℕ}

@@ -1,4 +1,5 @@
--- Formatting and totals cell by cell: a character, the selectors behind it, and of the next cell only its character.
+-- Formatting and totals (document 01, "Counts and finding", "Replacement and text") cell by cell: a character, the selectors behind
+-- it, and of the next cell only its character. That it is the same is specs/Theorems.antt, CellByCell.
 use mathlib.Core.List.{List, []}
 use Prim.Native.Nat.{ℕ}
 use lib.ListN.{length}

@@ -48,6 +48,7 @@ use Rattle.scanner.specs.Theorems.{
   NoItemIsEmpty,
   OnlyReading,
   RestByRuns,
+  RunsByClass,
   RunsAreDerived,
   SelectorsMoveNothing,
   SpansAfresh,
@@ -58,6 +59,7 @@ use Rattle.scanner.specs.Theorems.{
   StructureFlattens,
   StructureIsDerived,
   Structured,
+  TagReportTells,
   TagsAreInStructure,
   TagsCompleteMeans,
   Tiles,
@@ -68,6 +70,7 @@ use Rattle.scanner.specs.Theorems.{
 use Rattle.scanner.specs.declared.ScanKind.{ScanKind}
 use Rattle.scanner.specs.declared.ScanStep.the-variants.{End}
 use Rattle.scanner.proofs.Bytes.{chars-inside}
+use Rattle.scanner.proofs.ClassTests.{run-links, run-modifications, run-passthrough, run-selectors}
 use Rattle.scanner.proofs.Complete.{Ends, all-complete-means}
 use Rattle.scanner.proofs.EmojiRuns.{unit-item}
 use Rattle.scanner.proofs.RestRuns.{unit-ends, unit-joins, unit-left}
@@ -83,6 +86,7 @@ use Rattle.scanner.proofs.RunLaws.{
 }
 use Rattle.scanner.proofs.Runs.{Stops, at-char, at-end}
 use Rattle.scanner.proofs.Spans.{scan-behind, scan-spells, scan-tiles}
+use Rattle.scanner.proofs.TagReport.{report-is}
 use Rattle.scanner.proofs.Tiling.{afresh, never-empty, tiling}
 use Rattle.scanner.proofs.Reading.{derive-inner, derives-alike, item-alone, item-derives, only-reading, reading}
 use Rattle.scanner.proofs.Structure.{StructureRead, emoji-headed-read, links-only-read}
@@ -215,3 +219,11 @@ worked-tags = (refl, refl, refl, refl, refl)
 pub worked-structure : WorkedStructure
 unfolding WorkedStructure classOf isSelector isTag isRi isEmojiModifier isEmoji inRanges member emojiModifiers emojiRanges riRanges run behindRun tagToRuns tagToModifications toModifications modificationsOf riStem behindSecondRi emojiLike cutAtLinks joinOne joinedOf sequenceOf structure
 worked-structure = refl
+
+pub tag-report-tells : TagReportTells
+unfolding TagReportTells
+tag-report-tells = report-is
+
+pub runs-by-class : RunsByClass
+unfolding RunsByClass
+runs-by-class t = (run-selectors t, run-links t, run-modifications t, run-passthrough t)

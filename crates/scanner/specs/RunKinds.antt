@@ -1,5 +1,5 @@
--- The runs that the code reads with one loop, by the class of each character.
--- They are the runs of specs/Runs.antt: proofs/ClassTests.antt, run-selectors and its like.
+-- The runs of document 01, "Item", that the code reads with one loop, by the class of each character.
+-- They are the runs of specs/Runs.antt: specs/Theorems.antt, RunsByClass.
 use mathlib.Core.Bool.{Bool, true, false}
 use mathlib.Core.List.{List}
 use Prim.Native.Nat.{ℕ}

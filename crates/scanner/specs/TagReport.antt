@@ -1,5 +1,5 @@
--- Whether an item's tags are complete, read from left to right: what the cursor keeps of the tags behind it.
--- Over an item's characters it is `tagsComplete`: proofs/TagReport.antt, report-is.
+-- Whether an item's tags are complete (document 01, "Item", tag report), read from left to right: what the cursor keeps.
+-- Over an item's characters it is `tagsComplete`: specs/Theorems.antt, TagReportTells.
 use mathlib.Core.Bool.{Bool, true, false, cond}
 use mathlib.Core.List.{List, [], _∷_}
 use Prim.Native.Nat.{ℕ}

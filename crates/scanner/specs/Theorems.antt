@@ -10,11 +10,12 @@ use Rattle.unicode.specs.Presentation.{isSelector}
 use Rattle.unicode.specs.Unicode.{isEmoji}
 use Rattle.utf8.specs.Rfc3629.{WellFormed, chars, encodeAll, readChar, validUpTo}
 use Rattle.utf8.specs.declared.ReadChar.the-variants as Read
-use Rattle.scanner.specs.Classes.{strip}
-use Rattle.scanner.specs.Items.{Item, cut, items, join, unit}
+use Rattle.scanner.specs.Classes.{classOf, strip}
+use Rattle.scanner.specs.Items.{Item, begin, cut, items, join, kindOf, unit}
 use Rattle.scanner.specs.Runs.{
   behindSelectors,
   behindUnit,
+  inLinks,
   inModifications,
   isModification,
   isPassthrough,
@@ -23,6 +24,7 @@ use Rattle.scanner.specs.Runs.{
   modificationAt,
   modificationsAt,
   passthroughAt,
+  run,
   selectorsAt,
   stemAt,
   unitAt,
@@ -47,7 +49,10 @@ use Rattle.scanner.specs.Structure.{
   structure,
   tagsOf,
 }
+use Rattle.scanner.specs.RunKinds.{runOf}
+use Rattle.scanner.specs.TagReport.{noTags, reportOf, tagsOver}
 use Rattle.scanner.specs.Tags.{tagModifications, tagsComplete}
+use Rattle.scanner.specs.declared.consume.RunKind.the-variants as Run
 use Rattle.scanner.specs.Spans.{firstOf, scan, scanAt, scanFrom}
 use Rattle.scanner.specs.declared.ScanItem.{ScanItem}
 use Rattle.scanner.specs.declared.ScanKind.{ScanKind}
@@ -216,6 +221,19 @@ TagsCompleteMeans =
     (t : List ℕ) (x : Item) → List·Memᴰ x (items t) → x .kind ≡ EmojiHeaded
     → (tagsComplete (x .kind) (x .chars) ≡ true)
     ↔ ((tags : List ℕ) → List·Memᴰ tags (tagsOf (structure (x .chars))) → (before : List ℕ) × (tags ≡ before ++ (0xE007F ∷ [])))
+
+-- The cursor keeps a report from left to right behind an item's first character (specs/TagReport.antt): it says the same.
+unfoldable pub TagReportTells : Type 0
+TagReportTells = (c : ℕ) (s : List ℕ) → tagsComplete (kindOf (begin (classOf c))) (c ∷ s) ≡ reportOf (kindOf (begin (classOf c))) (tagsOver noTags s)
+
+-- The runs that are read class by class (specs/RunKinds.antt) are those of specs/Runs.antt.
+unfoldable pub RunsByClass : Type 0
+RunsByClass =
+    (t : List ℕ)
+    → (runOf Run.Selectors t ≡ selectorsAt t)
+    × (runOf Run.Links t ≡ run inLinks t)
+    × (runOf Run.Modifications t ≡ run inModifications t)
+    × (runOf Run.Passthrough t ≡ passthroughAt t)
 
 -- ---- worked texts
 
