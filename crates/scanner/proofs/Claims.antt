@@ -1,11 +1,11 @@
--- The proof of each statement of specs/Theorems.antt.
+-- The proof of each statement of specs/Theorems.antt and of specs/Walks.antt.
 use mathlib.Core.Path.{_≡_, refl, ap, sym, _∙_, subst}
 use mathlib.Core.Logic.{_↔_, inr, ⊎-elim}
-use mathlib.Core.Bool.{true}
-use mathlib.Core.List.{List, [], _∷_, _++_, getLastD, head-eq-of-cons-eq, List·Memᴰ}
-use Prim.Native.Nat.{ℕ, _+_}
+use mathlib.Core.Bool.{true, true≢false}
+use mathlib.Core.List.{List, [], _∷_, _++_, getLastD, head-eq-of-cons-eq, List·Memᴰ, List·Memᴰ·head}
+use Prim.Native.Nat.{ℕ, _+_, _-_}
 use native.Mathlib.Nat.{zero-add}
-use lib.ListN.{drop, drop-of-length-le}
+use lib.ListN.{take, drop, drop-of-length-le}
 use Rattle.utf8.specs.Rfc3629.{encode, encodeAll, readChar, readFour, foldChars, foldStep, chars, utf8-1, utf8-2, utf8-3, utf8-4, validUpTo}
 use Rattle.utf8.proofs.Folds.{chars-end}
 use Rattle.utf8.proofs.Fronts.{readChar-nil}
@@ -32,7 +32,7 @@ use Rattle.scanner.specs.Structure.{
   tagToRuns,
   toModifications,
 }
-use Rattle.scanner.specs.Spans.{firstOf, scan, scanAt, scanFrom, spans, width}
+use Rattle.scanner.specs.Spans.{firstOf, scan, scanAt, scanFrom, size, spans, width}
 use Rattle.scanner.specs.Tags.{allComplete, complete, tagModifications, tagRuns, tagsComplete, withTags}
 use Rattle.scanner.specs.Theorems.{
   CursorAtItemEnd,
@@ -56,6 +56,9 @@ use Rattle.scanner.specs.Theorems.{
   SpansSpellItems,
   SpansTile,
   SpansTileFrom,
+  Spells,
+  span,
+  span-and,
   StructureFlattens,
   StructureIsDerived,
   Structured,
@@ -67,14 +70,18 @@ use Rattle.scanner.specs.Theorems.{
   WorkedStructure,
   WorkedTags,
 }
+use Rattle.scanner.specs.Walks.{SequenceWalk, StructureIsWalked}
 use Rattle.scanner.specs.declared.ScanKind.{ScanKind}
+use Rattle.scanner.specs.declared.ScanItem.{ScanItem}
+use Rattle.scanner.specs.declared.ScanStep.the-variants as Step
 use Rattle.scanner.specs.declared.ScanStep.the-variants.{End}
 use Rattle.scanner.proofs.Bytes.{chars-inside}
-use Rattle.scanner.proofs.ClassTests.{run-links, run-modifications, run-passthrough, run-selectors}
+use Rattle.scanner.proofs.ClassTests.{run-links, run-modifications, run-passthrough, run-selectors, run-tags}
 use Rattle.scanner.proofs.Complete.{Ends, all-complete-means}
 use Rattle.scanner.proofs.EmojiRuns.{unit-item}
 use Rattle.scanner.proofs.RestRuns.{unit-ends, unit-joins, unit-left}
 use Rattle.scanner.proofs.ItemRuns.{item-links, item-passthrough, item-selectors}
+use Rattle.scanner.proofs.ItemWalks.{structure-walk}
 use Rattle.scanner.proofs.RunLaws.{
   link-derived,
   links-derived,
@@ -226,4 +233,23 @@ tag-report-tells = report-is
 
 pub runs-by-class : RunsByClass
 unfolding RunsByClass
-runs-by-class t = (run-selectors t, run-links t, run-modifications t, run-passthrough t)
+runs-by-class t = (run-selectors t, run-links t, run-modifications t, run-tags t, run-passthrough t)
+
+spells-first : {text : List ℕ} {s : ScanItem} {ss : List ScanItem} {x : Item} {xs : List Item} → Spells text (s ∷ ss) (x ∷ xs)
+    → take (s .end - s .start) (drop (s .start) text) ≡ encodeAll (x .chars)
+spells-first (span-and b c d h) = b
+
+pub structure-is-walked : StructureIsWalked
+unfolding StructureIsWalked scanAt scanFrom spans firstOf
+structure-is-walked text at x e k = go (items (chars (drop at text))) refl (scan-spells text at) e
+  where
+    Walked : ScanItem → Type 0
+    Walked y = (t : List ℕ) × (take (y .end - y .start) (drop (y .start) text) ≡ encodeAll t) × SequenceWalk text (y .start) (y .end) (structure t)
+
+    go : (xs : List Item) → items (chars (drop at text)) ≡ xs → Spells text (spans at xs) xs → firstOf (spans at xs) ≡ Step.Item x → Walked x
+    go [] p s q = absurd (true≢false (cc))
+    go (y ∷ ys) p s q =
+        let f : span at (at + size width (y .chars)) (y .kind) (tagsComplete (y .kind) (y .chars)) ≡ x = cc in
+        let m = subst (λ (z : ScanItem). Structured (z .kind)) (sym f) k in
+        subst Walked f
+        (y .chars, spells-first s, structure-walk text at y ys p m (item-structure (chars (drop at text)) y (subst (List·Memᴰ y) (sym p) (List·Memᴰ·head refl)) m .are))

@@ -12,7 +12,7 @@ use Rattle.unicode.specs.Unicode.{isEmoji, isEmojiModifier, isRi, isTag}
 use Rattle.scanner.specs.Classes.{Class, selector, link, ri, modifier, emoji, keycap, tag, other, classOf}
 use Rattle.scanner.specs.RunKinds.{byClass, inRun, runOf}
 use Rattle.scanner.specs.Runs.{inLinks, inModifications, inTags, isModification, isPassthrough, passthroughAt, run, selectorsAt}
-use Rattle.scanner.specs.declared.consume.RunKind.the-variants.{Links, Modifications, Passthrough, Selectors}
+use Rattle.scanner.specs.declared.consume.RunKind.the-variants.{Links, Modifications, Passthrough, Selectors, Tags}
 use Rattle.scanner.proofs.Classes.{
   HasClass,
   is-emoji,
@@ -194,6 +194,9 @@ run-modifications = run-same _ inModifications (λ c. in-class (classOf c) ∙ s
   where
     in-class : (k : Class) → inRun Modifications k ≡ (forModification k || forSelector k)
     in-class = class-by-class (inRun Modifications) (λ k. forModification k || forSelector k) refl refl refl refl refl refl refl refl
+
+pub run-tags : (t : List ℕ) → runOf Tags t ≡ run isTag t
+run-tags = run-same _ isTag (λ c. sym (tag-test c))
 
 pub run-passthrough : (t : List ℕ) → runOf Passthrough t ≡ passthroughAt t
 unfolding passthroughAt

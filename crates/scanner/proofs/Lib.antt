@@ -17,6 +17,7 @@ pub mod Tags
 pub mod Structure
 pub mod Complete
 pub mod TagReport
+pub mod Peek
 pub mod Cursor
 pub mod ItemRuns
 pub mod EmojiRuns
@@ -24,6 +25,12 @@ pub mod RestRuns
 pub mod RunLaws
 pub mod ClassTests
 pub mod RunsAt
+pub mod TagRuns
 pub mod PartsAt
+pub mod UnitsAt
+pub mod ModificationWalks
+pub mod CursorWalks
+pub mod UnitWalks
+pub mod ItemWalks
 pub mod SelectorRun
 pub mod Claims

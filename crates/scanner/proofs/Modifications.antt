@@ -114,7 +114,7 @@ runs-flatten c s [] = refl
 runs-flatten c [] (r ∷ rs) = refl
 runs-flatten c (d ∷ s) (r ∷ rs) = refl
 
-runs-before : (c : ℕ) (s : List ℕ) (rs : List EmojiTagRun) (t : List ℕ) → flattenRuns (tagToRuns c s rs) ++ t ≡ c ∷ (s ++ (flattenRuns rs ++ t))
+pub runs-before : (c : ℕ) (s : List ℕ) (rs : List EmojiTagRun) (t : List ℕ) → flattenRuns (tagToRuns c s rs) ++ t ≡ c ∷ (s ++ (flattenRuns rs ++ t))
 runs-before c s rs t = ap (λ (l : List ℕ). l ++ t) (runs-flatten c s rs) ∙ ap (λ (l : List ℕ). c ∷ l) (append-assoc s (flattenRuns rs) t)
 
 tag-flatten : (c : ℕ) (s : List ℕ) (ms : List EmojiModification) → flattenModifications (tagToModifications c s ms) ≡ c ∷ (s ++ flattenModifications ms)
@@ -135,9 +135,10 @@ modifications-flatten (run-tag {c = c} {t = t} e h) =
 
 -- ---- each part is the grammar's
 
+-- The runs of one tag modification: behind each but the last stands a selector.
 pub data RunsOk : List EmojiTagRun → Type 0 where
-  one-run : {r : EmojiTagRun} → Tags (r .tags) → S (r .after) → RunsOk (r ∷ [])
-  run-and : {r : EmojiTagRun} {rs : List EmojiTagRun} → Tags (r .tags) → S (r .after) → RunsOk rs → RunsOk (r ∷ rs)
+  one-run : {t s : List ℕ} → Tags t → S s → RunsOk (record { tags = t; after = s } ∷ [])
+  run-and : {t s : List ℕ} {d : ℕ} {rs : List EmojiTagRun} → Tags t → isSelector d ≡ true → S s → RunsOk rs → RunsOk (record { tags = t; after = d ∷ s } ∷ rs)
 
 pub data ModificationsOk : List EmojiModification → Type 0 where
   all-ok : ModificationsOk []
@@ -145,16 +146,16 @@ pub data ModificationsOk : List EmojiModification → Type 0 where
   keycap-ok : {s : List ℕ} {ms : List EmojiModification} → S s → ModificationsOk ms → ModificationsOk (EnclosingKeycap s ∷ ms)
   tags-ok : {rs : List EmojiTagRun} {ms : List EmojiModification} → RunsOk rs → ModificationsOk ms → ModificationsOk (TagModifier rs ∷ ms)
 
-tag-one : (c : ℕ) {s : List ℕ} → isTag c ≡ true → S s → RunsOk (tagToRuns c s [])
+pub tag-one : (c : ℕ) {s : List ℕ} → isTag c ≡ true → S s → RunsOk (tagToRuns c s [])
 unfolding tagToRuns
 tag-one c e s = one-run (one-tag e) s
 
-tag-more : (c : ℕ) {s : List ℕ} {rs : List EmojiTagRun} → isTag c ≡ true → S s → RunsOk rs → RunsOk (tagToRuns c s rs)
+pub tag-more : (c : ℕ) {s : List ℕ} {rs : List EmojiTagRun} → isTag c ≡ true → S s → RunsOk rs → RunsOk (tagToRuns c s rs)
 unfolding tagToRuns
 tag-more c e no-selectors (one-run t a) = one-run (tag-and e t) a
-tag-more c e no-selectors (run-and t a h) = run-and (tag-and e t) a h
-tag-more c e (selector-and f s) (one-run t a) = run-and (one-tag e) (selector-and f s) (one-run t a)
-tag-more c e (selector-and f s) (run-and t a h) = run-and (one-tag e) (selector-and f s) (run-and t a h)
+tag-more c e no-selectors (run-and t f a h) = run-and (tag-and e t) f a h
+tag-more c e (selector-and f s) (one-run t a) = run-and (one-tag e) f s (one-run t a)
+tag-more c e (selector-and f s) (run-and t g a h) = run-and (one-tag e) f s (run-and t g a h)
 
 tag-ok : (c : ℕ) {s : List ℕ} {ms : List EmojiModification} → isTag c ≡ true → S s → ModificationsOk ms → ModificationsOk (tagToModifications c s ms)
 unfolding tagToModifications
@@ -175,8 +176,8 @@ modifications-ok (run-tag {c = c} {t = t} e h) = let r = modifications-ok h in r
 
 pub runs-derive : {rs : List EmojiTagRun} → RunsOk rs → TagGroups (flattenRuns rs)
 unfolding flattenRuns
-runs-derive (one-run {r = r} t a) = subst (λ (l : List ℕ). TagGroups (r .tags ++ l)) (sym (append-nil (r .after))) (one-group t a)
-runs-derive (run-and t a h) = group-and t a (runs-derive h)
+runs-derive (one-run {t = t} {s = s} a b) = subst (λ (l : List ℕ). TagGroups (t ++ l)) (sym (append-nil s)) (one-group a b)
+runs-derive (run-and a e b h) = group-and a (selector-and e b) (runs-derive h)
 
 pub modifications-derive : {ms : List EmojiModification} → ModificationsOk ms → Modifications (flattenModifications ms)
 unfolding flattenModifications flattenModification

@@ -1,146 +1,225 @@
--- The bytes of a part of an item at an offset, by the character there: what the consume functions go by.
-use mathlib.Core.Path.{_≡_, refl, ap, ap₂, sym, _∙_}
+-- What is read of an item's parts at an offset, by the character there and its class: what the consume functions go by.
+use mathlib.Core.Path.{_≡_, refl, ap, ap₂, sym, _∙_, subst}
 use mathlib.Core.Bool.{Bool, true, false, cond}
-use mathlib.Core.List.{List, [], _∷_, _++_, append-nil}
+use mathlib.Core.List.{List, [], _∷_}
 use Prim.Native.Nat.{ℕ, _+_}
 use native.Mathlib.Omega.{arith}
+use borrow.Author.Tests.{eqb-true}
 use lib.Dec.{eqb}
-use lib.ListN.{drop, length}
+use lib.ListN.{drop}
 use Rattle.utf8.specs.Rfc3629.{chars}
-use Rattle.utf8.proofs.Places.{Step, Stop}
 use Rattle.unicode.specs.Presentation.{isSelector}
-use Rattle.unicode.specs.Unicode.{isEmoji, isRi, isTag}
+use Rattle.unicode.specs.Unicode.{isEmoji, isRi}
+use Rattle.scanner.specs.Classes.{Class, keycap, link, modifier, ri, tag, classOf}
+use Rattle.scanner.specs.Parts.{firstFrom, linkFrom, linkRead, modificationFrom, modificationRead, stemBehind, stemRead}
 use Rattle.scanner.specs.RunKinds.{runOf}
 use Rattle.scanner.specs.Runs.{
-  behindFirstRi,
   behindSelectors,
-  behindStem,
-  inLinks,
   inModifications,
   isModification,
-  linkAt,
-  linksAt,
   modificationAt,
   modificationsAt,
   run,
-  secondRiAt,
   selectorsAt,
-  stemAt,
-  unitAt,
+  tagModificationAt,
 }
+use Rattle.scanner.specs.SelectorRun.{selectorRun, selectorsFrom}
 use Rattle.scanner.specs.Spans.{size, width}
-use Rattle.scanner.specs.declared.consume.RunKind.the-variants.{Links, Modifications, Selectors}
+use Rattle.scanner.specs.Structure as Structure
+use Rattle.scanner.specs.Structure.{emojiLike, linkOf, modificationsOf, riStem, toModifications}
+use Rattle.scanner.specs.declared.consume.RunKind.the-variants.{Modifications}
+use Rattle.scanner.specs.declared.parts.EmojiModification.the-variants.{EmojiModifier, EnclosingKeycap, NoModification, TagModifier}
+use Rattle.scanner.specs.declared.parts.EmojiStem.{EmojiStem}
+use Rattle.scanner.specs.declared.parts.EmojiStem.the-variants.{Flag, NoStem, SingletonBase}
+use Rattle.scanner.specs.declared.parts.ZwjLink.the-variants.{Link, NoLink}
+use Rattle.scanner.specs.declared.selectors.PresentationSelectors.{PresentationSelectors}
 use Rattle.scanner.proofs.Bytes.{chars-from}
-use Rattle.scanner.proofs.ClassTests.{run-links, run-modifications, run-selectors}
-use Rattle.scanner.proofs.EmojiRuns.{behind-stem, stem-read}
-use Rattle.scanner.proofs.Rescan.{size-append}
-use Rattle.scanner.proofs.RunLaws.{modification-other}
-use Rattle.scanner.proofs.Runs.{run-behind}
+use Rattle.scanner.proofs.Classes.{HasClass, hasClass, is-keycap}
+use Rattle.scanner.proofs.ClassTests.{
+  emoji-test,
+  forEmoji,
+  forLink,
+  forModification,
+  forRi,
+  forTag,
+  link-test,
+  modification-test,
+  ri-test,
+  run-modifications,
+  tag-test,
+}
+use Rattle.scanner.proofs.Modifications.{of-class}
+use Rattle.scanner.proofs.Peek.{Seen, Unseen}
+use Rattle.scanner.proofs.RunLaws.{modification-other, modification-tag}
+use Rattle.scanner.proofs.Runs.{run-behind, run-passes}
+use Rattle.scanner.proofs.TagRuns.{of-selectors, of-tags}
 
--- The end of a part g, at an offset.
-abbrev pub endOf : (List ℕ → List ℕ) → List ℕ → ℕ → ℕ
-endOf g text at = at + size width (g (chars (drop at text)))
+-- ---- where no character begins
 
-module _ (g : List ℕ → List ℕ) (text : List ℕ) (at : ℕ) where
-  -- Nothing is read where no character stands ..
-  pub part-none : g [] ≡ [] → Stop text at → at ≡ endOf g text at
-  part-none e h = omega (arith, ap (size width) (ap g (h .chars-none) ∙ e))
+module _ {text : List ℕ} {at : ℕ} (h : Unseen text at) where
+  pub modifications-none : at ≡ at + size width (modificationsAt (chars (drop at text)))
+  unfolding modificationsAt
+  modifications-none = omega (arith, ap (λ (t : List ℕ). size width (modificationsAt t)) (h .chars-none))
 
-  module _ (v w : ℕ) (h : Step text at v w) where
-    -- .. and at a character with which no part begins.
-    pub part-off : g (v ∷ chars (drop (at + w) text)) ≡ [] → at ≡ endOf g text at
-    part-off e = omega (arith, ap (size width) (ap g (h .chars-on) ∙ e))
+  pub link-none : NoLink ≡ linkRead at (chars (drop at text))
+  unfolding linkRead
+  link-none = ap (linkRead at) (sym (h .chars-none))
 
-    -- A part that is its first character and another part behind that.
-    pub part-on : (f : List ℕ → List ℕ) (end : ℕ) → g (v ∷ chars (drop (at + w) text)) ≡ v ∷ f (chars (drop (at + w) text)) → end ≡ endOf f text (at + w) → end ≡ endOf g text at
-    unfolding width
-    part-on f end e r = let m = h .width in omega (arith, ap (size width) (ap g (h .chars-on) ∙ e))
+  pub modification-none : NoModification ≡ modificationRead at (chars (drop at text))
+  unfolding modificationRead modificationAt modificationsOf firstFrom
+  modification-none = ap (modificationRead at) (sym (h .chars-none))
 
-    -- A part that is another part from the same character on.
-    pub part-same : (f : List ℕ → List ℕ) (end : ℕ) → g (v ∷ chars (drop (at + w) text)) ≡ f (v ∷ chars (drop (at + w) text)) → end ≡ endOf f text at → end ≡ endOf g text at
-    part-same f end e r = r ∙ ap (λ (l : List ℕ). at + size width l) (ap f (h .chars-on) ∙ sym e ∙ ap g (sym (h .chars-on)))
+  pub stem-none : NoStem ≡ stemRead at (chars (drop at text))
+  unfolding stemRead
+  stem-none = ap (stemRead at) (sym (h .chars-none))
 
--- ---- the parts at a character
+-- ---- at a character v of the class k
 
-pub link-on : (c : ℕ) (t : List ℕ) → eqb c 0x200D ≡ true → linkAt (c ∷ t) ≡ c ∷ runOf Selectors t
-unfolding linkAt
-link-on c t e = ap (λ (b : Bool). cond b (c ∷ selectorsAt t) []) e ∙ ap (λ (l : List ℕ). c ∷ l) (sym (run-selectors t))
+keycap-is : {c : ℕ} → HasClass c keycap → c ≡ 0x20E3
+keycap-is (is-keycap e) = e
 
-pub link-off : (c : ℕ) (t : List ℕ) → eqb c 0x200D ≡ false → linkAt (c ∷ t) ≡ []
-unfolding linkAt
-link-off c t e = ap (λ (b : Bool). cond b (c ∷ selectorsAt t) []) e
+module _ {text : List ℕ} {at v : ℕ} {k : Class} {next : ℕ} (h : Seen text at v k next) where
+  -- A test by class says the same of the character.
+  tested : {b : Bool} (f : ℕ → Bool) (g : Class → Bool) → ((c : ℕ) → f c ≡ g (classOf c)) → g k ≡ b → f v ≡ b
+  tested f g t e = t v ∙ ap g (sym (h .class)) ∙ e
 
-pub links-on : (c : ℕ) (t : List ℕ) → eqb c 0x200D ≡ true → linksAt (c ∷ t) ≡ runOf Links (c ∷ t)
-unfolding linksAt
-links-on c t e = ap (λ (b : Bool). cond b (run inLinks (c ∷ t)) []) e ∙ sym (run-links (c ∷ t))
+  -- The selectors behind it.
+  selectors-behind : {r : PresentationSelectors} → r ≡ selectorRun text next → r ≡ selectorsFrom (at + width v) (selectorsAt (chars (drop next text)))
+  unfolding selectorRun
+  selectors-behind e = e ∙ ap (λ (n : ℕ). selectorsFrom n (selectorsAt (chars (drop next text)))) (h .behind)
 
-pub links-off : (c : ℕ) (t : List ℕ) → eqb c 0x200D ≡ false → linksAt (c ∷ t) ≡ []
-unfolding linksAt
-links-off c t e = ap (λ (b : Bool). cond b (run inLinks (c ∷ t)) []) e
+  -- ---- all modifications
 
-pub modifications-on : (c : ℕ) (t : List ℕ) → isModification c ≡ true → modificationsAt (c ∷ t) ≡ runOf Modifications (c ∷ t)
-unfolding modificationsAt
-modifications-on c t e = ap (λ (b : Bool). cond b (run inModifications (c ∷ t)) []) e ∙ sym (run-modifications (c ∷ t))
+  modifications-by : (b : Bool) → forModification k ≡ b → modificationsAt (chars (drop at text)) ≡ cond b (run inModifications (chars (drop at text))) []
+  unfolding modificationsAt
+  modifications-by b e =
+      ap modificationsAt (h .chars-on) ∙ ap (λ (x : Bool). cond x (run inModifications (v ∷ chars (drop next text))) []) (tested isModification forModification modification-test e)
+      ∙ ap (λ (t : List ℕ). cond b (run inModifications t) []) (sym (h .chars-on))
 
-pub modifications-off : (c : ℕ) (t : List ℕ) → isModification c ≡ false → modificationsAt (c ∷ t) ≡ []
-unfolding modificationsAt
-modifications-off c t e = ap (λ (b : Bool). cond b (run inModifications (c ∷ t)) []) e
+  pub modifications-on : {end : ℕ} → forModification k ≡ true → end ≡ at + size width (runOf Modifications (chars (drop at text)))
+      → end ≡ at + size width (modificationsAt (chars (drop at text)))
+  modifications-on e r = r ∙ ap (λ (s : List ℕ). at + size width s) (run-modifications (chars (drop at text)) ∙ sym (modifications-by true e))
 
-pub second-on : (c : ℕ) (t : List ℕ) → isRi c ≡ true → secondRiAt (c ∷ t) ≡ c ∷ runOf Selectors t
-unfolding secondRiAt
-second-on c t e = ap (λ (b : Bool). cond b (c ∷ selectorsAt t) []) e ∙ ap (λ (l : List ℕ). c ∷ l) (sym (run-selectors t))
+  pub modifications-off : forModification k ≡ false → at ≡ at + size width (modificationsAt (chars (drop at text)))
+  modifications-off e = omega (arith, ap (size width) (modifications-by false e))
 
-pub second-off : (c : ℕ) (t : List ℕ) → isRi c ≡ false → secondRiAt (c ∷ t) ≡ []
-unfolding secondRiAt
-second-off c t e = ap (λ (b : Bool). cond b (c ∷ selectorsAt t) []) e
+  -- ---- a link
 
--- ---- a part behind the selectors
+  link-by : (b : Bool) → forLink k ≡ b → linkRead at (chars (drop at text)) ≡ cond b (Link (linkFrom at (linkOf (chars (drop next text))))) NoLink
+  unfolding linkRead
+  link-by b e =
+      ap (linkRead at) (h .chars-on)
+      ∙ ap (λ (x : Bool). cond x (Link (linkFrom at (linkOf (chars (drop next text))))) NoLink) (tested (λ c. eqb c 0x200D) forLink link-test e)
 
--- Selectors, and a part g behind them.
-pub behind-selectors : (g : List ℕ → List ℕ) (text : List ℕ) (at mid end : ℕ) → mid ≡ endOf (runOf Selectors) text at → end ≡ endOf g text mid
-    → end ≡ at + size width (selectorsAt (chars (drop at text)) ++ g (behindSelectors (chars (drop at text))))
-behind-selectors g text at mid end e f =
-    let t = chars (drop at text) in
-    let m : mid ≡ at + size width (selectorsAt t) = e ∙ ap (λ (l : List ℕ). at + size width l) (run-selectors t) in
-    let d : chars (drop mid text) ≡ behindSelectors t =
-    ap (λ (n : ℕ). chars (drop n text)) m ∙ chars-from text at (selectorsAt t) (behindSelectors t) (sym (run-behind isSelector t)) in
-    omega (arith, size-append width (selectorsAt t) (g (behindSelectors t)), ap (λ (l : List ℕ). size width (g l)) d)
+  pub link-on : {r : PresentationSelectors} → k ≡ link → r ≡ selectorRun text next → Link r ≡ linkRead at (chars (drop at text))
+  unfolding linkFrom
+  link-on e r =
+      let f : forLink k ≡ true = ap forLink e in
+      let i : v ≡ 0x200D = eqb-true v 0x200D (tested (λ c. eqb c 0x200D) forLink link-test f) in
+      ap Link (selectors-behind r ∙ ap (λ (c : ℕ). selectorsFrom (at + width c) (selectorsAt (chars (drop next text)))) i) ∙ sym (link-by true f)
 
--- ---- a modification, a stem and a unit
+  pub link-off : forLink k ≡ false → NoLink ≡ linkRead at (chars (drop at text))
+  link-off e = sym (link-by false e)
 
-pub modification-on : (c : ℕ) (t : List ℕ) → isTag c ≡ false → isModification c ≡ true → modificationAt (c ∷ t) ≡ c ∷ runOf Selectors t
-modification-on c t e f = modification-other c t true e f ∙ ap (λ (l : List ℕ). c ∷ l) (sym (run-selectors t))
+  -- ---- a modification
 
-pub modification-off : (c : ℕ) (t : List ℕ) → isTag c ≡ false → isModification c ≡ false → modificationAt (c ∷ t) ≡ []
-modification-off c t e f = modification-other c t false e f
+  -- The modification that is read, by the characters of it.
+  modification-is : {s : List ℕ} {ms : List Structure.EmojiModification} → modificationAt (v ∷ chars (drop next text)) ≡ s → (modificationsOf s) .1 ≡ ms → firstFrom at ms ≡ modificationRead at (chars (drop at text))
+  unfolding modificationRead
+  modification-is p q = sym (ap (modificationRead at) (h .chars-on) ∙ ap (λ (l : List ℕ). firstFrom at ((modificationsOf l) .1)) p ∙ ap (firstFrom at) q)
 
-stem-by : (c : ℕ) (t : List ℕ) (a b : Bool) → isEmoji c ≡ a → isRi c ≡ b
-    → stemAt (c ∷ t) ≡ cond a (c ∷ (selectorsAt t ++ cond b (secondRiAt (behindSelectors t)) [])) []
-unfolding stemAt
-stem-by c t a b e f = ap₂ (λ (x y : Bool). cond x (c ∷ (selectorsAt t ++ cond y (secondRiAt (behindSelectors t)) [])) []) e f
+  -- A modifier or 20E3, and its selectors.
+  one-modification : forTag k ≡ false → forModification k ≡ true → (ms : List Structure.EmojiModification) → (toModifications k v (selectorsAt (chars (drop next text)), [])) .1 ≡ ms → firstFrom at ms ≡ modificationRead at (chars (drop at text))
+  one-modification e f ms q =
+      let s = selectorsAt (chars (drop next text)) in
+      modification-is (modification-other v (chars (drop next text)) true (tested _ forTag tag-test e) (tested isModification forModification modification-test f))
+      (ap (λ (r : List ℕ × List Structure.EmojiModification). r .1)
+      (of-class s (subst (HasClass v) (sym (h .class)) (hasClass v)) ∙ ap (toModifications k v) (of-selectors (run-passes isSelector (chars (drop next text))))) ∙ q)
 
-pub stem-ri : (c : ℕ) (t : List ℕ) → isEmoji c ≡ true → isRi c ≡ true → stemAt (c ∷ t) ≡ c ∷ behindFirstRi t
-stem-ri c t e f = stem-by c t true true e f
+  pub modifier-on : {r : PresentationSelectors} → k ≡ modifier → r ≡ selectorRun text next → EmojiModifier v r ≡ modificationRead at (chars (drop at text))
+  unfolding toModifications firstFrom modificationFrom
+  modifier-on e r =
+      let s = selectorsAt (chars (drop next text)) in
+      ap (EmojiModifier v) (selectors-behind r)
+      ∙ one-modification (ap forTag e) (ap forModification e) (Structure.EmojiModifier v s ∷ []) (ap (λ (x : Class). (toModifications x v (s, [])) .1) e)
 
-pub stem-on : (c : ℕ) (t : List ℕ) → isEmoji c ≡ true → isRi c ≡ false → stemAt (c ∷ t) ≡ c ∷ runOf Selectors t
-stem-on c t e f = stem-by c t true false e f ∙ ap (λ (l : List ℕ). c ∷ l) (append-nil (selectorsAt t) ∙ sym (run-selectors t))
+  pub keycap-on : {r : PresentationSelectors} → k ≡ keycap → r ≡ selectorRun text next → EnclosingKeycap r ≡ modificationRead at (chars (drop at text))
+  unfolding toModifications firstFrom modificationFrom
+  keycap-on e r =
+      let s = selectorsAt (chars (drop next text)) in
+      let i : v ≡ 0x20E3 = keycap-is (subst (HasClass v) (sym (h .class) ∙ e) (hasClass v)) in
+      ap EnclosingKeycap (selectors-behind r ∙ ap (λ (c : ℕ). selectorsFrom (at + width c) s) i)
+      ∙ one-modification (ap forTag e) (ap forModification e) (Structure.EnclosingKeycap s ∷ []) (ap (λ (x : Class). (toModifications x v (s, [])) .1) e)
 
-pub stem-off : (c : ℕ) (t : List ℕ) → isEmoji c ≡ false → stemAt (c ∷ t) ≡ []
-stem-off c t e = stem-by c t false (isRi c) e refl
+  pub tags-on : {end : ℕ} → k ≡ tag → end ≡ at + size width (tagModificationAt (chars (drop at text))) → TagModifier end ≡ modificationRead at (chars (drop at text))
+  unfolding firstFrom modificationFrom
+  tags-on e r =
+      let p = tested _ forTag tag-test (ap forTag e) in
+      let m = of-tags v (chars (drop next text)) p in
+      ap TagModifier (r ∙ ap (λ (l : List ℕ). at + size width l) (ap tagModificationAt (h .chars-on) ∙ sym (m .flat)))
+      ∙ modification-is (modification-tag v (chars (drop next text)) p) (m .is)
 
-stem-whole : (t : List ℕ) → stemAt t ++ behindStem t ≡ t
-unfolding stemAt behindStem
-stem-whole [] = refl
-stem-whole (c ∷ t) = go (isEmoji c) refl
-  where
-    go : (b : Bool) → isEmoji c ≡ b → stemAt (c ∷ t) ++ behindStem (c ∷ t) ≡ c ∷ t
-    go true e = let r = stem-read c t e in ap₂ (λ (x y : List ℕ). x ++ y) (r .stem-is) (behind-stem r) ∙ ap (λ (l : List ℕ). c ∷ l) (r .whole)
-    go false e = ap (λ (l : List ℕ). l ++ drop (length l) (c ∷ t)) (stem-off c t e)
+  pub modification-off : forModification k ≡ false → forTag k ≡ false → NoModification ≡ modificationRead at (chars (drop at text))
+  unfolding modificationsOf firstFrom
+  modification-off e f =
+      modification-is (modification-other v (chars (drop next text)) false (tested _ forTag tag-test f) (tested isModification forModification modification-test e)) refl
 
--- A stem, and the modifications behind it.
-pub unit-end : (text : List ℕ) (at mid end : ℕ) → mid ≡ endOf stemAt text at → end ≡ endOf modificationsAt text mid → end ≡ endOf unitAt text at
-unfolding unitAt
-unit-end text at mid end e f =
-    let t = chars (drop at text) in
-    let d : chars (drop mid text) ≡ behindStem t = ap (λ (n : ℕ). chars (drop n text)) e ∙ chars-from text at (stemAt t) (behindStem t) (sym (stem-whole t)) in
-    omega (arith, size-append width (stemAt t) (modificationsAt (behindStem t)), ap (λ (l : List ℕ). size width (modificationsAt l)) d)
+  -- ---- a stem
+
+  stem-by : (a b : Bool) → forEmoji k ≡ a → forRi k ≡ b
+      → stemRead at (chars (drop at text))
+      ≡ cond a (stemBehind next (cond b (riStem v (selectorsAt (chars (drop next text))) (behindSelectors (chars (drop next text)))) (Structure.SingletonBase v (selectorsAt (chars (drop next text)))))) NoStem
+  unfolding stemRead emojiLike
+  stem-by a b e f =
+      let t = chars (drop next text) in
+      ap (stemRead at) (h .chars-on)
+      ∙ ap₂ (λ (x y : Bool). cond x (stemBehind (at + width v) (cond y (riStem v (selectorsAt t) (behindSelectors t)) (Structure.SingletonBase v (selectorsAt t)))) NoStem)
+      (tested isEmoji forEmoji emoji-test e) (tested isRi forRi ri-test f)
+      ∙ ap (λ (n : ℕ). cond a (stemBehind n (cond b (riStem v (selectorsAt t) (behindSelectors t)) (Structure.SingletonBase v (selectorsAt t)))) NoStem) (sym (h .behind))
+
+  pub stem-ri : {r : EmojiStem} → k ≡ ri → r ≡ stemBehind next (riStem v (selectorsAt (chars (drop next text))) (behindSelectors (chars (drop next text))))
+      → r ≡ stemRead at (chars (drop at text))
+  stem-ri e r = r ∙ sym (stem-by true true (ap forEmoji e) (ap forRi e))
+
+  pub stem-on : {r : PresentationSelectors} → forEmoji k ≡ true → forRi k ≡ false → r ≡ selectorRun text next → SingletonBase v r ≡ stemRead at (chars (drop at text))
+  unfolding stemBehind selectorRun
+  stem-on e f r = ap (SingletonBase v) r ∙ sym (stem-by true false e f)
+
+  pub stem-off : forEmoji k ≡ false → NoStem ≡ stemRead at (chars (drop at text))
+  stem-off e = sym (stem-by false (forRi k) e refl)
+
+-- ---- the stem of a first RI
+
+module _ (text : List ℕ) (at : ℕ) {r : PresentationSelectors} (e : r ≡ selectorRun text at) where
+  -- Behind the selectors.
+  mid-is : chars (drop (r .end) text) ≡ behindSelectors (chars (drop at text))
+  unfolding selectorRun
+  mid-is =
+      let t = chars (drop at text) in
+      ap (λ (x : PresentationSelectors). chars (drop (x .end) text)) e ∙ chars-from text at (selectorsAt t) (behindSelectors t) (sym (run-behind isSelector t))
+
+  pub ri-alone : Unseen text (r .end) → (a : ℕ) → SingletonBase a r ≡ stemBehind at (riStem a (selectorsAt (chars (drop at text))) (behindSelectors (chars (drop at text))))
+  unfolding selectorRun stemBehind riStem
+  ri-alone h a = ap (SingletonBase a) e ∙ ap (λ (l : List ℕ). stemBehind at (riStem a (selectorsAt (chars (drop at text))) l)) (sym (h .chars-none) ∙ mid-is)
+
+  module _ {v : ℕ} {k : Class} {next : ℕ} (h : Seen text (r .end) v k next) (a : ℕ) where
+    second-by : (b : Bool) → forRi k ≡ b
+        → stemBehind at (riStem a (selectorsAt (chars (drop at text))) (behindSelectors (chars (drop at text))))
+        ≡ stemBehind at (cond b (Structure.Flag a (selectorsAt (chars (drop at text))) v (selectorsAt (chars (drop next text)))) (Structure.SingletonBase a (selectorsAt (chars (drop at text)))))
+    unfolding riStem
+    second-by b f =
+        let s = selectorsAt (chars (drop at text)) in
+        ap (λ (l : List ℕ). stemBehind at (riStem a s l)) (sym mid-is ∙ h .chars-on)
+        ∙ ap (λ (x : Bool). stemBehind at (cond x (Structure.Flag a s v (selectorsAt (chars (drop next text)))) (Structure.SingletonBase a s))) (tested h isRi forRi ri-test f)
+
+    pub ri-single : forRi k ≡ false → SingletonBase a r ≡ stemBehind at (riStem a (selectorsAt (chars (drop at text))) (behindSelectors (chars (drop at text))))
+    unfolding selectorRun stemBehind
+    ri-single f = ap (SingletonBase a) e ∙ sym (second-by false f)
+
+    pub ri-flag : {q : PresentationSelectors} → k ≡ ri → q ≡ selectorRun text next → Flag a r v q ≡ stemBehind at (riStem a (selectorsAt (chars (drop at text))) (behindSelectors (chars (drop at text))))
+    unfolding selectorRun stemBehind
+    ri-flag f g =
+        let n : r .end + width v ≡ at + size width (selectorsAt (chars (drop at text))) + width v = ap (λ (x : PresentationSelectors). x .end + width v) e in
+        ap₂ (λ (x y : PresentationSelectors). Flag a x v y) e
+        (selectors-behind h g ∙ ap (λ (m : ℕ). selectorsFrom m (selectorsAt (chars (drop next text)))) n)
+        ∙ sym (second-by true (ap forRi f))

@@ -6,23 +6,23 @@ use Prim.Native.Nat.{ℕ, _+_}
 use native.Mathlib.Omega.{arith}
 use lib.ListN.{drop}
 use Rattle.utf8.specs.Rfc3629.{chars}
-use Rattle.utf8.proofs.Places.{Step, Stop}
+use Rattle.scanner.specs.Classes.{Class}
 use Rattle.scanner.specs.Runs.{run}
 use Rattle.scanner.specs.Spans.{size, width}
+use Rattle.scanner.proofs.Peek.{Seen, Unseen}
 use Rattle.scanner.proofs.Runs.{run-false, run-true}
 
-module _ (f : ℕ → Bool) (text : List ℕ) (at : ℕ) where
+module _ (f : ℕ → Bool) where
   -- At no character the run is over.
-  pub run-none : Stop text at → size width (run f (chars (drop at text))) ≡ 0
+  pub run-none : {text : List ℕ} {at : ℕ} → Unseen text at → size width (run f (chars (drop at text))) ≡ 0
   unfolding run
   run-none h = ap (λ (l : List ℕ). size width (run f l)) (h .chars-none)
 
-  module _ (v w : ℕ) (h : Step text at v w) where
+  module _ {text : List ℕ} {at v : ℕ} {k : Class} {next : ℕ} (h : Seen text at v k next) where
     -- A character that passes the test adds its bytes.
-    pub run-on : f v ≡ true → size width (run f (chars (drop at text))) ≡ w + size width (run f (chars (drop (at + w) text)))
-    unfolding width
-    run-on e = let m = h .width in omega (arith, ap (size width) (ap (run f) (h .chars-on) ∙ run-true f v (chars (drop (at + w) text)) e))
+    pub run-on : f v ≡ true → at + size width (run f (chars (drop at text))) ≡ next + size width (run f (chars (drop next text)))
+    run-on e = omega (arith, h .behind, ap (size width) (ap (run f) (h .chars-on) ∙ run-true f v (chars (drop next text)) e))
 
     -- At any other the run is over.
     pub run-over : f v ≡ false → size width (run f (chars (drop at text))) ≡ 0
-    run-over e = ap (size width) (ap (run f) (h .chars-on) ∙ run-false f v (chars (drop (at + w) text)) e)
+    run-over e = ap (size width) (ap (run f) (h .chars-on) ∙ run-false f v (chars (drop next text)) e)

@@ -15,10 +15,9 @@ use Rattle.unicode.specs.declared.presentation.FromSelector.{FromSelector}
 use Rattle.unicode.specs.declared.presentation.FromSelector.the-variants.{NoSelector}
 use Rattle.scanner.specs.RunKinds.{runOf}
 use Rattle.scanner.specs.Runs.{run, selectorsAt}
-use Rattle.scanner.specs.SelectorRun.{firstSelector, secondSelector, selectorRun}
+use Rattle.scanner.specs.SelectorRun.{firstSelector, secondSelector, selectorRun, selectorsFrom}
 use Rattle.scanner.specs.Spans.{size, width}
 use Rattle.scanner.specs.declared.consume.RunKind.the-variants.{Selectors}
-use Rattle.scanner.specs.declared.selectors.PresentationSelectors.{PresentationSelectors}
 use Rattle.scanner.proofs.Bytes.{chars-from}
 use Rattle.scanner.proofs.ClassTests.{run-selectors}
 use Rattle.scanner.proofs.Runs.{Passes, all-pass, pass-and, run-false, run-passes, run-true}
@@ -80,14 +79,11 @@ module _ (text : List ℕ) (at end : ℕ) (e : end ≡ at + size width (runOf Se
   end-is : end ≡ at + 3 * length (selectorsAt (chars (drop at text)))
   end-is = let t = chars (drop at text) in omega (arith, ap (size width) (run-selectors t), selectors-size t)
 
-  the-run : List ℕ → PresentationSelectors
-  the-run s = record { first = firstSelector s; second = secondSelector s; count = length s; end = at + size width s }
-
   pub no-selectors : end ≡ at → record { first = NoSelector; second = NoSelector; count = 0; end = end } ≡ selectorRun text at
-  unfolding selectorRun firstSelector secondSelector the-run
+  unfolding selectorRun firstSelector secondSelector
   no-selectors h = go (selectorsAt (chars (drop at text))) (omega (arith, end-is))
     where
-      go : (s : List ℕ) → length s ≡ 0 → record { first = NoSelector; second = NoSelector; count = 0; end = end } ≡ the-run s
+      go : (s : List ℕ) → length s ≡ 0 → record { first = NoSelector; second = NoSelector; count = 0; end = end } ≡ selectorsFrom at s
       go [] n = ap (λ (x : ℕ). record { first = NoSelector; second = NoSelector; count = 0; end = x }) (omega arith)
       go (c ∷ s) n = absurd (omega arith)
 

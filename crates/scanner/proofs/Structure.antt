@@ -30,6 +30,7 @@ use Rattle.scanner.specs.Runs.{behindSelectors, selectorsAt}
 use Rattle.scanner.specs.Structure.{
   EmojiLike,
   EmojiModification,
+  EmojiSequence,
   ZwjJoinedEmoji,
   ZwjLink,
   cutAtLinks,
@@ -82,6 +83,27 @@ cut-link : (t : List ℕ) → cutAtLinks (0x200D ∷ t) ≡ ([], (cutAtLinks t) 
 unfolding cutAtLinks
 cut-link t = refl
 
+-- ---- characters and the structure that is made of them
+
+-- Links.
+pub data LinksAre : List ℕ → List ZwjLink → Type 0 where
+  no-links-are : LinksAre [] []
+  link-are : {s l : List ℕ} {ls : List ZwjLink} → S s → LinksAre l ls → LinksAre (0x200D ∷ (s ++ l)) (record { after = s } ∷ ls)
+
+-- Further units, and the links left over.
+pub data JoinsAre : List ℕ → List ZwjJoinedEmoji → List ZwjLink → Type 0 where
+  no-joins-are : {l : List ℕ} {ls : List ZwjLink} → LinksAre l ls → JoinsAre l [] ls
+  join-are :
+      {s v w : List ℕ} {js : List ZwjJoinedEmoji} {ls : List ZwjLink} → S s → (d : EmojiUnit v) → JoinsAre w js ls
+      → JoinsAre (0x200D ∷ (s ++ (v ++ w))) (record { link = record { after = s }; emoji = emojiLike (unit-read d .char) (unit-read d .rest) } ∷ js) ls
+
+-- An item.
+pub data SequenceAre : List ℕ → EmojiSequence → Type 0 where
+  links-are : {l : List ℕ} {ls : List ZwjLink} → LinksAre l ls → SequenceAre l (linksOnly ls)
+  emoji-are :
+      {v w : List ℕ} {js : List ZwjJoinedEmoji} {ls : List ZwjLink} (d : EmojiUnit v) → JoinsAre w js ls
+      → SequenceAre (v ++ w) (emojiHeaded (emojiLike (unit-read d .char) (unit-read d .rest)) js ls)
+
 -- ---- links
 
 link-derives : (s : List ℕ) → Link (flattenLink (linkOf s))
@@ -97,6 +119,7 @@ record LinksRead (l : List ℕ) : Type 0 where
   flat : flattenLinks (map linkOf ((cutAtLinks l) .1)) ≡ l
   left : joinedOf ((cutAtLinks l) .1) ≡ ([], map linkOf ((cutAtLinks l) .1))
   tags : tagRuns l ≡ ([], [])
+  are : LinksAre l (map linkOf ((cutAtLinks l) .1))
 
 link-more : {s l : List ℕ} → S s → LinksRead l → LinksRead (0x200D ∷ (s ++ l))
 unfolding flattenLinks flattenLink joinedOf joinOne tagModifications withTags
@@ -114,11 +137,12 @@ link-more {s} {l} h r =
           ∙ ap (λ (b : List ℕ). joinOne (linkOf (s ++ [])) b ss (joinedOf ss)) q
           ∙ ap (λ (a : List ℕ × List (List ℕ)). ([], map linkOf (a .1))) (sym c);
       tags = link-tags l h ∙ ap (λ (a : List ℕ × List (List ℕ)). ([], withTags (a .0) (a .1))) (r .tags);
+      are = subst (LinksAre (0x200D ∷ (s ++ l))) (sym (ap (λ (a : List ℕ × List (List ℕ)). map linkOf (a .1)) c ∙ ap (λ (a : List ℕ). record { after = a } ∷ map linkOf ss) p)) (link-are h (r .are));
     }
 
 links-read : {l : List ℕ} → Links l → LinksRead l
 unfolding cutAtLinks flattenLinks joinedOf tagRuns
-links-read no-links = record { before = refl; flat = refl; left = refl; tags = refl }
+links-read no-links = record { before = refl; flat = refl; left = refl; tags = refl; are = no-links-are }
 links-read (link-and (a-link h) l) = link-more h (links-read l)
 
 -- ---- units
@@ -147,6 +171,7 @@ record JoinsRead (w : List ℕ) : Type 0 where
   tags : tagRuns w ≡ ([], tagsOfJoined joined)
   joined-derive : (j : ZwjJoinedEmoji) → List·Memᴰ j joined → Link (flattenLink (j .link)) × UnitDerives (j .emoji)
   left-derive : (l : ZwjLink) → List·Memᴰ l left → Link (flattenLink l)
+  are : JoinsAre w joined left
 
 no-joins : {l : List ℕ} → LinksRead l → JoinsRead l
 unfolding flattenJoined tagsOfJoined
@@ -159,6 +184,7 @@ no-joins {l} r = record {
   tags = r .tags;
   joined-derive = λ j m. absurd (List·Memᴰ·not-nil m);
   left-derive = links-derive ((cutAtLinks l) .1);
+  are = no-joins-are (r .are);
 }
 
 one-join : {s v w : List ℕ} → S s → EmojiUnit v → JoinsRead w → JoinsRead (0x200D ∷ (s ++ (v ++ w)))
@@ -186,6 +212,7 @@ one-join {s} {v} {w} h d r =
       tags = link-tags (v ++ w) h ∙ ap (λ (a : List ℕ × List (List ℕ)). ([], withTags (a .0) (a .1))) (unit-tags w (tagsOfJoined (r .joined)) (r .tags) u);
       joined-derive = λ j m. ⊎-elim (λ e. subst (λ (y : ZwjJoinedEmoji). Link (flattenLink (y .link)) × UnitDerives (y .emoji)) (sym e) (a-link h, unit-derives u)) (λ i. r .joined-derive j i) (List·Memᴰ·cases-cons m);
       left-derive = r .left-derive;
+      are = join-are h d (r .are);
     }
 
 joins-read : {j l : List ℕ} → JoinedUnits j → Links l → JoinsRead (j ++ l)
@@ -200,6 +227,7 @@ pub record StructureRead (t : List ℕ) : Type 0 where
   pub flat : flatten (structure t) ≡ t
   pub derives : StructureDerives (structure t)
   pub tags : tagModifications t ≡ tagsOf (structure t)
+  pub are : SequenceAre t (structure t)
 
 sequence-read : {v w : List ℕ} → EmojiUnit v → JoinsRead w → StructureRead (v ++ w)
 unfolding structure sequenceOf flatten tagsOf tagModifications withTags StructureDerives
@@ -214,6 +242,7 @@ sequence-read {v} {w} d r =
       flat = ap flatten e ∙ ap₂ (λ (a b : List ℕ). a ++ b) (unit-flatten u) (r .flat);
       derives = subst StructureDerives (sym e) (unit-derives u, r .joined-derive, r .left-derive);
       tags = ap (λ (a : List ℕ × List (List ℕ)). withTags (a .0) (a .1)) (unit-tags w (tagsOfJoined (r .joined)) (r .tags) u) ∙ sym (ap tagsOf e);
+      are = subst (SequenceAre (v ++ w)) (sym e) (emoji-are d (r .are));
     }
 
 pub emoji-headed-read : {t : List ℕ} → Derives EmojiHeaded t → StructureRead t
@@ -228,4 +257,5 @@ links-only-read {t} (links-only a l) =
       flat = ap flatten e ∙ r .flat;
       derives = subst StructureDerives (sym e) (links-derive ((cutAtLinks t) .1));
       tags = ap (λ (b : List ℕ × List (List ℕ)). withTags (b .0) (b .1)) (r .tags) ∙ sym (ap tagsOf e);
+      are = subst (SequenceAre t) (sym e) (links-are (r .are));
     }

@@ -120,7 +120,7 @@ tags-some t l (tag-and e h) = refl
 runs-some : {rs : List EmojiTagRun} (l : List (List ℕ)) → RunsOk rs → withTags (tagsOfRuns rs) l ≡ tagsOfRuns rs ∷ l
 unfolding tagsOfRuns
 runs-some l (one-run t a) = tags-some [] l t
-runs-some l (run-and {rs = rs} t a h) = tags-some (tagsOfRuns rs) l t
+runs-some l (run-and {rs = rs} t e a h) = tags-some (tagsOfRuns rs) l t
 
 with-front : {ms : List EmojiModification} (l : List (List ℕ)) → ModificationsOk ms → withTags (frontTags ms) (laterTags ms ++ l) ≡ tagsOfModifications ms ++ l
 unfolding withTags frontTags laterTags tagsOfModifications

@@ -62,7 +62,7 @@ front-stops (front-modifier {c = c} e) = at-char (emoji-no-selector c (modifier-
 front-stops front-keycap = at-char refl
 front-stops (front-tag {c = c} e) = at-char (tag-no-selector c e)
 
-front-no-ri : {m : List ℕ} → ModFront m → Stops isRi m
+pub front-no-ri : {m : List ℕ} → ModFront m → Stops isRi m
 unfolding isRi inRanges riRanges
 front-no-ri front-end = at-end
 front-no-ri (front-modifier {c = c} e) = at-char (modifier-no-ri c e)
@@ -84,24 +84,24 @@ second a s b {t} {m} e h p = (
 
 -- ---- the unit of a character, the selectors behind it and what follows these
 
-abbrev likeOf : ℕ → List ℕ → List ℕ → EmojiLike
+abbrev pub likeOf : ℕ → List ℕ → List ℕ → EmojiLike
 likeOf c s m = record {
   stem = cond (isRi c) (riStem c s m) (SingletonBase c s);
   modifiers = (modificationsOf (cond (isRi c) (behindSecondRi m) m)) .1;
 }
 
-like-of : (c : ℕ) {s m : List ℕ} → S s → Stops isSelector m → emojiLike c (s ++ m) ≡ likeOf c s m
+pub like-of : (c : ℕ) {s m : List ℕ} → S s → Stops isSelector m → emojiLike c (s ++ m) ≡ likeOf c s m
 unfolding emojiLike
 like-of c {s} {m} h p = ap₂ (λ (a b : List ℕ). likeOf c a b) (run-all isSelector (S-passes h) p) (behind-all isSelector (S-passes h) p)
 
-like-single : (c : ℕ) (s m : List ℕ) (b : Bool) → isRi c ≡ b → Stops isRi m → likeOf c s m ≡ record { stem = SingletonBase c s; modifiers = (modificationsOf m) .1 }
+pub like-single : (c : ℕ) (s m : List ℕ) (b : Bool) → isRi c ≡ b → (b ≡ true → Stops isRi m) → likeOf c s m ≡ record { stem = SingletonBase c s; modifiers = (modificationsOf m) .1 }
 like-single c s m true e p =
     ap (λ (b : Bool). record { stem = cond b (riStem c s m) (SingletonBase c s); modifiers = (modificationsOf (cond b (behindSecondRi m) m)) .1 }) e
-    ∙ ap₂ (λ (x : EmojiStem) (l : List ℕ). record { stem = x; modifiers = (modificationsOf l) .1 }) (no-second c s p .0) (no-second c s p .1)
+    ∙ ap₂ (λ (x : EmojiStem) (l : List ℕ). record { stem = x; modifiers = (modificationsOf l) .1 }) (no-second c s (p refl) .0) (no-second c s (p refl) .1)
 like-single c s m false e p =
     ap (λ (b : Bool). record { stem = cond b (riStem c s m) (SingletonBase c s); modifiers = (modificationsOf (cond b (behindSecondRi m) m)) .1 }) e
 
-like-flag : (a : ℕ) (s : List ℕ) (b : ℕ) (t m : List ℕ) → isRi a ≡ true → isRi b ≡ true → S t → Stops isSelector m
+pub like-flag : (a : ℕ) (s : List ℕ) (b : ℕ) (t m : List ℕ) → isRi a ≡ true → isRi b ≡ true → S t → Stops isSelector m
     → likeOf a s (b ∷ (t ++ m)) ≡ record { stem = Flag a s b t; modifiers = (modificationsOf m) .1 }
 like-flag a s b t m e f h p =
     ap (λ (x : Bool). record { stem = cond x (riStem a s (b ∷ (t ++ m))) (SingletonBase a s); modifiers = (modificationsOf (cond x (behindSecondRi (b ∷ (t ++ m))) (b ∷ (t ++ m)))) .1 }) e
@@ -121,7 +121,7 @@ pub record UnitRead (v : List ℕ) : Type 0 where
   pub whole : v ≡ flattenStem stem ++ modifications
   pub like : emojiLike char rest ≡ record { stem = stem; modifiers = (modificationsOf modifications) .1 }
 
-pub unit-read : {v : List ℕ} → EmojiUnit v → UnitRead v
+unfoldable pub unit-read : {v : List ℕ} → EmojiUnit v → UnitRead v
 unfolding flattenStem
 unit-read (unit-of {m = m} (single {c = c} {s = s} e h) d) = record {
   char = c;
@@ -133,7 +133,7 @@ unit-read (unit-of {m = m} (single {c = c} {s = s} e h) d) = record {
   stem-derives = single e h;
   modifications-derive = d;
   whole = refl;
-  like = like-of c h (front-stops (modifications-front d)) ∙ like-single c s m (isRi c) refl (front-no-ri (modifications-front d));
+  like = like-of c h (front-stops (modifications-front d)) ∙ like-single c s m (isRi c) refl (λ _. front-no-ri (modifications-front d));
 }
 unit-read (unit-of {m = m} (flag {s = s} {t = t} a b e h f k) d) = record {
   char = a;

@@ -8,5 +8,8 @@ pub mod Structure
 pub mod Tags
 pub mod TagReport
 pub mod Spans
+pub mod Peek
 pub mod SelectorRun
+pub mod Parts
 pub mod Theorems
+pub mod Walks

@@ -6,7 +6,7 @@ use Prim.Native.Nat.{ℕ}
 use Rattle.scanner.specs.Classes.{Class, selector, link, ri, modifier, emoji, keycap, tag, other, classOf}
 use Rattle.scanner.specs.Runs.{run}
 use Rattle.scanner.specs.declared.consume.RunKind.{RunKind}
-use Rattle.scanner.specs.declared.consume.RunKind.the-variants.{Links, Modifications, Passthrough, Selectors}
+use Rattle.scanner.specs.declared.consume.RunKind.the-variants.{Links, Modifications, Passthrough, Selectors, Tags}
 
 -- A test by class, class by class.
 abbrev pub byClass : Bool → Bool → Bool → Bool → Bool → Bool → Bool → Bool → Class → Bool
@@ -24,6 +24,7 @@ abbrev pub inRun : RunKind → Class → Bool
 inRun Selectors = byClass true false false false false false false false
 inRun Links = byClass true true false false false false false false
 inRun Modifications = byClass true false false true false true true false
+inRun Tags = byClass false false false false false false true false
 inRun Passthrough = byClass false false false false false true true true
 
 -- The run at the front.

@@ -57,10 +57,6 @@ unfoldable pub secondRiAt : List ℕ → List ℕ
 secondRiAt [] = []
 secondRiAt (c ∷ t) = cond (isRi c) (c ∷ selectorsAt t) []
 
--- Behind the first RI of a stem: its S, and the second RI with its S.
-abbrev pub behindFirstRi : List ℕ → List ℕ
-behindFirstRi t = selectorsAt t ++ secondRiAt (behindSelectors t)
-
 -- The stem at the front, if an emoji stands there.
 unfoldable pub stemAt : List ℕ → List ℕ
 stemAt [] = []

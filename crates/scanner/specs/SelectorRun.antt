@@ -19,8 +19,10 @@ unfoldable pub secondSelector : List ℕ → FromSelector
 secondSelector [] = NoSelector
 secondSelector (c ∷ t) = firstSelector t
 
--- The selectors at an offset: the first two, how many, and the offset of their end.
+-- Selectors that begin at an offset: the first two, how many, and the offset of their end.
+abbrev pub selectorsFrom : ℕ → List ℕ → PresentationSelectors
+selectorsFrom at s = record { first = firstSelector s; second = secondSelector s; count = length s; end = at + size width s }
+
+-- The selectors at an offset.
 unfoldable pub selectorRun : List ℕ → ℕ → PresentationSelectors
-selectorRun text at =
-    let s = selectorsAt (chars (drop at text)) in
-    record { first = firstSelector s; second = secondSelector s; count = length s; end = at + size width s }
+selectorRun text at = selectorsFrom at (selectorsAt (chars (drop at text)))

@@ -7,7 +7,7 @@ use Prim.Native.Nat.{ℕ, _+_, _-_, _≤_, _<_}
 use lib.Dec.{eqb}
 use lib.ListN.{length, take, drop}
 use Rattle.unicode.specs.Presentation.{isSelector}
-use Rattle.unicode.specs.Unicode.{isEmoji}
+use Rattle.unicode.specs.Unicode.{isEmoji, isTag}
 use Rattle.utf8.specs.Rfc3629.{WellFormed, chars, encodeAll, readChar, validUpTo}
 use Rattle.utf8.specs.declared.ReadChar.the-variants as Read
 use Rattle.scanner.specs.Classes.{classOf, strip}
@@ -188,7 +188,7 @@ CursorInsideCharacter =
 unfoldable pub CursorEnds : Type 0
 CursorEnds = (text : List ℕ) (at : ℕ) → (scanAt text at ≡ End) ↔ (chars (drop at text) ≡ [])
 
--- ---- the structure of links-only and emoji-headed items
+-- ---- the structure of links-only and emoji-headed items; that the code's cursors give it is stated in specs/Walks.antt
 
 -- The stem and the modifications of a unit are the grammar's.
 pub record UnitDerives (u : EmojiLike) : Type 0 where
@@ -233,6 +233,7 @@ RunsByClass =
     → (runOf Run.Selectors t ≡ selectorsAt t)
     × (runOf Run.Links t ≡ run inLinks t)
     × (runOf Run.Modifications t ≡ run inModifications t)
+    × (runOf Run.Tags t ≡ run isTag t)
     × (runOf Run.Passthrough t ≡ passthroughAt t)
 
 -- ---- worked texts

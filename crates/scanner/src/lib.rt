@@ -3,6 +3,7 @@
 // equals `scanAt` of specs/Spans.antt for every slice and offset. `item_rest` is its loop, over the places of an item.
 pub mod char_class;
 pub mod consume;
+pub mod parts;
 pub mod place;
 pub mod selectors;
 pub mod tag_report;
@@ -11,11 +12,11 @@ ghost use mathlib.Core.Path.{_≡_};
 ghost use Prim.Native.Nat.{_+_};
 ghost use Rattle.scanner.specs.Spans.{restAt, scanAt, size, width};
 ghost use Rattle.scanner.specs.TagReport.{noTags, tagsOver};
-use char_class::class_of;
+use char_class::Peeked;
+use char_class::peek;
 use place::Next;
 use place::Place;
 use tag_report::TagReport;
-use utf8::ReadChar;
 
 // What an item is.
 pub enum ScanKind {
@@ -54,9 +55,8 @@ fn item_rest(text: &[u8], from: usize, first: Place) -> ItemRest
     let mut place = first;
     let mut tags = tag_report::no_tags();
     loop {
-        match utf8::read_char(text, at) {
-            ReadChar::Char { value, width } => {
-                let class = class_of(value);
+        match peek(text, at) {
+            Peeked::Char { value, class, end } => {
                 match place::step(place, class) {
                     Next::On(next) => {
                         place = next;
@@ -66,12 +66,9 @@ fn item_rest(text: &[u8], from: usize, first: Place) -> ItemRest
                     }
                 }
                 tags = tag_report::tags_after(tags, class, value);
-                at += width;
+                at = end;
             }
-            ReadChar::IllFormed => {
-                return ItemRest { end: at, tags };
-            }
-            ReadChar::End => {
+            Peeked::NoChar => {
                 return ItemRest { end: at, tags };
             }
         }
@@ -82,10 +79,14 @@ fn item_rest(text: &[u8], from: usize, first: Place) -> ItemRest
 pub fn next_item(text: &[u8], at: usize) -> ScanStep
     ensures { λ r. ⌜ r ≡ scanAt (now (text .entry)) at ⌝ }
 {
-    match utf8::read_char(text, at) {
-        ReadChar::Char { value, width } => {
-            let first = place::begin(class_of(value));
-            let ItemRest { end, tags } = item_rest(text, at + width, first);
+    match peek(text, at) {
+        Peeked::Char {
+            value: _,
+            class,
+            end: from,
+        } => {
+            let first = place::begin(class);
+            let ItemRest { end, tags } = item_rest(text, from, first);
             let kind = place::kind_of(first);
             let tags_complete = tag_report::tags_complete(kind, tags);
             ScanStep::Item(ScanItem {
@@ -95,7 +96,6 @@ pub fn next_item(text: &[u8], at: usize) -> ScanStep
                 tags_complete,
             })
         }
-        ReadChar::IllFormed => ScanStep::End,
-        ReadChar::End => ScanStep::End,
+        Peeked::NoChar => ScanStep::End,
     }
 }

@@ -55,8 +55,8 @@ pub fn step(p: Place, k: Class) -> Next
             Class::Selector => Next::On(Place::Selectors),
             _ => Next::Stop,
         },
-        Place::Links => match k {
-            Class::Selector | Class::Link => Next::On(Place::Links),
+        Place::Links | Place::LeftOver => match k {
+            Class::Selector | Class::Link => Next::On(p),
             _ => Next::Stop,
         },
         Place::OneRi => match k {
@@ -75,10 +75,6 @@ pub fn step(p: Place, k: Class) -> Next
             Class::Link => Next::On(Place::LeftOver),
             Class::Ri => Next::On(Place::OneRi),
             Class::Modifier | Class::Emoji => Next::On(Place::Unit),
-            _ => Next::Stop,
-        },
-        Place::LeftOver => match k {
-            Class::Selector | Class::Link => Next::On(Place::LeftOver),
             _ => Next::Stop,
         },
     }

@@ -5,11 +5,12 @@ ghost use mathlib.Core.Path.{_≡_};
 ghost use lib.ListN.{drop};
 ghost use Rattle.utf8.specs.Rfc3629.{chars};
 ghost use Rattle.scanner.specs.SelectorRun.{firstSelector, selectorRun};
+use crate::char_class::Peeked;
+use crate::char_class::peek;
 use crate::consume::RunKind;
 use crate::consume::run_end;
 use unicode::presentation::FromSelector;
 use unicode::presentation::Presentation;
-use utf8::ReadChar;
 
 // Each selector has three bytes.
 const SELECTOR_BYTES: usize = 3;
@@ -26,10 +27,13 @@ pub struct PresentationSelectors {
 fn selector_at(text: &[u8], at: usize) -> FromSelector
     ensures { λ r. ⌜ r ≡ firstSelector (chars (drop at (now (text .entry)))) ⌝ }
 {
-    match utf8::read_char(text, at) {
-        ReadChar::Char { value, width: _ } => Presentation::from_selector(value),
-        ReadChar::IllFormed => FromSelector::NoSelector,
-        ReadChar::End => FromSelector::NoSelector,
+    match peek(text, at) {
+        Peeked::Char {
+            value,
+            class: _,
+            end: _,
+        } => Presentation::from_selector(value),
+        Peeked::NoChar => FromSelector::NoSelector,
     }
 }
 

@@ -1,16 +1,12 @@
 -- `scanner::item_rest` meets its contract. The loop's invariant: what is left at `at` and `place` gives the end and the tags of the whole (Cursor, Reading).
 -- The measure is the number of bytes left.
-use mathlib.Core.Path.{_≡_, sym, _∙_}
+use mathlib.Core.Path.{sym, _∙_}
 use Prim.Native.Nat.{_-_}
 use native.Mathlib.Omega.{arith}
 use borrow.Author.Needs.{needs}
 use lib.ListN.{length}
-use Rattle.utf8.proofs.Places.{step, stop-ill-formed, stop-end}
-use Rattle.scanner.specs.Classes.{classOf}
-use Rattle.scanner.specs.Items.{nextOf, step as next}
-use Rattle.scanner.specs.TagReport.{tagsAfter}
-use Rattle.scanner.specs.declared.place.Next.the-variants.{On, Stop}
 use Rattle.scanner.proofs.Cursor.{Reading, reading-begin, reading-done, reading-on, rest-ends, rest-none}
+use Rattle.scanner.proofs.Peek.{seen, unseen}
 use Rattle.scanner.proofs.item_rest.Statement.{statement}
 use Rattle.scanner.proofs.item_rest.Tie as tie
 
@@ -26,14 +22,11 @@ no-tags-requires c κs = search needs
 loop-holds : tie.Need-loop-holds Inv-loop μ-loop
 loop-holds c = reading-begin (c .no-tags .ensures)
 
-read-char-requires : tie.Need-read-char-requires Inv-loop μ-loop
-read-char-requires c κs = search needs
+peek-requires : tie.Need-peek-requires Inv-loop μ-loop
+peek-requires c κs = search needs
 
 enum-known-value : tie.Need-enum-known-value Inv-loop μ-loop
 enum-known-value c = search needs
-
-class-of-requires : tie.Need-class-of-requires Inv-loop μ-loop
-class-of-requires c κs = search needs
 
 step-requires : tie.Need-step-requires Inv-loop μ-loop
 step-requires c κs = search needs
@@ -46,68 +39,35 @@ enum-told c = search needs
 
 returns : tie.Need-returns Inv-loop μ-loop
 returns c =
-    let s = c .before .before .before .before .before .before .before .before .before .before .before .args .text .now in
-    let l = c .before .before .before .before .before .before .before .before .loop in
-    let g = c .before .before .before .before .before .value .given in
-    let v = g .0 .0 in
-    let w = g .0 .1 .0 in
-    let k = step s (l .at) v w (sym (c .before .before .before .before .before .before .before .read-char .ensures) ∙ g .1) in
-    let e : nextOf (next (l .place) (classOf v)) ≡ Stop = cc in
-    reading-done (l .inv) (rest-ends s (l .at) (l .place) v w k e)
+    let x = c .before .before .before .before .before .before .before .before .before .before .args in
+    let l = c .before .before .before .before .before .before .before .loop in
+    let k = seen (x .text .now) (l .at) (sym (c .before .before .before .before .before .before .peek .ensures) ∙ c .before .before .before .before .value .given .1) in
+    reading-done (l .inv) (rest-ends k (l .place) (sym (c .before .before .step .ensures) ∙ c .enum-told .given .1))
 
 tags-after-requires : tie.Need-tags-after-requires Inv-loop μ-loop
 tags-after-requires c κs = search needs
 
-add-at : tie.Need-add-at Inv-loop μ-loop
-add-at c =
-    let s = c .before .before .before .before .before .before .before .before .before .before .before .before .before .args .text .now in
-    let l = c .before .before .before .before .before .before .before .before .before .before .loop in
-    let g = c .before .before .before .before .before .before .before .value .given in
-    let v = g .0 .0 in
-    let w = g .0 .1 .0 in
-    let k = step s (l .at) v w (sym (c .before .before .before .before .before .before .before .before .before .read-char .ensures) ∙ g .1) in
-    omega arith
-
 loop-less : tie.Need-loop-less Inv-loop μ-loop
 loop-less c =
-    let s = c .before .before .before .before .before .before .before .before .before .before .before .before .before .args .text .now in
-    let l = c .before .before .before .before .before .before .before .before .before .before .loop in
-    let g = c .before .before .before .before .before .before .before .value .given in
-    let v = g .0 .0 in
-    let w = g .0 .1 .0 in
-    let k = step s (l .at) v w (sym (c .before .before .before .before .before .before .before .before .before .read-char .ensures) ∙ g .1) in
-    omega arith
+    let x = c .before .before .before .before .before .before .before .before .before .before .before .before .args in
+    let k = seen (x .text .now) (c .before .before .before .before .before .before .before .before .before .loop .at) (sym (c .before .before .before .before .before .before .before .before .peek .ensures) ∙ c .before .before .before .before .before .before .value .given .1) in
+    omega (arith, k .on, k .room)
 
 loop-again : tie.Need-loop-again Inv-loop μ-loop
 loop-again c =
-    let s = c .before .before .before .before .before .before .before .before .before .before .before .before .before .args .text .now in
-    let l = c .before .before .before .before .before .before .before .before .before .before .loop in
-    let g = c .before .before .before .before .before .before .before .value .given in
-    let v = g .0 .0 in
-    let w = g .0 .1 .0 in
-    let k = step s (l .at) v w (sym (c .before .before .before .before .before .before .before .before .before .read-char .ensures) ∙ g .1) in
-    let q = c .before .before .next .given .0 .0 in
-    let e : nextOf (next (l .place) (classOf v)) ≡ On q = cc in
-    let t : c .tags-after .result ≡ tagsAfter (l .tags) (classOf v) v = cc in
-    rw t (reading-on (l .inv) v w k q e)
+    let x = c .before .before .before .before .before .before .before .before .before .before .before .before .args in
+    let l = c .before .before .before .before .before .before .before .before .before .loop in
+    let k = seen (x .text .now) (l .at) (sym (c .before .before .before .before .before .before .before .before .peek .ensures) ∙ c .before .before .before .before .before .before .value .given .1) in
+    rw (c .tags-after .ensures) (reading-on (l .inv) k (c .before .before .next .given .0 .0) (sym (c .before .before .before .before .step .ensures) ∙ c .before .before .next .given .1))
 
 enum-told-2 : tie.Need-enum-told-2 Inv-loop μ-loop
 enum-told-2 c = search needs
 
 returns-2 : tie.Need-returns-2 Inv-loop μ-loop
 returns-2 c =
-    let s = c .before .before .before .before .before .before .args .text .now in
+    let x = c .before .before .before .before .before .before .args in
     let l = c .before .before .before .loop in
-    reading-done (l .inv) (rest-none s (l .at) (l .place) (stop-ill-formed s (l .at) (sym (c .before .before .read-char .ensures) ∙ c .enum-told2 .given .1)))
-
-enum-told-3 : tie.Need-enum-told-3 Inv-loop μ-loop
-enum-told-3 c = search needs
-
-returns-3 : tie.Need-returns-3 Inv-loop μ-loop
-returns-3 c =
-    let s = c .before .before .before .before .before .before .args .text .now in
-    let l = c .before .before .before .loop in
-    reading-done (l .inv) (rest-none s (l .at) (l .place) (stop-end s (l .at) (sym (c .before .before .read-char .ensures) ∙ c .enum-told3 .given .1)))
+    reading-done (l .inv) (rest-none (l .place) (unseen (x .text .now) (l .at) (sym (c .before .before .peek .ensures) ∙ c .enum-told2 .given .1)))
 
 pub item-rest-spec : {M : Type 1} → statement M
 item-rest-spec =
@@ -117,18 +77,14 @@ item-rest-spec =
     μ-loop
     no-tags-requires
     loop-holds
-    read-char-requires
+    peek-requires
     enum-known-value
-    class-of-requires
     step-requires
     enum-known-next
     enum-told
     returns
     tags-after-requires
-    add-at
     loop-less
     loop-again
     enum-told-2
-    returns-2
-    enum-told-3
-    returns-3)
+    returns-2)

@@ -3,7 +3,7 @@ use mathlib.Core.Path.{refl}
 use mathlib.Core.Bool.{true, false}
 use mathlib.Core.List.{[], _∷_}
 use borrow.Author.Needs.{needs}
-use Rattle.scanner.specs.declared.consume.RunKind.the-variants.{Links, Modifications, Passthrough, Selectors}
+use Rattle.scanner.specs.declared.consume.RunKind.the-variants.{Links, Modifications, Passthrough, Selectors, Tags}
 use Rattle.scanner.proofs.Arms.{run-arm}
 use Rattle.scanner.proofs.consume.in_run.Statement.{statement}
 use Rattle.scanner.proofs.consume.in_run.Tie as tie
@@ -22,6 +22,12 @@ enum-told-4 c = search needs
 
 enum-told-5 : tie.Need-enum-told-5
 enum-told-5 c = search needs
+
+enum-told-6 : tie.Need-enum-told-6
+enum-told-6 c = search needs
+
+enum-told-7 : tie.Need-enum-told-7
+enum-told-7 c = search needs
 
 returns : tie.Need-returns
 returns c = search needs
@@ -42,10 +48,16 @@ returns-6 : tie.Need-returns-6
 returns-6 c = let x = c .before .before .before .args in run-arm (1 ∷ 2 ∷ 4 ∷ 7 ∷ []) Modifications false (tt, refl, refl, tt, refl, tt, tt, refl) (x .kind) (x .class) (c .before .enum-told4 .given .1) (c .match4 .keys2)
 
 returns-7 : tie.Need-returns-7
-returns-7 c = let x = c .before .before .before .args in run-arm (5 ∷ 6 ∷ 7 ∷ []) Passthrough true (tt, tt, tt, tt, tt, refl, refl, refl) (x .kind) (x .class) (c .before .enum-told5 .given .1) (c .match5 .keys1)
+returns-7 c = search needs
 
 returns-8 : tie.Need-returns-8
-returns-8 c = let x = c .before .before .before .args in run-arm (0 ∷ 1 ∷ 2 ∷ 3 ∷ 4 ∷ []) Passthrough false (refl, refl, refl, refl, refl, tt, tt, tt) (x .kind) (x .class) (c .before .enum-told5 .given .1) (c .match5 .keys2)
+returns-8 c = let x = c .before .before .before .args in run-arm (0 ∷ 1 ∷ 2 ∷ 3 ∷ 4 ∷ 5 ∷ 7 ∷ []) Tags false (refl, refl, refl, refl, refl, refl, tt, refl) (x .kind) (x .class) (c .before .enum-told5 .given .1) (c .match5 .keys2)
+
+returns-9 : tie.Need-returns-9
+returns-9 c = let x = c .before .before .before .args in run-arm (5 ∷ 6 ∷ 7 ∷ []) Passthrough true (tt, tt, tt, tt, tt, refl, refl, refl) (x .kind) (x .class) (c .before .enum-told7 .given .1) (c .match6 .keys1)
+
+returns-10 : tie.Need-returns-10
+returns-10 c = let x = c .before .before .before .args in run-arm (0 ∷ 1 ∷ 2 ∷ 3 ∷ 4 ∷ []) Passthrough false (refl, refl, refl, refl, refl, tt, tt, tt) (x .kind) (x .class) (c .before .enum-told7 .given .1) (c .match6 .keys2)
 
 pub in-run-spec : {M : Type 1} → statement M
 in-run-spec =
@@ -56,6 +68,8 @@ in-run-spec =
     enum-told-3
     enum-told-4
     enum-told-5
+    enum-told-6
+    enum-told-7
     returns
     returns-2
     returns-3
@@ -63,4 +77,6 @@ in-run-spec =
     returns-5
     returns-6
     returns-7
-    returns-8)
+    returns-8
+    returns-9
+    returns-10)

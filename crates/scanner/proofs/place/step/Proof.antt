@@ -1,10 +1,11 @@
 -- `scanner::place::step` meets its contract: each arm is a line of the definition, or several with one answer.
-use mathlib.Core.Path.{refl}
+use mathlib.Core.Path.{_≡_, refl}
 use mathlib.Core.List.{[], _∷_}
 use borrow.Author.Needs.{needs}
-use Rattle.scanner.specs.Items.{joined, leftOver, links, oneRi, plain, selectors, step, unit}
+use Rattle.scanner.specs.Classes.{Class}
+use Rattle.scanner.specs.Items.{Place, joined, leftOver, links, nextOf, oneRi, plain, selectors, step, unit}
 use Rattle.scanner.specs.declared.place.Next.the-variants.{On, Stop}
-use Rattle.scanner.proofs.Arms.{step-arm}
+use Rattle.scanner.proofs.Arms.{class-arm, place-arm, step-arm}
 use Rattle.scanner.proofs.place.step.Statement.{statement}
 use Rattle.scanner.proofs.place.step.Tie as tie
 
@@ -44,12 +45,6 @@ enum-told-11 c = search needs
 enum-told-12 : tie.Need-enum-told-12
 enum-told-12 c = search needs
 
-enum-told-13 : tie.Need-enum-told-13
-enum-told-13 c = search needs
-
-enum-told-14 : tie.Need-enum-told-14
-enum-told-14 c = search needs
-
 returns : tie.Need-returns
 unfolding step
 returns c = let x = c .before .before .before .args in step-arm (5 ∷ 6 ∷ 7 ∷ []) plain (On plain) (tt, tt, tt, tt, tt, refl, refl, refl) (x .p) (x .k) (c .before .enum-told .given .1) (c .match2 .keys1)
@@ -68,11 +63,17 @@ returns-4 c = let x = c .before .before .before .args in step-arm (1 ∷ 2 ∷ 3
 
 returns-5 : tie.Need-returns-5
 unfolding step
-returns-5 c = let x = c .before .before .before .args in step-arm (0 ∷ 1 ∷ []) links (On links) (refl, refl, tt, tt, tt, tt, tt, tt) (x .p) (x .k) (c .before .enum-told4 .given .1) (c .match4 .keys1)
+returns-5 c =
+    let x = c .before .before .args in
+    let b = class-arm (0 ∷ 1 ∷ []) (λ (y : Class). (On links ≡ nextOf (step links y)) × (On leftOver ≡ nextOf (step leftOver y))) ((refl, refl), (refl, refl), tt, tt, tt, tt, tt, tt) (x .k) (c .match4 .keys1) in
+    place-arm (2 ∷ 6 ∷ []) (λ (q : Place). On q ≡ nextOf (step q (x .k))) (tt, tt, b .0, tt, tt, tt, b .1) (x .p) (c .before .match .keys3)
 
 returns-6 : tie.Need-returns-6
 unfolding step
-returns-6 c = let x = c .before .before .before .args in step-arm (2 ∷ 3 ∷ 4 ∷ 5 ∷ 6 ∷ 7 ∷ []) links Stop (tt, tt, refl, refl, refl, refl, refl, refl) (x .p) (x .k) (c .before .enum-told4 .given .1) (c .match4 .keys2)
+returns-6 c =
+    let x = c .before .before .args in
+    let b = class-arm (2 ∷ 3 ∷ 4 ∷ 5 ∷ 6 ∷ 7 ∷ []) (λ (y : Class). (Stop ≡ nextOf (step links y)) × (Stop ≡ nextOf (step leftOver y))) (tt, tt, (refl, refl), (refl, refl), (refl, refl), (refl, refl), (refl, refl), (refl, refl)) (x .k) (c .match4 .keys2) in
+    place-arm (2 ∷ 6 ∷ []) (λ (q : Place). Stop ≡ nextOf (step q (x .k))) (tt, tt, b .0, tt, tt, tt, b .1) (x .p) (c .before .match .keys3)
 
 returns-7 : tie.Need-returns-7
 unfolding step
@@ -84,15 +85,15 @@ returns-8 c = cc
 
 returns-9 : tie.Need-returns-9
 unfolding step
-returns-9 c = let x = c .before .before .before .args in step-arm (2 ∷ 3 ∷ 5 ∷ 6 ∷ []) oneRi (On unit) (tt, tt, refl, refl, tt, refl, refl, tt) (x .p) (x .k) (c .before .enum-told5 .given .1) (c .match5 .keys3)
+returns-9 c = let x = c .before .before .before .args in step-arm (2 ∷ 3 ∷ 5 ∷ 6 ∷ []) oneRi (On unit) (tt, tt, refl, refl, tt, refl, refl, tt) (x .p) (x .k) (c .before .enum-told4 .given .1) (c .match5 .keys3)
 
 returns-10 : tie.Need-returns-10
 unfolding step
-returns-10 c = let x = c .before .before .before .args in step-arm (4 ∷ 7 ∷ []) oneRi Stop (tt, tt, tt, tt, refl, tt, tt, refl) (x .p) (x .k) (c .before .enum-told5 .given .1) (c .match5 .keys4)
+returns-10 c = let x = c .before .before .before .args in step-arm (4 ∷ 7 ∷ []) oneRi Stop (tt, tt, tt, tt, refl, tt, tt, refl) (x .p) (x .k) (c .before .enum-told4 .given .1) (c .match5 .keys4)
 
 returns-11 : tie.Need-returns-11
 unfolding step
-returns-11 c = let x = c .before .before .before .args in step-arm (0 ∷ 3 ∷ 5 ∷ 6 ∷ []) unit (On unit) (refl, tt, tt, refl, tt, refl, refl, tt) (x .p) (x .k) (c .before .enum-told8 .given .1) (c .match6 .keys1)
+returns-11 c = let x = c .before .before .before .args in step-arm (0 ∷ 3 ∷ 5 ∷ 6 ∷ []) unit (On unit) (refl, tt, tt, refl, tt, refl, refl, tt) (x .p) (x .k) (c .before .enum-told7 .given .1) (c .match6 .keys1)
 
 returns-12 : tie.Need-returns-12
 unfolding step
@@ -100,7 +101,7 @@ returns-12 c = cc
 
 returns-13 : tie.Need-returns-13
 unfolding step
-returns-13 c = let x = c .before .before .before .args in step-arm (2 ∷ 4 ∷ 7 ∷ []) unit Stop (tt, tt, refl, tt, refl, tt, tt, refl) (x .p) (x .k) (c .before .enum-told8 .given .1) (c .match6 .keys3)
+returns-13 c = let x = c .before .before .before .args in step-arm (2 ∷ 4 ∷ 7 ∷ []) unit Stop (tt, tt, refl, tt, refl, tt, tt, refl) (x .p) (x .k) (c .before .enum-told7 .given .1) (c .match6 .keys3)
 
 returns-14 : tie.Need-returns-14
 unfolding step
@@ -116,19 +117,11 @@ returns-16 c = cc
 
 returns-17 : tie.Need-returns-17
 unfolding step
-returns-17 c = let x = c .before .before .before .args in step-arm (3 ∷ 4 ∷ []) joined (On unit) (tt, tt, tt, refl, refl, tt, tt, tt) (x .p) (x .k) (c .before .enum-told10 .given .1) (c .match7 .keys4)
+returns-17 c = let x = c .before .before .before .args in step-arm (3 ∷ 4 ∷ []) joined (On unit) (tt, tt, tt, refl, refl, tt, tt, tt) (x .p) (x .k) (c .before .enum-told9 .given .1) (c .match7 .keys4)
 
 returns-18 : tie.Need-returns-18
 unfolding step
-returns-18 c = let x = c .before .before .before .args in step-arm (5 ∷ 6 ∷ 7 ∷ []) joined Stop (tt, tt, tt, tt, tt, refl, refl, refl) (x .p) (x .k) (c .before .enum-told10 .given .1) (c .match7 .keys5)
-
-returns-19 : tie.Need-returns-19
-unfolding step
-returns-19 c = let x = c .before .before .before .args in step-arm (0 ∷ 1 ∷ []) leftOver (On leftOver) (refl, refl, tt, tt, tt, tt, tt, tt) (x .p) (x .k) (c .before .enum-told14 .given .1) (c .match8 .keys1)
-
-returns-20 : tie.Need-returns-20
-unfolding step
-returns-20 c = let x = c .before .before .before .args in step-arm (2 ∷ 3 ∷ 4 ∷ 5 ∷ 6 ∷ 7 ∷ []) leftOver Stop (tt, tt, refl, refl, refl, refl, refl, refl) (x .p) (x .k) (c .before .enum-told14 .given .1) (c .match8 .keys2)
+returns-18 c = let x = c .before .before .before .args in step-arm (5 ∷ 6 ∷ 7 ∷ []) joined Stop (tt, tt, tt, tt, tt, refl, refl, refl) (x .p) (x .k) (c .before .enum-told9 .given .1) (c .match7 .keys5)
 
 pub step-spec : {M : Type 1} → statement M
 step-spec =
@@ -146,8 +139,6 @@ step-spec =
     enum-told-10
     enum-told-11
     enum-told-12
-    enum-told-13
-    enum-told-14
     returns
     returns-2
     returns-3
@@ -165,6 +156,4 @@ step-spec =
     returns-15
     returns-16
     returns-17
-    returns-18
-    returns-19
-    returns-20)
+    returns-18)

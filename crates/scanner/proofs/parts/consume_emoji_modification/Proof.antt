@@ -1,0 +1,86 @@
+-- `scanner::parts::consume_emoji_modification` meets its contract: the class of the character there says which modification it is.
+use mathlib.Core.Path.{refl, sym, _∙_}
+use mathlib.Core.Bool.{false}
+use mathlib.Core.List.{[], _∷_}
+use borrow.Author.Needs.{needs}
+use Rattle.scanner.proofs.ClassTests.{forModification, forTag}
+use Rattle.scanner.proofs.PartsAt.{keycap-on, modification-none, modification-off, modifier-on, tags-on}
+use Rattle.scanner.proofs.Peek.{seen, seen-arm, unseen}
+use Rattle.scanner.proofs.parts.consume_emoji_modification.Statement.{statement}
+use Rattle.scanner.proofs.parts.consume_emoji_modification.Tie as tie
+
+peek-requires : tie.Need-peek-requires
+peek-requires c κs = search needs
+
+enum-known-value : tie.Need-enum-known-value
+enum-known-value c = search needs
+
+enum-told : tie.Need-enum-told
+enum-told c = search needs
+
+consume-presentation-selectors-requires : tie.Need-consume-presentation-selectors-requires
+consume-presentation-selectors-requires c κs = search needs
+
+enum-told-2 : tie.Need-enum-told-2
+enum-told-2 c = search needs
+
+consume-presentation-selectors-requires-2 : tie.Need-consume-presentation-selectors-requires-2
+consume-presentation-selectors-requires-2 c κs = search needs
+
+enum-told-3 : tie.Need-enum-told-3
+enum-told-3 c = search needs
+
+consume-emoji-tag-runs-requires : tie.Need-consume-emoji-tag-runs-requires
+consume-emoji-tag-runs-requires c κs = search needs
+
+enum-told-4 : tie.Need-enum-told-4
+enum-told-4 c = search needs
+
+returns : tie.Need-returns
+returns c =
+    let x = c .before .before .before .before .before .before .before .before .args in
+    let k = seen (x .text .now) (x .at) (sym (c .before .before .before .before .before .before .peek .ensures) ∙ c .before .before .before .before .value .given .1) in
+    modifier-on k (c .before .enum-told .given .1) (c .consume-presentation-selectors .ensures)
+
+returns-2 : tie.Need-returns-2
+returns-2 c =
+    let x = c .before .before .before .before .before .before .before .before .args in
+    let k = seen (x .text .now) (x .at) (sym (c .before .before .before .before .before .before .peek .ensures) ∙ c .before .before .before .before .value .given .1) in
+    keycap-on k (c .before .enum-told2 .given .1) (c .consume-presentation-selectors2 .ensures)
+
+returns-3 : tie.Need-returns-3
+returns-3 c =
+    let x = c .before .before .before .before .before .before .before .before .args in
+    let k = seen (x .text .now) (x .at) (sym (c .before .before .before .before .before .before .peek .ensures) ∙ c .before .before .before .before .value .given .1) in
+    tags-on k (c .before .enum-told3 .given .1) (c .consume-emoji-tag-runs .ensures)
+
+returns-4 : tie.Need-returns-4
+returns-4 c =
+    let x = c .before .before .before .before .before .before .args in
+    let k = seen (x .text .now) (x .at) (sym (c .before .before .before .before .peek .ensures) ∙ c .before .before .value .given .1) in
+    modification-off k (seen-arm k forModification false (0 ∷ 1 ∷ 2 ∷ 4 ∷ 7 ∷ []) (refl, refl, refl, tt, refl, tt, tt, refl) (c .match2 .keys4))
+    (seen-arm k forTag false (0 ∷ 1 ∷ 2 ∷ 4 ∷ 7 ∷ []) (refl, refl, refl, tt, refl, tt, tt, refl) (c .match2 .keys4))
+
+returns-5 : tie.Need-returns-5
+returns-5 c =
+    let x = c .before .before .before .before .args in
+    modification-none (unseen (x .text .now) (x .at) (sym (c .before .before .peek .ensures) ∙ c .enum-told4 .given .1))
+
+pub consume-emoji-modification-spec : {M : Type 1} → statement M
+consume-emoji-modification-spec =
+    tie.close
+    (tie.spec
+    peek-requires
+    enum-known-value
+    enum-told
+    consume-presentation-selectors-requires
+    enum-told-2
+    consume-presentation-selectors-requires-2
+    enum-told-3
+    consume-emoji-tag-runs-requires
+    enum-told-4
+    returns
+    returns-2
+    returns-3
+    returns-4
+    returns-5)

@@ -1,0 +1,83 @@
+-- `scanner::parts::consume_sequence_part` meets its contract: a link, and the character where its selectors end.
+use mathlib.Core.Path.{refl, sym, _∙_}
+use mathlib.Core.Bool.{true, false}
+use mathlib.Core.List.{[], _∷_}
+use borrow.Author.Needs.{needs}
+use Rattle.scanner.proofs.ClassTests.{forEmoji}
+use Rattle.scanner.proofs.Peek.{seen, seen-arm, unseen}
+use Rattle.scanner.proofs.UnitsAt.{part-before-none, part-joins, part-last, part-left, part-none, part-past}
+use Rattle.scanner.proofs.parts.consume_sequence_part.Statement.{statement}
+use Rattle.scanner.proofs.parts.consume_sequence_part.Tie as tie
+
+returns : tie.Need-returns
+returns c =
+    let x = c .before .before .args in
+    part-past (x .text .now) (x .item-end) (x .at) (c .if1 .taken)
+
+consume-zwj-link-requires : tie.Need-consume-zwj-link-requires
+consume-zwj-link-requires c κs = search needs
+
+enum-known-selectors : tie.Need-enum-known-selectors
+enum-known-selectors c = search needs
+
+returns-2 : tie.Need-returns-2
+returns-2 c =
+    let x = c .before .before .before .before .before .before .before .before .args in
+    part-last (x .text .now) (x .item-end) (x .at) (c .before .before .before .before .before .before .if1 .left) (sym (c .before .before .before .selectors .given .1) ∙ c .before .before .before .before .before .consume-zwj-link .ensures) (c .if2 .taken)
+
+peek-requires : tie.Need-peek-requires
+peek-requires c κs = search needs
+
+enum-known-class : tie.Need-enum-known-class
+enum-known-class c = search needs
+
+enum-told : tie.Need-enum-told
+enum-told c = search needs
+
+enum-told-2 : tie.Need-enum-told-2
+enum-told-2 c = search needs
+
+returns-3 : tie.Need-returns-3
+returns-3 c =
+    let x = c .before .before .before .before .before .before .before .before .before .before .before .before .before .args in
+    let g = c .before .before .before .before .before .before .before .before .selectors .given in
+    let k = seen (x .text .now) (g .0 .0 .end) (sym (c .before .before .before .before .peek .ensures) ∙ c .before .before .class .given .1) in
+    part-joins (x .text .now) (x .item-end) (x .at) (c .before .before .before .before .before .before .before .before .before .before .before .if1 .left) (sym (g .1) ∙ c .before .before .before .before .before .before .before .before .before .before .consume-zwj-link .ensures) (c .before .before .before .before .before .if2 .left) k
+    (seen-arm k forEmoji true (2 ∷ 3 ∷ 4 ∷ []) (tt, tt, refl, refl, refl, tt, tt, tt) (c .match3 .keys1))
+
+returns-4 : tie.Need-returns-4
+returns-4 c =
+    let x = c .before .before .before .before .before .before .before .before .before .before .before .before .before .args in
+    let g = c .before .before .before .before .before .before .before .before .selectors .given in
+    let k = seen (x .text .now) (g .0 .0 .end) (sym (c .before .before .before .before .peek .ensures) ∙ c .before .before .class .given .1) in
+    part-left (x .text .now) (x .item-end) (x .at) (c .before .before .before .before .before .before .before .before .before .before .before .if1 .left) (sym (g .1) ∙ c .before .before .before .before .before .before .before .before .before .before .consume-zwj-link .ensures) (c .before .before .before .before .before .if2 .left) k
+    (seen-arm k forEmoji false (0 ∷ 1 ∷ 5 ∷ 6 ∷ 7 ∷ []) (refl, refl, tt, tt, tt, refl, refl, refl) (c .match3 .keys2))
+
+returns-5 : tie.Need-returns-5
+returns-5 c =
+    let x = c .before .before .before .before .before .before .before .before .before .before .before .args in
+    let g = c .before .before .before .before .before .before .selectors .given in
+    part-before-none (x .text .now) (x .item-end) (x .at) (c .before .before .before .before .before .before .before .before .before .if1 .left) (sym (g .1) ∙ c .before .before .before .before .before .before .before .before .consume-zwj-link .ensures) (c .before .before .before .if2 .left)
+    (unseen (x .text .now) (g .0 .0 .end) (sym (c .before .before .peek .ensures) ∙ c .enum-told .given .1))
+
+returns-6 : tie.Need-returns-6
+returns-6 c =
+    let x = c .before .before .before .before .before .args in
+    part-none (x .text .now) (x .item-end) (x .at) (c .before .before .before .if1 .left) (sym (c .enum-told2 .given .1) ∙ c .before .before .consume-zwj-link .ensures)
+
+pub consume-sequence-part-spec : {M : Type 1} → statement M
+consume-sequence-part-spec =
+    tie.close
+    (tie.spec
+    returns
+    consume-zwj-link-requires
+    enum-known-selectors
+    returns-2
+    peek-requires
+    enum-known-class
+    enum-told
+    enum-told-2
+    returns-3
+    returns-4
+    returns-5
+    returns-6)

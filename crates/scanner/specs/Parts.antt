@@ -1,0 +1,122 @@
+-- The parts of an item's structure as the code gives them: a part of specs/Structure.antt that begins at an offset, as a value
+-- with offsets, and what is read at an offset of a text (document 01, "Item"). Walked from an item's start on, they are the
+-- structure of the item: specs/Walks.antt, StructureIsWalked.
+use mathlib.Core.Bool.{cond}
+use mathlib.Core.List.{List, [], _∷_}
+use Prim.Native.Nat.{ℕ, _+_}
+use lib.Dec.{eqb, leb}
+use lib.ListN.{drop}
+use Rattle.utf8.specs.Rfc3629.{chars}
+use Rattle.unicode.specs.Unicode.{isEmoji, isTag}
+use Rattle.scanner.specs.Runs.{behindRun, behindSelectors, modificationAt, run, selectorsAt, stemAt, unitAt}
+use Rattle.scanner.specs.SelectorRun.{selectorsFrom}
+use Rattle.scanner.specs.Spans.{size, width}
+use Rattle.scanner.specs.Structure as Structure
+use Rattle.scanner.specs.Structure.{emojiLike, flattenRuns, flattenStem, flattenUnit, linkOf, modificationsOf, riStem}
+use Rattle.scanner.specs.declared.selectors.PresentationSelectors.{PresentationSelectors}
+use Rattle.scanner.specs.declared.parts.EmojiLike.{EmojiLike}
+use Rattle.scanner.specs.declared.parts.EmojiModification.{EmojiModification}
+use Rattle.scanner.specs.declared.parts.EmojiModification.the-variants.{EmojiModifier, EnclosingKeycap, NoModification, TagModifier}
+use Rattle.scanner.specs.declared.parts.EmojiStem.{EmojiStem}
+use Rattle.scanner.specs.declared.parts.EmojiStem.the-variants.{Flag, NoStem, SingletonBase}
+use Rattle.scanner.specs.declared.parts.EmojiTagRun.{EmojiTagRun}
+use Rattle.scanner.specs.declared.parts.EmojiTagRun.the-variants.{NoTags, Run}
+use Rattle.scanner.specs.declared.parts.SequencePart.{SequencePart}
+use Rattle.scanner.specs.declared.parts.SequencePart.the-variants.{JoiningLink, LeftOverLink, NoPart}
+use Rattle.scanner.specs.declared.parts.ZwjLink.{ZwjLink}
+use Rattle.scanner.specs.declared.parts.ZwjLink.the-variants.{Link, NoLink}
+
+-- ---- a part that begins at an offset
+
+-- A run of tags and its selectors.
+unfoldable pub tagRunFrom : ℕ → Structure.EmojiTagRun → EmojiTagRun
+tagRunFrom at r = let end = at + size width (r .tags) in Run end (selectorsFrom end (r .after))
+
+-- A modification.
+unfoldable pub modificationFrom : ℕ → Structure.EmojiModification → EmojiModification
+modificationFrom at (Structure.EmojiModifier c s) = EmojiModifier c (selectorsFrom (at + width c) s)
+modificationFrom at (Structure.EnclosingKeycap s) = EnclosingKeycap (selectorsFrom (at + width 0x20E3) s)
+modificationFrom at (Structure.TagModifier rs) = TagModifier (at + size width (flattenRuns rs))
+
+-- A stem, by the offset behind its first character.
+unfoldable pub stemBehind : ℕ → Structure.EmojiStem → EmojiStem
+stemBehind at (Structure.SingletonBase c s) = SingletonBase c (selectorsFrom at s)
+stemBehind at (Structure.Flag a s b t) = Flag a (selectorsFrom at s) b (selectorsFrom (at + size width s + width b) t)
+
+-- A stem, by the offset of its first character.
+unfoldable pub stemFrom : ℕ → Structure.EmojiStem → EmojiStem
+stemFrom at (Structure.SingletonBase c s) = stemBehind (at + width c) (Structure.SingletonBase c s)
+stemFrom at (Structure.Flag a s b t) = stemBehind (at + width a) (Structure.Flag a s b t)
+
+-- A unit.
+unfoldable pub unitFrom : ℕ → Structure.EmojiLike → EmojiLike
+unitFrom at u = record {
+  stem = stemFrom at (u .stem);
+  «modifiers_start» = at + size width (flattenStem (u .stem));
+  end = at + size width (flattenUnit u);
+}
+
+-- A link.
+unfoldable pub linkFrom : ℕ → Structure.ZwjLink → PresentationSelectors
+linkFrom at l = selectorsFrom (at + width 0x200D) (l .after)
+
+-- ---- what is read at an offset, by the characters from there on
+
+-- ".. one or more tags and S"
+unfoldable pub tagRunRead : ℕ → List ℕ → EmojiTagRun
+tagRunRead at [] = NoTags
+tagRunRead at (c ∷ t) =
+    cond (isTag c) (tagRunFrom at (record { tags = run isTag (c ∷ t); after = selectorsAt (behindRun isTag (c ∷ t)) })) NoTags
+
+-- The first of modifications.
+unfoldable pub firstFrom : ℕ → List Structure.EmojiModification → EmojiModification
+firstFrom at [] = NoModification
+firstFrom at (m ∷ ms) = modificationFrom at m
+
+-- "Modification: a modifier and S; 20E3 and S; or one or more groups of one or more tags and S."
+unfoldable pub modificationRead : ℕ → List ℕ → EmojiModification
+modificationRead at t = firstFrom at ((modificationsOf (modificationAt t)) .1)
+
+-- The stem of a first RI, by the characters behind it: "RI, S, RI, S (a flag)".
+abbrev pub riStemRead : ℕ → ℕ → List ℕ → EmojiStem
+riStemRead c at t = stemBehind at (riStem c (selectorsAt t) (behindSelectors t))
+
+-- "Stem: RI, S, RI, S (a flag); otherwise one emoji and S."
+unfoldable pub stemRead : ℕ → List ℕ → EmojiStem
+stemRead at [] = NoStem
+stemRead at (c ∷ t) = cond (isEmoji c) (stemBehind (at + width c) ((emojiLike c t) .stem)) NoStem
+
+-- Where no unit begins.
+abbrev pub noUnit : ℕ → EmojiLike
+noUnit at = record { stem = NoStem; «modifiers_start» = at; end = at }
+
+-- "Unit: a stem and its modifications."
+unfoldable pub unitRead : ℕ → List ℕ → EmojiLike
+unitRead at [] = noUnit at
+unitRead at (c ∷ t) =
+    cond (isEmoji c)
+    (record {
+      stem = stemRead at (c ∷ t);
+      «modifiers_start» = at + size width (stemAt (c ∷ t));
+      end = at + size width (unitAt (c ∷ t));
+    })
+    (noUnit at)
+
+-- ".. each 200D and S"
+unfoldable pub linkRead : ℕ → List ℕ → ZwjLink
+linkRead at [] = NoLink
+linkRead at (c ∷ t) = cond (eqb c 0x200D) (Link (linkFrom at (linkOf t))) NoLink
+
+-- A link before what stands behind its selectors.
+unfoldable pub joins : PresentationSelectors → List ℕ → SequencePart
+joins s [] = LeftOverLink s
+joins s (c ∷ t) = cond (isEmoji c) (JoiningLink s) (LeftOverLink s)
+
+-- A link of an item that ends at an offset: nothing joins behind that.
+unfoldable pub linkPart : List ℕ → ℕ → ZwjLink → SequencePart
+linkPart text end NoLink = NoPart
+linkPart text end (Link s) = cond (leb end (s .end)) (LeftOverLink s) (joins s (chars (drop (s .end) text)))
+
+-- ".. further units each joined by exactly one link, then the links left over", in an item that ends at an offset.
+unfoldable pub partRead : List ℕ → ℕ → ℕ → SequencePart
+partRead text end at = cond (leb end at) NoPart (linkPart text end (linkRead at (chars (drop at text))))

@@ -1,0 +1,255 @@
+// The parts of an item as values: the types and the consume functions of scanner.rs of the crate evfmt; document 01, "Item".
+// What is a `Vec` there is a span here, and a cursor that starts afresh at it: `consume_emoji_modification` over a unit's
+// modifications, `consume_emoji_tag_run` over a tag modification, `consume_sequence_part` over the links behind a unit.
+// Each function equals a definition of specs/Parts.antt for every slice and offset; walked over an item, they give its structure
+// (specs/Walks.antt, StructureIsWalked).
+ghost use mathlib.Core.Path.{_≡_};
+ghost use lib.ListN.{drop};
+ghost use Rattle.utf8.specs.Rfc3629.{chars};
+ghost use Rattle.scanner.specs.Parts.{linkRead, modificationRead, partRead, riStemRead, stemRead, tagRunRead, unitRead};
+use crate::char_class::Class;
+use crate::char_class::Peeked;
+use crate::char_class::peek;
+use crate::consume::RunKind;
+use crate::consume::consume_emoji_modifications;
+use crate::consume::consume_emoji_tag_runs;
+use crate::consume::run_end;
+use crate::selectors::PresentationSelectors;
+use crate::selectors::consume_presentation_selectors;
+
+// One or more tags, up to tags_end, and the selectors behind them.
+pub enum EmojiTagRun {
+    Run {
+        tags_end: usize,
+        selectors: PresentationSelectors,
+    },
+    NoTags,
+}
+
+// A modification of a stem. The runs of a tag modification are read by `consume_emoji_tag_run` from its start up to its end.
+pub enum EmojiModification {
+    EmojiModifier {
+        modifier: u32,
+        selectors: PresentationSelectors,
+    },
+    EnclosingKeycap {
+        selectors: PresentationSelectors,
+    },
+    TagModifier {
+        end: usize,
+    },
+    NoModification,
+}
+
+// The stem of a unit: one emoji, or the two regional indicators of a flag, each with its selectors.
+pub enum EmojiStem {
+    SingletonBase {
+        base: u32,
+        selectors: PresentationSelectors,
+    },
+    Flag {
+        first_ri: u32,
+        after_first_ri: PresentationSelectors,
+        second_ri: u32,
+        after_second_ri: PresentationSelectors,
+    },
+    NoStem,
+}
+
+// A unit: its stem, and its modifications from modifiers_start up to end, which are read by `consume_emoji_modification`.
+pub struct EmojiLike {
+    pub stem: EmojiStem,
+    pub modifiers_start: usize,
+    pub end: usize,
+}
+
+// A link, by the selectors behind 200D.
+pub enum ZwjLink {
+    Link { selectors: PresentationSelectors },
+    NoLink,
+}
+
+// What stands behind a unit of an item, or in an item of links: a link with a unit where its selectors end, a link left over,
+// or nothing more.
+pub enum SequencePart {
+    JoiningLink(PresentationSelectors),
+    LeftOverLink(PresentationSelectors),
+    NoPart,
+}
+
+// The run of tags at an offset, with its selectors.
+pub fn consume_emoji_tag_run(text: &[u8], at: usize) -> EmojiTagRun
+    ensures { λ r. ⌜ r ≡ tagRunRead at (chars (drop at (now (text .entry)))) ⌝ }
+{
+    let tags_end = run_end(text, at, RunKind::Tags);
+    if tags_end == at {
+        return EmojiTagRun::NoTags;
+    }
+    let selectors = consume_presentation_selectors(text, tags_end);
+    EmojiTagRun::Run {
+        tags_end,
+        selectors,
+    }
+}
+
+// The link at an offset.
+pub fn consume_zwj_link(text: &[u8], at: usize) -> ZwjLink
+    ensures { λ r. ⌜ r ≡ linkRead at (chars (drop at (now (text .entry)))) ⌝ }
+{
+    match peek(text, at) {
+        Peeked::Char {
+            value: _,
+            class,
+            end,
+        } => match class {
+            Class::Link => {
+                let selectors = consume_presentation_selectors(text, end);
+                ZwjLink::Link { selectors }
+            }
+            _ => ZwjLink::NoLink,
+        },
+        Peeked::NoChar => ZwjLink::NoLink,
+    }
+}
+
+// The modification at an offset.
+pub fn consume_emoji_modification(text: &[u8], at: usize) -> EmojiModification
+    ensures { λ r. ⌜ r ≡ modificationRead at (chars (drop at (now (text .entry)))) ⌝ }
+{
+    match peek(text, at) {
+        Peeked::Char { value, class, end } => match class {
+            Class::Modifier => {
+                let selectors = consume_presentation_selectors(text, end);
+                EmojiModification::EmojiModifier {
+                    modifier: value,
+                    selectors,
+                }
+            }
+            Class::Keycap => {
+                let selectors = consume_presentation_selectors(text, end);
+                EmojiModification::EnclosingKeycap { selectors }
+            }
+            Class::Tag => {
+                let tags_end = consume_emoji_tag_runs(text, at);
+                EmojiModification::TagModifier { end: tags_end }
+            }
+            _ => EmojiModification::NoModification,
+        },
+        Peeked::NoChar => EmojiModification::NoModification,
+    }
+}
+
+// The stem of a first regional indicator, from the offset behind that on: a flag, if a second follows.
+pub fn consume_regional_indicator_stem(text: &[u8], at: usize, first_ri: u32) -> EmojiStem
+    ensures { λ r. ⌜ r ≡ riStemRead «first_ri» at (chars (drop at (now (text .entry)))) ⌝ }
+{
+    let after_first_ri = consume_presentation_selectors(text, at);
+    match peek(text, after_first_ri.end) {
+        Peeked::Char { value, class, end } => match class {
+            Class::Ri => {
+                let after_second_ri = consume_presentation_selectors(text, end);
+                EmojiStem::Flag {
+                    first_ri,
+                    after_first_ri,
+                    second_ri: value,
+                    after_second_ri,
+                }
+            }
+            _ => EmojiStem::SingletonBase {
+                base: first_ri,
+                selectors: after_first_ri,
+            },
+        },
+        Peeked::NoChar => EmojiStem::SingletonBase {
+            base: first_ri,
+            selectors: after_first_ri,
+        },
+    }
+}
+
+// The stem at an offset.
+pub fn consume_emoji_stem(text: &[u8], at: usize) -> EmojiStem
+    ensures { λ r. ⌜ r ≡ stemRead at (chars (drop at (now (text .entry)))) ⌝ }
+{
+    match peek(text, at) {
+        Peeked::Char { value, class, end } => match class {
+            Class::Ri => consume_regional_indicator_stem(text, end, value),
+            Class::Modifier | Class::Emoji => {
+                let selectors = consume_presentation_selectors(text, end);
+                EmojiStem::SingletonBase {
+                    base: value,
+                    selectors,
+                }
+            }
+            _ => EmojiStem::NoStem,
+        },
+        Peeked::NoChar => EmojiStem::NoStem,
+    }
+}
+
+// The unit at an offset.
+pub fn consume_emoji_like(text: &[u8], at: usize) -> EmojiLike
+    ensures { λ r. ⌜ r ≡ unitRead at (chars (drop at (now (text .entry)))) ⌝ }
+{
+    let stem = consume_emoji_stem(text, at);
+    match stem {
+        EmojiStem::SingletonBase { base: _, selectors } => {
+            let modifiers_start = selectors.end;
+            let end = consume_emoji_modifications(text, modifiers_start);
+            EmojiLike {
+                stem,
+                modifiers_start,
+                end,
+            }
+        }
+        EmojiStem::Flag {
+            first_ri: _,
+            after_first_ri: _,
+            second_ri: _,
+            after_second_ri,
+        } => {
+            let modifiers_start = after_second_ri.end;
+            let end = consume_emoji_modifications(text, modifiers_start);
+            EmojiLike {
+                stem,
+                modifiers_start,
+                end,
+            }
+        }
+        EmojiStem::NoStem => EmojiLike {
+            stem,
+            modifiers_start: at,
+            end: at,
+        },
+    }
+}
+
+// The part at an offset of an item that ends at item_end: a link there joins no unit behind the item.
+pub fn consume_sequence_part(text: &[u8], at: usize, item_end: usize) -> SequencePart
+    ensures { λ r. ⌜ r ≡ partRead (now (text .entry)) «item_end» at ⌝ }
+{
+    if item_end <= at {
+        return SequencePart::NoPart;
+    }
+    match consume_zwj_link(text, at) {
+        ZwjLink::Link { selectors } => {
+            if item_end <= selectors.end {
+                return SequencePart::LeftOverLink(selectors);
+            }
+            match peek(text, selectors.end) {
+                Peeked::Char {
+                    value: _,
+                    class,
+                    end: _,
+                } => match class {
+                    Class::Ri | Class::Modifier | Class::Emoji => SequencePart::JoiningLink(
+                        selectors,
+                    ),
+                    _ => SequencePart::LeftOverLink(selectors),
+                },
+                Peeked::NoChar => SequencePart::LeftOverLink(selectors),
+            }
+        }
+        ZwjLink::NoLink => SequencePart::NoPart,
+    }
+}
