@@ -38,7 +38,7 @@ unfolding isSelector asSelector
 selector-is Text = refl
 selector-is Emoji = refl
 
-from-selector : (q : Presentation) → fromSelector (asSelector q) ≡ Selector q
+pub from-selector : (q : Presentation) → fromSelector (asSelector q) ≡ Selector q
 unfolding fromSelector asSelector
 from-selector Text = refl
 from-selector Emoji = refl

@@ -32,13 +32,14 @@ use Rattle.analysis.specs.Rules.{
   textFirst,
   withoutSelector,
 }
-use Rattle.analysis.specs.declared.NonCanonicality.{NonCanonicality}
+use Rattle.analysis.specs.declared.types.NonCanonicality.{NonCanonicality}
 use Rattle.analysis.specs.Theorems.{
   AtMostFourTimes,
   BeforeModifier,
   BeforeTags,
   ByPolicy,
   ChoicesAreCounted,
+  ChoicesAreWalked,
   ChoicesByStructure,
   CountsByStructure,
   DefaultDecisionsReplace,
@@ -52,14 +53,17 @@ use Rattle.analysis.specs.Theorems.{
   ReplacementIsOneItem,
   ReplacementKeepsCharacters,
   ReplacementLength,
+  RulesByNumbers,
   RulesLeaveNoCount,
   SelectorsAddUp,
+  SumsAreWhole,
   WithoutEntry,
   WorkedChoices,
   WorkedDecisions,
   WorkedRules,
   WorkedTexts,
 }
+use Rattle.analysis.proofs.ChoiceWalk.{walk-item}
 use Rattle.analysis.proofs.Choices.{choices-counted, decisions-defaults, replacement-defaults}
 use Rattle.analysis.proofs.Components.{item-says, of-structured}
 use Rattle.analysis.proofs.Counts.{empty-plus}
@@ -74,8 +78,10 @@ use Rattle.analysis.proofs.Items.{
   unchanged,
 }
 use Rattle.analysis.proofs.Lengths.{bytes-of, four-times, length-of}
+use Rattle.analysis.proofs.NumberRules.{by-numbers}
 use Rattle.analysis.proofs.RuleLaws.{keeps, settles}
 use Rattle.analysis.proofs.Rules.{by-policy, outcome-entry, outcome-no-entry}
+use Rattle.analysis.proofs.Sums.{whole-sum}
 use Rattle.analysis.proofs.Worked.{computed}
 
 pub without-entry : WithoutEntry
@@ -110,6 +116,14 @@ by-the-policy p c k s e m t =
       λ f. (on [] BareToText f, λ q. on (q ∷ s) BareToText f),
       λ f. (on [] BareToEmoji f, λ q. on (q ∷ s) BareToEmoji f),
     )
+
+pub rules-by-numbers : RulesByNumbers
+unfolding RulesByNumbers
+rules-by-numbers = by-numbers
+
+pub sums-are-whole : SumsAreWhole
+unfolding SumsAreWhole
+sums-are-whole = whole-sum
 
 pub rules-leave-no-count : RulesLeaveNoCount
 unfolding RulesLeaveNoCount
@@ -166,6 +180,10 @@ defaults-are-choices = decisions-defaults
 pub default-decisions-replace : DefaultDecisionsReplace
 unfolding DefaultDecisionsReplace
 default-decisions-replace = replacement-defaults
+
+pub choices-are-walked : ChoicesAreWalked
+unfolding ChoicesAreWalked
+choices-are-walked = walk-item
 
 pub counts-by-structure : CountsByStructure
 unfolding CountsByStructure nonCanonicality countsOf

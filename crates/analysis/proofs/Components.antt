@@ -48,7 +48,7 @@ use Rattle.analysis.specs.Cells.{Cell, cells, leading, selectorCount, sp
 use Rattle.analysis.specs.Components.{Element, always, assemble, baseElement, choicesIn, elements, firstModification, joinedCounts, joinedElements, linkCounts, linkElements, optionOf, sequenceCounts, stemCounts, stemElement, unitCounts, unitElement}
 use Rattle.analysis.specs.Counts.{_⊕_, empty, unsanctioned}
 use Rattle.analysis.specs.Rules.{Slot, bare, decided, fixed, outcome}
-use Rattle.analysis.specs.declared.NonCanonicality.{NonCanonicality}
+use Rattle.analysis.specs.declared.types.NonCanonicality.{NonCanonicality}
 use Rattle.analysis.proofs.Counts.{empty-plus, plus-assoc}
 use Rattle.analysis.proofs.Cells.{charsOf, count-split, heldIn, split-append, split-char, strip-split}
 use Rattle.analysis.proofs.Structure.{AllMade, Made, StemRuns, all-made}

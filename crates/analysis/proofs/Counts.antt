@@ -2,7 +2,7 @@
 use mathlib.Core.Path.{_≡_}
 use native.Mathlib.Omega.{arith}
 use Rattle.analysis.specs.Counts.{_⊕_, empty, total}
-use Rattle.analysis.specs.declared.NonCanonicality.{NonCanonicality}
+use Rattle.analysis.specs.declared.types.NonCanonicality.{NonCanonicality}
 
 pub counts-path : (m n : NonCanonicality)
     → m .«unsanctioned_selectors» ≡ n .«unsanctioned_selectors»
@@ -32,6 +32,9 @@ plus-swap l m n = counts-path _ _ (omega arith) (omega arith) (omega arith) (ome
 
 pub empty-plus : (n : NonCanonicality) → empty ⊕ n ≡ n
 empty-plus n = counts-path _ _ (omega arith) (omega arith) (omega arith) (omega arith) (omega arith) (omega arith) (omega arith) (omega arith)
+
+pub plus-empty : (n : NonCanonicality) → n ⊕ empty ≡ n
+plus-empty n = counts-path _ _ (omega arith) (omega arith) (omega arith) (omega arith) (omega arith) (omega arith) (omega arith) (omega arith)
 
 pub total-empty : (n : NonCanonicality) → total n ≡ 0 → n ≡ empty
 total-empty n e = counts-path _ _ (omega arith) (omega arith) (omega arith) (omega arith) (omega arith) (omega arith) (omega arith) (omega arith)

@@ -38,7 +38,7 @@ use Rattle.scanner.proofs.WalksDerive.{walk-derive}
 use Rattle.analysis.specs.Analysis.{countCells, countsOf, isFinding, nonCanonicality, render, replacement, replacementOf}
 use Rattle.analysis.specs.Cells.{Cell, cells, leading, selectorCount, split, unsplit}
 use Rattle.analysis.specs.Counts.{adding, empty, removing, total}
-use Rattle.analysis.specs.declared.NonCanonicality.{NonCanonicality}
+use Rattle.analysis.specs.declared.types.NonCanonicality.{NonCanonicality}
 use Rattle.analysis.proofs.Counts.{total-empty}
 use Rattle.analysis.proofs.Cells.{clean-cells, count-S, count-split, count-unsplit, heldIn, split-char, split-whole}
 use Rattle.analysis.proofs.Replacement.{

@@ -43,7 +43,7 @@ length-parts =
     (λ q t h. omega (arith, count-selector (asSelector q) t (selector-is q), ap length (strip-selector (asSelector q) t (selector-is q))))
     (λ c t e h. omega (arith, count-char c t e, ap length (strip-char c t e)))
 
-width-selector : (q : Presentation) → width (asSelector q) ≡ 3
+pub width-selector : (q : Presentation) → width (asSelector q) ≡ 3
 unfolding width encode asSelector
 width-selector Text = refl
 width-selector Emoji = refl
@@ -71,7 +71,7 @@ module _ (p : Policy) where
       one (fixed q) = omega arith
       one (decided d) = omega arith
 
-  render-bytes : (t : List ℕ) (ds : List Presentation) → size width (render p (cells t) ds) ≤ 4 * size width t
+  pub render-bytes : (t : List ℕ) (ds : List Presentation) → size width (render p (cells t) ds) ≤ 4 * size width t
   unfolding render
   render-bytes t ds =
       let r = render p (cells t) ds in

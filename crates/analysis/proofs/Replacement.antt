@@ -18,7 +18,7 @@ use Rattle.analysis.specs.Analysis.{chosen, countCells, following, remai
 use Rattle.analysis.specs.Cells.{Cell, cells, leading, split}
 use Rattle.analysis.specs.Counts.{_⊕_, adding, empty, removing, total}
 use Rattle.analysis.specs.Rules.{Slot, bare, decided, fixed, outcome}
-use Rattle.analysis.specs.declared.NonCanonicality.{NonCanonicality}
+use Rattle.analysis.specs.declared.types.NonCanonicality.{NonCanonicality}
 use Rattle.analysis.proofs.Counts.{empty-plus}
 use Rattle.analysis.proofs.Cells.{Clean, cell-and, charsOf, clean-cells, heldIn, no-cell, split-char, split-unsplit, strip-selectors, strip-split, strip-unsplit}
 use Rattle.analysis.proofs.RuleLaws.{balances, held, keeps, settles}

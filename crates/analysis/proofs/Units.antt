@@ -45,14 +45,14 @@ use Rattle.analysis.specs.Analysis.{
 use Rattle.analysis.specs.Cells.{Cell, cells, leading, split}
 use Rattle.analysis.specs.Counts.{_⊕_, unsanctioned}
 use Rattle.analysis.specs.Rules.{Outcome, byKeycap, byModifier, byTags, outcome, rule1}
-use Rattle.analysis.specs.declared.NonCanonicality.{NonCanonicality}
+use Rattle.analysis.specs.declared.types.NonCanonicality.{NonCanonicality}
 use Rattle.analysis.proofs.Counts.{empty-plus, plus-assoc}
 use Rattle.analysis.proofs.Cells.{CharIs, a-selector, char-is, charsOf, heldIn, no-selector, split-append, split-char, split-selector}
 use Rattle.analysis.proofs.Rules.{outcome-no-entry, outcome-unmodified}
 
 -- ---- cells of characters
 
-cells-selector : (c : ℕ) (t : List ℕ) → isSelector c ≡ true → (cells (c ∷ t) ≡ cells t) × (length (leading (c ∷ t)) ≡ suc (length (leading t)))
+pub cells-selector : (c : ℕ) (t : List ℕ) → isSelector c ≡ true → (cells (c ∷ t) ≡ cells t) × (length (leading (c ∷ t)) ≡ suc (length (leading t)))
 cells-selector c t e = go (char-is c)
   where
     go : CharIs c → (cells (c ∷ t) ≡ cells t) × (length (leading (c ∷ t)) ≡ suc (length (leading t)))

@@ -16,7 +16,7 @@ use Rattle.scanner.specs.declared.ScanKind.the-variants.{EmojiHeaded, LinksOnly
 use Rattle.analysis.specs.Cells.{Cell, cells, unsplit}
 use Rattle.analysis.specs.Counts.{_⊕_, empty, total, unsanctioned}
 use Rattle.analysis.specs.Rules.{Outcome, Slot, bare, decided, fixed, outcome}
-use Rattle.analysis.specs.declared.NonCanonicality.{NonCanonicality}
+use Rattle.analysis.specs.declared.types.NonCanonicality.{NonCanonicality}
 
 -- ---- decisions
 

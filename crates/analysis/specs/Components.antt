@@ -30,7 +30,7 @@ use Rattle.analysis.specs.Analysis.{Choice, decide, laterDecisions}
 use Rattle.analysis.specs.Cells.{leading, selectorCount}
 use Rattle.analysis.specs.Counts.{_⊕_, empty, unsanctioned}
 use Rattle.analysis.specs.Rules.{Outcome, Slot, bare, decided, fixed, outcome}
-use Rattle.analysis.specs.declared.NonCanonicality.{NonCanonicality}
+use Rattle.analysis.specs.declared.types.NonCanonicality.{NonCanonicality}
 
 -- ---- modifications
 

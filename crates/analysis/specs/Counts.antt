@@ -1,6 +1,8 @@
 -- The eight counts: none, one of each kind, the sum of two, and their totals (document 01, "Counts and finding").
+use mathlib.Core.Bool.{cond}
 use Prim.Native.Nat.{ℕ, _+_}
-use Rattle.analysis.specs.declared.NonCanonicality.{NonCanonicality}
+use lib.Dec.{leb}
+use Rattle.analysis.specs.declared.types.NonCanonicality.{NonCanonicality}
 
 -- "Counts, in order: unsanctioned, modifier-defective, additional-defective, tag-conflicting, tag-forced, tag-redundant,
 -- policy-redundant, decisions."
@@ -79,3 +81,24 @@ adding n = n .«tag_forced_presentations» + n .«presentation_decisions»
 -- All eight together.
 abbrev pub total : NonCanonicality → ℕ
 total n = removing n + adding n
+
+-- The largest count that the code can hold.
+abbrev pub most : ℕ
+most = 18446744073709551615
+
+-- A count as the code holds it: a greater one is the largest.
+unfoldable pub capped : ℕ → ℕ
+capped n = cond (leb n most) n most
+
+-- The sum of two as the code holds it. For the counts of a text it is the sum: specs/Theorems.antt, SumsAreWhole.
+unfoldable pub cappedSum : NonCanonicality → NonCanonicality → NonCanonicality
+cappedSum m n =
+    eight
+    (capped (m .«unsanctioned_selectors» + n .«unsanctioned_selectors»))
+    (capped (m .«modifier_defective_selectors» + n .«modifier_defective_selectors»))
+    (capped (m .«additional_defective_selectors» + n .«additional_defective_selectors»))
+    (capped (m .«tag_conflicting_selectors» + n .«tag_conflicting_selectors»))
+    (capped (m .«tag_forced_presentations» + n .«tag_forced_presentations»))
+    (capped (m .«tag_redundant_selectors» + n .«tag_redundant_selectors»))
+    (capped (m .«policy_redundant_selectors» + n .«policy_redundant_selectors»))
+    (capped (m .«presentation_decisions» + n .«presentation_decisions»))

@@ -4,5 +4,9 @@ pub mod Counts
 pub mod Rules
 pub mod Analysis
 pub mod Components
+pub mod Decisions
+pub mod CellView
+pub mod ItemAt
+pub mod ChoicesAt
 pub mod Worked
 pub mod Theorems

@@ -1,9 +1,11 @@
 -- The six rules for a single base, in document 01's order ("Counts and finding"): `outcome` is what the first rule that fits says.
 use mathlib.Core.Bool.{Bool, true, false, cond, not, _&&_}
 use mathlib.Core.List.{List, [], _∷_}
-use Prim.Native.Nat.{ℕ}
-use lib.ListN.{length}
+use Prim.Native.Nat.{ℕ, _-_}
+use lib.ListN.{length, replicate}
 use Rattle.unicode.specs.Unicode.{hasVariationSequence, isEmojiDefault, isEmojiModifierBase}
+use Rattle.unicode.specs.declared.presentation.FromSelector.{FromSelector}
+use Rattle.unicode.specs.declared.presentation.FromSelector.the-variants.{NoSelector, Selector}
 use Rattle.unicode.specs.declared.presentation.Presentation.{Presentation}
 use Rattle.unicode.specs.declared.presentation.Presentation.the-variants.{Emoji, Text}
 use Rattle.policy.specs.Policy.{singletonRule}
@@ -24,18 +26,10 @@ use Rattle.analysis.specs.Counts.{
   tagRedundant,
   unsanctioned,
 }
-use Rattle.analysis.specs.declared.NonCanonicality.{NonCanonicality}
-
--- What stands behind a base: nothing, a selector, or the selector that is decided, with its default.
-pub data Slot : Type 0 where
-  bare : Slot
-  fixed : Presentation → Slot
-  decided : Presentation → Slot
-
--- What a rule says of a base and its selectors.
-pub record Outcome : Type 0 where
-  pub counts : NonCanonicality
-  pub slot : Slot
+pub use Rattle.analysis.specs.declared.singleton.Outcome.{Outcome}
+pub use Rattle.analysis.specs.declared.singleton.Slot.{Slot}
+pub use Rattle.analysis.specs.declared.singleton.Slot.the-variants.{Bare as bare, Fixed as fixed, Decided as decided}
+use Rattle.analysis.specs.declared.types.NonCanonicality.{NonCanonicality}
 
 -- These counts and this slot.
 abbrev pub gives : NonCanonicality → Slot → Outcome
@@ -145,3 +139,16 @@ outcome p c k s =
     (cond (byTags k && isEmojiDefault c) (rule4 s)
     (cond (byTags k) (rule5 s)
     (rule6 (singletonRule p c (byKeycap k)) s)))))
+
+-- ---- the selectors by numbers
+
+-- The first of selectors, if there is one.
+unfoldable pub firstOf : List Presentation → FromSelector
+firstOf [] = NoSelector
+firstOf (q ∷ s) = Selector q
+
+-- Selectors of which the first and the number are known; a number of 0 behind a first selector counts as 1. The rules ask for nothing
+-- more: specs/Theorems.antt, RulesByNumbers.
+unfoldable pub runWith : FromSelector → ℕ → List Presentation
+runWith NoSelector n = []
+runWith (Selector q) n = q ∷ replicate (n - 1) q

@@ -5,6 +5,7 @@ use mathlib.Core.Bool.{true, false}
 use mathlib.Core.List.{List, [], _∷_, map, List·Memᴰ}
 use Prim.Native.Nat.{ℕ, _+_, _*_, _≤_}
 use lib.ListN.{length}
+use Rattle.utf8.specs.Rfc3629.{chars}
 use Rattle.unicode.specs.Unicode.{hasVariationSequence, isEmojiDefault, isEmojiModifierBase}
 use Rattle.unicode.specs.declared.presentation.Presentation.{Presentation}
 use Rattle.unicode.specs.declared.presentation.Presentation.the-variants.{Emoji, Text}
@@ -31,22 +32,27 @@ use Rattle.analysis.specs.Analysis.{
   replacement,
 }
 use Rattle.analysis.specs.Cells.{selectorCount}
+use Rattle.analysis.specs.ChoicesAt.{Meets}
 use Rattle.analysis.specs.Components.{assemble, choicesIn, elements, sequenceCounts}
 use Rattle.analysis.specs.Counts.{
   _⊕_,
   additionalDefective,
   adding,
+  cappedSum,
   decision,
   empty,
   modifierDefective,
+  most,
   policyRedundant,
   removing,
   tagConflicting,
   tagForced,
   tagRedundant,
+  total,
   unsanctioned,
 }
-use Rattle.analysis.specs.Rules.{bare, byKeycap, decided, fixed, gives, outcome}
+use Rattle.analysis.specs.Rules.{bare, byKeycap, decided, firstOf, fixed, gives, outcome, runWith}
+use Rattle.analysis.specs.declared.types.NonCanonicality.{NonCanonicality}
 use Rattle.analysis.specs.Worked.{worked, workedItems}
 
 -- ---- the rules, case by case
@@ -98,6 +104,17 @@ ByPolicy =
     × (singletonRule p c keycaps ≡ BareToEmoji
     → (outcome p c k [] ≡ gives decision (decided Emoji))
     × ((q : Presentation) → outcome p c k (q ∷ s) ≡ gives (unsanctioned (length s)) (fixed q)))
+
+-- ---- the rules and the sums by numbers
+
+-- The rules ask only which selector is the first and how many there are.
+unfoldable pub RulesByNumbers : Type 0
+RulesByNumbers =
+    (p : Policy) (c : ℕ) (k : Class) (s : List Presentation) → outcome p c k s ≡ outcome p c k (runWith (firstOf s) (length s))
+
+-- Where two totals together can be held, the sum that the code makes is the sum.
+unfoldable pub SumsAreWhole : Type 0
+SumsAreWhole = (m n : NonCanonicality) → total m + total n ≤ most → cappedSum m n ≡ m ⊕ n
 
 -- ---- what the rules leave
 
@@ -178,6 +195,11 @@ DefaultsAreChoices = (p : Policy) (x : Item) → defaultDecisions p x ≡ map (�
 -- The replacement under the default decisions is the default replacement.
 unfoldable pub DefaultDecisionsReplace : Type 0
 DefaultDecisionsReplace = (p : Policy) (x : Item) → replacement p x (defaultDecisions p x) ≡ defaultReplacement p x
+
+-- Walking the bytes of an item from 0, from each choice to the next, meets its choices: all of them, in order, and nothing else.
+unfoldable pub ChoicesAreWalked : Type 0
+ChoicesAreWalked =
+    (p : Policy) (raw : List ℕ) (x : Item) → chars raw ≡ x .chars → Structured (x .kind) → Meets p raw 0 (choices p x)
 
 -- ---- by the nested structure
 

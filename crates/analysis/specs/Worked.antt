@@ -4,7 +4,7 @@ use Prim.Native.Nat.{ℕ}
 use Rattle.policy.specs.DefaultPolicy.{defaultPolicy}
 use Rattle.scanner.specs.Items.{Item, items}
 use Rattle.analysis.specs.Analysis.{defaultReplacement, nonCanonicality}
-use Rattle.analysis.specs.declared.NonCanonicality.{NonCanonicality}
+use Rattle.analysis.specs.declared.types.NonCanonicality.{NonCanonicality}
 
 -- An item of a worked text: its characters, its counts and its default replacement.
 pub record Worked : Type 0 where

@@ -1,14 +1,48 @@
-// Counts, rules and replacements: analysis.rs, types.rs and render.rs of the crate evfmt; document 01, "Counts and finding".
-// This is the type of the eight counts; what they are for an item is set out in specs/Analysis.antt.
+// Counts, findings and replacements of items under a policy: analysis.rs, types.rs and render.rs of the crate evfmt; document 01,
+// "Counts and finding", "Replacement and text". An item is read here from the text itself: no field of one handed in is believed.
+// `analyze_scan_item` equals `analysisAt` of specs/ItemAt.antt.
+pub mod choice;
+pub mod decisions;
+pub mod measure;
+pub mod render;
+pub mod singleton;
+pub mod types;
 
-// The eight counts of an item, in document 01's order.
-pub struct NonCanonicality {
-    pub unsanctioned_selectors: usize,
-    pub modifier_defective_selectors: usize,
-    pub additional_defective_selectors: usize,
-    pub tag_conflicting_selectors: usize,
-    pub tag_forced_presentations: usize,
-    pub tag_redundant_selectors: usize,
-    pub policy_redundant_selectors: usize,
-    pub presentation_decisions: usize,
+ghost use mathlib.Core.Path.{_≡_};
+ghost use Rattle.analysis.specs.ItemAt.{analysisAt};
+use measure::Measure;
+use measure::measure_cells;
+use policy::Policy;
+use scanner::ScanKind;
+use scanner::ScanStep;
+use types::Finding;
+
+// What an item is under a policy: canonical, or a finding; or the text has ended.
+pub enum ItemAnalysis {
+    End,
+    Canonical { end: usize },
+    NonCanonical(Finding),
+}
+
+// The item of a text at an offset under a policy.
+pub fn analyze_scan_item(text: &[u8], at: usize, policy: Policy) -> ItemAnalysis
+    ensures { λ r. ⌜ r ≡ analysisAt policy (now (text .entry)) at ⌝ }
+{
+    let ScanStep::Item(item) = scanner::next_item(text, at) else {
+        return ItemAnalysis::End;
+    };
+    let end = item.end;
+    let kind = item.kind;
+    if let ScanKind::Passthrough = kind {
+        return ItemAnalysis::Canonical { end };
+    }
+    let Measure { counts, len: _ } = measure_cells(&text[at..end], policy);
+    if counts.is_empty() {
+        return ItemAnalysis::Canonical { end };
+    }
+    ItemAnalysis::NonCanonical(Finding {
+        start: at,
+        end,
+        counts,
+    })
 }

@@ -3,7 +3,8 @@ use lib.ListN.{length}
 use borrow.Author.Tests.{le-leb, lt-leb}
 use Rattle.base.specs.Output.{answerOf, bufferOf, refusal}
 use Rattle.base.specs.Words.{wordBytes}
-use Rattle.base.specs.Theorems.{BytesOfNumber, NumberOfWord, WrittenOrRefused}
+use Rattle.base.specs.Theorems.{BytesOfNumber, NumberOfWord, RowsTellRefusals, WrittenOrRefused}
+use Rattle.base.proofs.Rows.{rows-tell}
 use Rattle.base.proofs.Words.{littleEndian-number, number-littleEndian}
 
 pub number-of-word : NumberOfWord
@@ -20,3 +21,6 @@ written-or-refused result out = (
   λ h. let t = le-leb (length result) (length out) h in (simp t, simp t),
   λ h. let t = lt-leb (length result) (length out) h in (simp t, simp t),
 )
+
+pub rows-tell-refusals : RowsTellRefusals
+rows-tell-refusals = rows-tell

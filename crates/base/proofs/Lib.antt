@@ -3,4 +3,5 @@ pub mod Tests
 pub mod Writer
 pub mod Words
 pub mod Output
+pub mod Rows
 pub mod Claims

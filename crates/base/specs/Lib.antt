@@ -1,5 +1,6 @@
 -- What every layer shares: ranges of numbers, numbers of eight bytes, and results that are written into a lent buffer.
 pub mod Ranges
 pub mod Words
+pub mod Refusals
 pub mod Output
 pub mod Theorems

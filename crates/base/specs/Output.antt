@@ -8,13 +8,9 @@ use Prim.Native.Nat.{ℕ, _+_}
 use lib.Dec.{leb}
 use lib.ListN.{drop, length}
 use lib.Seq.{sets}
+use Rattle.base.specs.Refusals.{RefusalRow}
 use Rattle.base.specs.declared.WriteAnswer.{WriteAnswer}
 use Rattle.base.specs.declared.WriteAnswer.the-variants.{TooShort, Written}
-
--- a row of document 01's table of refusals: the number, and what is returned with it, or 0
-pub record RefusalRow : Type 0 where
-  pub number : ℕ
-  pub value : ℕ
 
 -- "output too short | 8 | length wanted"
 unfoldable pub refusal : WriteAnswer → Option RefusalRow

@@ -5,6 +5,8 @@ use mathlib.Core.List.{List, _++_}
 use mathlib.Core.Option.{none, some}
 use Prim.Native.Nat.{ℕ, _^_, _<_, _≤_}
 use lib.ListN.{drop, length}
+use Rattle.base.specs.Refusals.{refusalRow}
+use Rattle.base.specs.declared.Refusal.{Refusal}
 use Rattle.base.specs.Output.{answerOf, bufferOf, refusal}
 use Rattle.base.specs.Words.{allBytes, littleEndian, number, wordBytes}
 
@@ -25,3 +27,7 @@ WrittenOrRefused =
     → (refusal (answerOf result out) ≡ none) × (bufferOf result out ≡ result ++ drop (length result) out))
     × (length out < length result
     → (refusal (answerOf result out) ≡ some (record { number = 8; value = length result })) × (bufferOf result out ≡ out))
+
+-- The row of the table tells the refusal: no two causes have the same number, and the value is returned whole.
+unfoldable pub RowsTellRefusals : Type 0
+RowsTellRefusals = (r s : Refusal) → refusalRow r ≡ refusalRow s → r ≡ s

@@ -10,10 +10,31 @@ ghost use Rattle.base.specs.Words.{hasRoom, littleEndian, number, wordBy
 
 pub const WORD_BYTES: usize = 8;
 
+// "16,777,216 bytes pass, 16,777,217 don't."
+pub const TEXT_LIMIT: usize = 16_777_216;
+
 // The answer to writing a result into a lent buffer: how many bytes were written, or how many were wanted.
 pub enum WriteAnswer {
     Written { len: usize },
     TooShort { wanted: usize },
+}
+
+// Why a call is turned back, with what is returned: a row of document 01's table.
+pub enum Refusal {
+    TextTooLong,
+    NotAPolicy,
+    NotWellFormed { valid_up_to: usize },
+    NoFinding,
+    WrongNumberOfDecisions { wanted: usize },
+    BadDecision { index: usize },
+    TableTooShort { findings: usize },
+    OutputTooShort { wanted: usize },
+}
+
+// The answer to tests that a call makes: all have passed, or the first refusal.
+pub enum Check {
+    Passed,
+    Refused(Refusal),
 }
 
 // The byte i behind the place at, or 0 where there is none.

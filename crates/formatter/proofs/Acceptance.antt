@@ -15,12 +15,13 @@ use Rattle.policy.specs.PolicyBytes.{isPolicy, policyOf}
 use Rattle.scanner.specs.Items.{Item}
 use Rattle.formatter.specs.Book.{Entry, Opening, atPlace, bookText, marked, mends, openingAt, openings, place}
 use Rattle.formatter.specs.Demand3.{At, FirstRefusal, Names, above-one, few-or-many, isMended, no-finding, no-room}
-use Rattle.formatter.specs.Mend.{Call, badDecision, findingAt, judge, wanted}
-use Rattle.formatter.specs.Refusals.{After}
-use Rattle.formatter.specs.declared.MendAnswer.{MendAnswer}
-use Rattle.formatter.specs.declared.MendAnswer.the-variants.{Refused}
-use Rattle.formatter.specs.declared.Refusal.{Refusal}
-use Rattle.formatter.specs.declared.Refusal.the-variants.{BadDecision}
+use Rattle.analysis.specs.Decisions.{badDecision, decisionsRefusal, judge, wanted}
+use Rattle.formatter.specs.Mend.{Call, findingAt}
+use Rattle.base.specs.Refusals.{After}
+use Rattle.analysis.specs.declared.types.MendAnswer.{MendAnswer}
+use Rattle.analysis.specs.declared.types.MendAnswer.the-variants.{Refused}
+use Rattle.base.specs.declared.Refusal.{Refusal}
+use Rattle.base.specs.declared.Refusal.the-variants.{BadDecision}
 use Rattle.formatter.proofs.Judging.{Passes, bad-none, bookOutcome, itemAt, mends-is, opening-finding, passes-written, refused-kept, some-bad, tested}
 use Rattle.formatter.proofs.Order.{Hit, opening-hit, opening-place}
 use Rattle.formatter.proofs.Calls.{InRow, found-at}
@@ -67,7 +68,7 @@ module _ (policy : List ℕ) (ok : isPolicy policy ≡ true) where
   late : (es : List Entry) (c : Call) → InRow policy es → (o : Option Opening) → openingAt (c .offset) (openings policy es) ≡ o
       → isMended (judge P (itemAt o) (c .decisions) (bookText policy (marked policy es c)) (c .out) .answer) ≡ false
       → FirstRefusal policy es c (judge P (itemAt o) (c .decisions) (bookText policy (marked policy es c)) (c .out) .answer)
-  unfolding judge
+  unfolding judge decisionsRefusal
   late es c h none e i =
       no-finding (λ o q.
       let y : openingAt (c .offset) (openings policy es) ≡ some o = ap (λ (n : ℕ). openingAt n (openings policy es)) (q .there) ∙ opening-of es o h (q .is-open) in

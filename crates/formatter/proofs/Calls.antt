@@ -24,12 +24,14 @@ use Rattle.analysis.specs.Analysis.{isFinding, replacement}
 use Rattle.formatter.specs.Book.{Entry, atPlace, bookChars, bookStep, bookText, itemsOf, marked, mends, openings}
 use Rattle.formatter.specs.Demand3.{Accepted, isMended, Each}
 use Rattle.formatter.specs.Findings.{findings}
-use Rattle.formatter.specs.Mend.{Call, exchanged, findingAt, judge, meaning, mend, mendCall, nextFrom, nextText}
-use Rattle.formatter.specs.Refusals.{After, intakeRefusal, kept, orElse, written}
-use Rattle.formatter.specs.declared.MendAnswer.{MendAnswer}
-use Rattle.formatter.specs.declared.MendAnswer.the-variants.{Mended, Refused}
-use Rattle.formatter.specs.declared.Refusal.{Refusal}
-use Rattle.formatter.specs.declared.Refusal.the-variants.{NotAPolicy, NotWellFormed, TextTooLong}
+use Rattle.analysis.specs.Decisions.{decisionsRefusal, judge, meaning}
+use Rattle.formatter.specs.Mend.{Call, exchanged, findingAt, mend, mendCall, nextFrom, nextText}
+use Rattle.base.specs.Refusals.{After, kept, orElse, written}
+use Rattle.formatter.specs.Intake.{intakeRefusal}
+use Rattle.analysis.specs.declared.types.MendAnswer.{MendAnswer}
+use Rattle.analysis.specs.declared.types.MendAnswer.the-variants.{Mended, Refused}
+use Rattle.base.specs.declared.Refusal.{Refusal}
+use Rattle.base.specs.declared.Refusal.the-variants.{NotAPolicy, NotWellFormed, TextTooLong}
 use Rattle.formatter.proofs.Books.{scalar-book, size-book}
 use Rattle.formatter.proofs.Judging.{Passes, bookOutcome, mended-passes, mended-written, mends-is}
 use Rattle.formatter.proofs.Marks.{Rights, right-mark}
@@ -95,7 +97,7 @@ module _ (policy : List ℕ) where
     judge-same : (es : List Entry) (c : Call) (o : Option Item) → findingAt (c .offset) (openFound P 0 es) ≡ o
         → judge P o (c .decisions) (exchanged (bookText policy es) P (c .offset) (map meaning (c .decisions)) o) (c .out)
         ≡ judge P o (c .decisions) (bookText policy (marked policy es c)) (c .out)
-    unfolding judge
+    unfolding judge decisionsRefusal
     judge-same es c none e = refl
     judge-same es c (some x) e =
         let ds = map meaning (c .decisions) in

@@ -28,15 +28,16 @@ use Rattle.scanner.proofs.Walk.{Chain, Walk, done, inner-no-selector, items-cha
 use Rattle.analysis.specs.Analysis.{chosen, countCells, countsOf, following, isFinding, nonCanonicality, outcomeAt, render, renew, replacement, replacementOf}
 use Rattle.analysis.specs.Cells.{Cell, cells, leading, split, unsplit}
 use Rattle.analysis.specs.Counts.{_⊕_, empty, unsanctioned}
-use Rattle.analysis.specs.Rules.{Outcome, byKeycap, byModifier, byTags, outcome, rule1}
-use Rattle.analysis.specs.declared.NonCanonicality.{NonCanonicality}
+use Rattle.analysis.specs.declared.singleton.Outcome.{Outcome}
+use Rattle.analysis.specs.Rules.{byKeycap, byModifier, byTags, outcome, rule1}
+use Rattle.analysis.specs.declared.types.NonCanonicality.{NonCanonicality}
 use Rattle.analysis.proofs.Cells.{charsOf, count-split, heldIn, split-append, split-char, strip-split}
 use Rattle.analysis.proofs.Counts.{empty-plus, plus-assoc}
 use Rattle.analysis.proofs.Items.{counts-at, finding-false, replacement-at, unchanged, walked-derives}
 use Rattle.analysis.proofs.Lengths.{length-parts}
 use Rattle.analysis.proofs.Replacement.{remaining-none}
 use Rattle.analysis.proofs.Rules.{outcome-no-entry, outcome-unmodified}
-use Rattle.formatter.specs.CellView.{formatCells, totalCells}
+use Rattle.analysis.specs.CellView.{formatCells, totalCells}
 use Rattle.formatter.specs.Findings.{findings, textTotals, totals}
 use Rattle.formatter.specs.Format.{formatItems, formatted}
 use Rattle.formatter.proofs.Marks.{foundTotals}

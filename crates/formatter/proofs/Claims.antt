@@ -1,11 +1,10 @@
 -- The proof of each statement of specs/Theorems.antt and specs/Worked.antt.
-use Rattle.formatter.specs.Theorems.{CellByCell, EveryFormattedText, EveryList, FiledIsFormatted, IntakeComesFirst, IntakeInOrder, RowsTellRefusals}
+use Rattle.formatter.specs.Theorems.{CellByCell, EveryFormattedText, EveryList, FiledIsFormatted, IntakeComesFirst, IntakeInOrder}
 use Rattle.formatter.specs.Worked.{WorkedList, WorkedListClaimed, WorkedTexts}
 use Rattle.formatter.proofs.CellView.{cell-view}
 use Rattle.formatter.proofs.FormattedClaim.{formatted-claim}
 use Rattle.formatter.proofs.ListClaim.{list-claim}
 use Rattle.formatter.proofs.Outcomes.{comes-first, filed, in-order}
-use Rattle.formatter.proofs.Rows.{rows-tell}
 use Rattle.formatter.proofs.Worked.{calls, claimed, texts}
 
 pub intake-in-order : IntakeInOrder
@@ -13,9 +12,6 @@ intake-in-order = in-order
 
 pub intake-comes-first : IntakeComesFirst
 intake-comes-first = comes-first
-
-pub rows-tell-refusals : RowsTellRefusals
-rows-tell-refusals = rows-tell
 
 pub filed-is-formatted : FiledIsFormatted
 filed-is-formatted = filed

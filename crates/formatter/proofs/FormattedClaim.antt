@@ -19,13 +19,13 @@ use Rattle.scanner.proofs.Tiling.{tiling}
 use Rattle.analysis.specs.Analysis.{isFinding}
 use Rattle.analysis.specs.Cells.{selectorCount}
 use Rattle.analysis.specs.Counts.{_⊕_, adding, removing}
-use Rattle.analysis.specs.declared.NonCanonicality.{NonCanonicality}
+use Rattle.analysis.specs.declared.types.NonCanonicality.{NonCanonicality}
 use Rattle.analysis.proofs.Counts.{empty-plus}
 use Rattle.formatter.specs.Book.{Entry, bookChars, bookText, firstBook, itemsOf}
 use Rattle.formatter.specs.Demand3.{Accepted, FormattedClaim, allMended, mendedItems}
 use Rattle.formatter.specs.Findings.{findingRow, findings, textTotals, totals}
 use Rattle.formatter.specs.Format.{format, formatted, sameBytes}
-use Rattle.formatter.specs.Refusals.{After}
+use Rattle.base.specs.Refusals.{After}
 use Rattle.formatter.specs.declared.FormatAnswer.{FormatAnswer}
 use Rattle.formatter.specs.declared.FormatAnswer.the-variants.{Unchanged}
 use Rattle.formatter.proofs.Books.{balance-book, strip-book}

@@ -17,11 +17,11 @@ use Rattle.analysis.proofs.Choices.{replacement-defaults}
 use Rattle.formatter.specs.Book.{Entry, Mark, bookChars, entryChars, isOpen, itemsOf, mended, untouched}
 use Rattle.formatter.specs.Demand3.{Accepted, ByDefault, Each, Right, allMended, and-each, no-more}
 use Rattle.formatter.specs.Format.{format, formatItems, formatted, sameBytes}
-use Rattle.formatter.specs.Refusals.{After, kept, orElse, written}
+use Rattle.base.specs.Refusals.{After, kept, orElse, written}
 use Rattle.formatter.specs.declared.FormatAnswer.{FormatAnswer}
 use Rattle.formatter.specs.declared.FormatAnswer.the-variants.{Changed, Refused, Unchanged}
-use Rattle.formatter.specs.declared.Refusal.{Refusal}
-use Rattle.formatter.specs.declared.Refusal.the-variants.{OutputTooShort}
+use Rattle.base.specs.declared.Refusal.{Refusal}
+use Rattle.base.specs.declared.Refusal.the-variants.{OutputTooShort}
 use Rattle.formatter.proofs.Replacements.{default-number}
 use Rattle.formatter.proofs.Marks.{Rights}
 use Rattle.formatter.proofs.Mending.{openFound}

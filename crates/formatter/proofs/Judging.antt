@@ -13,12 +13,13 @@ use Rattle.policy.specs.PolicyBytes.{policyOf}
 use Rattle.scanner.specs.Items.{Item}
 use Rattle.formatter.specs.Book.{Entry, Opening, allBinary, atPlace, bookText, marked, mends, mendsAt, openingAt, openings, place}
 use Rattle.formatter.specs.Demand3.{Each, and-each, isMended, no-more}
-use Rattle.formatter.specs.Mend.{Call, badDecision, findingAt, judge, wanted}
-use Rattle.formatter.specs.Refusals.{After, kept, orElse, written}
-use Rattle.formatter.specs.declared.MendAnswer.{MendAnswer}
-use Rattle.formatter.specs.declared.MendAnswer.the-variants.{Mended, Refused}
-use Rattle.formatter.specs.declared.Refusal.{Refusal}
-use Rattle.formatter.specs.declared.Refusal.the-variants.{BadDecision, OutputTooShort, WrongNumberOfDecisions}
+use Rattle.analysis.specs.Decisions.{badDecision, decisionsRefusal, judge, wanted}
+use Rattle.formatter.specs.Mend.{Call, findingAt}
+use Rattle.base.specs.Refusals.{After, kept, orElse, written}
+use Rattle.analysis.specs.declared.types.MendAnswer.{MendAnswer}
+use Rattle.analysis.specs.declared.types.MendAnswer.the-variants.{Mended, Refused}
+use Rattle.base.specs.declared.Refusal.{Refusal}
+use Rattle.base.specs.declared.Refusal.the-variants.{BadDecision, OutputTooShort, WrongNumberOfDecisions}
 
 -- ---- decisions
 
@@ -82,13 +83,12 @@ pub record Passes (p : Policy) (o : Option Item) (ds r out : List ℕ) : Type 0 
 -- The tests 5, 6 and 8 by their answers.
 abbrev pub tested : Bool → ℕ → Option Refusal → Bool → List ℕ → List ℕ → After MendAnswer ℕ
 tested a n q b r out =
-    cond (not a) (kept (Refused (WrongNumberOfDecisions n)) out)
-    (orElse q (λ (f : Refusal). kept (Refused f) out)
-    (cond b (written (Mended (length r)) r out) (kept (Refused (OutputTooShort (length r))) out)))
+    orElse (cond (not a) (some (WrongNumberOfDecisions n)) q) (λ (f : Refusal). kept (Refused f) out)
+    (cond b (written (Mended (length r)) r out) (kept (Refused (OutputTooShort (length r))) out))
 
 module _ (p : Policy) where
   pub passes-written : {o : Option Item} {ds r out : List ℕ} → Passes p o ds r out → judge p o ds r out ≡ written (Mended (length r)) r out
-  unfolding judge
+  unfolding judge decisionsRefusal
   passes-written {o} {ds} {r} {out} h =
       let n = wanted p (h .item) in
       ap (λ (o : Option Item). judge p o ds r out) (h .found-it)
@@ -97,7 +97,7 @@ module _ (p : Policy) where
       ∙ ap (λ (b : Bool). tested true n none b r out) (le-leb (length r) (length out) (h .fits))
 
   pub mended-passes : (o : Option Item) (ds r out : List ℕ) → isMended (judge p o ds r out .answer) ≡ true → Passes p o ds r out
-  unfolding judge
+  unfolding judge decisionsRefusal
   mended-passes none ds r out e = absurd (false≢true e)
   mended-passes (some x) ds r out e = go (eqb (length ds) (wanted p x)) (badDecision 0 ds) (leb (length r) (length out)) refl refl refl e
     where
@@ -114,7 +114,7 @@ module _ (p : Policy) where
 
   -- A refused call leaves the buffer.
   pub refused-kept : (o : Option Item) (ds r out : List ℕ) → isMended (judge p o ds r out .answer) ≡ false → judge p o ds r out .buffer ≡ out
-  unfolding judge
+  unfolding judge decisionsRefusal
   refused-kept none ds r out e = refl
   refused-kept (some x) ds r out e = go (eqb (length ds) (wanted p x)) (badDecision 0 ds) (leb (length r) (length out)) e
     where
@@ -161,7 +161,7 @@ module _ (policy : List ℕ) where
 
   mends-at : (es : List Entry) (c : Call) (o : Option Opening)
       → mendsAt policy es c o ≡ isMended (judge (policyOf policy) (itemAt o) (c .decisions) (bookText policy (marked policy es c)) (c .out) .answer)
-  unfolding mendsAt judge
+  unfolding mendsAt judge decisionsRefusal
   mends-at es c none = refl
   mends-at es c (some o) =
       let a = eqb (length (c .decisions)) (wanted (policyOf policy) (o .item)) in

@@ -18,5 +18,4 @@ pub mod Outcomes
 pub mod FirstBook
 pub mod ListClaim
 pub mod FormattedClaim
-pub mod Rows
 pub mod Claims

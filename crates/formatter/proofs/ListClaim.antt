@@ -15,16 +15,16 @@ use Rattle.scanner.proofs.Tiling.{tiling}
 use Rattle.analysis.specs.Analysis.{isFinding}
 use Rattle.analysis.specs.Cells.{selectorCount}
 use Rattle.analysis.specs.Counts.{_⊕_, adding, removing}
-use Rattle.analysis.specs.declared.NonCanonicality.{NonCanonicality}
+use Rattle.analysis.specs.declared.types.NonCanonicality.{NonCanonicality}
 use Rattle.formatter.specs.Book.{Mending, atFirst, atPlace, bookStep, bookText, firstBook, itemsOf, marked, mends, openings}
 use Rattle.formatter.specs.Demand3.{Accepted, Alike, FirstRefusal, ListClaim, acceptedCalls, book, given, isMended, mendedFrom, mendedItems, mendings, openRow, outcome, seen, text}
 use Rattle.formatter.specs.Findings.{findings, textTotals, totals}
 use Rattle.formatter.specs.Format.{formatItems}
 use Rattle.formatter.specs.List.{list}
 use Rattle.formatter.specs.Mend.{Call, mendCall, outcomes, textAfter}
-use Rattle.formatter.specs.Refusals.{After}
-use Rattle.formatter.specs.declared.MendAnswer.{MendAnswer}
-use Rattle.formatter.specs.declared.MendAnswer.the-variants.{Mended}
+use Rattle.base.specs.Refusals.{After}
+use Rattle.analysis.specs.declared.types.MendAnswer.{MendAnswer}
+use Rattle.analysis.specs.declared.types.MendAnswer.the-variants.{Mended}
 use Rattle.formatter.proofs.Books.{balance-book, strip-book}
 use Rattle.formatter.proofs.Formatting.{default-book}
 use Rattle.formatter.proofs.Judging.{bookOutcome}

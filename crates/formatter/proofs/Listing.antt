@@ -22,12 +22,12 @@ use Rattle.formatter.specs.Book.{Entry, Mark, Opening, atFirst, atPlace,
 use Rattle.formatter.specs.Demand3.{Accepted, Seen, openRow, seen}
 use Rattle.formatter.specs.Findings.{findingRow, findings}
 use Rattle.formatter.specs.List.{list}
-use Rattle.formatter.specs.Refusals.{After, kept, orElse, written}
-use Rattle.formatter.specs.declared.Finding.{Finding}
+use Rattle.base.specs.Refusals.{After, kept, orElse, written}
+use Rattle.analysis.specs.declared.types.Finding.{Finding}
 use Rattle.formatter.specs.declared.ListAnswer.{ListAnswer}
 use Rattle.formatter.specs.declared.ListAnswer.the-variants.{Listed, Refused}
-use Rattle.formatter.specs.declared.Refusal.{Refusal}
-use Rattle.formatter.specs.declared.Refusal.the-variants.{TableTooShort}
+use Rattle.base.specs.declared.Refusal.{Refusal}
+use Rattle.base.specs.declared.Refusal.the-variants.{TableTooShort}
 use Rattle.formatter.proofs.Mending.{openFound}
 use Rattle.formatter.proofs.Calls.{InRow, Sound, accepted-book, findings-book, findings-open, pass-intake}
 use Rattle.formatter.proofs.Splicing.{openings-are}

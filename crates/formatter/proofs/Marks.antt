@@ -13,12 +13,13 @@ use Rattle.scanner.specs.Items.{Item}
 use Rattle.scanner.specs.Spans.{Found, found, size, width}
 use Rattle.analysis.specs.Analysis.{isFinding, nonCanonicality}
 use Rattle.analysis.specs.Counts.{_⊕_}
-use Rattle.analysis.specs.declared.NonCanonicality.{NonCanonicality}
+use Rattle.analysis.specs.declared.types.NonCanonicality.{NonCanonicality}
 use Rattle.analysis.proofs.Counts.{empty-plus, plus-assoc, plus-swap}
 use Rattle.formatter.specs.Book.{Entry, Mark, entryChars, isOpen, itemsOf, mended, untouched}
 use Rattle.formatter.specs.Demand3.{Each, IsRight, Right, and-each, mendedItems, no-more, onlyMended}
 use Rattle.formatter.specs.Findings.{totals}
-use Rattle.formatter.specs.Mend.{findingAt, wanted}
+use Rattle.analysis.specs.Decisions.{wanted}
+use Rattle.formatter.specs.Mend.{findingAt}
 use Rattle.formatter.proofs.Mending.{openFound}
 use Rattle.formatter.proofs.Splicing.{markAt}
 

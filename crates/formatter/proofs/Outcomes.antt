@@ -16,15 +16,17 @@ use Rattle.formatter.specs.Filed.{filedText}
 use Rattle.formatter.specs.Findings.{findingRow, findings}
 use Rattle.formatter.specs.Format.{format, formatted, sameBytes}
 use Rattle.formatter.specs.List.{list}
-use Rattle.formatter.specs.Mend.{exchanged, findingAt, judge, meaning, mend}
-use Rattle.formatter.specs.Refusals.{After, intakeRefusal, kept, orElse}
+use Rattle.analysis.specs.Decisions.{judge, meaning}
+use Rattle.formatter.specs.Mend.{exchanged, findingAt, mend}
+use Rattle.base.specs.Refusals.{After, kept, orElse}
+use Rattle.formatter.specs.Intake.{intakeRefusal}
 use Rattle.formatter.specs.Theorems.{FiledIsFormatted, IntakeComesFirst, IntakeInOrder}
 use Rattle.formatter.specs.declared.FormatAnswer.{FormatAnswer}
 use Rattle.formatter.specs.declared.FormatAnswer.the-variants as Format
 use Rattle.formatter.specs.declared.ListAnswer.the-variants as Listing
-use Rattle.formatter.specs.declared.MendAnswer.the-variants as Mend
-use Rattle.formatter.specs.declared.Refusal.{Refusal}
-use Rattle.formatter.specs.declared.Refusal.the-variants.{NotAPolicy, NotWellFormed, TextTooLong}
+use Rattle.analysis.specs.declared.types.MendAnswer.the-variants as Mend
+use Rattle.base.specs.declared.Refusal.{Refusal}
+use Rattle.base.specs.declared.Refusal.the-variants.{NotAPolicy, NotWellFormed, TextTooLong}
 use Rattle.formatter.proofs.Calls.{pass-intake}
 use Rattle.formatter.proofs.Formatting.{format-is, formatTests, same-true}
 use Rattle.formatter.proofs.Listing.{listRows}

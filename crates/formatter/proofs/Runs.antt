@@ -9,7 +9,8 @@ use Rattle.policy.specs.declared.Policy.{Policy}
 use Rattle.policy.specs.PolicyBytes.{isPolicy, policyOf}
 use Rattle.formatter.specs.Book.{Entry, Mending, bookAfter, bookStep, bookText, itemsOf, marked, mendingOf, mends, openingAt, openings}
 use Rattle.formatter.specs.Demand3.{Alike, acceptedCalls, isMended, mendedFrom, mendings}
-use Rattle.formatter.specs.Mend.{Call, meaning, mendCall, outcomes, textAfter}
+use Rattle.analysis.specs.Decisions.{meaning}
+use Rattle.formatter.specs.Mend.{Call, mendCall, outcomes, textAfter}
 use Rattle.formatter.proofs.Marks.{opens, opens-mark}
 use Rattle.formatter.proofs.Alike.{alike-join, alike-of, alike-refl, alike-swap, alike-trans}
 use Rattle.formatter.proofs.Order.{log-mark}

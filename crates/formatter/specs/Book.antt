@@ -12,7 +12,8 @@ use Rattle.policy.specs.PolicyBytes.{policyOf}
 use Rattle.scanner.specs.Items.{Item, items}
 use Rattle.scanner.specs.Spans.{Found, size, width}
 use Rattle.analysis.specs.Analysis.{isFinding, nonCanonicality, replacement}
-use Rattle.formatter.specs.Mend.{Call, meaning}
+use Rattle.analysis.specs.Decisions.{meaning}
+use Rattle.formatter.specs.Mend.{Call}
 
 -- "In it each finding is open, as all are at first, or mended with its decisions."
 pub data Mark : Type 0 where

@@ -15,7 +15,7 @@ use Rattle.scanner.specs.Spans.{Found, size, width}
 use Rattle.analysis.specs.Analysis.{Choice, choices, defaultDecisions, isFinding, nonCanonicality}
 use Rattle.analysis.specs.Cells.{selectorCount}
 use Rattle.analysis.specs.Counts.{_⊕_, adding, removing}
-use Rattle.analysis.specs.declared.NonCanonicality.{NonCanonicality}
+use Rattle.analysis.specs.declared.types.NonCanonicality.{NonCanonicality}
 use Rattle.formatter.specs.Book.{
   Entry,
   Mark,
@@ -38,14 +38,15 @@ use Rattle.formatter.specs.Book.{
 use Rattle.formatter.specs.Findings.{findings, textTotals, totals}
 use Rattle.formatter.specs.Format.{format, formatted}
 use Rattle.formatter.specs.List.{list}
-use Rattle.formatter.specs.Mend.{Call, meaning, mend, nextText, outcomes, textAfter}
-use Rattle.formatter.specs.Refusals.{After}
-use Rattle.formatter.specs.declared.Finding.{Finding}
+use Rattle.analysis.specs.Decisions.{meaning}
+use Rattle.formatter.specs.Mend.{Call, mend, nextText, outcomes, textAfter}
+use Rattle.base.specs.Refusals.{After}
+use Rattle.analysis.specs.declared.types.Finding.{Finding}
 use Rattle.formatter.specs.declared.FormatAnswer.the-variants as Format
 use Rattle.formatter.specs.declared.ListAnswer.the-variants as Listing
-use Rattle.formatter.specs.declared.MendAnswer.{MendAnswer}
-use Rattle.formatter.specs.declared.MendAnswer.the-variants.{Mended, Refused}
-use Rattle.formatter.specs.declared.Refusal.the-variants.{BadDecision, NoFinding, OutputTooShort, TableTooShort, WrongNumberOfDecisions}
+use Rattle.analysis.specs.declared.types.MendAnswer.{MendAnswer}
+use Rattle.analysis.specs.declared.types.MendAnswer.the-variants.{Mended, Refused}
+use Rattle.base.specs.declared.Refusal.the-variants.{BadDecision, NoFinding, OutputTooShort, TableTooShort, WrongNumberOfDecisions}
 
 -- ---- words of the claim
 

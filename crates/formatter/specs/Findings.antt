@@ -8,8 +8,8 @@ use Rattle.scanner.specs.Items.{Item, items}
 use Rattle.scanner.specs.Spans.{Found, found, size, width}
 use Rattle.analysis.specs.Analysis.{isFinding, nonCanonicality}
 use Rattle.analysis.specs.Counts.{_⊕_, empty}
-use Rattle.analysis.specs.declared.NonCanonicality.{NonCanonicality}
-use Rattle.formatter.specs.declared.Finding.{Finding}
+use Rattle.analysis.specs.declared.types.NonCanonicality.{NonCanonicality}
+use Rattle.analysis.specs.declared.types.Finding.{Finding}
 
 -- "A finding exists if some count is not 0": the items of a text, by its bytes and the policy's, that are findings.
 unfoldable pub findings : List ℕ → List ℕ → List Found

@@ -9,11 +9,12 @@ use Rattle.policy.specs.declared.Policy.{Policy}
 use Rattle.policy.specs.PolicyBytes.{policyOf}
 use Rattle.scanner.specs.Items.{Item, items}
 use Rattle.analysis.specs.Analysis.{defaultReplacement, isFinding}
-use Rattle.formatter.specs.Refusals.{After, intakeRefusal, kept, orElse, written}
+use Rattle.base.specs.Refusals.{After, kept, orElse, written}
+use Rattle.formatter.specs.Intake.{intakeRefusal}
 use Rattle.formatter.specs.declared.FormatAnswer.{FormatAnswer}
 use Rattle.formatter.specs.declared.FormatAnswer.the-variants.{Changed, Refused, Unchanged}
-use Rattle.formatter.specs.declared.Refusal.{Refusal}
-use Rattle.formatter.specs.declared.Refusal.the-variants.{OutputTooShort}
+use Rattle.base.specs.declared.Refusal.{Refusal}
+use Rattle.base.specs.declared.Refusal.the-variants.{OutputTooShort}
 
 -- Items written out: each finding as its replacement with every decision at its default, any other item as it is.
 unfoldable pub formatItems : Policy → List Item → List ℕ

@@ -1,5 +1,5 @@
 -- Formatting, listing and mending: document 01, "Replacement and text", "Mending in sequence", "Turned back".
-pub mod Refusals
+pub mod Intake
 pub mod Findings
 pub mod Format
 pub mod List
@@ -7,6 +7,5 @@ pub mod Mend
 pub mod Filed
 pub mod Book
 pub mod Demand3
-pub mod CellView
 pub mod Worked
 pub mod Theorems

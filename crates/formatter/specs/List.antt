@@ -6,12 +6,13 @@ use lib.Dec.{leb}
 use lib.ListN.{length}
 use Rattle.policy.specs.PolicyBytes.{policyOf}
 use Rattle.formatter.specs.Findings.{findingRow, findings}
-use Rattle.formatter.specs.Refusals.{After, intakeRefusal, kept, orElse, written}
-use Rattle.formatter.specs.declared.Finding.{Finding}
+use Rattle.base.specs.Refusals.{After, kept, orElse, written}
+use Rattle.formatter.specs.Intake.{intakeRefusal}
+use Rattle.analysis.specs.declared.types.Finding.{Finding}
 use Rattle.formatter.specs.declared.ListAnswer.{ListAnswer}
 use Rattle.formatter.specs.declared.ListAnswer.the-variants.{Listed, Refused}
-use Rattle.formatter.specs.declared.Refusal.{Refusal}
-use Rattle.formatter.specs.declared.Refusal.the-variants.{TableTooShort}
+use Rattle.base.specs.declared.Refusal.{Refusal}
+use Rattle.base.specs.declared.Refusal.the-variants.{TableTooShort}
 
 -- "The findings are listed in text order into a table lent by the caller": refusals 1, 2, 3 and 7 in this order.
 unfoldable pub list : List ℕ → List ℕ → List Finding → After ListAnswer Finding

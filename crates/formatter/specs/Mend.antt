@@ -1,39 +1,24 @@
 -- Mending: the whole outcome of the call, `mend`, and a list of such calls, each reading what the last accepted one wrote (document 01, "Replacement and text", "Mending in sequence").
-use mathlib.Core.Bool.{cond, not}
+use mathlib.Core.Bool.{cond}
 use mathlib.Core.List.{List, [], _∷_, _++_, map}
 use mathlib.Core.Option.{Option, none, some}
-use Prim.Native.Nat.{ℕ, suc, _+_}
-use lib.Dec.{eqb, leb}
+use Prim.Native.Nat.{ℕ, _+_}
+use lib.Dec.{eqb}
 use lib.ListN.{drop, length, take}
 use Rattle.utf8.specs.Rfc3629.{encodeAll}
 use Rattle.unicode.specs.declared.presentation.Presentation.{Presentation}
-use Rattle.unicode.specs.declared.presentation.Presentation.the-variants.{Emoji, Text}
 use Rattle.policy.specs.declared.Policy.{Policy}
 use Rattle.policy.specs.PolicyBytes.{policyOf}
 use Rattle.scanner.specs.Items.{Item}
 use Rattle.scanner.specs.Spans.{Found}
-use Rattle.analysis.specs.Analysis.{nonCanonicality, replacement}
+use Rattle.analysis.specs.Analysis.{replacement}
+use Rattle.analysis.specs.Decisions.{judge, meaning}
 use Rattle.formatter.specs.Findings.{findings}
-use Rattle.formatter.specs.Refusals.{After, intakeRefusal, kept, orElse, written}
-use Rattle.formatter.specs.declared.MendAnswer.{MendAnswer}
-use Rattle.formatter.specs.declared.MendAnswer.the-variants.{Mended, Refused}
-use Rattle.formatter.specs.declared.Refusal.{Refusal}
-use Rattle.formatter.specs.declared.Refusal.the-variants.{BadDecision, NoFinding, OutputTooShort, WrongNumberOfDecisions}
-
--- ---- decisions
-
--- "Decisions are bytes, 0 text, 1 emoji".
-abbrev pub meaning : ℕ → Presentation
-meaning d = cond (eqb d 0) Text Emoji
-
--- "decision byte above 1 | 6 | index of the first": the first index is the number.
-unfoldable pub badDecision : ℕ → List ℕ → Option Refusal
-badDecision n [] = none
-badDecision n (d ∷ ds) = cond (leb d 1) (badDecision (suc n) ds) (some (BadDecision n))
-
--- The number of decisions that a finding wants: its eighth count.
-abbrev pub wanted : Policy → Item → ℕ
-wanted p x = nonCanonicality p x .«presentation_decisions»
+use Rattle.base.specs.Refusals.{After, kept, orElse}
+use Rattle.formatter.specs.Intake.{intakeRefusal}
+use Rattle.analysis.specs.declared.types.MendAnswer.{MendAnswer}
+use Rattle.analysis.specs.declared.types.MendAnswer.the-variants.{Mended, Refused}
+use Rattle.base.specs.declared.Refusal.{Refusal}
 
 -- ---- a call
 
@@ -47,15 +32,6 @@ abbrev pub exchanged : List ℕ → Policy → ℕ → List Presentation → Opt
 exchanged text p offset ds none = text
 exchanged text p offset ds (some x) =
     take offset text ++ encodeAll (replacement p x ds) ++ drop (offset + length (encodeAll (x .chars))) text
-
--- Refusals 4, 5, 6 and 8 in this order, for the finding at the offset, the decisions, the text to be written and the output.
-unfoldable pub judge : Policy → Option Item → List ℕ → List ℕ → List ℕ → After MendAnswer ℕ
-judge p none decisions result out = kept (Refused NoFinding) out
-judge p (some x) decisions result out =
-    cond (not (eqb (length decisions) (wanted p x))) (kept (Refused (WrongNumberOfDecisions (wanted p x))) out)
-    (orElse (badDecision 0 decisions) (λ (r : Refusal). kept (Refused r) out)
-    (cond (leb (length result) (length out)) (written (Mended (length result)) result out)
-    (kept (Refused (OutputTooShort (length result))) out)))
 
 -- The call: refusals 1, 2, 3, 4, 5, 6 and 8 in this order.
 unfoldable pub mend : List ℕ → List ℕ → ℕ → List ℕ → List ℕ → After MendAnswer ℕ

@@ -7,20 +7,20 @@ use Prim.Native.Nat.{ℕ, _≤_}
 use lib.ListN.{length}
 use Rattle.utf8.specs.Rfc3629.{WellFormed, chars, encodeAll, validUpTo}
 use Rattle.policy.specs.PolicyBytes.{isPolicy, policyOf}
-use Rattle.formatter.specs.CellView.{formatCells, totalCells}
+use Rattle.analysis.specs.CellView.{formatCells, totalCells}
 use Rattle.formatter.specs.Demand3.{Accepted, FormattedClaim, ListClaim}
 use Rattle.formatter.specs.Filed.{filedText}
 use Rattle.formatter.specs.Findings.{textTotals}
 use Rattle.formatter.specs.Format.{format, formatted}
 use Rattle.formatter.specs.List.{list}
 use Rattle.formatter.specs.Mend.{Call, mend}
-use Rattle.formatter.specs.Refusals.{intakeRefusal, listLimit, refusalRow}
-use Rattle.formatter.specs.declared.Finding.{Finding}
+use Rattle.formatter.specs.Intake.{intakeRefusal, listLimit}
+use Rattle.analysis.specs.declared.types.Finding.{Finding}
 use Rattle.formatter.specs.declared.FormatAnswer.the-variants as Format
 use Rattle.formatter.specs.declared.ListAnswer.the-variants.{Refused}
-use Rattle.formatter.specs.declared.MendAnswer.the-variants as Mend
-use Rattle.formatter.specs.declared.Refusal.{Refusal}
-use Rattle.formatter.specs.declared.Refusal.the-variants.{NotAPolicy, NotWellFormed, TextTooLong}
+use Rattle.analysis.specs.declared.types.MendAnswer.the-variants as Mend
+use Rattle.base.specs.declared.Refusal.{Refusal}
+use Rattle.base.specs.declared.Refusal.the-variants.{NotAPolicy, NotWellFormed, TextTooLong}
 
 -- ---- refusals
 
@@ -40,10 +40,6 @@ IntakeComesFirst =
     → ((out : List ℕ) → format text policy out ≡ record { answer = Format.Refused r; buffer = out })
     × ((table : List Finding) → list text policy table ≡ record { answer = Refused r; buffer = table })
     × ((offset : ℕ) (decisions out : List ℕ) → mend text policy offset decisions out ≡ record { answer = Mend.Refused r; buffer = out })
-
--- The row of the table tells the refusal: no two causes have the same number, and the value is returned whole.
-unfoldable pub RowsTellRefusals : Type 0
-RowsTellRefusals = (r s : Refusal) → refusalRow r ≡ refusalRow s → r ≡ s
 
 -- ---- the filed text
 

@@ -9,22 +9,23 @@ use Rattle.policy.specs.PolicyBytes.{policyBytes}
 use Rattle.scanner.specs.Spans.{scan}
 use Rattle.scanner.specs.declared.ScanItem.{ScanItem}
 use Rattle.analysis.specs.Counts.{eight, empty}
-use Rattle.analysis.specs.declared.NonCanonicality.{NonCanonicality}
+use Rattle.analysis.specs.declared.types.NonCanonicality.{NonCanonicality}
 use Rattle.formatter.specs.Book.{bookAfter, firstBook, openings, place}
 use Rattle.formatter.specs.Demand3.{Accepted, ListClaim}
 use Rattle.formatter.specs.Findings.{textTotals}
 use Rattle.formatter.specs.Format.{format}
 use Rattle.formatter.specs.List.{list}
 use Rattle.formatter.specs.Mend.{Call, mend, outcomes, textAfter}
-use Rattle.formatter.specs.Refusals.{After, listLimit}
-use Rattle.formatter.specs.declared.Finding.{Finding}
+use Rattle.base.specs.Refusals.{After}
+use Rattle.formatter.specs.Intake.{listLimit}
+use Rattle.analysis.specs.declared.types.Finding.{Finding}
 use Rattle.formatter.specs.declared.FormatAnswer.{FormatAnswer}
 use Rattle.formatter.specs.declared.FormatAnswer.the-variants as Format
 use Rattle.formatter.specs.declared.ListAnswer.{ListAnswer}
 use Rattle.formatter.specs.declared.ListAnswer.the-variants.{Listed, Refused}
-use Rattle.formatter.specs.declared.MendAnswer.{MendAnswer}
-use Rattle.formatter.specs.declared.MendAnswer.the-variants as Mend
-use Rattle.formatter.specs.declared.Refusal.the-variants.{BadDecision, NoFinding, OutputTooShort, TableTooShort, WrongNumberOfDecisions}
+use Rattle.analysis.specs.declared.types.MendAnswer.{MendAnswer}
+use Rattle.analysis.specs.declared.types.MendAnswer.the-variants as Mend
+use Rattle.base.specs.declared.Refusal.the-variants.{BadDecision, NoFinding, OutputTooShort, TableTooShort, WrongNumberOfDecisions}
 
 -- ---- worked texts
 

@@ -7,7 +7,7 @@ use Prim.Native.Nat.{ℕ, zero, suc, _+_, _*_, _/_, _^_, _<_}
 use lib.Dec.{eqb, ltb}
 use lib.ListN.{drop, getD, length, take}
 use mathlib.Core.Option.{Option, none, some}
-use Rattle.base.specs.Output.{RefusalRow}
+use Rattle.base.specs.Refusals.{RefusalRow}
 use Rattle.base.specs.Words.{number, wordBytes}
 use Rattle.policy_key_set.specs.Sets.{allBelow, entryCount, member}
 use Rattle.policy_key_set.specs.declared.char_set.CharSet.{CharSet}

@@ -1,15 +1,12 @@
--- The refusals of document 01's table ("Turned back"), the tests of a text and a policy, and what a call leaves in a lent buffer.
-use mathlib.Core.Bool.{cond, not}
+-- The refusals of document 01's table ("Turned back"), and what a call leaves in a lent buffer.
 use mathlib.Core.List.{List, _++_}
 use mathlib.Core.Option.{Option, none, some}
 use Prim.Native.Nat.{ℕ}
-use lib.Dec.{eqb, leb}
 use lib.ListN.{drop, length}
-use Rattle.base.specs.Output.{RefusalRow}
-use Rattle.utf8.specs.Rfc3629.{validUpTo}
-use Rattle.policy.specs.PolicyBytes.{isPolicy}
-use Rattle.formatter.specs.declared.Refusal.{Refusal}
-use Rattle.formatter.specs.declared.Refusal.the-variants.{
+use Rattle.base.specs.declared.Check.{Check}
+use Rattle.base.specs.declared.Check.the-variants.{Passed, Refused}
+use Rattle.base.specs.declared.Refusal.{Refusal}
+use Rattle.base.specs.declared.Refusal.the-variants.{
   BadDecision,
   NoFinding,
   NotAPolicy,
@@ -22,6 +19,11 @@ use Rattle.formatter.specs.declared.Refusal.the-variants.{
 
 -- ---- the table
 
+-- A row of document 01's table of refusals: the number, and what is returned with it, or 0.
+pub record RefusalRow : Type 0 where
+  pub number : ℕ
+  pub value : ℕ
+
 -- "Number" and "Returned" of each cause; 0 where the table says "nothing more".
 unfoldable pub refusalRow : Refusal → RefusalRow
 refusalRow TextTooLong = record { number = 1; value = 0 }
@@ -33,25 +35,14 @@ refusalRow (BadDecision n) = record { number = 6; value = n }
 refusalRow (TableTooShort n) = record { number = 7; value = n }
 refusalRow (OutputTooShort n) = record { number = 8; value = n }
 
--- ---- limits
-
 -- "16,777,216 bytes pass, 16,777,217 don't."
 abbrev pub textLimit : ℕ
 textLimit = 16777216
 
--- "A list starts from an accepted text of at most 4,194,304 bytes"
-abbrev pub listLimit : ℕ
-listLimit = 4194304
-
--- ---- tests of a text and a policy
-
--- "Tested in this order": text over the limit, 1; not a policy, 2; text not well-formed, 3. None where all three pass.
-unfoldable pub intakeRefusal : List ℕ → List ℕ → Option Refusal
-intakeRefusal text policy =
-    cond (not (leb (length text) textLimit)) (some TextTooLong)
-    (cond (not (isPolicy policy)) (some NotAPolicy)
-    (cond (not (eqb (validUpTo text) (length text))) (some (NotWellFormed (validUpTo text)))
-    none))
+-- The answer to tests of which the first refusal, if there is one, is known.
+abbrev pub checked : Option Refusal → Check
+checked none = Passed
+checked (some r) = Refused r
 
 -- ---- what a call leaves
 

@@ -2,11 +2,10 @@
 use mathlib.Core.Path.{_≡_, refl, ap, sym, _∙_}
 use mathlib.Core.Bool.{cond}
 use lib.Dec.{eqb}
-use Rattle.base.specs.Output.{RefusalRow}
-use Rattle.formatter.specs.Refusals.{refusalRow}
-use Rattle.formatter.specs.Theorems.{RowsTellRefusals}
-use Rattle.formatter.specs.declared.Refusal.{Refusal}
-use Rattle.formatter.specs.declared.Refusal.the-variants.{
+use Rattle.base.specs.Refusals.{RefusalRow, refusalRow}
+use Rattle.base.specs.Theorems.{RowsTellRefusals}
+use Rattle.base.specs.declared.Refusal.{Refusal}
+use Rattle.base.specs.declared.Refusal.the-variants.{
   BadDecision,
   NoFinding,
   NotAPolicy,

@@ -1,0 +1,100 @@
+-- The selectors at the front of a text are its leading ones, and behind them stand its cells: what a cell that is read at an offset is.
+use mathlib.Core.Path.{_≡_, refl, ap, sym, _∙_}
+use mathlib.Core.List.{List, [], _∷_, map}
+use Prim.Native.Nat.{ℕ, _+_, _*_, _≤_}
+use native.Mathlib.Omega.{arith}
+use lib.ListN.{drop, length, length-drop, length-map}
+use Rattle.utf8.specs.Rfc3629.{chars}
+use Rattle.utf8.proofs.Texts.{validUpTo-le}
+use Rattle.unicode.specs.Presentation.{asSelector, isSelector}
+use Rattle.unicode.specs.declared.presentation.Presentation.{Presentation}
+use Rattle.policy.specs.declared.Policy.{Policy}
+use Rattle.scanner.specs.Runs.{behindRun, behindSelectors, run, selectorsAt}
+use Rattle.scanner.specs.SelectorRun.{firstSelector, selectorRun}
+use Rattle.scanner.specs.Spans.{size, width}
+use Rattle.scanner.specs.declared.char_class.Class.{Class}
+use Rattle.scanner.specs.declared.selectors.PresentationSelectors.{PresentationSelectors}
+use Rattle.scanner.proofs.Bytes.{chars-from, size-chars}
+use Rattle.scanner.proofs.Rescan.{size-append}
+use Rattle.scanner.proofs.Runs.{behind-false, behind-true, run-behind, run-false, run-true}
+use Rattle.scanner.proofs.SelectorRun.{selectors-size}
+use Rattle.analysis.specs.Analysis.{following}
+use Rattle.analysis.specs.CellView.{classInFront}
+use Rattle.analysis.specs.Cells.{Cell, cells, leading, split, unsplit}
+use Rattle.analysis.specs.Rules.{Outcome, firstOf, outcome, runWith}
+use Rattle.analysis.proofs.Cells.{by-chars, clean-cells, from-selector, selector-is, split-char, split-selector, split-unsplit, split-whole}
+use Rattle.analysis.proofs.NumberRules.{by-numbers}
+
+-- ---- the selectors at the front and what stands behind them
+
+selectors-are : (t : List ℕ) → selectorsAt t ≡ map asSelector (leading t)
+unfolding split run
+selectors-are =
+    by-chars (λ t. selectorsAt t ≡ map asSelector (leading t)) refl
+    (λ q t h. run-true isSelector (asSelector q) t (selector-is q) ∙ ap (λ (l : List ℕ). asSelector q ∷ l) h ∙ sym (ap (λ (a : List Presentation × List Cell). map asSelector (a .0)) (split-selector q t)))
+    (λ c t e h. run-false isSelector c t e ∙ sym (ap (λ (a : List Presentation × List Cell). map asSelector (a .0)) (split-char c t e)))
+
+behind-are : (t : List ℕ) → behindSelectors t ≡ unsplit (cells t)
+unfolding split behindRun
+behind-are =
+    by-chars (λ t. behindSelectors t ≡ unsplit (cells t)) refl
+    (λ q t h. behind-true isSelector (asSelector q) t (selector-is q) ∙ h ∙ sym (ap (λ (a : List Presentation × List Cell). unsplit (a .1)) (split-selector q t)))
+    (λ c t e h. behind-false isSelector c t e ∙ ap (λ (l : List ℕ). c ∷ l) (sym (split-whole t)) ∙ sym (ap (λ (a : List Presentation × List Cell). unsplit (a .1)) (split-char c t e)))
+
+-- No selector leads what stands behind the leading ones, and its cells are the same.
+pub split-behind : (t : List ℕ) → split (behindSelectors t) ≡ ([], cells t)
+split-behind t = ap split (behind-are t) ∙ split-unsplit (clean-cells t)
+
+count-is : (t : List ℕ) → length (selectorsAt t) ≡ length (leading t)
+count-is t = ap length (selectors-are t) ∙ length-map (leading t) asSelector
+
+first-is : (t : List ℕ) → firstSelector (selectorsAt t) ≡ firstOf (leading t)
+unfolding firstSelector firstOf
+first-is t = ap firstSelector (selectors-are t) ∙ go (leading t)
+  where
+    go : (s : List Presentation) → firstSelector (map asSelector s) ≡ firstOf s
+    go [] = refl
+    go (q ∷ s) = from-selector q
+
+following-is : (t : List ℕ) → following (cells t) ≡ classInFront (behindSelectors t)
+unfolding following classInFront
+following-is t = go (cells t) ∙ ap classInFront (sym (behind-are t))
+  where
+    go : (xs : List Cell) → following xs ≡ classInFront (unsplit xs)
+    go [] = refl
+    go (x ∷ xs) = refl
+
+-- ---- at an offset
+
+module _ (text : List ℕ) (at : ℕ) where
+  -- The leading selectors end at three bytes each ..
+  pub selectors-end : at + size width (selectorsAt (chars (drop at text))) ≡ at + 3 * length (leading (chars (drop at text)))
+  selectors-end = let t = chars (drop at text) in omega (arith, selectors-size t, count-is t)
+
+  -- .. and from there on the text is what stands behind them.
+  pub behind-at : chars (drop (at + 3 * length (leading (chars (drop at text)))) text) ≡ behindSelectors (chars (drop at text))
+  behind-at =
+      let t = chars (drop at text) in
+      ap (λ (n : ℕ). chars (drop n text)) (sym selectors-end) ∙ chars-from text at (selectorsAt t) (behindSelectors t) (sym (run-behind isSelector t))
+
+  -- They end within the text.
+  pub selectors-room : at ≤ length text → at + 3 * length (leading (chars (drop at text))) ≤ length text
+  selectors-room h =
+      let s = drop at text in
+      let t = chars s in
+      let a = size-append width (selectorsAt t) (behindSelectors t) in
+      let b = ap (size width) (run-behind isSelector t) in
+      omega (arith, a, b, size-chars s, validUpTo-le s, length-drop at text, selectors-end)
+
+  -- The cell as the code reads it: the run of selectors, the class behind it, and what the rules say.
+  pub cell-read : (p : Policy) (c : ℕ) (r : PresentationSelectors) (k : Class) (o : Outcome) → r ≡ selectorRun text at
+      → k ≡ classInFront (chars (drop (r .end) text)) → o ≡ outcome p c k (runWith (r .first) (r .count))
+      → (o ≡ outcome p c (following (cells (chars (drop at text)))) (leading (chars (drop at text)))) × (r .end ≡ at + 3 * length (leading (chars (drop at text))))
+  unfolding selectorRun
+  cell-read p c r k o hr hk ho =
+      let t = chars (drop at text) in
+      let e : r .end ≡ at + 3 * length (leading t) = ap (λ (x : PresentationSelectors). x .end) hr ∙ selectors-end in
+      let f : r .first ≡ firstOf (leading t) = ap (λ (x : PresentationSelectors). x .first) hr ∙ first-is t in
+      let n : r .count ≡ length (leading t) = ap (λ (x : PresentationSelectors). x .count) hr ∙ count-is t in
+      let g : k ≡ following (cells t) = hk ∙ ap (λ (m : ℕ). classInFront (chars (drop m text))) e ∙ ap classInFront behind-at ∙ sym (following-is t) in
+      (ho ∙ (λ i. outcome p c (g i) (runWith (f i) (n i))) ∙ sym (by-numbers p c (following (cells t)) (leading t)), e)

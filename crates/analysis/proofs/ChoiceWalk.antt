@@ -1,0 +1,111 @@
+-- Walking a slice from choice to choice meets the choices of its cells.
+use mathlib.Core.Path.{_≡_, refl, ap, sym, _∙_, subst}
+use mathlib.Core.List.{List, [], _∷_, _++_, append-assoc, map}
+use Prim.Native.Nat.{ℕ, _+_}
+use native.Mathlib.Omega.{arith}
+use lib.ListN.{drop, length}
+use Rattle.utf8.specs.Rfc3629.{chars}
+use Rattle.unicode.specs.Presentation.{asSelector}
+use Rattle.unicode.specs.declared.presentation.Presentation.{Presentation}
+use Rattle.unicode.specs.declared.presentation.Presentation.the-variants.{Emoji, Text}
+use Rattle.policy.specs.declared.Policy.{Policy}
+use Rattle.scanner.specs.Items.{Item}
+use Rattle.scanner.specs.Theorems.{Structured}
+use Rattle.scanner.proofs.Bytes.{chars-from}
+use Rattle.analysis.specs.Analysis.{Choice, addChoice, choices, choicesOf, choicesOfCells, outcomeAt, render, upToLink}
+use Rattle.analysis.specs.Cells.{Cell, cells, split, unsplit}
+use Rattle.analysis.specs.ChoicesAt.{
+  IsChoice,
+  Meets,
+  addChoiceAt,
+  bytesOf,
+  cellsFrom,
+  cellsStart,
+  choiceAt,
+  choicesFrom,
+  firstChoice,
+  frontUnit,
+  no-more,
+  one-more,
+}
+use Rattle.analysis.specs.Rules.{Slot, bare, decided, fixed}
+use Rattle.analysis.specs.declared.choice.ReplacementChoice.{ReplacementChoice}
+use Rattle.analysis.proofs.Cells.{Clean, cell-and, clean-cells, split-unsplit, split-whole}
+use Rattle.analysis.proofs.ChoicePlaces.{cells-behind}
+use Rattle.analysis.proofs.ChoiceUnits.{unit-cells}
+use Rattle.analysis.proofs.Components.{of-structured}
+
+module _ (p : Policy) (raw : List ℕ) where
+  -- A walk begins with the first choice: from an offset with the same one it is the same.
+  meets-same : {at from : ℕ} {ks : List Choice} → choiceAt p raw from ≡ choiceAt p raw at → Meets p raw at ks → Meets p raw from ks
+  meets-same e (no-more f) = no-more (e ∙ f)
+  meets-same e (one-more c f i m) = one-more c (e ∙ f) i m
+
+  -- ---- at an offset where cells stand, with no selectors before them
+
+  module _ (at : ℕ) (xs : List Cell) (e : split (chars (drop at raw)) ≡ ([], xs)) where
+    start-is : cellsStart raw at ≡ at
+    start-is = omega (arith, ap (λ (a : List Presentation × List Cell). length (a .0)) e)
+
+    cells-are : cellsFrom raw at ≡ xs
+    cells-are = ap (λ (a : List Presentation × List Cell). a .1) e
+
+    choice-is : choiceAt p raw at ≡ firstChoice (choicesFrom p at xs)
+    unfolding choiceAt
+    choice-is = λ i. firstChoice (choicesFrom p (start-is i) (cells-are i))
+
+  -- Behind the first cell stand the others.
+  others : (at : ℕ) (x : Cell) (xs : List Cell) → split (chars (drop at raw)) ≡ ([], x ∷ xs) → split (chars (drop (at + bytesOf (x ∷ [])) raw)) ≡ ([], xs)
+  others at x xs e =
+      let t = chars (drop at raw) in
+      let w : t ≡ unsplit (x ∷ []) ++ unsplit xs =
+      sym (split-whole t) ∙ ap (λ (a : List Presentation × List Cell). map asSelector (a .0) ++ unsplit (a .1)) e
+      ∙ sym (append-assoc (x .char ∷ map asSelector (x .after)) [] (unsplit xs)) in
+      ap split (chars-from raw at (unsplit (x ∷ [])) (unsplit xs) w) ∙ split-unsplit (tail (subst Clean (ap (λ (a : List Presentation × List Cell). a .1) e) (clean-cells t)))
+    where
+      tail : {y : Cell} {ys : List Cell} → Clean (y ∷ ys) → Clean ys
+      tail (cell-and f h) = h
+
+  -- The choice at a decided cell.
+  is-choice : (at : ℕ) (x : Cell) (xs : List Cell) (d : Presentation) → split (chars (drop at raw)) ≡ ([], x ∷ xs)
+      → IsChoice p raw (record { start = at; end = at + bytesOf (frontUnit (x ∷ xs)); next = at + bytesOf (x ∷ []); default = d })
+      (record { default = d; text = render p (x ∷ upToLink xs) (Text ∷ []); emoji = render p (x ∷ upToLink xs) (Emoji ∷ []) })
+  unfolding frontUnit
+  is-choice at x xs d e =
+      let f = cells-are at (x ∷ xs) e in
+      let n : at + bytesOf (frontUnit (x ∷ xs)) ≡ cellsStart raw at + bytesOf (frontUnit (cellsFrom raw at)) =
+      omega (arith, start-is at (x ∷ xs) e, ap (λ (l : List Cell). bytesOf (frontUnit l)) f) in
+      record {
+        default-is = refl;
+        unit-is = unit-cells raw at (at + bytesOf (frontUnit (x ∷ xs))) n;
+        text-is = ap (λ (l : List Cell). render p (frontUnit l) (Text ∷ [])) f;
+        emoji-is = ap (λ (l : List Cell). render p (frontUnit l) (Emoji ∷ [])) f;
+      }
+
+  walk-cells : (xs : List Cell) (at : ℕ) → split (chars (drop at raw)) ≡ ([], xs) → Meets p raw at (choicesOfCells p xs)
+  unfolding choicesOfCells choicesFrom firstChoice
+  walk-cells [] at e = no-more (choice-is at [] e)
+  walk-cells (x ∷ xs) at e = go (outcomeAt p x xs .slot) refl (walk-cells xs (at + bytesOf (x ∷ [])) (others at x xs e))
+    where
+      own : Presentation → ReplacementChoice
+      own d = record { start = at; end = at + bytesOf (frontUnit (x ∷ xs)); next = at + bytesOf (x ∷ []); default = d }
+
+      first : (s : Slot) → outcomeAt p x xs .slot ≡ s → choiceAt p raw at ≡ firstChoice (addChoiceAt s own (choicesFrom p (at + bytesOf (x ∷ [])) xs))
+      first s f = choice-is at (x ∷ xs) e ∙ ap (λ (s : Slot). firstChoice (addChoiceAt s own (choicesFrom p (at + bytesOf (x ∷ [])) xs))) f
+
+      go : (s : Slot) → outcomeAt p x xs .slot ≡ s → Meets p raw (at + bytesOf (x ∷ [])) (choicesOfCells p xs) → Meets p raw at (addChoice p s (x ∷ upToLink xs) (choicesOfCells p xs))
+      go bare f m = meets-same (first bare f ∙ sym (choice-is (at + bytesOf (x ∷ [])) xs (others at x xs e))) m
+      go (fixed q) f m = meets-same (first (fixed q) f ∙ sym (choice-is (at + bytesOf (x ∷ [])) xs (others at x xs e))) m
+      go (decided d) f m = one-more (own d) (first (decided d) f) (is-choice at x xs d e) m
+
+  -- From any offset on, the walk meets the choices of the cells.
+  pub walk : (at : ℕ) → Meets p raw at (choicesOfCells p (cellsFrom raw at))
+  unfolding choiceAt
+  walk at = meets-same (sym (choice-is (cellsStart raw at) (cellsFrom raw at) (cells-behind raw at))) (walk-cells (cellsFrom raw at) (cellsStart raw at) (cells-behind raw at))
+
+  -- So it does from the start of an item's bytes.
+  pub walk-item : (x : Item) → chars raw ≡ x .chars → Structured (x .kind) → Meets p raw 0 (choices p x)
+  unfolding choices choicesOf
+  walk-item x e o =
+      let c : choicesOfCells p (cellsFrom raw 0) ≡ choicesOfCells p (cells (x .chars)) = ap (λ (t : List ℕ). choicesOfCells p (cells t)) e in
+      subst (Meets p raw 0) (c ∙ sym (of-structured (λ k. choicesOf p k (x .chars)) (choicesOfCells p (cells (x .chars))) o refl refl)) (walk 0)

@@ -1,0 +1,158 @@
+-- Cells written into a lent buffer, one after the other: the decisions as bytes, what is left to be written at an offset, and that
+-- it is as long under all decisions.
+use mathlib.Core.Path.{_≡_, refl, ap, ap₂, sym, _∙_}
+use mathlib.Core.Bool.{true, false}
+use mathlib.Core.List.{List, [], _∷_, _++_, map, append-assoc, append-nil}
+use Prim.Native.Nat.{ℕ, _+_, _*_, _<_, _≤_}
+use native.Mathlib.Nat.{add-zero}
+use native.Mathlib.Omega.{arith}
+use lib.ListN.{drop, drop-of-length-le, getD, length}
+use lib.Seq.{drop-cons, drop-drop}
+use Rattle.base.specs.Output.{PutAt}
+use Rattle.base.specs.Refusals.{textLimit}
+use Rattle.utf8.specs.Rfc3629.{chars, encode, encodeAll, isScalar}
+use Rattle.utf8.specs.Write.{afterWriteChar, writeChar}
+use Rattle.utf8.specs.declared.WriteChar.{WriteChar}
+use Rattle.utf8.specs.declared.WriteChar.the-variants.{NotScalar, TooShort, Written}
+use Rattle.utf8.proofs.Answers.{afterWriteChar-sets, written}
+use Rattle.utf8.proofs.Places.{Step, Stop}
+use Rattle.utf8.proofs.Texts.{encodeAll-append, validUpTo-le}
+use Rattle.unicode.specs.Presentation.{asSelector, isSelector}
+use Rattle.unicode.specs.declared.presentation.FromSelector.{FromSelector}
+use Rattle.unicode.specs.declared.presentation.FromSelector.the-variants.{NoSelector, Selector}
+use Rattle.unicode.specs.declared.presentation.Presentation.{Presentation}
+use Rattle.unicode.specs.declared.presentation.Presentation.the-variants.{Emoji, Text}
+use Rattle.policy.specs.declared.Policy.{Policy}
+use Rattle.scanner.specs.Spans.{size, width}
+use Rattle.scanner.proofs.Bytes.{size-chars, size-width}
+use Rattle.analysis.specs.Analysis.{chosen, decide, following, laterDecisions, remaining, render, renew}
+use Rattle.analysis.specs.CellView.{formatCells}
+use Rattle.analysis.specs.Cells.{Cell, cells, leading, split}
+use Rattle.analysis.specs.Counts.{capped}
+use Rattle.analysis.specs.Decisions.{cellBytes, decisionsUsed, meaning}
+use Rattle.analysis.specs.Rules.{Slot, bare, decided, fixed, outcome, runWith}
+use Rattle.analysis.proofs.Cells.{clean-cells, count-unsplit}
+use Rattle.analysis.proofs.CellsAt.{behind-at, split-behind}
+use Rattle.analysis.proofs.Lengths.{bytes-parts, render-bytes}
+use Rattle.analysis.proofs.Replacement.{clean-renew, render-cons, renew-balances, renewed, strip-render}
+use Rattle.analysis.proofs.Sums.{capped-held}
+use Rattle.analysis.proofs.Units.{cells-selector}
+
+-- ---- one character
+
+-- With room for a scalar value, its bytes are put.
+module _ (v : ℕ) (o : List ℕ) (at : ℕ) (s : isScalar v ≡ true) (h : at + length (encode v) ≤ length o) (a : WriteChar) (e : a ≡ writeChar v o at) where
+  answer-is : a ≡ Written (length (encode v))
+  answer-is = e ∙ sym (written v o at (length (encode v)) refl s h .0)
+
+  pub width-is : (w : ℕ) → a ≡ Written w → w ≡ length (encode v)
+  width-is w f = let g : Written w ≡ Written (length (encode v)) = sym f ∙ answer-is in cc g
+
+  pub char-put : (w : ℕ) (after : List ℕ) → a ≡ Written w → after ≡ afterWriteChar v o at → PutAt o at (encode v) after (at + w)
+  char-put w after f g = record { ends = ap (λ (n : ℕ). at + n) (width-is w f); bytes = g ∙ afterWriteChar-sets v o at s h }
+
+  pub not-short : (w : ℕ) → a ≡ TooShort w → ⊥
+  not-short w f = let g : TooShort w ≡ Written (length (encode v)) = sym f ∙ answer-is in let z : _≡_ {A = ℕ} 0 1 = cc g in omega arith
+
+  pub not-refused : a ≡ NotScalar → ⊥
+  not-refused f = let g : NotScalar ≡ Written (length (encode v)) = sym f ∙ answer-is in let z : _≡_ {A = ℕ} 0 1 = cc g in omega arith
+
+-- ---- one selector
+
+pub selector-scalar : (q : Presentation) → isScalar (asSelector q) ≡ true
+unfolding isScalar asSelector
+selector-scalar Text = refl
+selector-scalar Emoji = refl
+
+pub bytes-selector : (s : FromSelector) (q : Presentation) (c : ℕ) → s ≡ Selector q → c ≡ asSelector q → encode c ≡ encodeAll (map asSelector (runWith s 1))
+unfolding runWith encodeAll
+bytes-selector s q c e f =
+    ap encode f ∙ sym (append-nil (encode (asSelector q))) ∙ ap (λ (x : FromSelector). encodeAll (map asSelector (runWith x 1))) (sym e)
+
+pub bytes-none : (s : FromSelector) → s ≡ NoSelector → [] ≡ encodeAll (map asSelector (runWith s 1))
+unfolding runWith encodeAll
+bytes-none s e = ap (λ (x : FromSelector). encodeAll (map asSelector (runWith x 1))) (sym e)
+
+-- ---- the decisions from an index on
+
+pub decide-default : (d : Presentation) (ds : List ℕ) (i : ℕ) → length ds ≤ i → d ≡ decide d (map meaning (drop i ds))
+decide-default d ds i h = ap (λ (l : List ℕ). decide d (map meaning l)) (sym (drop-of-length-le ds h))
+
+pub decide-at : (d : Presentation) (ds : List ℕ) (i : ℕ) → i < length ds → meaning (getD ds i 0) ≡ decide d (map meaning (drop i ds))
+decide-at d ds i h = ap (λ (l : List ℕ). decide d (map meaning l)) (sym (drop-cons ds i 0 h))
+
+later-drop : (ds : List ℕ) → laterDecisions (map meaning ds) ≡ map meaning (drop 1 ds)
+later-drop [] = refl
+later-drop (d ∷ ds) = refl
+
+-- Those left behind a slot are those from the next unused index on.
+remaining-drop : (o : Slot) (ds : List ℕ) (i : ℕ) → remaining o (map meaning (drop i ds)) ≡ map meaning (drop (i + decisionsUsed o) ds)
+remaining-drop bare ds i = ap (λ (n : ℕ). map meaning (drop n ds)) (sym (add-zero i))
+remaining-drop (fixed q) ds i = ap (λ (n : ℕ). map meaning (drop n ds)) (sym (add-zero i))
+remaining-drop (decided d) ds i = later-drop (drop i ds) ∙ ap (map meaning) (drop-drop 1 i ds)
+
+pub used-few : (o : Slot) → decisionsUsed o ≤ 1
+used-few bare = omega arith
+used-few (fixed q) = omega arith
+used-few (decided d) = omega arith
+
+-- ---- what is left to be written
+
+-- The bytes of the cells of a slice from an offset on, under the decisions from an index on.
+abbrev pub leftAt : Policy → List ℕ → List ℕ → ℕ → ℕ → List ℕ
+leftAt p text ds at i = encodeAll (render p (cells (chars (drop at text))) (map meaning (drop i ds)))
+
+module _ (p : Policy) (text ds : List ℕ) (at i : ℕ) where
+  -- Nothing where no character stands.
+  pub left-none : Stop text at → leftAt p text ds at i ≡ []
+  unfolding split render renew encodeAll
+  left-none h = ap (λ (t : List ℕ). encodeAll (render p (cells t) (map meaning (drop i ds)))) (h .chars-none)
+
+  module _ (v w : ℕ) (h : Step text at v w) where
+    left-as : leftAt p text ds at i ≡ encodeAll (render p (cells (v ∷ chars (drop (at + w) text))) (map meaning (drop i ds)))
+    left-as = ap (λ (t : List ℕ). encodeAll (render p (cells t) (map meaning (drop i ds)))) (h .chars-on)
+
+    -- A selector that leads is passed.
+    pub left-selector : isSelector v ≡ true → leftAt p text ds at i ≡ leftAt p text ds (at + w) i
+    left-selector e = left-as ∙ ap (λ (xs : List Cell). encodeAll (render p xs (map meaning (drop i ds)))) (cells-selector v (chars (drop (at + w) text)) e .0)
+
+    -- Of a cell its character and what its slot holds, then what is left behind the cell.
+    pub left-cell : isSelector v ≡ false → (o : Slot) (end : ℕ)
+        → o ≡ outcome p v (following (cells (chars (drop (at + w) text)))) (leading (chars (drop (at + w) text))) .slot
+        → end ≡ at + w + 3 * length (leading (chars (drop (at + w) text)))
+        → leftAt p text ds at i ≡ cellBytes v o (map meaning (drop i ds)) ++ leftAt p text ds end (i + decisionsUsed o)
+    unfolding renewed encodeAll
+    left-cell e o end f g =
+        let t = chars (drop (at + w) text) in
+        let ms = map meaning (drop i ds) in
+        let same : cells (chars (drop end text)) ≡ cells t =
+        ap (λ (n : ℕ). cells (chars (drop n text))) g ∙ ap cells (behind-at text (at + w)) ∙ ap (λ (a : List Presentation × List Cell). a .1) (split-behind t) in
+        left-as ∙ ap encodeAll (render-cons p v t ms e)
+        ∙ ap (λ (x : Slot). encode v ++ encodeAll (map asSelector (chosen x ms) ++ render p (cells t) (remaining x ms))) (sym f)
+        ∙ ap (λ (l : List ℕ). encode v ++ l) (encodeAll-append (map asSelector (chosen o ms)) (render p (cells t) (remaining o ms)))
+        ∙ ap₂ (λ (xs : List Cell) (l : List Presentation). encode v ++ (encodeAll (map asSelector (chosen o ms)) ++ encodeAll (render p xs l))) (sym same) (remaining-drop o ds i)
+        ∙ sym (append-assoc (encode v) (encodeAll (map asSelector (chosen o ms))) (leftAt p text ds end (i + decisionsUsed o)))
+
+-- ---- its length
+
+module _ (p : Policy) (t : List ℕ) (ds : List Presentation) where
+  -- The length is the same under all decisions ..
+  render-size : size width (render p (cells t) ds) ≡ size width (formatCells p t)
+  unfolding formatCells render
+  render-size =
+      let r = render p (cells t) ds in
+      let s = render p (cells t) [] in
+      let a = count-unsplit (clean-renew p (clean-cells t) ds) in
+      let b = count-unsplit (clean-renew p (clean-cells t) []) in
+      let c = ap (size width) (strip-render p t ds) in
+      let d = ap (size width) (strip-render p t []) in
+      omega (arith, bytes-parts r, bytes-parts s, renew-balances p (cells t) ds, renew-balances p (cells t) [])
+
+-- .. and for a slice within the limit it can be held.
+pub measured : (p : Policy) (raw : List ℕ) (ds : List Presentation) → length raw ≤ textLimit
+    → capped (size width (formatCells p (chars raw))) ≡ length (encodeAll (render p (cells (chars raw)) ds))
+measured p raw ds h =
+    let t = chars raw in
+    let a = render-size p t ds in
+    let b = render-bytes p t ds in
+    capped-held (size width (formatCells p t)) (omega (arith, size-chars raw, validUpTo-le raw)) ∙ sym a ∙ size-width (render p (cells t) ds)

@@ -1,0 +1,31 @@
+-- `analysis::measure::cell_outcome` meets its contract: the cell as the code reads it (CellsAt, cell-read).
+use borrow.Author.Needs.{needs}
+use Rattle.analysis.proofs.CellsAt.{cell-read}
+use Rattle.analysis.proofs.measure.cell_outcome.Statement.{statement}
+use Rattle.analysis.proofs.measure.cell_outcome.Tie as tie
+
+consume-presentation-selectors-requires : tie.Need-consume-presentation-selectors-requires
+consume-presentation-selectors-requires c κs = search needs
+
+class-at-requires : tie.Need-class-at-requires
+class-at-requires c κs = search needs
+
+analyze-singleton-base-selectors-requires : tie.Need-analyze-singleton-base-selectors-requires
+analyze-singleton-base-selectors-requires c κs = search needs
+
+returns : tie.Need-returns
+returns c =
+    let x = c .before .before .before .before .args in
+    let r = c .before .before .consume-presentation-selectors in
+    let k = c .before .class-at in
+    let o = c .analyze-singleton-base-selectors in
+    cell-read (x .text .now) (x .at) (x .policy) (x .base) (r .result) (k .result) (o .result) (r .ensures) (k .ensures) (o .ensures)
+
+pub cell-outcome-spec : {M : Type 1} → statement M
+cell-outcome-spec =
+    tie.close
+    (tie.spec
+    consume-presentation-selectors-requires
+    class-at-requires
+    analyze-singleton-base-selectors-requires
+    returns)

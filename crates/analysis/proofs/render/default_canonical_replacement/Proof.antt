@@ -1,0 +1,80 @@
+-- `analysis::render::default_canonical_replacement` meets its contract: each return is a case of Replacing.
+use mathlib.Core.Path.{sym, _∙_}
+use native.Mathlib.Omega.{arith}
+use borrow.Author.Needs.{needs}
+use Rattle.analysis.proofs.Replacing.{default-long, default-none, default-written, found-at, found-from, found-within, none-found, part-within}
+use Rattle.analysis.proofs.render.default_canonical_replacement.Statement.{statement}
+use Rattle.analysis.proofs.render.default_canonical_replacement.Tie as tie
+
+returns : tie.Need-returns
+returns c =
+    let x = c .before .before .before .args in
+    default-long (x .policy) (x .text .now) (x .at) (x .out .now) (c .if1 .taken)
+
+analyze-scan-item-requires : tie.Need-analyze-scan-item-requires
+analyze-scan-item-requires c κs = search needs
+
+enum-known-finding : tie.Need-enum-known-finding
+enum-known-finding c = search needs
+
+returns-2 : tie.Need-returns-2
+returns-2 c =
+    let x = c .before .before .before .before .before .args in
+    let a = c .before .analyze-scan-item in
+    default-none (x .policy) (x .text .now) (x .at) (x .out .now) (c .before .before .if1 .left) (none-found (x .policy) (x .text .now) (x .at) (a .result) (c .match .keys2) (a .ensures))
+
+sub-write-out : tie.Need-sub-write-out
+sub-write-out c =
+    let x = c .before .before .before .before .before .before .before .args in
+    let g = c .before .finding .given in
+    let h = found-at (x .policy) (x .text .now) (x .at) (g .0 .0) (sym (c .before .before .before .analyze-scan-item .ensures) ∙ g .1) in
+    found-from (x .policy) (x .text .now) (x .at) h
+
+part-write-out-start : tie.Need-part-write-out-start
+part-write-out-start c =
+    let x = c .before .before .before .before .before .before .before .args in
+    let g = c .before .finding .given in
+    let h = found-at (x .policy) (x .text .now) (x .at) (g .0 .0) (sym (c .before .before .before .analyze-scan-item .ensures) ∙ g .1) in
+    omega (arith, found-from (x .policy) (x .text .now) (x .at) h)
+
+part-write-out-end : tie.Need-part-write-out-end
+part-write-out-end c =
+    let x = c .before .before .before .before .before .before .before .args in
+    let g = c .before .finding .given in
+    let h = found-at (x .policy) (x .text .now) (x .at) (g .0 .0) (sym (c .before .before .before .analyze-scan-item .ensures) ∙ g .1) in
+    omega (arith, found-within (x .policy) (x .text .now) (x .at) h)
+
+slice-aggregate-write-out : tie.Need-slice-aggregate-write-out
+slice-aggregate-write-out c = search needs
+
+write-out-requires : tie.Need-write-out-requires
+write-out-requires c κs =
+    let x = c .before .before .before .before .before .before .before .before .before .before .args in
+    let l = c .before .before .before .before .before .before .before .if1 .left in
+    omega (arith, part-within (x .text .now) (x .at) (c .before .before .before .before .finding .given .0 .0 .end))
+
+same-length : tie.Need-same-length
+same-length c = search needs
+
+returns-3 : tie.Need-returns-3
+returns-3 c =
+    let x = c .before .before .before .before .before .before .before .before .before .before .before .before .before .args in
+    let g = c .before .before .before .before .before .before .before .finding .given in
+    let h = found-at (x .policy) (x .text .now) (x .at) (g .0 .0) (sym (c .before .before .before .before .before .before .before .before .before .analyze-scan-item .ensures) ∙ g .1) in
+    default-written (x .policy) (x .text .now) (x .at) (x .out .now) (c .before .before .before .before .before .before .before .before .before .before .if1 .left) h _ (c .before .before .write-out .ensures)
+
+pub default-canonical-replacement-spec : {M : Type 1} → statement M
+default-canonical-replacement-spec =
+    tie.close
+    (tie.spec
+    returns
+    analyze-scan-item-requires
+    enum-known-finding
+    returns-2
+    sub-write-out
+    part-write-out-start
+    part-write-out-end
+    slice-aggregate-write-out
+    write-out-requires
+    same-length
+    returns-3)

@@ -1,0 +1,56 @@
+-- `analysis::singleton::before_modifier` meets its contract: rules 2 and 3 by the number.
+use Rattle.analysis.specs.Rules.{byFirst, rule3, runWith, textFirst}
+use Rattle.analysis.proofs.NumberRules.{emoji-23, text-23}
+use borrow.Author.Needs.{needs}
+use Rattle.analysis.proofs.singleton.before_modifier.Statement.{statement}
+use Rattle.analysis.proofs.singleton.before_modifier.Tie as tie
+
+rest-of-requires : tie.Need-rest-of-requires
+rest-of-requires c κs = search needs
+
+unsanctioned-requires : tie.Need-unsanctioned-requires
+unsanctioned-requires c κs = search needs
+
+enum-told : tie.Need-enum-told
+enum-told c = search needs
+
+empty-requires : tie.Need-empty-requires
+empty-requires c κs = search needs
+
+enum-known-first : tie.Need-enum-known-first
+enum-known-first c = search needs
+
+enum-told-2 : tie.Need-enum-told-2
+enum-told-2 c = search needs
+
+enum-told-3 : tie.Need-enum-told-3
+enum-told-3 c = search needs
+
+returns : tie.Need-returns
+unfolding textFirst rule3 byFirst runWith
+returns c = simp (c .before .enum-told .given .1, c .empty .ensures)
+
+returns-2 : tie.Need-returns-2
+returns-2 c = simp (c .before .before .before .first .given .1, c .enum-told2 .given .1, c .before .before .before .before .before .unsanctioned .ensures, c .before .before .before .before .before .before .rest-of .ensures, text-23)
+
+returns-3 : tie.Need-returns-3
+returns-3 c = simp (c .before .before .before .before .first .given .1, c .before .enum-told3 .given .1, c .if1 .taken, c .before .before .before .before .before .before .unsanctioned .ensures, c .before .before .before .before .before .before .before .rest-of .ensures, emoji-23)
+
+returns-4 : tie.Need-returns-4
+returns-4 c = simp (c .before .before .before .before .first .given .1, c .before .enum-told3 .given .1, c .if1 .left, c .before .before .before .before .before .before .unsanctioned .ensures, c .before .before .before .before .before .before .before .rest-of .ensures, emoji-23)
+
+pub before-modifier-spec : {M : Type 1} → statement M
+before-modifier-spec =
+    tie.close
+    (tie.spec
+    rest-of-requires
+    unsanctioned-requires
+    enum-told
+    empty-requires
+    enum-known-first
+    enum-told-2
+    enum-told-3
+    returns
+    returns-2
+    returns-3
+    returns-4)

@@ -1,0 +1,52 @@
+-- `analysis::singleton::before_tags_bare` meets its contract: rule 4 by the number.
+use Rattle.analysis.specs.Rules.{byFirst, rule4, runWith}
+use Rattle.analysis.proofs.NumberRules.{emoji-4, text-4}
+use borrow.Author.Needs.{needs}
+use Rattle.analysis.proofs.singleton.before_tags_bare.Statement.{statement}
+use Rattle.analysis.proofs.singleton.before_tags_bare.Tie as tie
+
+empty-requires : tie.Need-empty-requires
+empty-requires c κs = search needs
+
+enum-told : tie.Need-enum-told
+enum-told c = search needs
+
+enum-known-first : tie.Need-enum-known-first
+enum-known-first c = search needs
+
+rest-of-requires : tie.Need-rest-of-requires
+rest-of-requires c κs = search needs
+
+unsanctioned-requires : tie.Need-unsanctioned-requires
+unsanctioned-requires c κs = search needs
+
+enum-told-2 : tie.Need-enum-told-2
+enum-told-2 c = search needs
+
+enum-told-3 : tie.Need-enum-told-3
+enum-told-3 c = search needs
+
+returns : tie.Need-returns
+unfolding rule4 byFirst runWith
+returns c = simp (c .enum-told .given .1, c .before .before .empty .ensures)
+
+returns-2 : tie.Need-returns-2
+returns-2 c = simp (c .before .before .before .before .before .first .given .1, c .enum-told2 .given .1, c .before .before .unsanctioned .ensures, c .before .before .before .rest-of .ensures, text-4)
+
+returns-3 : tie.Need-returns-3
+returns-3 c = simp (c .before .before .before .before .before .first .given .1, c .enum-told3 .given .1, c .before .before .unsanctioned .ensures, c .before .before .before .rest-of .ensures, emoji-4)
+
+pub before-tags-bare-spec : {M : Type 1} → statement M
+before-tags-bare-spec =
+    tie.close
+    (tie.spec
+    empty-requires
+    enum-told
+    enum-known-first
+    rest-of-requires
+    unsanctioned-requires
+    enum-told-2
+    enum-told-3
+    returns
+    returns-2
+    returns-3)

@@ -1,0 +1,49 @@
+-- `analysis::singleton::by_policy` meets its contract: rule 6 by the number.
+use mathlib.Core.Path.{sym, _∙_}
+use Rattle.analysis.specs.Rules.{rule6, runWith}
+use Rattle.analysis.proofs.NumberRules.{first-6}
+use borrow.Author.Needs.{needs}
+use Rattle.analysis.proofs.singleton.by_policy.Statement.{statement}
+use Rattle.analysis.proofs.singleton.by_policy.Tie as tie
+
+enum-told : tie.Need-enum-told
+enum-told c = search needs
+
+without-selector-requires : tie.Need-without-selector-requires
+without-selector-requires c κs = search needs
+
+enum-known-first : tie.Need-enum-known-first
+enum-known-first c = search needs
+
+rest-of-requires : tie.Need-rest-of-requires
+rest-of-requires c κs = search needs
+
+unsanctioned-requires : tie.Need-unsanctioned-requires
+unsanctioned-requires c κs = search needs
+
+is-bare-side-requires : tie.Need-is-bare-side-requires
+is-bare-side-requires c κs = search needs
+
+returns : tie.Need-returns
+returns c = simp (c .before .before .before .before .before .first .given .1, c .before .before .unsanctioned .ensures, c .before .before .before .rest-of .ensures, first-6, sym (c .before .is-bare-side .ensures) ∙ c .if1 .taken)
+
+returns-2 : tie.Need-returns-2
+unfolding rule6 runWith
+returns-2 c = simp (c .before .enum-told .given .1, c .without-selector .ensures)
+
+returns-3 : tie.Need-returns-3
+returns-3 c = simp (c .before .before .before .before .before .first .given .1, c .before .before .unsanctioned .ensures, c .before .before .before .rest-of .ensures, first-6, sym (c .before .is-bare-side .ensures) ∙ c .if1 .left)
+
+pub by-policy-spec : {M : Type 1} → statement M
+by-policy-spec =
+    tie.close
+    (tie.spec
+    enum-told
+    without-selector-requires
+    enum-known-first
+    rest-of-requires
+    unsanctioned-requires
+    is-bare-side-requires
+    returns
+    returns-2
+    returns-3)

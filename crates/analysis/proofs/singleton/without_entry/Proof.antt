@@ -1,0 +1,44 @@
+-- `analysis::singleton::without_entry` meets its contract: rule 1 by the number.
+use Rattle.analysis.specs.Rules.{rule1, runWith}
+use Rattle.analysis.proofs.NumberRules.{first-1}
+use borrow.Author.Needs.{needs}
+use Rattle.analysis.proofs.singleton.without_entry.Statement.{statement}
+use Rattle.analysis.proofs.singleton.without_entry.Tie as tie
+
+enum-told : tie.Need-enum-told
+enum-told c = search needs
+
+empty-requires : tie.Need-empty-requires
+empty-requires c κs = search needs
+
+enum-told-2 : tie.Need-enum-told-2
+enum-told-2 c = search needs
+
+rest-of-requires : tie.Need-rest-of-requires
+rest-of-requires c κs = search needs
+
+add-unsanctioned : tie.Need-add-unsanctioned
+add-unsanctioned c = search needs
+
+unsanctioned-requires : tie.Need-unsanctioned-requires
+unsanctioned-requires c κs = search needs
+
+returns : tie.Need-returns
+unfolding rule1 runWith
+returns c = simp (c .before .enum-told .given .1, c .empty .ensures)
+
+returns-2 : tie.Need-returns-2
+returns-2 c = simp (c .before .before .enum-told2 .given .1, c .unsanctioned .ensures, c .before .rest-of .ensures, first-1)
+
+pub without-entry-spec : {M : Type 1} → statement M
+without-entry-spec =
+    tie.close
+    (tie.spec
+    enum-told
+    empty-requires
+    enum-told-2
+    rest-of-requires
+    add-unsanctioned
+    unsanctioned-requires
+    returns
+    returns-2)

@@ -1,0 +1,82 @@
+-- The choices of an item's bytes, by their places (document 01, "Counts and finding": "its choices are, per decision, the default and
+-- the two replacements"). A choice is a unit whose base is decided; its two replacements are that unit under either decision.
+use mathlib.Core.Path.{_≡_}
+use mathlib.Core.List.{List, [], _∷_}
+use Prim.Native.Nat.{ℕ, _+_, _-_, _*_}
+use lib.ListN.{drop, length, take}
+use Rattle.base.specs.Refusals.{After}
+use Rattle.utf8.specs.Rfc3629.{chars, encodeAll}
+use Rattle.unicode.specs.declared.presentation.Presentation.{Presentation}
+use Rattle.unicode.specs.declared.presentation.Presentation.the-variants.{Emoji, Text}
+use Rattle.policy.specs.declared.Policy.{Policy}
+use Rattle.scanner.specs.Spans.{size, width}
+use Rattle.analysis.specs.Analysis.{Choice, outcomeAt, render, upToLink}
+use Rattle.analysis.specs.Cells.{Cell, cells, leading, unsplit}
+use Rattle.analysis.specs.Decisions.{withinLimit, writeOut}
+use Rattle.analysis.specs.Rules.{Slot, bare, decided, fixed}
+use Rattle.analysis.specs.declared.choice.ChoiceStep.{ChoiceStep}
+use Rattle.analysis.specs.declared.choice.ChoiceStep.the-variants as Step
+use Rattle.analysis.specs.declared.choice.ReplacementChoice.{ReplacementChoice}
+use Rattle.analysis.specs.declared.types.MendAnswer.{MendAnswer}
+
+-- The bytes of cells.
+abbrev pub bytesOf : List Cell → ℕ
+bytesOf xs = size width (unsplit xs)
+
+-- The unit at the front of cells: the first, and those behind it up to the next link.
+unfoldable pub frontUnit : List Cell → List Cell
+frontUnit [] = []
+frontUnit (x ∷ xs) = x ∷ upToLink xs
+
+-- The cells of a slice from an offset on, and the offset of the first of them.
+abbrev pub cellsFrom : List ℕ → ℕ → List Cell
+cellsFrom raw at = cells (chars (drop at raw))
+
+abbrev pub cellsStart : List ℕ → ℕ → ℕ
+cellsStart raw at = at + 3 * length (leading (chars (drop at raw)))
+
+-- A choice if the slot is decided, before the other choices.
+abbrev pub addChoiceAt : Slot → (Presentation → ReplacementChoice) → List ReplacementChoice → List ReplacementChoice
+addChoiceAt bare c l = l
+addChoiceAt (fixed q) c l = l
+addChoiceAt (decided d) c l = c d ∷ l
+
+-- The first of the choices, or the end.
+unfoldable pub firstChoice : List ReplacementChoice → ChoiceStep
+firstChoice [] = Step.End
+firstChoice (c ∷ cs) = Step.Choice c
+
+module _ (p : Policy) where
+  -- The choices of cells, the first cell standing at the offset: each with the bytes of its unit, its default, and the end of its
+  -- base's cell, behind which the next choice is looked for.
+  unfoldable pub choicesFrom : ℕ → List Cell → List ReplacementChoice
+  choicesFrom at [] = []
+  choicesFrom at (x ∷ xs) =
+      let next = at + bytesOf (x ∷ []) in
+      addChoiceAt (outcomeAt p x xs .slot)
+      (λ (d : Presentation). record { start = at; end = at + bytesOf (frontUnit (x ∷ xs)); next = next; default = d })
+      (choicesFrom next xs)
+
+  -- The first choice of a slice from an offset on.
+  unfoldable pub choiceAt : List ℕ → ℕ → ChoiceStep
+  choiceAt raw at = firstChoice (choicesFrom (cellsStart raw at) (cellsFrom raw at))
+
+  -- The call that writes the unit at an offset with a decision: refusals 1 and 8 in this order.
+  unfoldable pub replaceUnit : List ℕ → ℕ → Presentation → List ℕ → After MendAnswer ℕ
+  replaceUnit raw at q out = withinLimit raw out (writeOut (encodeAll (render p (frontUnit (cellsFrom raw at)) (q ∷ []))) out)
+
+  -- ---- the walk
+
+  -- A choice by its place is this choice: the same default, the bytes from its start to its end are the unit at its start, and that
+  -- unit under either decision, which is what the call above writes, is the replacement.
+  pub record IsChoice (raw : List ℕ) (c : ReplacementChoice) (k : Choice) : Type 0 where
+    pub default-is : c .default ≡ k .default
+    pub unit-is : cells (chars (take (c .end - c .start) (drop (c .start) raw))) ≡ frontUnit (cellsFrom raw (c .start))
+    pub text-is : render p (frontUnit (cellsFrom raw (c .start))) (Text ∷ []) ≡ k .text
+    pub emoji-is : render p (frontUnit (cellsFrom raw (c .start))) (Emoji ∷ []) ≡ k .emoji
+
+  -- A walk over a slice from an offset on, from each choice to the next, meets these choices and then the end.
+  pub data Meets (raw : List ℕ) : ℕ → List Choice → Type 0 where
+    no-more : {at : ℕ} → choiceAt raw at ≡ Step.End → Meets raw at []
+    one-more : {at : ℕ} {k : Choice} {ks : List Choice} (c : ReplacementChoice) → choiceAt raw at ≡ Step.Choice c → IsChoice raw c k
+        → Meets raw (c .next) ks → Meets raw at (k ∷ ks)

@@ -1,0 +1,232 @@
+// The six rules for a single base, in document 01's order ("Counts and finding"): analysis.rs of the crate evfmt,
+// `analyze_singleton_base_selectors` and what it calls. They are functions of numbers: the base, the class of what stands behind
+// the base and its selectors, the first selector and how many there are.
+// `analyze_singleton_base_selectors` equals `outcome` of specs/Rules.antt, the smaller functions equal its rules.
+ghost use mathlib.Core.Path.{_≡_};
+ghost use mathlib.Core.Bool.{cond};
+ghost use Prim.Native.Nat.{_-_};
+ghost use Rattle.analysis.specs.Rules.{isBareSide, outcome, rule1, rule2, rule3, rule4, rule5, rule6, runWith, textFirst, withoutSelector};
+use crate::types::NonCanonicality;
+use policy::Policy;
+use policy::SingletonRule;
+use scanner::char_class::Class;
+use unicode::presentation::FromSelector;
+use unicode::presentation::Presentation;
+
+// What stands behind a base: nothing, a selector, or the selector that is decided, with its default.
+pub enum Slot {
+    Bare,
+    Fixed(Presentation),
+    Decided(Presentation),
+}
+
+// What a rule says of a base and its selectors.
+pub struct Outcome {
+    pub counts: NonCanonicality,
+    pub slot: Slot,
+}
+
+// How many selectors stand behind the first.
+fn rest_of(count: usize) -> usize
+    ensures { λ r. ⌜ r ≡ count - 1 ⌝ }
+{
+    if count == 0 { 0 } else { count - 1 }
+}
+
+// Rule 1: no variation entry.
+fn without_entry(first: FromSelector, count: usize) -> Outcome
+    ensures { λ r. ⌜ r ≡ rule1 (runWith first count) ⌝ }
+{
+    let counts = match first {
+        FromSelector::NoSelector => NonCanonicality::empty(),
+        FromSelector::Selector(_) => NonCanonicality::unsanctioned(rest_of(count) + 1),
+    };
+    Outcome {
+        counts,
+        slot: Slot::Bare,
+    }
+}
+
+// Rules 2 and 3: the first modification is a modifier.
+fn before_modifier(first: FromSelector, count: usize, is_modifier_base: bool) -> Outcome
+    ensures { λ r. ⌜ r ≡ cond (textFirst (runWith first count)) (rule2 (runWith first count)) (rule3 «is_modifier_base» (runWith first count)) ⌝ }
+{
+    let mut counts = NonCanonicality::unsanctioned(rest_of(count));
+    match first {
+        FromSelector::NoSelector => Outcome {
+            counts: NonCanonicality::empty(),
+            slot: Slot::Bare,
+        },
+        FromSelector::Selector(presentation) => match presentation {
+            Presentation::Text => Outcome {
+                counts,
+                slot: Slot::Fixed(Presentation::Text),
+            },
+            Presentation::Emoji => {
+                if is_modifier_base {
+                    counts.modifier_defective_selectors = 1;
+                } else {
+                    counts.additional_defective_selectors = 1;
+                }
+                Outcome {
+                    counts,
+                    slot: Slot::Bare,
+                }
+            }
+        },
+    }
+}
+
+// Rule 4: the first modification is tags, and the base is emoji-default.
+fn before_tags_bare(first: FromSelector, count: usize) -> Outcome
+    ensures { λ r. ⌜ r ≡ rule4 (runWith first count) ⌝ }
+{
+    let mut counts = NonCanonicality::empty();
+    match first {
+        FromSelector::NoSelector => {}
+        FromSelector::Selector(presentation) => {
+            counts = NonCanonicality::unsanctioned(rest_of(count));
+            match presentation {
+                Presentation::Text => {
+                    counts.tag_conflicting_selectors = 1;
+                }
+                Presentation::Emoji => {
+                    counts.tag_redundant_selectors = 1;
+                }
+            }
+        }
+    }
+    Outcome {
+        counts,
+        slot: Slot::Bare,
+    }
+}
+
+// Rule 5: the first modification is tags, and the base is another one.
+fn before_tags_emoji(first: FromSelector, count: usize) -> Outcome
+    ensures { λ r. ⌜ r ≡ rule5 (runWith first count) ⌝ }
+{
+    let mut counts = NonCanonicality::empty();
+    match first {
+        FromSelector::NoSelector => {
+            counts.tag_forced_presentations = 1;
+        }
+        FromSelector::Selector(presentation) => {
+            counts = NonCanonicality::unsanctioned(rest_of(count));
+            match presentation {
+                Presentation::Text => {
+                    counts.tag_conflicting_selectors = 1;
+                    counts.tag_forced_presentations = 1;
+                }
+                Presentation::Emoji => {}
+            }
+        }
+    }
+    Outcome {
+        counts,
+        slot: Slot::Fixed(Presentation::Emoji),
+    }
+}
+
+// The bare side of `TextToBare` and of `EmojiToBare`.
+fn is_bare_side(rule: SingletonRule, presentation: Presentation) -> bool
+    ensures { λ r. ⌜ r ≡ isBareSide rule presentation ⌝ }
+{
+    match rule {
+        SingletonRule::TextToBare => match presentation {
+            Presentation::Text => true,
+            Presentation::Emoji => false,
+        },
+        SingletonRule::EmojiToBare => match presentation {
+            Presentation::Text => false,
+            Presentation::Emoji => true,
+        },
+        SingletonRule::BareToText => false,
+        SingletonRule::BareToEmoji => false,
+    }
+}
+
+// A bare base under a policy's rule: bare, or one decision.
+fn without_selector(rule: SingletonRule) -> Outcome
+    ensures { λ r. ⌜ r ≡ withoutSelector rule ⌝ }
+{
+    let mut counts = NonCanonicality::empty();
+    match rule {
+        SingletonRule::TextToBare => Outcome {
+            counts,
+            slot: Slot::Bare,
+        },
+        SingletonRule::EmojiToBare => Outcome {
+            counts,
+            slot: Slot::Bare,
+        },
+        SingletonRule::BareToText => {
+            counts.presentation_decisions = 1;
+            Outcome {
+                counts,
+                slot: Slot::Decided(Presentation::Text),
+            }
+        }
+        SingletonRule::BareToEmoji => {
+            counts.presentation_decisions = 1;
+            Outcome {
+                counts,
+                slot: Slot::Decided(Presentation::Emoji),
+            }
+        }
+    }
+}
+
+// Rules 4 and 5: the first modification is tags.
+fn before_tags(first: FromSelector, count: usize, is_emoji_default: bool) -> Outcome
+    ensures { λ r. ⌜ r ≡ cond «is_emoji_default» (rule4 (runWith first count)) (rule5 (runWith first count)) ⌝ }
+{
+    if is_emoji_default {
+        return before_tags_bare(first, count);
+    }
+    before_tags_emoji(first, count)
+}
+
+// Rule 6: by what the policy says of the base.
+fn by_policy(first: FromSelector, count: usize, rule: SingletonRule) -> Outcome
+    ensures { λ r. ⌜ r ≡ rule6 rule (runWith first count) ⌝ }
+{
+    match first {
+        FromSelector::NoSelector => without_selector(rule),
+        FromSelector::Selector(presentation) => {
+            let mut counts = NonCanonicality::unsanctioned(rest_of(count));
+            if is_bare_side(rule, presentation) {
+                counts.policy_redundant_selectors = 1;
+                return Outcome {
+                    counts,
+                    slot: Slot::Bare,
+                };
+            }
+            Outcome {
+                counts,
+                slot: Slot::Fixed(presentation),
+            }
+        }
+    }
+}
+
+// "For a single base the first rule that fits holds."
+pub fn analyze_singleton_base_selectors(
+    base: u32,
+    next: Class,
+    first: FromSelector,
+    count: usize,
+    policy: Policy,
+) -> Outcome
+    ensures { λ r. ⌜ r ≡ outcome policy base next (runWith first count) ⌝ }
+{
+    if !unicode::has_variation_sequence(base) {
+        return without_entry(first, count);
+    }
+    match next {
+        Class::Modifier => before_modifier(first, count, unicode::is_emoji_modifier_base(base)),
+        Class::Tag => before_tags(first, count, unicode::is_emoji_default(base)),
+        Class::Keycap => by_policy(first, count, policy.singleton_rule(base, true)),
+        _ => by_policy(first, count, policy.singleton_rule(base, false)),
+    }
+}

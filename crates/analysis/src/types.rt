@@ -1,0 +1,138 @@
+// The eight counts of an item, and a finding: types.rs of the crate evfmt; document 01, "Counts and finding".
+// `empty`, `unsanctioned`, `is_empty` and `add` equal the definitions of specs/Counts.antt.
+ghost use mathlib.Core.Path.{_≡_};
+ghost use Prim.Native.Nat.{_+_};
+ghost use lib.Dec.{eqb};
+ghost use Rattle.analysis.specs.Counts.{capped, cappedSum, empty, total, unsanctioned};
+use base::Refusal;
+
+// The eight counts of an item, in document 01's order.
+pub struct NonCanonicality {
+    pub unsanctioned_selectors: usize,
+    pub modifier_defective_selectors: usize,
+    pub additional_defective_selectors: usize,
+    pub tag_conflicting_selectors: usize,
+    pub tag_forced_presentations: usize,
+    pub tag_redundant_selectors: usize,
+    pub policy_redundant_selectors: usize,
+    pub presentation_decisions: usize,
+}
+
+// A listed finding: its bytes, from start up to end, and the eight counts.
+pub struct Finding {
+    pub start: usize,
+    pub end: usize,
+    pub counts: NonCanonicality,
+}
+
+// What mending answers: so many bytes are written, or a refusal.
+pub enum MendAnswer {
+    Mended { len: usize },
+    Refused(Refusal),
+}
+
+// The largest count that can be held.
+const MOST: usize = 18_446_744_073_709_551_615;
+
+// The sum of two counts, or the largest count where it is more.
+pub(crate) fn add_count(a: usize, b: usize) -> usize
+    ensures { λ r. ⌜ r ≡ capped (a + b) ⌝ }
+{
+    if MOST - a < b {
+        return MOST;
+    }
+    a + b
+}
+
+impl NonCanonicality {
+    // No count.
+    pub fn empty() -> Self
+        ensures { λ r. ⌜ r ≡ empty ⌝ }
+    {
+        NonCanonicality::unsanctioned(0)
+    }
+
+    // So many unsanctioned selectors.
+    pub fn unsanctioned(count: usize) -> Self
+        ensures { λ r. ⌜ r ≡ unsanctioned count ⌝ }
+    {
+        NonCanonicality {
+            unsanctioned_selectors: count,
+            modifier_defective_selectors: 0,
+            additional_defective_selectors: 0,
+            tag_conflicting_selectors: 0,
+            tag_forced_presentations: 0,
+            tag_redundant_selectors: 0,
+            policy_redundant_selectors: 0,
+            presentation_decisions: 0,
+        }
+    }
+
+    // Whether every count is 0.
+    pub fn is_empty(self) -> bool
+        ensures { λ r. ⌜ r ≡ eqb (total self) 0 ⌝ }
+    {
+        if self.unsanctioned_selectors != 0 {
+            return false;
+        }
+        if self.modifier_defective_selectors != 0 {
+            return false;
+        }
+        if self.additional_defective_selectors != 0 {
+            return false;
+        }
+        if self.tag_conflicting_selectors != 0 {
+            return false;
+        }
+        if self.tag_forced_presentations != 0 {
+            return false;
+        }
+        if self.tag_redundant_selectors != 0 {
+            return false;
+        }
+        if self.policy_redundant_selectors != 0 {
+            return false;
+        }
+        self.presentation_decisions == 0
+    }
+
+    // The sum, count by count; a count that would pass the largest is the largest.
+    pub fn add(self, rhs: Self) -> Self
+        ensures { λ r. ⌜ r ≡ cappedSum self rhs ⌝ }
+    {
+        NonCanonicality {
+            unsanctioned_selectors: add_count(
+                self.unsanctioned_selectors,
+                rhs.unsanctioned_selectors,
+            ),
+            modifier_defective_selectors: add_count(
+                self.modifier_defective_selectors,
+                rhs.modifier_defective_selectors,
+            ),
+            additional_defective_selectors: add_count(
+                self.additional_defective_selectors,
+                rhs.additional_defective_selectors,
+            ),
+            tag_conflicting_selectors: add_count(
+                self.tag_conflicting_selectors,
+                rhs.tag_conflicting_selectors,
+            ),
+            tag_forced_presentations: add_count(
+                self.tag_forced_presentations,
+                rhs.tag_forced_presentations,
+            ),
+            tag_redundant_selectors: add_count(
+                self.tag_redundant_selectors,
+                rhs.tag_redundant_selectors,
+            ),
+            policy_redundant_selectors: add_count(
+                self.policy_redundant_selectors,
+                rhs.policy_redundant_selectors,
+            ),
+            presentation_decisions: add_count(
+                self.presentation_decisions,
+                rhs.presentation_decisions,
+            ),
+        }
+    }
+}

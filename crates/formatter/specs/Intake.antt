@@ -1,0 +1,28 @@
+-- The limits of document 01, and the tests of a text and a policy that every call makes first ("Turned back").
+use mathlib.Core.Bool.{cond, not}
+use mathlib.Core.List.{List}
+use mathlib.Core.Option.{Option, none, some}
+use Prim.Native.Nat.{ℕ}
+use lib.Dec.{eqb, leb}
+use lib.ListN.{length}
+use Rattle.base.specs.Refusals.{textLimit}
+use Rattle.base.specs.declared.Refusal.{Refusal}
+use Rattle.base.specs.declared.Refusal.the-variants.{NotAPolicy, NotWellFormed, TextTooLong}
+use Rattle.utf8.specs.Rfc3629.{validUpTo}
+use Rattle.policy.specs.PolicyBytes.{isPolicy}
+
+-- ---- limits
+
+-- "A list starts from an accepted text of at most 4,194,304 bytes"
+abbrev pub listLimit : ℕ
+listLimit = 4194304
+
+-- ---- tests of a text and a policy
+
+-- "Tested in this order": text over the limit, 1; not a policy, 2; text not well-formed, 3. None where all three pass.
+unfoldable pub intakeRefusal : List ℕ → List ℕ → Option Refusal
+intakeRefusal text policy =
+    cond (not (leb (length text) textLimit)) (some TextTooLong)
+    (cond (not (isPolicy policy)) (some NotAPolicy)
+    (cond (not (eqb (validUpTo text) (length text))) (some (NotWellFormed (validUpTo text)))
+    none))
