@@ -1,8 +1,11 @@
 -- The selectors at the front of a text are its leading ones, and behind them stand its cells: what a cell that is read at an offset is.
 use mathlib.Core.Path.{_≡_, refl, ap, sym, _∙_}
+use mathlib.Core.Bool.{true, false}
 use mathlib.Core.List.{List, [], _∷_, map}
 use Prim.Native.Nat.{ℕ, _+_, _*_, _≤_}
 use native.Mathlib.Omega.{arith}
+use types.Run.{OneOf}
+use denote.Enum.Declared.{tagOf}
 use lib.ListN.{drop, length, length-drop, length-map}
 use Rattle.utf8.specs.Rfc3629.{chars}
 use Rattle.utf8.proofs.Texts.{validUpTo-le}
@@ -13,11 +16,15 @@ use Rattle.scanner.specs.Runs.{behindRun, behindSelectors, run, selectorsAt}
 use Rattle.scanner.specs.SelectorRun.{firstSelector, selectorRun}
 use Rattle.scanner.specs.Spans.{size, width}
 use Rattle.scanner.specs.declared.char_class.Class.{Class}
+use Rattle.scanner.specs.declared.char_class.Class.the-variants.{Selector as selector}
 use Rattle.scanner.specs.declared.selectors.PresentationSelectors.{PresentationSelectors}
 use Rattle.scanner.proofs.Bytes.{chars-from, size-chars}
+use Rattle.scanner.proofs.ClassTests.{forSelector, selector-test}
+use Rattle.scanner.proofs.Peek.{Seen, seen-arm}
 use Rattle.scanner.proofs.Rescan.{size-append}
 use Rattle.scanner.proofs.Runs.{behind-false, behind-true, run-behind, run-false, run-true}
 use Rattle.scanner.proofs.SelectorRun.{selectors-size}
+use Rattle.scanner.proofs.char_class.Class.{the-type as the-class}
 use Rattle.analysis.specs.Analysis.{following}
 use Rattle.analysis.specs.CellView.{classInFront}
 use Rattle.analysis.specs.Cells.{Cell, cells, leading, split, unsplit}
@@ -65,6 +72,15 @@ following-is t = go (cells t) ∙ ap classInFront (sym (behind-are t))
     go (x ∷ xs) = refl
 
 -- ---- at an offset
+
+-- The character there is a selector in the arm of that class, and none in the arm of all other classes.
+module _ {text : List ℕ} {at v : ℕ} {k : Class} {next : ℕ} (h : Seen text at v k next) where
+  pub is-selector : k ≡ selector → isSelector v ≡ true
+  is-selector e = selector-test v ∙ ap forSelector (sym (h .class) ∙ e)
+
+  pub not-selector : OneOf (1 ∷ 2 ∷ 3 ∷ 4 ∷ 5 ∷ 6 ∷ 7 ∷ []) (tagOf the-class k) → isSelector v ≡ false
+  not-selector o =
+      selector-test v ∙ ap forSelector (sym (h .class)) ∙ seen-arm h forSelector false (1 ∷ 2 ∷ 3 ∷ 4 ∷ 5 ∷ 6 ∷ 7 ∷ []) (tt, refl, refl, refl, refl, refl, refl, refl) o
 
 module _ (text : List ℕ) (at : ℕ) where
   -- The leading selectors end at three bytes each ..

@@ -9,7 +9,6 @@ use denote.Enum.Declared.{tagOf}
 use lib.Dec.{eqb}
 use lib.ListN.{drop, length}
 use Rattle.utf8.specs.Rfc3629.{chars}
-use Rattle.utf8.proofs.Places.{Step, Stop}
 use Rattle.unicode.specs.Presentation.{asSelector, isSelector}
 use Rattle.unicode.specs.declared.presentation.Presentation.{Presentation}
 use Rattle.unicode.specs.declared.presentation.Presentation.the-variants.{Emoji, Text}
@@ -17,8 +16,10 @@ use Rattle.policy.specs.declared.Policy.{Policy}
 use Rattle.scanner.specs.RunKinds.{runOf}
 use Rattle.scanner.specs.Runs.{run}
 use Rattle.scanner.specs.Spans.{size, width}
+use Rattle.scanner.specs.declared.char_class.Class.{Class}
 use Rattle.scanner.specs.declared.consume.RunKind.the-variants.{Selectors}
 use Rattle.scanner.proofs.ClassTests.{run-selectors}
+use Rattle.scanner.proofs.Peek.{Seen, Unseen}
 use Rattle.scanner.proofs.Runs.{run-true}
 use Rattle.analysis.specs.Analysis.{following, upToLink}
 use Rattle.analysis.specs.Cells.{Cell, cells, leading, split, unsplit}
@@ -81,26 +82,24 @@ module _ (raw : List ℕ) (at : ℕ) where
   pub cells-behind : split (chars (drop (cellsStart raw at) raw)) ≡ ([], cellsFrom raw at)
   cells-behind = ap split (behind-at raw at) ∙ split-behind (chars (drop at raw))
 
-  pub cells-none : Stop raw at → split (chars (drop at raw)) ≡ ([], [])
+  cells-none : Unseen raw at → split (chars (drop at raw)) ≡ ([], [])
   unfolding split
   cells-none h = ap split (h .chars-none)
 
-  module _ (v w : ℕ) (h : Step raw at v w) where
-    pub cells-char : isSelector v ≡ false → split (chars (drop at raw)) ≡ ([], record { char = v; after = leading (chars (drop (at + w) raw)) } ∷ cellsFrom raw (at + w))
-    cells-char e = ap split (h .chars-on) ∙ split-char v (chars (drop (at + w) raw)) e
+  module _ {v : ℕ} {k : Class} {next : ℕ} (h : Seen raw at v k next) where
+    cells-char : isSelector v ≡ false → split (chars (drop at raw)) ≡ ([], record { char = v; after = leading (chars (drop next raw)) } ∷ cellsFrom raw next)
+    cells-char e = ap split (h .chars-on) ∙ split-char v (chars (drop next raw)) e
 
     -- A selector is passed.
-    pub cells-selector : isSelector v ≡ true → (cellsStart raw at ≡ cellsStart raw (at + w)) × (cellsFrom raw at ≡ cellsFrom raw (at + w))
-    unfolding width
+    cells-selector : isSelector v ≡ true → (cellsStart raw at ≡ cellsStart raw next) × (cellsFrom raw at ≡ cellsFrom raw next)
     cells-selector e = go (char-is v)
       where
-        go : CharIs v → (cellsStart raw at ≡ cellsStart raw (at + w)) × (cellsFrom raw at ≡ cellsFrom raw (at + w))
+        go : CharIs v → (cellsStart raw at ≡ cellsStart raw next) × (cellsFrom raw at ≡ cellsFrom raw next)
         go (no-selector f) = absurd (true≢false (sym e ∙ f))
         go (a-selector q f) =
-            let u = chars (drop (at + w) raw) in
+            let u = chars (drop next raw) in
             let r : split (chars (drop at raw)) ≡ (q ∷ leading u, cells u) = ap split (h .chars-on ∙ ap (λ (x : ℕ). x ∷ u) f) ∙ split-selector q u in
-            let k = h .width in
-            (omega (arith, ap (λ (a : List Presentation × List Cell). length (a .0)) r, ap width f, width-selector q), ap (λ (a : List Presentation × List Cell). a .1) r)
+            (omega (arith, h .behind, ap (λ (a : List Presentation × List Cell). length (a .0)) r, ap width f, width-selector q), ap (λ (a : List Presentation × List Cell). a .1) r)
 
 -- ---- the unit at an offset
 
@@ -113,26 +112,25 @@ module _ (raw : List ℕ) (at start : ℕ) (s : start ≡ cellsStart raw at) whe
   starts : split (chars (drop start raw)) ≡ ([], cellsFrom raw at)
   starts = ap (λ (n : ℕ). split (chars (drop n raw))) s ∙ cells-behind raw at
 
-  pub unit-none : Stop raw start → start ≡ cellsStart raw at + bytesOf (frontUnit (cellsFrom raw at))
+  pub unit-none : Unseen raw start → start ≡ cellsStart raw at + bytesOf (frontUnit (cellsFrom raw at))
   unfolding frontUnit
   unit-none h =
       let e : cellsFrom raw at ≡ [] = ap (λ (a : List Presentation × List Cell). a .1) (sym starts ∙ cells-none raw start h) in
       omega (arith, ap (λ (l : List Cell). bytesOf (frontUnit l)) e)
 
   -- .. and else it ends where the next link begins.
-  pub unit-on : (v w end : ℕ) → Step raw start v w → end ≡ cellsStart raw (start + w) + bytesOf (upToLink (cellsFrom raw (start + w)))
+  pub unit-on : {v : ℕ} {k : Class} {next : ℕ} (end : ℕ) → Seen raw start v k next → end ≡ cellsStart raw next + bytesOf (upToLink (cellsFrom raw next))
       → end ≡ cellsStart raw at + bytesOf (frontUnit (cellsFrom raw at))
-  unfolding frontUnit width
-  unit-on v w end h e = go (char-is v)
+  unfolding frontUnit
+  unit-on {v} {next = next} end h e = go (char-is v)
     where
       go : CharIs v → end ≡ cellsStart raw at + bytesOf (frontUnit (cellsFrom raw at))
       go (no-selector f) =
-          let u = chars (drop (start + w) raw) in
-          let r : cellsFrom raw at ≡ record { char = v; after = leading u } ∷ cells u = ap (λ (a : List Presentation × List Cell). a .1) (sym starts ∙ cells-char raw start v w h f) in
-          let k = h .width in
-          omega (arith, ap (λ (l : List Cell). bytesOf (frontUnit l)) r, selectors-bytes (leading u) (unsplit (upToLink (cells u))))
+          let u = chars (drop next raw) in
+          let r : cellsFrom raw at ≡ record { char = v; after = leading u } ∷ cells u = ap (λ (a : List Presentation × List Cell). a .1) (sym starts ∙ cells-char raw start h f) in
+          omega (arith, h .behind, ap (λ (l : List Cell). bytesOf (frontUnit l)) r, selectors-bytes (leading u) (unsplit (upToLink (cells u))))
       go (a-selector q f) =
-          let u = chars (drop (start + w) raw) in
+          let u = chars (drop next raw) in
           absurd (omega (arith, ap (λ (a : List Presentation × List Cell). length (a .0)) (sym starts ∙ ap split (h .chars-on ∙ ap (λ (x : ℕ). x ∷ u) f) ∙ split-selector q u)))
 
 -- ---- the first choice at an offset
@@ -148,41 +146,40 @@ undecided (fixed q) o c l = refl
 undecided (decided d) o c l = absurd (miss (0 ∷ 1 ∷ []) 2 tt o)
 
 module _ (p : Policy) (raw : List ℕ) (at : ℕ) where
-  pub choice-none : Stop raw at → End ≡ choiceAt p raw at
+  pub choice-none : Unseen raw at → End ≡ choiceAt p raw at
   unfolding choiceAt choicesFrom firstChoice
   choice-none h = sym (ap (λ (a : List Presentation × List Cell). firstChoice (choicesFrom p (at + 3 * length (a .0)) (a .1))) (cells-none raw at h))
 
-  module _ (v w : ℕ) (h : Step raw at v w) where
-    pub choice-selector : isSelector v ≡ true → choiceAt p raw at ≡ choiceAt p raw (at + w)
+  module _ {v : ℕ} {k : Class} {next : ℕ} (h : Seen raw at v k next) where
+    pub choice-selector : isSelector v ≡ true → choiceAt p raw at ≡ choiceAt p raw next
     unfolding choiceAt
-    choice-selector e = let r = cells-selector raw at v w h e in ap₂ (λ (n : ℕ) (l : List Cell). firstChoice (choicesFrom p n l)) (r .0) (r .1)
+    choice-selector e = let r = cells-selector raw at h e in ap₂ (λ (n : ℕ) (l : List Cell). firstChoice (choicesFrom p n l)) (r .0) (r .1)
 
     -- A cell, as the code reads it: what the rules say of it, and its end.
     module _ (e : isSelector v ≡ false) (o : Outcome) (end : ℕ)
-        (ho : o ≡ outcome p v (following (cellsFrom raw (at + w))) (leading (chars (drop (at + w) raw)))) (he : end ≡ cellsStart raw (at + w)) where
-      behind : (cellsStart raw end ≡ end) × (cellsFrom raw end ≡ cellsFrom raw (at + w))
+        (ho : o ≡ outcome p v (following (cellsFrom raw next)) (leading (chars (drop next raw)))) (he : end ≡ cellsStart raw next) where
+      behind : (cellsStart raw end ≡ end) × (cellsFrom raw end ≡ cellsFrom raw next)
       behind =
-          let r : split (chars (drop end raw)) ≡ ([], cellsFrom raw (at + w)) = ap (λ (n : ℕ). split (chars (drop n raw))) he ∙ cells-behind raw (at + w) in
+          let r : split (chars (drop end raw)) ≡ ([], cellsFrom raw next) = ap (λ (n : ℕ). split (chars (drop n raw))) he ∙ cells-behind raw next in
           (omega (arith, ap (λ (a : List Presentation × List Cell). length (a .0)) r), ap (λ (a : List Presentation × List Cell). a .1) r)
 
       -- The cell's own choice.
       abbrev own : Presentation → ReplacementChoice
-      own d = record { start = at; end = end + bytesOf (upToLink (cellsFrom raw (at + w))); next = end; default = d }
+      own d = record { start = at; end = end + bytesOf (upToLink (cellsFrom raw next)); next = end; default = d }
 
       -- The choices from the cell on: its own, if its slot is decided, and those from its end on.
       from-cell : choiceAt p raw at ≡ firstChoice (addChoiceAt (o .slot) own (choicesFrom p (cellsStart raw end) (cellsFrom raw end)))
-      unfolding choiceAt choicesFrom frontUnit width
+      unfolding choiceAt choicesFrom frontUnit
       from-cell =
-          let u = chars (drop (at + w) raw) in
+          let u = chars (drop next raw) in
           let x : Cell = record { char = v; after = leading u } in
-          let k = h .width in
           let b : at + 3 * 0 ≡ at = omega arith in
-          let n : at + 3 * 0 + bytesOf (x ∷ []) ≡ end = omega (arith, he, selectors-bytes (leading u) []) in
-          let m : at + 3 * 0 + bytesOf (x ∷ upToLink (cells u)) ≡ end + bytesOf (upToLink (cells u)) = omega (arith, he, selectors-bytes (leading u) (unsplit (upToLink (cells u)))) in
+          let n : at + 3 * 0 + bytesOf (x ∷ []) ≡ end = omega (arith, h .behind, he, selectors-bytes (leading u) []) in
+          let m : at + 3 * 0 + bytesOf (x ∷ upToLink (cells u)) ≡ end + bytesOf (upToLink (cells u)) = omega (arith, h .behind, he, selectors-bytes (leading u) (unsplit (upToLink (cells u)))) in
           let z : at + 3 * 0 + bytesOf (x ∷ []) ≡ cellsStart raw end = omega (arith, n, behind .0) in
           let g : outcome p v (following (cells u)) (leading u) ≡ o = sym ho in
           let y : cells u ≡ cellsFrom raw end = sym (behind .1) in
-          ap (λ (a : List Presentation × List Cell). firstChoice (choicesFrom p (at + 3 * length (a .0)) (a .1))) (cells-char raw at v w h e)
+          ap (λ (a : List Presentation × List Cell). firstChoice (choicesFrom p (at + 3 * length (a .0)) (a .1))) (cells-char raw at h e)
           ∙ (λ i. firstChoice (addChoiceAt (g i .slot) (λ (d : Presentation). record { start = b i; end = m i; next = n i; default = d }) (choicesFrom p (z i) (y i))))
 
       -- A cell whose slot is not decided is passed ..
@@ -195,6 +192,6 @@ module _ (p : Policy) (raw : List ℕ) (at : ℕ) where
           → Choice (record { start = at; end = last; next = end; default = d }) ≡ choiceAt p raw at
       unfolding firstChoice
       choice-found d last q f =
-          let m : last ≡ end + bytesOf (upToLink (cellsFrom raw (at + w))) = omega (arith, behind .0, ap (λ (l : List Cell). bytesOf (upToLink l)) (behind .1)) in
+          let m : last ≡ end + bytesOf (upToLink (cellsFrom raw next)) = omega (arith, behind .0, ap (λ (l : List Cell). bytesOf (upToLink l)) (behind .1)) in
           ap (λ (n : ℕ). Choice (record { start = at; end = n; next = end; default = d })) m
           ∙ sym (from-cell ∙ ap (λ (s : Slot). firstChoice (addChoiceAt s own (choicesFrom p (cellsStart raw end) (cellsFrom raw end)))) q)

@@ -20,13 +20,13 @@ use Rattle.scanner.specs.Spans.{size, width}
 use Rattle.scanner.proofs.Bytes.{size-chars, size-width, take-chars}
 use Rattle.scanner.proofs.Rescan.{size-append}
 use Rattle.analysis.specs.Analysis.{render, renew, upToLink}
-use Rattle.analysis.specs.Cells.{Cell, cells, leading, unsplit}
+use Rattle.analysis.specs.Cells.{Cell, cells, leading, split, unsplit}
 use Rattle.analysis.specs.ChoicesAt.{bytesOf, cellsFrom, cellsStart, frontUnit, replaceUnit}
 use Rattle.analysis.specs.Decisions.{writeOut}
 use Rattle.analysis.specs.declared.types.MendAnswer.{MendAnswer}
 use Rattle.analysis.specs.declared.types.MendAnswer.the-variants.{Mended, Refused}
 use Rattle.analysis.proofs.Cells.{Clean, cell-and, clean-cells, no-cell, split-selectors, split-unsplit, split-whole}
-use Rattle.analysis.proofs.ChoicePlaces.{cells-none, selectors-bytes}
+use Rattle.analysis.proofs.ChoicePlaces.{selectors-bytes}
 use Rattle.analysis.proofs.ItemsAt.{scalar-front}
 
 -- ---- the unit is a beginning of the cells
@@ -111,8 +111,8 @@ module _ (p : Policy) (raw : List ℕ) (at : ℕ) (q : Presentation) (out : List
 
     -- Behind the slice's end there is no unit.
     pub replace-none : length raw ≤ at → record { answer = Mended 0; buffer = out } ≡ replaceUnit p raw at q out
-    unfolding frontUnit render renew encodeAll
+    unfolding frontUnit render renew encodeAll split
     replace-none g =
         let w : (xs : List Cell) → List ℕ = λ xs. encodeAll (render p (frontUnit xs) (q ∷ [])) in
         let n : record { answer = Mended 0; buffer = out } ≡ writeOut (w []) out = sym (simp (le-leb 0 (length out) (omega arith))) in
-        replace-unit (n ∙ ap (λ (a : List Presentation × List Cell). writeOut (w (a .1)) out) (sym (cells-none raw at (stop-end raw at (readChar-past-end raw at g)))))
+        replace-unit (n ∙ ap (λ (l : List ℕ). writeOut (w (cells l)) out) (sym (stop-end raw at (readChar-past-end raw at g) .chars-none)))

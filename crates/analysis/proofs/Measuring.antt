@@ -3,12 +3,11 @@ use mathlib.Core.Path.{_≡_, refl, ap, sym, _∙_}
 use mathlib.Core.Logic.{⊎-elim}
 use mathlib.Core.Bool.{Bool, true, false, true≢false}
 use mathlib.Core.List.{List, [], _∷_, map}
-use Prim.Native.Nat.{ℕ, suc, _+_, _*_, _≤_}
+use Prim.Native.Nat.{ℕ, suc, _+_, _-_, _*_, _≤_}
 use native.Mathlib.Omega.{arith}
 use lib.ListN.{drop, length}
 use Rattle.base.proofs.Tests.{le-or-lt}
 use Rattle.utf8.specs.Rfc3629.{chars}
-use Rattle.utf8.proofs.Places.{Step, Stop}
 use Rattle.unicode.specs.Presentation.{asSelector, isSelector}
 use Rattle.unicode.specs.declared.presentation.Presentation.{Presentation}
 use Rattle.unicode.specs.declared.presentation.Presentation.the-variants.{Emoji, Text}
@@ -18,6 +17,7 @@ use Rattle.policy.specs.declared.SingletonRule.the-variants.{BareToEmoji, BareT
 use Rattle.scanner.specs.Runs.{behindSelectors}
 use Rattle.scanner.specs.Spans.{size, width}
 use Rattle.scanner.specs.declared.char_class.Class.{Class}
+use Rattle.scanner.proofs.Peek.{Seen, Unseen}
 use Rattle.scanner.proofs.Rescan.{size-append}
 use Rattle.analysis.specs.Analysis.{chosen, countCells, following, remaining, render, renew}
 use Rattle.analysis.specs.CellView.{formatCells, slotLength, totalCells}
@@ -153,24 +153,24 @@ measuring-begin {p} {text} e = record {
 
 module _ {p : Policy} {text : List ℕ} {at : ℕ} {counts : NonCanonicality} {len : ℕ} (m : Measuring p text at counts len) where
   -- Where no character stands, all is counted and measured.
-  pub measuring-done : Stop text at → (counts ≡ totalCells p (chars text)) × (len ≡ capped (size width (formatCells p (chars text))))
+  pub measuring-done : Unseen text at → (counts ≡ totalCells p (chars text)) × (len ≡ capped (size width (formatCells p (chars text))))
   unfolding totalCells countCells formatCells render renew split
   measuring-done h = (
     sym (m .counts-same ∙ ap (λ (l : List ℕ). counts ⊕ totalCells p l) (h .chars-none) ∙ plus-empty counts),
     sym (m .length-same ∙ ap (λ (l : List ℕ). capped (len + size width (formatCells p l))) (h .chars-none) ∙ ap capped (omega arith) ∙ capped-held len (m .held)),
   )
 
-  module _ (v w : ℕ) (h : Step text at v w) (l : length text ≤ most) where
-    pub measuring-selector : isSelector v ≡ true → Measuring p text (at + w) (cappedSum counts (unsanctioned 1)) len
+  module _ {v : ℕ} {k : Class} {next : ℕ} (h : Seen text at v k next) (l : length text ≤ most) where
+    pub measuring-selector : isSelector v ≡ true → Measuring p text next (cappedSum counts (unsanctioned 1)) len
     measuring-selector e = go (char-is v)
       where
-        go : CharIs v → Measuring p text (at + w) (cappedSum counts (unsanctioned 1)) len
+        go : CharIs v → Measuring p text next (cappedSum counts (unsanctioned 1)) len
         go (no-selector f) = absurd (true≢false (sym e ∙ f))
         go (a-selector q f) =
-            let t = chars (drop (at + w) text) in
+            let t = chars (drop next text) in
             let n = m .few-counts in
             let r = h .room in
-            let o = h .some in
+            let o = h .on in
             let d : chars (drop at text) ≡ asSelector q ∷ t = h .chars-on ∙ ap (λ (x : ℕ). x ∷ t) f in
             let u : cappedSum counts (unsanctioned 1) ≡ counts ⊕ unsanctioned 1 = whole-sum counts (unsanctioned 1) (omega arith) in
             record {
@@ -185,30 +185,28 @@ module _ {p : Policy} {text : List ℕ} {at : ℕ} {counts : NonCanonicality} {l
             }
 
     pub measuring-cell : isSelector v ≡ false → (o : Outcome) (end : ℕ)
-        → o ≡ outcome p v (following (cells (chars (drop (at + w) text)))) (leading (chars (drop (at + w) text)))
-        → end ≡ at + w + 3 * length (leading (chars (drop (at + w) text)))
-        → Measuring p text end (cappedSum counts (o .counts)) (capped (len + (w + slotLength (o .slot))))
-    unfolding width
+        → o ≡ outcome p v (following (cells (chars (drop next text)))) (leading (chars (drop next text)))
+        → end ≡ next + 3 * length (leading (chars (drop next text)))
+        → Measuring p text end (cappedSum counts (o .counts)) (capped (len + (next - at + slotLength (o .slot))))
     measuring-cell e o end ho he =
-        let t = chars (drop (at + w) text) in
+        let t = chars (drop next text) in
         let n = m .few-counts in
-        let b = h .some in
-        let r : end ≤ length text = omega (arith, he, selectors-room text (at + w) (h .room)) in
+        let b = h .on in
+        let r : end ≤ length text = omega (arith, he, selectors-room text next (h .room)) in
         let f : total (o .counts) ≤ suc (length (leading t)) = omega (arith, ap (λ (x : Outcome). total (x .counts)) ho, few p v (following (cells t)) (leading t)) in
         let u : cappedSum counts (o .counts) ≡ counts ⊕ o .counts = whole-sum counts (o .counts) (omega arith) in
-        let d : behindSelectors t ≡ chars (drop end text) = sym (ap (λ (x : ℕ). chars (drop x text)) he ∙ behind-at text (at + w)) in
+        let d : behindSelectors t ≡ chars (drop end text) = sym (ap (λ (x : ℕ). chars (drop x text)) he ∙ behind-at text next) in
         let c : totalCells p (v ∷ t) ≡ o .counts ⊕ totalCells p (chars (drop end text)) =
         total-char p v t e ∙ (λ i. sym ho i .counts ⊕ totalCells p (d i)) in
         let z : size width (formatCells p (v ∷ t)) ≡ width v + slotLength (o .slot) + size width (formatCells p (chars (drop end text))) =
         format-char p v t e ∙ (λ i. width v + slotLength (sym ho i .slot) + size width (formatCells p (d i))) in
-        let k = h .width in
         record {
           counts-same =
               m .counts-same ∙ ap (λ (s : List ℕ). counts ⊕ totalCells p s) (h .chars-on) ∙ ap (λ (n : NonCanonicality). counts ⊕ n) c
               ∙ sym (plus-assoc counts (o .counts) (totalCells p (chars (drop end text)))) ∙ ap (λ (n : NonCanonicality). n ⊕ totalCells p (chars (drop end text))) (sym u);
           length-same =
               m .length-same ∙ ap (λ (s : List ℕ). capped (len + size width (formatCells p s))) (h .chars-on)
-              ∙ ap capped (omega (arith, z)) ∙ sym (capped-on (len + (w + slotLength (o .slot))) (size width (formatCells p (chars (drop end text)))));
+              ∙ ap capped (omega (arith, h .behind, z)) ∙ sym (capped-on (len + (next - at + slotLength (o .slot))) (size width (formatCells p (chars (drop end text)))));
           few-counts = omega (arith, ap total u);
-          held = capped-most (len + (w + slotLength (o .slot)));
+          held = capped-most (len + (next - at + slotLength (o .slot)));
         }

@@ -15,10 +15,8 @@ use base::TEXT_LIMIT;
 use policy::Policy;
 use scanner::char_class::Class;
 use scanner::char_class::Peeked;
-use scanner::char_class::class_of;
 use scanner::char_class::peek;
 use unicode::presentation::Presentation;
-use utf8::ReadChar;
 
 // A choice: the bytes of its unit, from start up to end, where the next choice is looked for, and its default.
 pub struct ReplacementChoice {
@@ -66,18 +64,17 @@ pub fn next_choice(raw: &[u8], at: usize, policy: Policy) -> ChoiceStep
 {
     let mut start = at;
     loop {
-        match utf8::read_char(raw, start) {
-            ReadChar::Char { value, width } => match class_of(value) {
+        match peek(raw, start) {
+            Peeked::Char {
+                value,
+                class,
+                end: next,
+            } => match class {
                 Class::Selector => {
-                    start += width;
+                    start = next;
                 }
                 _ => {
-                    let CellOutcome { outcome, end } = cell_outcome(
-                        raw,
-                        start + width,
-                        value,
-                        policy,
-                    );
+                    let CellOutcome { outcome, end } = cell_outcome(raw, next, value, policy);
                     let slot = outcome.slot;
                     if let Slot::Decided(default) = slot {
                         return ChoiceStep::Choice(ReplacementChoice {
@@ -90,10 +87,7 @@ pub fn next_choice(raw: &[u8], at: usize, policy: Policy) -> ChoiceStep
                     start = end;
                 }
             },
-            ReadChar::IllFormed => {
-                return ChoiceStep::End;
-            }
-            ReadChar::End => {
+            Peeked::NoChar => {
                 return ChoiceStep::End;
             }
         }
@@ -105,10 +99,13 @@ fn unit_end(raw: &[u8], at: usize) -> usize
     ensures { λ r. ⌜ r ≡ cellsStart (now (raw .entry)) at + bytesOf (frontUnit (cellsFrom (now (raw .entry)) at)) ⌝ }
 {
     let start = scanner::consume::run_end(raw, at, scanner::consume::RunKind::Selectors);
-    match utf8::read_char(raw, start) {
-        ReadChar::Char { value: _, width } => end_before_link(raw, start + width),
-        ReadChar::IllFormed => start,
-        ReadChar::End => start,
+    match peek(raw, start) {
+        Peeked::Char {
+            value: _,
+            class: _,
+            end: next,
+        } => end_before_link(raw, next),
+        Peeked::NoChar => start,
     }
 }
 

@@ -18,10 +18,10 @@ use crate::types::NonCanonicality;
 use crate::types::add_count;
 use policy::Policy;
 use scanner::char_class::Class;
-use scanner::char_class::class_of;
+use scanner::char_class::Peeked;
+use scanner::char_class::peek;
 use scanner::selectors::PresentationSelectors;
 use scanner::selectors::consume_presentation_selectors;
-use utf8::ReadChar;
 
 // Each selector has three bytes.
 const SELECTOR_BYTES: usize = 3;
@@ -36,10 +36,13 @@ pub struct CellOutcome {
 fn class_at(text: &[u8], at: usize) -> Class
     ensures { λ r. ⌜ r ≡ classInFront (chars (drop at (now (text .entry)))) ⌝ }
 {
-    match utf8::read_char(text, at) {
-        ReadChar::Char { value, width: _ } => class_of(value),
-        ReadChar::IllFormed => Class::Other,
-        ReadChar::End => Class::Other,
+    match peek(text, at) {
+        Peeked::Char {
+            value: _,
+            class,
+            end: _,
+        } => class,
+        Peeked::NoChar => Class::Other,
     }
 }
 
@@ -85,29 +88,25 @@ pub fn measure_cells(text: &[u8], policy: Policy) -> Measure
     let mut len = 0;
     let mut at = 0;
     loop {
-        match utf8::read_char(text, at) {
-            ReadChar::Char { value, width } => match class_of(value) {
+        match peek(text, at) {
+            Peeked::Char {
+                value,
+                class,
+                end: next,
+            } => match class {
                 Class::Selector => {
                     counts = counts.add(NonCanonicality::unsanctioned(1));
-                    at += width;
+                    at = next;
                 }
                 _ => {
-                    let CellOutcome { outcome, end } = cell_outcome(
-                        text,
-                        at + width,
-                        value,
-                        policy,
-                    );
+                    let CellOutcome { outcome, end } = cell_outcome(text, next, value, policy);
                     let slot = outcome.slot;
                     counts = counts.add(outcome.counts);
-                    len = add_count(len, width + slot_len(slot));
+                    len = add_count(len, next - at + slot_len(slot));
                     at = end;
                 }
             },
-            ReadChar::IllFormed => {
-                return Measure { counts, len };
-            }
-            ReadChar::End => {
+            Peeked::NoChar => {
                 return Measure { counts, len };
             }
         }

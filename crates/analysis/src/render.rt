@@ -32,10 +32,10 @@ use base::Refusal;
 use base::TEXT_LIMIT;
 use policy::Policy;
 use scanner::char_class::Class;
-use scanner::char_class::class_of;
+use scanner::char_class::Peeked;
+use scanner::char_class::peek;
 use unicode::presentation::FromSelector;
 use unicode::presentation::Presentation;
-use utf8::ReadChar;
 use utf8::WriteChar;
 
 // Puts a character's bytes, for which there is room.
@@ -115,28 +115,24 @@ fn put_cells(text: &[u8], policy: Policy, decisions: &[u8], out: &mut [u8]) -> u
     let mut to = 0;
     let mut used = 0;
     loop {
-        match utf8::read_char(text, at) {
-            ReadChar::Char { value, width } => match class_of(value) {
+        match peek(text, at) {
+            Peeked::Char {
+                value,
+                class,
+                end: next,
+            } => match class {
                 Class::Selector => {
-                    at += width;
+                    at = next;
                 }
                 _ => {
-                    let CellOutcome { outcome, end } = cell_outcome(
-                        text,
-                        at + width,
-                        value,
-                        policy,
-                    );
+                    let CellOutcome { outcome, end } = cell_outcome(text, next, value, policy);
                     let slot = outcome.slot;
                     to = put_cell(out, to, value, slot, decisions, used);
                     used += decisions_used(slot);
                     at = end;
                 }
             },
-            ReadChar::IllFormed => {
-                return to;
-            }
-            ReadChar::End => {
+            Peeked::NoChar => {
                 return to;
             }
         }

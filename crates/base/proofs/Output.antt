@@ -1,13 +1,14 @@
 -- The two outcomes of writing a result into a lent buffer.
-use mathlib.Core.Path.{_≡_, ap, _∙_}
+use mathlib.Core.Path.{_≡_, refl, ap, _∙_}
+use mathlib.Core.Bool.{Bool, cond}
 use mathlib.Core.List.{List, _++_}
-use Prim.Native.Nat.{ℕ, _<_, _≤_}
+use Prim.Native.Nat.{ℕ, _+_, _<_, _≤_}
 use native.Mathlib.Nat.{zero-add}
 use native.Mathlib.Omega.{arith}
 use lib.ListN.{drop, length}
-use lib.Seq.{sets-eq}
+use lib.Seq.{sets, sets-eq}
 use borrow.Author.Tests.{le-leb, lt-leb}
-use Rattle.base.specs.Output.{PutAt, Wrote, answerOf, bufferOf}
+use Rattle.base.specs.Output.{PutAt, Wrote, answerOf, bufferOf, roomFor}
 use Rattle.base.specs.declared.WriteAnswer.the-variants.{TooShort, Written}
 
 -- there is room, and the result stands at the front
@@ -30,3 +31,10 @@ too-short {before} {n} result e h =
     let l : length before < length result = omega arith in
     let t = lt-leb (length result) (length before) l in
     record { answered = ap TooShort e ∙ simp t; buffer = simp t }
+
+-- what `write_bytes` ensures, where there is room
+pub bytes-put : (o o′ : List ℕ) (at : ℕ) (xs : List ℕ) → at + length xs ≤ length o → o′ ≡ cond (roomFor xs o at) (sets o at xs) o → PutAt o at xs o′ (at + length xs)
+bytes-put o o′ at xs h e = record {
+  ends = refl;
+  bytes = e ∙ ap (λ (t : Bool). cond t (sets o at xs) o) (le-leb (at + length xs) (length o) h);
+}

@@ -1,7 +1,7 @@
 -- A result that is written into a lent buffer: the answer, and what the buffer holds after the call (document 01,
 -- "Turned back").
 use mathlib.Core.Path.{_≡_}
-use mathlib.Core.Bool.{cond}
+use mathlib.Core.Bool.{Bool, cond}
 use mathlib.Core.List.{List, _++_}
 use mathlib.Core.Option.{Option, none, some}
 use Prim.Native.Nat.{ℕ, _+_}
@@ -25,6 +25,10 @@ answerOf result out = cond (leb (length result) (length out)) (Written (length r
 -- "all buffers" as they were
 unfoldable pub bufferOf : List ℕ → List ℕ → List ℕ
 bufferOf result out = cond (leb (length result) (length out)) (result ++ drop (length result) out) out
+
+-- bytes have room in a buffer, from the place on
+abbrev pub roomFor : List ℕ → List ℕ → ℕ → Bool
+roomFor bytes out at = leb (at + length bytes) (length out)
 
 -- a list written into a buffer at a place: where it ends, and the buffer after it
 pub record PutAt (before : List ℕ) (at : ℕ) (xs after : List ℕ) (r : ℕ) : Type 0 where

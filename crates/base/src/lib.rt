@@ -1,11 +1,12 @@
 // What every layer shares: a byte of a slice, and numbers of eight bytes, lowest first (document 01: "There a
 // policy word, a start, an end or a count is 8 bytes, lowest first"). `read_word` equals `number` of the eight
-// bytes, and `write_word` puts `wordBytes`.
+// bytes, `write_word` puts `wordBytes`, and `write_bytes` puts the bytes it is given.
 ghost use mathlib.Core.Path.{_≡_};
 ghost use mathlib.Core.Bool.{cond};
 ghost use Prim.Native.Nat.{_+_, _*_, _≤_};
 ghost use lib.ListN.{drop, getD, length, take};
 ghost use lib.Seq.{sets};
+ghost use Rattle.base.specs.Output.{PutAt, roomFor};
 ghost use Rattle.base.specs.Words.{hasRoom, littleEndian, number, wordBytes};
 
 pub const WORD_BYTES: usize = 8;
@@ -99,5 +100,34 @@ pub fn write_word(out: &mut [u8], at: usize, x: u64) -> bool
     }
     put_half(out, at, x);
     put_half(out, at + 4, x / 0x1_0000_0000);
+    true
+}
+
+// Puts bytes at a place, and says where they end.
+fn put_bytes(out: &mut [u8], start: usize, bytes: &[u8]) -> usize
+    requires { ⌜ start + length (now bytes) ≤ length (now out) ⌝ }
+    ensures { λ r. ⌜ PutAt (now (out .entry)) start (now (bytes .entry)) (now (out .exit)) r ⌝ }
+{
+    let mut at = start;
+    let mut i = 0;
+    while i < bytes.len() {
+        out[at] = bytes[i];
+        at += 1;
+        i += 1;
+    }
+    at
+}
+
+// Writes bytes at a place and answers true, or leaves the buffer where it has no room for them.
+pub fn write_bytes(out: &mut [u8], at: usize, bytes: &[u8]) -> bool
+    ensures { λ r. ⌜ (r ≡ roomFor (now (bytes .entry)) (now (out .entry)) at) × (now (out .exit) ≡ cond (roomFor (now (bytes .entry)) (now (out .entry)) at) (sets (now (out .entry)) at (now (bytes .entry))) (now (out .entry))) ⌝ }
+{
+    if out.len() < bytes.len() {
+        return false;
+    }
+    if out.len() - bytes.len() < at {
+        return false;
+    }
+    put_bytes(out, at, bytes);
     true
 }

@@ -1,10 +1,11 @@
 -- The proof of each statement of specs/Theorems.antt and specs/Worked.antt.
-use Rattle.formatter.specs.Theorems.{CellByCell, EveryFormattedText, EveryList, FiledIsFormatted, IntakeComesFirst, IntakeInOrder}
+use Rattle.formatter.specs.Theorems.{CellByCell, EveryFormattedText, EveryList, FiledIsFormatted, IntakeComesFirst, IntakeInOrder, ListedAsBytes}
 use Rattle.formatter.specs.Worked.{WorkedList, WorkedListClaimed, WorkedTexts}
 use Rattle.formatter.proofs.CellView.{cell-view}
 use Rattle.formatter.proofs.FormattedClaim.{formatted-claim}
 use Rattle.formatter.proofs.ListClaim.{list-claim}
 use Rattle.formatter.proofs.Outcomes.{comes-first, filed, in-order}
+use Rattle.formatter.proofs.RowBytes.{listed-as}
 use Rattle.formatter.proofs.Worked.{calls, claimed, texts}
 
 pub intake-in-order : IntakeInOrder
@@ -12,6 +13,9 @@ intake-in-order = in-order
 
 pub intake-comes-first : IntakeComesFirst
 intake-comes-first = comes-first
+
+pub listed-as-bytes : ListedAsBytes
+listed-as-bytes = listed-as
 
 pub filed-is-formatted : FiledIsFormatted
 filed-is-formatted = filed

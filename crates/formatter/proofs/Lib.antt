@@ -18,4 +18,11 @@ pub mod Outcomes
 pub mod FirstBook
 pub mod ListClaim
 pub mod FormattedClaim
+pub mod Passing
+pub mod ByCells
+pub mod Steps
+pub mod RowBytes
+pub mod Starting
+pub mod Around
+pub mod Exchanging
 pub mod Claims

@@ -15,7 +15,7 @@ use Rattle.policy.specs.PolicyBytes.{isPolicy, policyOf}
 use Rattle.formatter.specs.Filed.{filedText}
 use Rattle.formatter.specs.Findings.{findingRow, findings}
 use Rattle.formatter.specs.Format.{format, formatted, sameBytes}
-use Rattle.formatter.specs.List.{list}
+use Rattle.formatter.specs.List.{fillTable, list, listBytes, rowNumbers}
 use Rattle.analysis.specs.Decisions.{judge, meaning}
 use Rattle.formatter.specs.Mend.{exchanged, findingAt, mend}
 use Rattle.base.specs.Refusals.{After, kept, orElse}
@@ -44,12 +44,13 @@ in-order text policy =
     )
 
 pub comes-first : IntakeComesFirst
-unfolding IntakeComesFirst format list mend
+unfolding IntakeComesFirst format list listBytes mend
 comes-first text policy r e =
     let F = formatted text policy in
     let p = policyOf policy in (
       (λ out. ap (λ (o : Option Refusal). orElse o (λ (f : Refusal). kept (Format.Refused f) out) (formatTests (sameBytes F text) (leb (length F) (length out)) F out)) e),
       (λ table. ap (λ (o : Option Refusal). orElse o (λ (f : Refusal). kept (Listing.Refused f) table) (listRows (map (findingRow p) (findings text policy)) table)) e),
+      (λ table. ap (λ (o : Option Refusal). orElse o (λ (f : Refusal). kept (Listing.Refused f) table) (fillTable rowNumbers 80 (map (findingRow p) (findings text policy)) table)) e),
       (λ offset ds out.
           let x = findingAt offset (findings text policy) in
           ap (λ (o : Option Refusal). orElse o (λ (f : Refusal). kept (Mend.Refused f) out) (judge p x ds (exchanged text p offset (map meaning ds) x) out)) e),

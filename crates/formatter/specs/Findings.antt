@@ -1,6 +1,7 @@
 -- The findings of a text under a policy, in text order, with their starts in bytes, their rows and their totals (document 01, "Counts and finding").
 use mathlib.Core.List.{List, [], _∷_, map}
 use Prim.Native.Nat.{ℕ, _+_}
+use lib.ListN.{drop}
 use Rattle.utf8.specs.Rfc3629.{chars}
 use Rattle.policy.specs.declared.Policy.{Policy}
 use Rattle.policy.specs.PolicyBytes.{policyOf}
@@ -11,9 +12,13 @@ use Rattle.analysis.specs.Counts.{_⊕_, empty}
 use Rattle.analysis.specs.declared.types.NonCanonicality.{NonCanonicality}
 use Rattle.analysis.specs.declared.types.Finding.{Finding}
 
--- "A finding exists if some count is not 0": the items of a text, by its bytes and the policy's, that are findings.
+-- "A finding exists if some count is not 0": the items of a text from a byte offset on that are findings.
+abbrev pub findingsFrom : Policy → List ℕ → ℕ → List Found
+findingsFrom p text at = found (isFinding p) width at (items (chars (drop at text)))
+
+-- The findings of a text, by its bytes and the policy's.
 unfoldable pub findings : List ℕ → List ℕ → List Found
-findings text policy = found (isFinding (policyOf policy)) width 0 (items (chars text))
+findings text policy = findingsFrom (policyOf policy) text 0
 
 -- "A listed finding is its start, its end and the eight counts".
 unfoldable pub findingRow : Policy → Found → Finding

@@ -11,6 +11,9 @@ use Rattle.policy.specs.declared.Policy.{Policy}
 use Rattle.policy.specs.PolicyBytes.{policyOf}
 use Rattle.scanner.specs.Items.{Item}
 use Rattle.scanner.specs.Spans.{Found}
+use Rattle.scanner.specs.declared.ScanItem.{ScanItem}
+use Rattle.scanner.specs.declared.ScanStep.{ScanStep}
+use Rattle.scanner.specs.declared.ScanStep.the-variants as Step
 use Rattle.analysis.specs.Analysis.{replacement}
 use Rattle.analysis.specs.Decisions.{judge, meaning}
 use Rattle.formatter.specs.Findings.{findings}
@@ -26,6 +29,11 @@ use Rattle.base.specs.declared.Refusal.{Refusal}
 unfoldable pub findingAt : ℕ → List Found → Option Item
 findingAt offset [] = none
 findingAt offset (f ∷ fs) = cond (eqb (f .start) offset) (some (f .item)) (findingAt offset fs)
+
+-- The item that starts there, finding or not, as the scanner answers it.
+unfoldable pub itemStarting : ℕ → List ScanItem → ScanStep
+itemStarting offset [] = Step.End
+itemStarting offset (x ∷ xs) = cond (eqb (x .start) offset) (Step.Item x) (itemStarting offset xs)
 
 -- ".. and writes the whole text with that replacement": the bytes before the finding, its replacement, the bytes behind it.
 abbrev pub exchanged : List ℕ → Policy → ℕ → List Presentation → Option Item → List ℕ

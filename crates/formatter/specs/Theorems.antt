@@ -12,7 +12,7 @@ use Rattle.formatter.specs.Demand3.{Accepted, FormattedClaim, ListClaim}
 use Rattle.formatter.specs.Filed.{filedText}
 use Rattle.formatter.specs.Findings.{textTotals}
 use Rattle.formatter.specs.Format.{format, formatted}
-use Rattle.formatter.specs.List.{list}
+use Rattle.formatter.specs.List.{list, listBytes, rowNumbers, rowsBytes}
 use Rattle.formatter.specs.Mend.{Call, mend}
 use Rattle.formatter.specs.Intake.{intakeRefusal, listLimit}
 use Rattle.analysis.specs.declared.types.Finding.{Finding}
@@ -39,7 +39,16 @@ IntakeComesFirst =
     (text policy : List ℕ) (r : Refusal) → intakeRefusal text policy ≡ some r
     → ((out : List ℕ) → format text policy out ≡ record { answer = Format.Refused r; buffer = out })
     × ((table : List Finding) → list text policy table ≡ record { answer = Refused r; buffer = table })
+    × ((table : List ℕ) → listBytes text policy table ≡ record { answer = Refused r; buffer = table })
     × ((offset : ℕ) (decisions out : List ℕ) → mend text policy offset decisions out ≡ record { answer = Mend.Refused r; buffer = out })
+
+-- ---- listing
+
+-- Listing into a table of bytes that are rows leaves the bytes of the rows that listing into the table of those rows leaves.
+unfoldable pub ListedAsBytes : Type 0
+ListedAsBytes =
+    (text policy : List ℕ) (table : List Finding)
+    → listBytes text policy (rowsBytes rowNumbers table) ≡ record { answer = list text policy table .answer; buffer = rowsBytes rowNumbers (list text policy table .buffer) }
 
 -- ---- the filed text
 

@@ -58,19 +58,13 @@ fn hex_width(ch: u32) -> usize
     6
 }
 
-// Writes bytes at a place, and says where they end.
+// Writes bytes at a place, where there is room for them, and says where they end.
 fn put_bytes(out: &mut [u8], start: usize, bytes: &[u8]) -> usize
     requires { ⌜ start + length (now bytes) ≤ length (now out) ⌝ }
     ensures { λ r. ⌜ PutAt (now (out .entry)) start (now (bytes .entry)) (now (out .exit)) r ⌝ }
 {
-    let mut at = start;
-    let mut i = 0;
-    while i < bytes.len() {
-        out[at] = bytes[i];
-        at += 1;
-        i += 1;
-    }
-    at
+    base::write_bytes(out, start, bytes);
+    start + bytes.len()
 }
 
 // Writes the last digits of a number.

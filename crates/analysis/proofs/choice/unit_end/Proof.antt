@@ -1,8 +1,7 @@
 -- `analysis::choice::unit_end` meets its contract: the unit begins behind the selectors at the offset and ends where the next link begins.
 use mathlib.Core.Path.{sym, _∙_}
-use native.Mathlib.Omega.{arith}
 use borrow.Author.Needs.{needs}
-use Rattle.utf8.proofs.Places.{step, stop-ill-formed, stop-end}
+use Rattle.scanner.proofs.Peek.{seen, unseen}
 use Rattle.analysis.proofs.ChoicePlaces.{first-cell, unit-none, unit-on}
 use Rattle.analysis.proofs.choice.unit_end.Statement.{statement}
 use Rattle.analysis.proofs.choice.unit_end.Tie as tie
@@ -10,19 +9,11 @@ use Rattle.analysis.proofs.choice.unit_end.Tie as tie
 run-end-requires : tie.Need-run-end-requires
 run-end-requires c κs = search needs
 
-read-char-requires : tie.Need-read-char-requires
-read-char-requires c κs = search needs
+peek-requires : tie.Need-peek-requires
+peek-requires c κs = search needs
 
-enum-known-width : tie.Need-enum-known-width
-enum-known-width c = search needs
-
-add-end-before-link : tie.Need-add-end-before-link
-add-end-before-link c =
-    let x = c .before .before .before .before .before .before .args in
-    let r = c .before .before .before .before .run-end in
-    let g = c .before .width .given in
-    let k = step (x .raw .now) (r .result) (g .0 .0) (g .0 .1 .0) (sym (c .before .before .before .read-char .ensures) ∙ g .1) in
-    omega arith
+enum-known-next : tie.Need-enum-known-next
+enum-known-next c = search needs
 
 end-before-link-requires : tie.Need-end-before-link-requires
 end-before-link-requires c κs = search needs
@@ -30,29 +21,18 @@ end-before-link-requires c κs = search needs
 enum-told : tie.Need-enum-told
 enum-told c = search needs
 
-enum-told-2 : tie.Need-enum-told-2
-enum-told-2 c = search needs
-
 returns : tie.Need-returns
 returns c =
     let x = c .before .before .before .before .before .before .before .args in
     let r = c .before .before .before .before .before .run-end in
-    let g = c .before .before .width .given in
-    let k = step (x .raw .now) (r .result) (g .0 .0) (g .0 .1 .0) (sym (c .before .before .before .before .read-char .ensures) ∙ g .1) in
-    unit-on (x .raw .now) (x .at) (r .result) (r .ensures ∙ first-cell (x .raw .now) (x .at)) (g .0 .0) (g .0 .1 .0) (c .end-before-link .result) k (c .end-before-link .ensures)
+    let k = seen (x .raw .now) (r .result) (sym (c .before .before .before .before .peek .ensures) ∙ c .before .before .next .given .1) in
+    unit-on (x .raw .now) (x .at) (r .result) (r .ensures ∙ first-cell (x .raw .now) (x .at)) (c .end-before-link .result) k (c .end-before-link .ensures)
 
 returns-2 : tie.Need-returns-2
 returns-2 c =
     let x = c .before .before .before .before .before .args in
     let r = c .before .before .before .run-end in
-    let k = stop-ill-formed (x .raw .now) (r .result) (sym (c .before .before .read-char .ensures) ∙ c .enum-told .given .1) in
-    unit-none (x .raw .now) (x .at) (r .result) (r .ensures ∙ first-cell (x .raw .now) (x .at)) k
-
-returns-3 : tie.Need-returns-3
-returns-3 c =
-    let x = c .before .before .before .before .before .args in
-    let r = c .before .before .before .run-end in
-    let k = stop-end (x .raw .now) (r .result) (sym (c .before .before .read-char .ensures) ∙ c .enum-told2 .given .1) in
+    let k = unseen (x .raw .now) (r .result) (sym (c .before .before .peek .ensures) ∙ c .enum-told .given .1) in
     unit-none (x .raw .now) (x .at) (r .result) (r .ensures ∙ first-cell (x .raw .now) (x .at)) k
 
 pub unit-end-spec : {M : Type 1} → statement M
@@ -60,12 +40,9 @@ unit-end-spec =
     tie.close
     (tie.spec
     run-end-requires
-    read-char-requires
-    enum-known-width
-    add-end-before-link
+    peek-requires
+    enum-known-next
     end-before-link-requires
     enum-told
-    enum-told-2
     returns
-    returns-2
-    returns-3)
+    returns-2)

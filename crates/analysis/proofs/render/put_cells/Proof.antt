@@ -1,20 +1,16 @@
 -- `analysis::render::put_cells` meets its contract. The loop's invariant: what is left at `at` under the decisions from `used` on is
 -- still to be written, at `to`; no more decisions are used than bytes are passed. The measure is the number of bytes left.
-use mathlib.Core.Path.{_≡_, refl, ap, sym, _∙_}
-use mathlib.Core.Bool.{true, false}
-use mathlib.Core.List.{[], _∷_, map}
+use mathlib.Core.Path.{sym, _∙_}
+use mathlib.Core.List.{map}
 use Prim.Native.Nat.{_-_, _≤_}
 use native.Mathlib.Omega.{arith}
 use borrow.Author.Needs.{needs}
 use lib.ListN.{drop, length}
 use Rattle.base.proofs.Writer.{Writing, begin, finish, pass, put, room}
-use Rattle.utf8.proofs.Places.{step, stop-ill-formed, stop-end}
-use Rattle.unicode.specs.Presentation.{isSelector}
-use Rattle.scanner.proofs.Arms.{class-arm}
-use Rattle.scanner.proofs.ClassTests.{forSelector, selector-test}
+use Rattle.scanner.proofs.Peek.{seen, unseen}
 use Rattle.analysis.specs.Decisions.{cellBytes, meaning}
-use Rattle.analysis.specs.Rules.{Outcome}
-use Rattle.analysis.proofs.Rendering.{left-cell, left-none, left-selector, leftAt, used-few}
+use Rattle.analysis.proofs.CellsAt.{is-selector, not-selector}
+use Rattle.analysis.proofs.Rendering.{left-cell, left-none, left-selector, leftAt, seen-scalar, used-few}
 use Rattle.analysis.proofs.render.put_cells.Statement.{statement}
 use Rattle.analysis.proofs.render.put_cells.Tie as tie
 
@@ -28,112 +24,67 @@ abbrev μ-loop : tie.MeasureT-loop
 loop-holds : tie.Need-loop-holds Inv-loop μ-loop
 loop-holds c = (omega arith, begin _ _ _ (let r = c .before .before .before .pre in omega arith))
 
-read-char-requires : tie.Need-read-char-requires Inv-loop μ-loop
-read-char-requires c κs = search needs
+peek-requires : tie.Need-peek-requires Inv-loop μ-loop
+peek-requires c κs = search needs
 
 enum-known-value : tie.Need-enum-known-value Inv-loop μ-loop
 enum-known-value c = search needs
 
-class-of-requires : tie.Need-class-of-requires Inv-loop μ-loop
-class-of-requires c κs = search needs
-
 enum-told : tie.Need-enum-told Inv-loop μ-loop
 enum-told c = search needs
 
-add-at : tie.Need-add-at Inv-loop μ-loop
-add-at c =
-    let x = c .before .before .before .before .before .before .before .before .before .before .before .args in
-    let l = c .before .before .before .before .before .before .before .loop in
-    let g = c .before .before .before .before .value .given in
-    let v = g .0 .0 in
-    let w = g .0 .1 .0 in
-    let k = step (x .text .now) (l .at) v w (sym (c .before .before .before .before .before .before .read-char .ensures) ∙ g .1) in
-    omega (arith, c .before .before .before .before .before .before .before .before .before .before .before .good .0 .0)
-
 loop-less : tie.Need-loop-less Inv-loop μ-loop
 loop-less c =
-    let x = c .before .before .before .before .before .before .before .before .before .before .before .args in
-    let l = c .before .before .before .before .before .before .before .loop in
-    let g = c .before .before .before .before .value .given in
-    let v = g .0 .0 in
-    let w = g .0 .1 .0 in
-    let k = step (x .text .now) (l .at) v w (sym (c .before .before .before .before .before .before .read-char .ensures) ∙ g .1) in
-    omega arith
+    let x = c .before .before .before .before .before .before .before .before .before .before .args in
+    let l = c .before .before .before .before .before .before .loop in
+    let k = seen (x .text .now) (l .at) (sym (c .before .before .before .before .before .peek .ensures) ∙ c .before .before .before .value .given .1) in
+    omega (arith, k .on, k .room)
 
 loop-again : tie.Need-loop-again Inv-loop μ-loop
 loop-again c =
-    let x = c .before .before .before .before .before .before .before .before .before .before .before .args in
-    let l = c .before .before .before .before .before .before .before .loop in
-    let g = c .before .before .before .before .value .given in
-    let v = g .0 .0 in
-    let w = g .0 .1 .0 in
-    let k = step (x .text .now) (l .at) v w (sym (c .before .before .before .before .before .before .read-char .ensures) ∙ g .1) in
-    let e : isSelector v ≡ true = selector-test v ∙ ap forSelector (sym (c .before .before .class-of .ensures) ∙ c .enum-told .given .1) in
-    (omega arith, pass _ _ _ _ _ (l .inv .1) (left-selector (x .policy) (x .text .now) (x .decisions .now) (l .at) (l .used) v w k e))
-
-add-cell-outcome : tie.Need-add-cell-outcome Inv-loop μ-loop
-add-cell-outcome c =
     let x = c .before .before .before .before .before .before .before .before .before .before .args in
     let l = c .before .before .before .before .before .before .loop in
-    let g = c .before .before .before .value .given in
-    let v = g .0 .0 in
-    let w = g .0 .1 .0 in
-    let k = step (x .text .now) (l .at) v w (sym (c .before .before .before .before .before .read-char .ensures) ∙ g .1) in
-    omega (arith, c .before .before .before .before .before .before .before .before .before .before .good .0 .0)
+    let k = seen (x .text .now) (l .at) (sym (c .before .before .before .before .before .peek .ensures) ∙ c .before .before .before .value .given .1) in
+    (omega (arith, k .on, l .inv .0), pass _ _ _ _ _ (l .inv .1) (left-selector (x .policy) (x .text .now) (x .decisions .now) (l .at) (l .used) k (is-selector k (c .enum-told .given .1))))
 
 cell-outcome-requires : tie.Need-cell-outcome-requires Inv-loop μ-loop
 cell-outcome-requires c κs = search needs
 
 put-cell-requires : tie.Need-put-cell-requires Inv-loop μ-loop
 put-cell-requires c κs =
-    let x = c .before .before .before .before .before .before .before .before .before .before .before .before .before .args in
-    let l = c .before .before .before .before .before .before .before .before .before .loop in
-    let g = c .before .before .before .before .before .before .value .given in
-    let v = g .0 .0 in
-    let w = g .0 .1 .0 in
-    let k = step (x .text .now) (l .at) v w (sym (c .before .before .before .before .before .before .before .before .read-char .ensures) ∙ g .1) in
+    let x = c .before .before .before .before .before .before .before .before .before .before .before .before .args in
+    let l = c .before .before .before .before .before .before .before .before .loop in
+    let k = seen (x .text .now) (l .at) (sym (c .before .before .before .before .before .before .before .peek .ensures) ∙ c .before .before .before .before .before .value .given .1) in
     let o = c .before .before .cell-outcome in
-    let e : isSelector v ≡ false = selector-test v ∙ ap forSelector (sym (c .before .before .before .before .class-of .ensures)) ∙ class-arm (1 ∷ 2 ∷ 3 ∷ 4 ∷ 5 ∷ 6 ∷ 7 ∷ []) (λ k. forSelector k ≡ false) (tt, refl, refl, refl, refl, refl, refl, refl) (c .before .before .before .before .class-of .result) (c .before .before .before .match2 .keys2) in
-    let f = left-cell (x .policy) (x .text .now) (x .decisions .now) (l .at) (l .used) v w k e (o .result .outcome .slot) (o .result .end) (ap (λ (y : Outcome). y .slot) (o .ensures .0)) (o .ensures .1) in
-    (k .is-scalar, room _ _ _ _ (cellBytes v (o .result .outcome .slot) (map meaning (drop (l .used) (x .decisions .now)))) _ (l .inv .1) f)
+    let f = left-cell (x .policy) (x .text .now) (x .decisions .now) (l .at) (l .used) k (not-selector k (c .before .before .before .match2 .keys2)) (o .result .outcome) (o .result .end) (o .ensures .0) (o .ensures .1) in
+    (seen-scalar k, room _ _ _ _ (cellBytes (c .before .before .before .before .before .value .given .0 .0) (o .result .outcome .slot) (map meaning (drop (l .used) (x .decisions .now)))) _ (l .inv .1) f)
 
 decisions-used-requires : tie.Need-decisions-used-requires Inv-loop μ-loop
 decisions-used-requires c κs = search needs
 
 add-used : tie.Need-add-used Inv-loop μ-loop
 add-used c =
-    let x = c .before .before .before .before .before .before .before .before .before .before .before .before .before .before .before .before .before .args in
-    let l = c .before .before .before .before .before .before .before .before .before .before .before .before .before .loop in
-    let g = c .before .before .before .before .before .before .before .before .before .before .value .given in
-    let v = g .0 .0 in
-    let w = g .0 .1 .0 in
-    let k = step (x .text .now) (l .at) v w (sym (c .before .before .before .before .before .before .before .before .before .before .before .before .read-char .ensures) ∙ g .1) in
-    omega (arith, c .before .before .before .before .before .before .before .before .before .before .before .before .before .before .before .before .before .good .0 .0, c .decisions-used .ensures, used-few (c .before .before .before .before .before .before .cell-outcome .result .outcome .slot))
+    let x = c .before .before .before .before .before .before .before .before .before .before .before .before .before .before .before .before .args in
+    let l = c .before .before .before .before .before .before .before .before .before .before .before .before .loop in
+    let k = seen (x .text .now) (l .at) (sym (c .before .before .before .before .before .before .before .before .before .before .before .peek .ensures) ∙ c .before .before .before .before .before .before .before .before .before .value .given .1) in
+    omega (arith, k .on, k .room, l .inv .0, c .before .before .before .before .before .before .before .before .before .before .before .before .before .before .before .before .good .0 .0, c .decisions-used .ensures, used-few (c .before .before .before .before .before .before .cell-outcome .result .outcome .slot))
 
 loop-less-2 : tie.Need-loop-less-2 Inv-loop μ-loop
 loop-less-2 c =
-    let x = c .before .before .before .before .before .before .before .before .before .before .before .before .before .before .before .before .before .args in
-    let l = c .before .before .before .before .before .before .before .before .before .before .before .before .before .loop in
-    let g = c .before .before .before .before .before .before .before .before .before .before .value .given in
-    let v = g .0 .0 in
-    let w = g .0 .1 .0 in
-    let k = step (x .text .now) (l .at) v w (sym (c .before .before .before .before .before .before .before .before .before .before .before .before .read-char .ensures) ∙ g .1) in
-    omega (arith, c .before .before .before .before .before .before .cell-outcome .ensures .1)
+    let x = c .before .before .before .before .before .before .before .before .before .before .before .before .before .before .before .before .args in
+    let l = c .before .before .before .before .before .before .before .before .before .before .before .before .loop in
+    let k = seen (x .text .now) (l .at) (sym (c .before .before .before .before .before .before .before .before .before .before .before .peek .ensures) ∙ c .before .before .before .before .before .before .before .before .before .value .given .1) in
+    omega (arith, k .on, k .room, c .before .before .before .before .before .before .cell-outcome .ensures .1)
 
 loop-again-2 : tie.Need-loop-again-2 Inv-loop μ-loop
 loop-again-2 c =
-    let x = c .before .before .before .before .before .before .before .before .before .before .before .before .before .before .before .before .before .args in
-    let l = c .before .before .before .before .before .before .before .before .before .before .before .before .before .loop in
-    let g = c .before .before .before .before .before .before .before .before .before .before .value .given in
-    let v = g .0 .0 in
-    let w = g .0 .1 .0 in
-    let k = step (x .text .now) (l .at) v w (sym (c .before .before .before .before .before .before .before .before .before .before .before .before .read-char .ensures) ∙ g .1) in
+    let x = c .before .before .before .before .before .before .before .before .before .before .before .before .before .before .before .before .args in
+    let l = c .before .before .before .before .before .before .before .before .before .before .before .before .loop in
+    let k = seen (x .text .now) (l .at) (sym (c .before .before .before .before .before .before .before .before .before .before .before .peek .ensures) ∙ c .before .before .before .before .before .before .before .before .before .value .given .1) in
     let o = c .before .before .before .before .before .before .cell-outcome in
-    let e : isSelector v ≡ false = selector-test v ∙ ap forSelector (sym (c .before .before .before .before .before .before .before .before .class-of .ensures)) ∙ class-arm (1 ∷ 2 ∷ 3 ∷ 4 ∷ 5 ∷ 6 ∷ 7 ∷ []) (λ k. forSelector k ≡ false) (tt, refl, refl, refl, refl, refl, refl, refl) (c .before .before .before .before .before .before .before .before .class-of .result) (c .before .before .before .before .before .before .before .match2 .keys2) in
-    let f = left-cell (x .policy) (x .text .now) (x .decisions .now) (l .at) (l .used) v w k e (o .result .outcome .slot) (o .result .end) (ap (λ (y : Outcome). y .slot) (o .ensures .0)) (o .ensures .1) in
-    let n = c .decisions-used .ensures in
-    let i : c .decisions-used .result ≤ 1 = omega (arith, n, used-few (o .result .outcome .slot)) in (
-      omega (arith, o .ensures .1),
+    let f = left-cell (x .policy) (x .text .now) (x .decisions .now) (l .at) (l .used) k (not-selector k (c .before .before .before .before .before .before .before .match2 .keys2)) (o .result .outcome) (o .result .end) (o .ensures .0) (o .ensures .1) in
+    let n = c .decisions-used .ensures in (
+      omega (arith, k .on, l .inv .0, o .ensures .1, n, used-few (o .result .outcome .slot)),
       rw n (put _ _ _ _ _ (l .inv .1) (c .before .before .before .put-cell .ensures) f),
     )
 
@@ -147,20 +98,7 @@ returns : tie.Need-returns Inv-loop μ-loop
 returns c =
     let x = c .before .before .before .before .before .before .before .args in
     let l = c .before .before .before .loop in
-    let k = stop-ill-formed (x .text .now) (l .at) (sym (c .before .before .read-char .ensures) ∙ c .enum-told2 .given .1) in
-    finish _ _ _ _ (l .inv .1) (left-none (x .policy) (x .text .now) (x .decisions .now) (l .at) (l .used) k)
-
-enum-told-3 : tie.Need-enum-told-3 Inv-loop μ-loop
-enum-told-3 c = search needs
-
-same-length-2 : tie.Need-same-length-2 Inv-loop μ-loop
-same-length-2 c = c .before .before .before .loop .inv .1 .same
-
-returns-2 : tie.Need-returns-2 Inv-loop μ-loop
-returns-2 c =
-    let x = c .before .before .before .before .before .before .before .args in
-    let l = c .before .before .before .loop in
-    let k = stop-end (x .text .now) (l .at) (sym (c .before .before .read-char .ensures) ∙ c .enum-told3 .given .1) in
+    let k = unseen (x .text .now) (l .at) (sym (c .before .before .peek .ensures) ∙ c .enum-told2 .given .1) in
     finish _ _ _ _ (l .inv .1) (left-none (x .policy) (x .text .now) (x .decisions .now) (l .at) (l .used) k)
 
 pub put-cells-spec : {M : Type 1} → statement M
@@ -170,14 +108,11 @@ put-cells-spec =
     Inv-loop
     μ-loop
     loop-holds
-    read-char-requires
+    peek-requires
     enum-known-value
-    class-of-requires
     enum-told
-    add-at
     loop-less
     loop-again
-    add-cell-outcome
     cell-outcome-requires
     put-cell-requires
     decisions-used-requires
@@ -186,7 +121,4 @@ put-cells-spec =
     loop-again-2
     enum-told-2
     same-length
-    returns
-    enum-told-3
-    same-length-2
-    returns-2)
+    returns)

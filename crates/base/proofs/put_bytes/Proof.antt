@@ -1,0 +1,85 @@
+-- `base::put_bytes` meets its contract: the loop writes what is left of the bytes at its place.
+use mathlib.Core.Path.{_≡_, refl}
+use mathlib.Core.List.{List, _∷_}
+use Prim.Native.Nat.{ℕ, _+_, _-_, _<_, _≤_}
+use native.Mathlib.Numerals.{add-one}
+use native.Mathlib.Omega.{arith}
+use lib.ListN.{drop, drop-of-length-le, getD, length}
+use lib.Seq.{drop-cons}
+use Rattle.base.proofs.Writer.{Writing, begin, byte-put, byte-room, finish}
+use Rattle.base.proofs.put_bytes.Statement.{statement}
+use Rattle.base.proofs.put_bytes.Tie as tie
+
+abbrev Inv-loop : tie.InvT-loop
+Inv-loop out₀ start bytes at₀ i₀ out at i = (i ≤ length bytes) × Writing bytes start out₀ (drop i bytes) out at
+
+abbrev μ-loop : tie.MeasureT-loop
+μ-loop out₀ start bytes at₀ i₀ out at i = length bytes - i
+
+next : (xs : List ℕ) (i : ℕ) → i < length xs → drop i xs ≡ getD xs i 0 ∷ drop (i + 1) xs
+next xs i h = rw (add-one, drop-cons xs i 0) refl
+
+loop-holds : tie.Need-loop-holds Inv-loop μ-loop
+loop-holds c =
+    let a = c .args in
+    (omega arith, begin (a .bytes .now) (a .start) (a .out .now) (c .pre))
+
+shared-slice-read-out : tie.Need-shared-slice-read-out Inv-loop μ-loop
+shared-slice-read-out c = omega arith
+
+slice-write-out : tie.Need-slice-write-out Inv-loop μ-loop
+slice-write-out c =
+    let l = c .before .before .loop in
+    let a = c .before .before .before .args in
+    let b = a .bytes .now in
+    let r = byte-room b (a .start) (a .out .now) (drop (l .i) b) (l .inv .1) (next b (l .i) (omega arith)) in
+    omega arith
+
+add-at : tie.Need-add-at Inv-loop μ-loop
+add-at c =
+    let l = c .before .before .loop in
+    let a = c .before .before .before .args in
+    let b = a .bytes .now in
+    let r = byte-room b (a .start) (a .out .now) (drop (l .i) b) (l .inv .1) (next b (l .i) (omega arith)) in
+    omega arith
+
+add-i : tie.Need-add-i Inv-loop μ-loop
+add-i c = omega arith
+
+loop-less : tie.Need-loop-less Inv-loop μ-loop
+loop-less c = omega arith
+
+loop-again : tie.Need-loop-again Inv-loop μ-loop
+loop-again c =
+    let l = c .before .before .loop in
+    let a = c .before .before .before .args in
+    let b = a .bytes .now in (
+      omega arith,
+      byte-put b (a .start) (a .out .now) (drop (l .i) b) (l .inv .1) (next b (l .i) (omega arith)),
+    )
+
+same-length : tie.Need-same-length Inv-loop μ-loop
+same-length c = c .before .loop .inv .1 .same
+
+returns : tie.Need-returns Inv-loop μ-loop
+returns c =
+    let l = c .before .loop in
+    let a = c .before .before .args in
+    let b = a .bytes .now in
+    finish b (a .start) (a .out .now) (drop (l .i) b) (l .inv .1) (drop-of-length-le b {i = l .i} (omega arith))
+
+pub put-bytes-spec : {M : Type 1} → statement M
+put-bytes-spec =
+    tie.close
+    (tie.spec
+    Inv-loop
+    μ-loop
+    loop-holds
+    shared-slice-read-out
+    slice-write-out
+    add-at
+    add-i
+    loop-less
+    loop-again
+    same-length
+    returns)

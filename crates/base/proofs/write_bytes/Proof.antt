@@ -1,0 +1,45 @@
+-- `base::write_bytes` meets its contract.
+use mathlib.Core.Path.{sym, ap, _∙_}
+use mathlib.Core.Bool.{Bool, cond}
+use Prim.Native.Nat.{_+_}
+use native.Mathlib.Omega.{arith}
+use lib.ListN.{length}
+use lib.Seq.{sets}
+use borrow.Author.Tests.{le-leb, lt-leb}
+use borrow.Author.Needs.{needs}
+use Rattle.base.proofs.write_bytes.Statement.{statement}
+use Rattle.base.proofs.write_bytes.Tie as tie
+
+returns : tie.Need-returns
+returns c =
+    let x = c .before .before .before .args in
+    let e = lt-leb (x .at + length (x .bytes .now)) (length (x .out .now)) (omega arith) in
+    (sym e, simp e)
+
+sub-if2 : tie.Need-sub-if2
+sub-if2 c = search needs
+
+returns-2 : tie.Need-returns-2
+returns-2 c =
+    let x = c .before .before .before .before .args in
+    let e = lt-leb (x .at + length (x .bytes .now)) (length (x .out .now)) (omega arith) in
+    (sym e, simp e)
+
+put-bytes-requires : tie.Need-put-bytes-requires
+put-bytes-requires c κs = search needs
+
+same-length : tie.Need-same-length
+same-length c = search needs
+
+returns-3 : tie.Need-returns-3
+returns-3 c =
+    let x = c .before .before .before .before .before .before .before .before .args in
+    let e = le-leb (x .at + length (x .bytes .now)) (length (x .out .now)) (omega arith) in (
+      sym e,
+      c .before .before .put-bytes .ensures .bytes
+          ∙ ap (λ (t : Bool). cond t (sets (x .out .now) (x .at) (x .bytes .now)) (x .out .now)) (sym e),
+    )
+
+pub write-bytes-spec : {M : Type 1} → statement M
+write-bytes-spec =
+    tie.close (tie.spec returns sub-if2 returns-2 put-bytes-requires same-length returns-3)

@@ -1,0 +1,74 @@
+-- The intake's tests by their answers, what its answer says of a text, and what is read of a policy.
+use mathlib.Core.Path.{_≡_, refl, ap, sym, _∙_}
+use mathlib.Core.Bool.{Bool, true, false, cond, not}
+use mathlib.Core.List.{List}
+use mathlib.Core.Option.{Option, none, some}
+use Prim.Native.Nat.{ℕ}
+use native.Mathlib.Omega.{arith}
+use lib.Dec.{eqb, leb}
+use lib.ListN.{length}
+use borrow.Author.Tests.{eqb-true, leb-true}
+use Rattle.base.specs.Refusals.{checked, textLimit}
+use Rattle.base.specs.declared.Check.the-variants.{Passed, Refused}
+use Rattle.base.specs.declared.Refusal.{Refusal}
+use Rattle.base.specs.declared.Refusal.the-variants.{NotAPolicy, NotWellFormed, TextTooLong}
+use Rattle.utf8.specs.Rfc3629.{validUpTo}
+use Rattle.utf8.proofs.Grammar.{whole-well-formed}
+use Rattle.policy.specs.PolicyBytes.{isPolicy, policyOf, readPolicy}
+use Rattle.policy.specs.declared.ReadPolicy.{ReadPolicy}
+use Rattle.formatter.specs.Demand3.{Accepted}
+use Rattle.formatter.specs.Intake.{intakeRefusal, textRefusal}
+
+-- ---- the tests
+
+-- The refusal by the answers of the three tests.
+abbrev pub byTests : Bool → Bool → Bool → List ℕ → Option Refusal
+byTests short fit formed text =
+    cond (not short) (some TextTooLong) (cond (not fit) (some NotAPolicy) (cond (not formed) (some (NotWellFormed (validUpTo text))) none))
+
+pub intake-is : (text policy : List ℕ) {a b f : Bool} → leb (length text) textLimit ≡ a → isPolicy policy ≡ b → eqb (validUpTo text) (length text) ≡ f
+    → intakeRefusal text policy ≡ byTests a b f text
+unfolding intakeRefusal
+intake-is text policy {a} {b} {f} p q r =
+    ap (λ (t : Bool). byTests t (isPolicy policy) (eqb (validUpTo text) (length text)) text) p
+    ∙ ap (λ (t : Bool). byTests a t (eqb (validUpTo text) (length text)) text) q ∙ ap (λ (t : Bool). byTests a b t text) r
+
+-- The tests of a text alone are the same with any policy that passes.
+pub text-is : (text : List ℕ) {a f : Bool} → leb (length text) textLimit ≡ a → eqb (validUpTo text) (length text) ≡ f → textRefusal text ≡ byTests a true f text
+unfolding textRefusal
+text-is text {a} {f} p r =
+    ap (λ (t : Bool). byTests t true (eqb (validUpTo text) (length text)) text) p ∙ ap (λ (t : Bool). byTests a true t text) r
+
+-- ---- the answer
+
+pub checked-refused : (o : Option Refusal) (r : Refusal) → checked o ≡ Refused r → o ≡ some r
+checked-refused none r e = cc
+checked-refused (some s) r e = let z : s ≡ r = cc in ap some z
+
+pub checked-passed : (o : Option Refusal) → checked o ≡ Passed → o ≡ none
+checked-passed none e = refl
+checked-passed (some r) e = cc
+
+some-none : (r : Refusal) → _≡_ {A = Option Refusal} (some r) none → ⊥
+some-none r e = let z : _≡_ {A = ℕ} 0 1 = cc in omega arith
+
+-- A text that passes is accepted.
+pub passed-accepted : (text policy : List ℕ) → intakeRefusal text policy ≡ none → Accepted policy text
+passed-accepted text policy e = go (leb (length text) textLimit) (isPolicy policy) (eqb (validUpTo text) (length text)) refl refl refl
+  where
+    go : (a b f : Bool) → leb (length text) textLimit ≡ a → isPolicy policy ≡ b → eqb (validUpTo text) (length text) ≡ f → Accepted policy text
+    go true true true p q r = record { short = leb-true _ _ p; is-policy = q; well-formed = whole-well-formed text (eqb-true _ _ r) }
+    go true true false p q r = absurd (some-none (NotWellFormed (validUpTo text)) (sym (intake-is text policy p q r) ∙ e))
+    go true false f p q r = absurd (some-none NotAPolicy (sym (intake-is text policy p q r) ∙ e))
+    go false b f p q r = absurd (some-none TextTooLong (sym (intake-is text policy p q r) ∙ e))
+
+-- ---- the policy that was read
+
+module _ (bs : List ℕ) {r : ReadPolicy} (e : r ≡ readPolicy bs) where
+  pub read-accepted : r .accepted ≡ isPolicy bs
+  unfolding readPolicy
+  read-accepted = ap (λ (x : ReadPolicy). x .accepted) e
+
+  pub read-policy : r .policy ≡ policyOf bs
+  unfolding readPolicy
+  read-policy = ap (λ (x : ReadPolicy). x .policy) e

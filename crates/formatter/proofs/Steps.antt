@@ -1,0 +1,124 @@
+-- A walk over the items of a text: what the analysis and the cursor answer at an offset, and the findings and items from there on.
+use mathlib.Core.Path.{_≡_, refl, ap, sym, _∙_, subst}
+use mathlib.Core.Bool.{Bool, true, false, cond}
+use mathlib.Core.List.{List, [], _∷_, _++_, map}
+use Prim.Native.Nat.{ℕ, _+_, _≤_, _<_}
+use native.Mathlib.Omega.{arith}
+use lib.ListN.{drop, length, length-drop}
+use Rattle.utf8.specs.Rfc3629.{chars}
+use Rattle.utf8.proofs.Texts.{validUpTo-le}
+use Rattle.policy.specs.declared.Policy.{Policy}
+use Rattle.scanner.specs.Items.{Item, items, join}
+use Rattle.scanner.specs.Spans.{Found, firstOf, found, scanAt, scanFrom, size, spans, width}
+use Rattle.scanner.specs.Tags.{tagsComplete}
+use Rattle.scanner.specs.declared.ScanItem.{ScanItem}
+use Rattle.scanner.specs.declared.ScanStep.{ScanStep}
+use Rattle.scanner.specs.declared.ScanStep.the-variants as Step
+use Rattle.scanner.proofs.Bytes.{chars-from, size-chars, width-some}
+use Rattle.scanner.proofs.Rescan.{size-append}
+use Rattle.scanner.proofs.Tiling.{Filled, and-item, filled, items-tail, tiling}
+use Rattle.analysis.specs.Analysis.{isFinding, nonCanonicality}
+use Rattle.analysis.specs.ItemAt.{analysisAt, analysisOf}
+use Rattle.analysis.specs.declared.ItemAnalysis.{ItemAnalysis}
+use Rattle.analysis.specs.declared.ItemAnalysis.the-variants.{Canonical, End, NonCanonical}
+use Rattle.analysis.specs.declared.types.Finding.{Finding}
+use Rattle.formatter.specs.Findings.{findingRow, findingsFrom}
+
+-- ---- the item at an offset
+
+-- The item at an offset, up to its end, and the items behind it.
+pub record ItemAt (text : List ℕ) (at : ℕ) (x : Item) (xs : List Item) : Type 0 where
+  pub some : at < at + size width (x .chars)
+  pub room : at + size width (x .chars) ≤ length text
+  pub bytes : chars (drop at text) ≡ x .chars ++ join xs
+  pub behind : items (chars (drop (at + size width (x .chars)) text)) ≡ xs
+
+pub filled-some : {x : Item} {xs : List Item} → Filled (x ∷ xs) → 1 ≤ size width (x .chars)
+filled-some (and-item c s l h) = let k = width-some c in omega (arith, ap (size width) l)
+
+pub item-at : (text : List ℕ) (at : ℕ) {x : Item} {xs : List Item} → items (chars (drop at text)) ≡ x ∷ xs → ItemAt text at x xs
+item-at text at {x} {xs} e =
+    let t = chars (drop at text) in
+    let c : t ≡ x .chars ++ join xs = sym (tiling t) ∙ ap join e in
+    let s = filled-some (subst (λ (l : List Item). Filled l) e (filled t)) in
+    record {
+      some = omega arith;
+      room = omega (arith, size-chars (drop at text), validUpTo-le (drop at text), length-drop at text, ap (size width) c, size-append width (x .chars) (join xs));
+      bytes = c;
+      behind = ap items (chars-from text at (x .chars) (join xs) c) ∙ items-tail t x xs e;
+    }
+
+-- The span of an item at an offset.
+abbrev pub spanAt : ℕ → Item → ScanItem
+spanAt at x = record { start = at; end = at + size width (x .chars); kind = x .kind; «tags_complete» = tagsComplete (x .kind) (x .chars) }
+
+-- ---- the analysis at an offset
+
+-- The end of an item at an offset lies behind it, and in the text.
+pub record Ahead (text : List ℕ) (at end : ℕ) : Type 0 where
+  pub some : at < end
+  pub room : end ≤ length text
+
+-- The rows of the findings from an offset on.
+abbrev pub rowsFrom : Policy → List ℕ → ℕ → List Finding
+rowsFrom p text at = map (findingRow p) (findingsFrom p text at)
+
+module _ (p : Policy) (text : List ℕ) (at : ℕ) where
+  -- What an answer says of the findings from here on.
+  abbrev pub Says : ItemAnalysis → Type 0
+  Says End = findingsFrom p text at ≡ []
+  Says (Canonical end) = Ahead text at end × (findingsFrom p text at ≡ findingsFrom p text end)
+  Says (NonCanonical f) = Ahead text at (f .end) × (rowsFrom p text at ≡ f ∷ rowsFrom p text (f .end))
+
+  says-of : (xs : List Item) → items (chars (drop at text)) ≡ xs → Says (analysisOf p at xs)
+  unfolding analysisOf found findingRow
+  says-of [] e = ap (found (isFinding p) width at) e
+  says-of (x ∷ xs) e = go (isFinding p x) refl
+    where
+      h : ItemAt text at x xs
+      h = item-at text at e
+
+      end : ℕ
+      end = at + size width (x .chars)
+
+      l : Ahead text at end
+      l = record { some = h .some; room = h .room }
+
+      F : List Found
+      F = found (isFinding p) width end xs
+
+      b : F ≡ findingsFrom p text end
+      b = ap (found (isFinding p) width end) (sym (h .behind))
+
+      here : findingsFrom p text at ≡ cond (isFinding p x) (record { start = at; item = x } ∷ F) F
+      here = ap (found (isFinding p) width at) e
+
+      go : (f : Bool) → isFinding p x ≡ f → Says (cond f (NonCanonical (record { start = at; end = end; counts = nonCanonicality p x })) (Canonical end))
+      go true e =
+          let w : findingsFrom p text at ≡ record { start = at; item = x } ∷ findingsFrom p text end =
+          here ∙ ap (λ (f : Bool). cond f (record { start = at; item = x } ∷ F) F) e ∙ ap (λ (k : List Found). record { start = at; item = x } ∷ k) b in
+          (l, ap (map (findingRow p)) w)
+      go false e = (l, here ∙ ap (λ (f : Bool). cond f (record { start = at; item = x } ∷ F) F) e ∙ b)
+
+  pub analysis-says : {a : ItemAnalysis} → a ≡ analysisAt p text at → Says a
+  unfolding analysisAt
+  analysis-says e = subst Says (sym e) (says-of (items (chars (drop at text))) refl)
+
+-- ---- the items from an offset on
+
+module _ (text : List ℕ) (at : ℕ) where
+  -- What the cursor's answer says of the items from here on.
+  abbrev pub Goes : ScanStep → Type 0
+  Goes Step.End = scanFrom text at ≡ []
+  Goes (Step.Item x) = Ahead text at (x .end) × (scanFrom text at ≡ x ∷ scanFrom text (x .end))
+
+  goes-of : (xs : List Item) → items (chars (drop at text)) ≡ xs → Goes (firstOf (spans at xs))
+  unfolding scanFrom spans firstOf
+  goes-of [] e = ap (spans at) e
+  goes-of (x ∷ xs) e =
+      let h = item-at text at e in
+      (record { some = h .some; room = h .room }, ap (spans at) e ∙ ap (λ (l : List Item). spanAt at x ∷ spans (at + size width (x .chars)) l) (sym (h .behind)))
+
+  pub cursor-goes : {s : ScanStep} → s ≡ scanAt text at → Goes s
+  unfolding scanAt scanFrom
+  cursor-goes e = subst Goes (sym e) (goes-of (items (chars (drop at text))) refl)

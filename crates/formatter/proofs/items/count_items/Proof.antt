@@ -1,0 +1,69 @@
+-- `formatter::items::count_items` meets its contract. The loop's invariant: the items counted and those from here on are all.
+use mathlib.Core.Path.{_≡_, sym, ap, _∙_}
+use Prim.Native.Nat.{_+_, _-_, _≤_}
+use native.Mathlib.Omega.{arith}
+use lib.ListN.{length}
+use borrow.Author.Needs.{needs}
+use Rattle.scanner.specs.Spans.{scan, scanFrom}
+use Rattle.formatter.proofs.Steps.{cursor-goes}
+use Rattle.formatter.proofs.items.count_items.Statement.{statement}
+use Rattle.formatter.proofs.items.count_items.Tie as tie
+
+abbrev Inv-loop : tie.InvT-loop
+Inv-loop text at₀ items₀ at items =
+    (at ≤ length text) × (items ≤ at) × (items + length (scanFrom text at) ≡ length (scanFrom text 0))
+
+abbrev μ-loop : tie.MeasureT-loop
+μ-loop text at₀ items₀ at items = length text - at
+
+loop-holds : tie.Need-loop-holds Inv-loop μ-loop
+loop-holds c = (omega arith, omega arith, omega arith)
+
+next-item-requires : tie.Need-next-item-requires Inv-loop μ-loop
+next-item-requires c κs = search needs
+
+enum-known-item : tie.Need-enum-known-item Inv-loop μ-loop
+enum-known-item c = search needs
+
+add-items : tie.Need-add-items Inv-loop μ-loop
+add-items c = omega arith
+
+loop-less : tie.Need-loop-less Inv-loop μ-loop
+loop-less c =
+    let x = c .before .before .before .before .before .before .args in
+    let l = c .before .before .before .before .loop in
+    let s = cursor-goes (x .text .now) (l .at) (sym (c .before .item .given .1) ∙ c .before .before .before .next-item .ensures) in
+    omega arith
+
+loop-again : tie.Need-loop-again Inv-loop μ-loop
+loop-again c =
+    let x = c .before .before .before .before .before .before .args in
+    let l = c .before .before .before .before .loop in
+    let s = cursor-goes (x .text .now) (l .at) (sym (c .before .item .given .1) ∙ c .before .before .before .next-item .ensures) in
+    (omega arith, omega arith, omega (arith, l .inv .2, ap length (s .1)))
+
+enum-told : tie.Need-enum-told Inv-loop μ-loop
+enum-told c = search needs
+
+returns : tie.Need-returns Inv-loop μ-loop
+unfolding scan
+returns c =
+    let x = c .before .before .before .before .before .args in
+    let l = c .before .before .before .loop in
+    let s = cursor-goes (x .text .now) (l .at) (sym (c .enum-told .given .1) ∙ c .before .before .next-item .ensures) in
+    omega (arith, l .inv .2, ap length s)
+
+pub count-items-spec : {M : Type 1} → statement M
+count-items-spec =
+    tie.close
+    (tie.spec
+    Inv-loop
+    μ-loop
+    loop-holds
+    next-item-requires
+    enum-known-item
+    add-items
+    loop-less
+    loop-again
+    enum-told
+    returns)

@@ -1,0 +1,44 @@
+-- `formatter::items::put_item` meets its contract.
+use mathlib.Core.Path.{ap₂}
+use mathlib.Core.List.{[], _∷_}
+use Prim.Native.Nat.{ℕ}
+use borrow.Author.Needs.{needs}
+use Rattle.base.proofs.Writer.{put-as}
+use Rattle.policy.specs.PolicyBytes.{bytesOf}
+use Rattle.formatter.specs.List.{itemNumbers}
+use Rattle.formatter.proofs.items.put_item.Statement.{statement}
+use Rattle.formatter.proofs.items.put_item.Tie as tie
+
+kind-number-requires : tie.Need-kind-number-requires
+kind-number-requires c κs = search needs
+
+flag-number-requires : tie.Need-flag-number-requires
+flag-number-requires c κs = search needs
+
+slice-aggregate-put-numbers : tie.Need-slice-aggregate-put-numbers
+slice-aggregate-put-numbers c = search needs
+
+put-numbers-requires : tie.Need-put-numbers-requires
+put-numbers-requires c κs = search needs
+
+same-length : tie.Need-same-length
+same-length c = search needs
+
+returns : tie.Need-returns
+unfolding itemNumbers
+returns c =
+    let i = c .before .before .before .before .before .before .before .before .args .item in
+    let e =
+    ap₂ (λ (k f : ℕ). bytesOf (i .start ∷ i .end ∷ k ∷ f ∷ [])) (c .before .before .before .before .before .before .kind-number .ensures) (c .before .before .before .before .before .flag-number .ensures) in
+    put-as (bytesOf (itemNumbers i)) e (c .before .before .put-numbers .ensures)
+
+pub put-item-spec : {M : Type 1} → statement M
+put-item-spec =
+    tie.close
+    (tie.spec
+    kind-number-requires
+    flag-number-requires
+    slice-aggregate-put-numbers
+    put-numbers-requires
+    same-length
+    returns)
