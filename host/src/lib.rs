@@ -1,8 +1,14 @@
-//! The answers of the crate evfmt, for the port to be compared with.
+//! The answers of the crate evfmt, and of an independent reading of document 01, for the port to be compared with.
 //!
-//! Each part of the stored answers is a module with a function `answers`, listed in [`PARTS`]; the program
-//! `stored-answers` prints a part. This file has what the parts share: a line of fields, the words of a key
-//! set, and pseudo-random numbers from a fixed seed, so that a part is the same text at every run.
+//! - Stored answers, replayed by the port's own program: each part is made by a function that [`PARTS`] lists; the
+//!   program `stored-answers` prints a part. [`policy`] has the key sets and policies; [`items`] the items and findings
+//!   of [`texts`] and [`sequences`], written as [`notation`] says.
+//! - The comparison of the linked library: [`calls`] is its functions as a trait, [`beside`] the crate's answers in the
+//!   same forms, [`reference`] the reading of document 01, and [`comparison`] holds the calls to both. The program
+//!   `compare` is in a package of its own, since it links the library.
+//!
+//! This file has what they share: a line of fields, the words of a key set, and pseudo-random numbers from a given
+//! seed, so that every run is the same.
 
 #![forbid(unsafe_code)]
 #![warn(missing_docs)]
@@ -12,7 +18,15 @@ use std::fmt::{Display, Write};
 use evfmt::PolicyKeySet;
 use evfmt::internals::VARIATION_ENTRIES;
 
+pub mod beside;
+pub mod calls;
+pub mod comparison;
+pub mod items;
+pub mod notation;
 pub mod policy;
+pub mod reference;
+pub mod sequences;
+pub mod texts;
 
 /// A part of the stored answers.
 pub struct Part {
@@ -23,10 +37,24 @@ pub struct Part {
 }
 
 /// The parts of the stored answers.
-pub const PARTS: [Part; 1] = [Part {
-    name: "policy",
-    answers: policy::answers,
-}];
+pub const PARTS: [Part; 4] = [
+    Part {
+        name: "policy",
+        answers: policy::answers,
+    },
+    Part {
+        name: "items-short",
+        answers: items::short,
+    },
+    Part {
+        name: "items-drawn",
+        answers: items::drawn,
+    },
+    Part {
+        name: "items-unicode",
+        answers: items::unicode,
+    },
+];
 
 /// A record: a keyword and fields, each after one blank.
 pub struct Record(String);
@@ -36,12 +64,6 @@ impl Record {
     #[must_use]
     pub fn new(keyword: &str) -> Self {
         Self(keyword.to_owned())
-    }
-
-    /// Adds a name.
-    #[must_use]
-    pub fn name(self, name: &str) -> Self {
-        self.field(name)
     }
 
     /// Adds a number in three decimal digits.
@@ -86,8 +108,7 @@ impl Record {
     /// Adds a text, two hexadecimal digits a byte.
     #[must_use]
     pub fn text(self, text: &str) -> Self {
-        let bytes = text.bytes().map(|byte| format!("{byte:02X}"));
-        self.field(bytes.collect::<String>())
+        self.field(hexadecimal(text))
     }
 
     /// Ends the record as a line of `out`.
@@ -96,11 +117,19 @@ impl Record {
         out.push('\n');
     }
 
-    fn field(mut self, field: impl Display) -> Self {
+    /// Adds a field that is written as it is.
+    #[must_use]
+    pub fn field(mut self, field: impl Display) -> Self {
         // Writing to a string does not fail.
         let _ = write!(self.0, " {field}");
         self
     }
+}
+
+/// The bytes of a text, two hexadecimal digits each.
+#[must_use]
+pub fn hexadecimal(text: &str) -> String {
+    text.bytes().map(|byte| format!("{byte:02X}")).collect()
 }
 
 /// The words of a key set: the ordinary ones, then the keycap ones. The member with number i of
@@ -133,17 +162,23 @@ pub fn sizes(set: &PolicyKeySet) -> [usize; 2] {
     ]
 }
 
-/// Pseudo-random numbers: the generator SplitMix64, from a fixed seed.
+/// Pseudo-random numbers: the generator SplitMix64.
 pub struct Random(u64);
 
 impl Random {
-    /// The seed of every part: the letters TILGHORZ.
+    /// The seed of every part of the stored answers: the letters TILGHORZ.
     const SEED: u64 = 0x5449_4C47_484F_525A;
 
-    /// A generator at its start.
+    /// A generator at its start, from the seed of the stored answers.
     #[must_use]
     pub const fn new() -> Self {
         Self(Self::SEED)
+    }
+
+    /// A generator at its start, from a given seed.
+    #[must_use]
+    pub const fn from_seed(seed: u64) -> Self {
+        Self(seed)
     }
 
     /// The next 64 bits.
@@ -159,10 +194,14 @@ impl Random {
         self.bits() & 1 == 1
     }
 
+    /// A number below a bound that is not 0.
+    pub const fn below(&mut self, bound: usize) -> usize {
+        (self.bits() % bound as u64) as usize
+    }
+
     /// An element of a list that is not empty.
     pub fn element<T: Copy>(&mut self, list: &[T]) -> T {
-        let length = list.len() as u64;
-        list[(self.bits() % length) as usize]
+        list[self.below(list.len())]
     }
 }
 

@@ -4,6 +4,7 @@ use evfmt::Policy;
 use evfmt::internals::{UNICODE_VERSION, VARIATION_ENTRIES, singleton_rule};
 use evfmt::policy_key_set::{self, PolicyKeySet};
 
+use crate::beside::policy_sets;
 use crate::{Random, Record, sizes, words};
 
 /// The form of the part, which is also its head.
@@ -109,7 +110,7 @@ pub fn answers() -> String {
 
 /// The lines `entries`, `size` and `default`.
 fn push_default_policy(out: &mut String) {
-    let (prefer_bare, bare_as_text) = sets_of(Policy::default());
+    let (prefer_bare, bare_as_text) = policy_sets(Policy::default());
     let entries = VARIATION_ENTRIES.len();
     Record::new("entries")
         .number(entries)
@@ -130,7 +131,7 @@ fn push_default_policy(out: &mut String) {
 /// The lines `named`, `singleton` and `keycap`.
 fn push_named_and_single_sets(out: &mut String) {
     for (name, set) in NAMED {
-        Record::new("named").name(name).key_set(&set).end(out);
+        Record::new("named").field(name).key_set(&set).end(out);
     }
     for character in [entry(0), last_entry(), 'A'] {
         for (keyword, set) in [
@@ -216,7 +217,7 @@ fn push_rules(out: &mut String, sets: &[PolicyKeySet], entries: &[char]) {
 
 /// The numbered sets.
 fn sample_sets(random: &mut Random) -> Vec<PolicyKeySet> {
-    let (prefer_bare, bare_as_text) = sets_of(Policy::default());
+    let (prefer_bare, bare_as_text) = policy_sets(Policy::default());
     let mut sets = vec![PolicyKeySet::none(), PolicyKeySet::all()];
     // 2 to 9
     sets.extend(NAMED.map(|(_, set)| set));
@@ -252,7 +253,7 @@ fn few_keys(random: &mut Random, single: fn(char) -> PolicyKeySet) -> PolicyKeyS
 }
 
 /// About half of all keys.
-fn coin_keys(random: &mut Random) -> PolicyKeySet {
+pub(crate) fn coin_keys(random: &mut Random) -> PolicyKeySet {
     let mut set = PolicyKeySet::none();
     for &entry in VARIATION_ENTRIES {
         if random.coin() {
@@ -281,19 +282,4 @@ fn entry(number: usize) -> char {
 /// The last variation entry.
 fn last_entry() -> char {
     entry(VARIATION_ENTRIES.len() - 1)
-}
-
-/// The two sets of a policy. Its fields are private; its `modify_*` functions hand the sets to a closure.
-fn sets_of(policy: Policy) -> (PolicyKeySet, PolicyKeySet) {
-    let mut sets = (PolicyKeySet::none(), PolicyKeySet::none());
-    let _ = policy
-        .modify_prefer_bare(|set| {
-            sets.0 = set;
-            set
-        })
-        .modify_bare_as_text(|set| {
-            sets.1 = set;
-            set
-        });
-    sets
 }

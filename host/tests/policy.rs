@@ -1,7 +1,10 @@
 //! The text of the part `policy`, read as its head says.
 
+mod records;
+
 use std::collections::{HashMap, HashSet};
 
+use records::records;
 use tilghorz_comparison::policy::answers;
 
 /// Each keyword with its fields, as the head of the text has them.
@@ -28,17 +31,6 @@ const LINES: [(&str, &str); 18] = [
 
 /// The number of words of a key set.
 const WORDS: usize = 12;
-
-/// The lines behind the head: the keyword and the fields of each.
-fn records(text: &str) -> Vec<(&str, Vec<&str>)> {
-    text.lines()
-        .skip_while(|line| line.starts_with('#'))
-        .map(|line| {
-            let mut fields = line.split(' ');
-            (fields.next().unwrap_or_default(), fields.collect())
-        })
-        .collect()
-}
 
 /// Whether a field is of a kind.
 fn is_of_kind(field: &str, kind: &str) -> bool {

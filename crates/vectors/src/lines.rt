@@ -9,6 +9,9 @@ pub enum Listed {
     Unlisted,
 }
 
+// The kind of a comment, which begins with `#`.
+pub const COMMENT: usize = 0;
+
 // Where the run of bytes other than `stop` that starts at `at` ends.
 fn run_end(text: &[u8], at: usize, stop: u8) -> usize
     requires { ⌜ at ≤ length (now text) ⌝ }
@@ -127,4 +130,18 @@ pub(crate) fn word_start(list: &[u8], number: usize) -> usize
         k += 1;
     }
     at
+}
+
+// The kind of a line: the number of its keyword in a list whose first word stands for comments, or
+// `none` where it is not listed.
+pub(crate) fn kind_of(keywords: &[u8], line: &[u8], none: usize) -> usize {
+    if line.len() > 0 {
+        if line[0] == b'#' {
+            return COMMENT;
+        }
+    }
+    match number_of(keywords, word_at(line, 0)) {
+        Listed::At(kind) => kind,
+        Listed::Unlisted => none,
+    }
 }

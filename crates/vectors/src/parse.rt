@@ -18,15 +18,20 @@ pub enum Field {
 // How many values a line has at most.
 pub const VALUES: usize = 24;
 
-// Where the blank at `at` ends, if one stands there.
-pub(crate) fn after_blank(line: &[u8], at: usize) -> Place {
+// Where the byte b ends, if it stands at `at`.
+pub(crate) fn after_mark(line: &[u8], at: usize, b: u8) -> Place {
     if at >= line.len() {
         return Place::Missing;
     }
-    if line[at] != b' ' {
+    if line[at] != b {
         return Place::Missing;
     }
     Place::Past(at + 1)
+}
+
+// Where the blank at `at` ends, if one stands there.
+pub(crate) fn after_blank(line: &[u8], at: usize) -> Place {
+    after_mark(line, at, b' ')
 }
 
 // The value of a digit `0` to `9` or `A` to `F`, and 16 for any other byte.
@@ -54,7 +59,7 @@ fn with_digit(value: u64, base: u64, digit: u64) -> u64
 }
 
 // The number that so many digits at `at` make. A digit is less than the base.
-fn digits_at(line: &[u8], at: usize, width: usize, base: u64) -> Field {
+pub(crate) fn digits_at(line: &[u8], at: usize, width: usize, base: u64) -> Field {
     let mut value = 0;
     let mut i = at;
     let mut k = 0;
@@ -165,16 +170,45 @@ fn after_byte(line: &[u8], at: usize, b: u8) -> Place {
     Place::Past(end)
 }
 
-// Whether the rest of the line is the text of these bytes.
-pub(crate) fn text_is(line: &[u8], at: usize, bytes: &[u8]) -> bool {
+// Where the digits of these bytes end, if they stand at `at`.
+pub(crate) fn after_bytes(line: &[u8], at: usize, bytes: &[u8]) -> Place {
     let mut next = at;
     let mut i = 0;
     while i < bytes.len() {
         let Place::Past(end) = after_byte(line, next, bytes[i]) else {
-            return false;
+            return Place::Missing;
         };
         next = end;
         i += 1;
     }
-    next == line.len()
+    Place::Past(next)
+}
+
+// Whether the rest of the line is the text of these bytes.
+pub(crate) fn text_is(line: &[u8], at: usize, bytes: &[u8]) -> bool {
+    match after_bytes(line, at, bytes) {
+        Place::Past(end) => end == line.len(),
+        Place::Missing => false,
+    }
+}
+
+// Where the run of decimal digits at `at` ends.
+fn digits_end(line: &[u8], at: usize) -> usize {
+    let mut i = at;
+    while i < line.len() {
+        if digit_value(line[i]) >= 10 {
+            return i;
+        }
+        i += 1;
+    }
+    i
+}
+
+// The number in base 10 at `at`, to the last of its digits.
+pub(crate) fn number_at(line: &[u8], at: usize) -> Field {
+    let end = digits_end(line, at);
+    if end <= at {
+        return Field::NoField;
+    }
+    digits_at(line, at, end - at, 10)
 }

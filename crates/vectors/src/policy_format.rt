@@ -1,6 +1,7 @@
 // The grammar of policy.txt, as the comments at its head have it: which line may stand behind which,
 // and which fields a line has. A kind of line is the number of its keyword in `KEYWORDS`, where the
 // keywords stand in the order of the lines. What the answers must be is decided in `policy_answers`.
+use crate::lines::COMMENT;
 use crate::lines::Listed;
 use crate::lines::number_of;
 use crate::lines::word_at;
@@ -12,14 +13,13 @@ use crate::parse::ends_with;
 use crate::parse::fields_at;
 use crate::parse::is_text;
 use crate::parse::put_value;
+use crate::walk::KINDS;
 
 // The keywords; the first stands for comments.
 pub const KEYWORDS: [u8; 139] =
     *b"# entries size default named singleton keycap set complement contains display union intersection symmetric difference equal policy rule end";
 
-// The kinds of lines.
-pub const COMMENT: usize = 0;
-
+// The kinds of lines, behind the comments.
 pub const ENTRIES: usize = 1;
 
 pub const SIZE: usize = 2;
@@ -55,9 +55,6 @@ pub const POLICY: usize = 16;
 pub const RULE: usize = 17;
 
 pub const END: usize = 18;
-
-// How many kinds there are: no line is of this kind.
-pub const KINDS: usize = 19;
 
 // The names of the eight sets.
 const NAMES: [u8; 127] =
@@ -145,19 +142,6 @@ fn has_fields(kind: usize, line: &[u8], at: usize, values: &mut [u64; VALUES]) -
         RULE => ends_with(line, at, b"NCDD", values),
         END => at == line.len(),
         _ => false,
-    }
-}
-
-// The kind of a line by its keyword, or `KINDS` for any other word. A comment begins with `#`.
-pub(crate) fn kind_of(line: &[u8]) -> usize {
-    if line.len() > 0 {
-        if line[0] == b'#' {
-            return COMMENT;
-        }
-    }
-    match number_of(&KEYWORDS, word_at(line, 0)) {
-        Listed::At(kind) => kind,
-        Listed::Unlisted => KINDS,
     }
 }
 

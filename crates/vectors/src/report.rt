@@ -1,5 +1,6 @@
 // What the program writes to standard output: lines that begin with the name of the file that they
-// are about. Counts stand in the order of the keywords, the first for comments, the last for the end.
+// are about. Counts stand in the order of the keywords, the first for comments, that at `end` for the
+// end.
 use crate::lines::word_at;
 use crate::lines::word_start;
 use libc::STDOUT_FILENO;
@@ -63,19 +64,10 @@ fn count_of(counts: &[u64], kind: usize) -> u64 {
     0
 }
 
-// The last kind, the end.
-fn last_kind(counts: &[u64]) -> usize {
-    if counts.len() == 0 {
-        return 0;
-    }
-    counts.len() - 1
-}
-
-// Each kind of line but the first, the comments, and the last, the end.
-pub(crate) fn say_kinds(name: &[u8], keywords: &[u8], seen: &[u64], differ: &[u64]) {
-    let last = last_kind(seen);
+// Each kind of line behind the comments and before the end.
+pub(crate) fn say_kinds(name: &[u8], keywords: &[u8], end: usize, seen: &[u64], differ: &[u64]) {
     let mut kind = 1;
-    while kind < last {
+    while kind < end {
         let keyword = word_at(keywords, word_start(keywords, kind));
         say_kind(name, keyword, count_of(seen, kind), count_of(differ, kind));
         kind += 1;
@@ -83,11 +75,10 @@ pub(crate) fn say_kinds(name: &[u8], keywords: &[u8], seen: &[u64], differ: &[u6
 }
 
 // The sum of the counts of the same kinds.
-fn total(counts: &[u64]) -> u64 {
-    let last = last_kind(counts);
+fn total(counts: &[u64], end: usize) -> u64 {
     let mut sum = 0;
     let mut kind = 1;
-    while kind < last {
+    while kind < end {
         sum = wrapping_add_u64(sum, count_of(counts, kind));
         kind += 1;
     }
@@ -95,10 +86,10 @@ fn total(counts: &[u64]) -> u64 {
 }
 
 // The last line of a file: "policy.txt: in all 601 as stored, Adler-32 0123abcd".
-pub(crate) fn say_total(name: &[u8], seen: &[u64], differ: &[u64], checksum: u32) {
+pub(crate) fn say_total(name: &[u8], end: usize, seen: &[u64], differ: &[u64], checksum: u32) {
     say(name);
     say(b": in all ");
-    say_counts(total(seen), total(differ));
+    say_counts(total(seen, end), total(differ, end));
     say(b", Adler-32 ");
     io::print_hex(STDOUT_FILENO, checksum as u64, 8);
     say(b"\n");

@@ -5,10 +5,10 @@ use Rattle.vectors.proofs.report.say_kinds.Statement.{statement}
 use Rattle.vectors.proofs.report.say_kinds.Tie as tie
 
 abbrev Inv-loop : tie.InvT-loop
-Inv-loop name keywords seen differ last kind₀ kind = Unit {0}
+Inv-loop name keywords end seen differ kind₀ kind = Unit {0}
 
 abbrev μ-loop : tie.MeasureT-loop
-μ-loop name keywords seen differ last kind₀ kind = last - kind
+μ-loop name keywords end seen differ kind₀ kind = end - kind
 
 pub say-kinds-spec : {M : Type 1} → statement M
 say-kinds-spec =
@@ -16,7 +16,6 @@ say-kinds-spec =
     (tie.spec
     Inv-loop
     μ-loop
-    (λ c κs. search needs)
     (λ c. search needs)
     (λ c κs. search needs)
     (λ c κs. search needs)

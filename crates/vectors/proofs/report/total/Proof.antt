@@ -5,10 +5,10 @@ use Rattle.vectors.proofs.report.total.Statement.{statement}
 use Rattle.vectors.proofs.report.total.Tie as tie
 
 abbrev Inv-loop : tie.InvT-loop
-Inv-loop counts last sum₀ kind₀ sum kind = Unit {0}
+Inv-loop counts end sum₀ kind₀ sum kind = Unit {0}
 
 abbrev μ-loop : tie.MeasureT-loop
-μ-loop counts last sum₀ kind₀ sum kind = last - kind
+μ-loop counts end sum₀ kind₀ sum kind = end - kind
 
 pub total-spec : {M : Type 1} → statement M
 total-spec =
@@ -16,7 +16,6 @@ total-spec =
     (tie.spec
     Inv-loop
     μ-loop
-    (λ c κs. search needs)
     (λ c. search needs)
     (λ c κs. search needs)
     (λ c κs. search needs)

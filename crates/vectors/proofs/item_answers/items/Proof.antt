@@ -1,23 +1,22 @@
--- `text_is` is safe and ends: each turn leaves fewer bytes.
+-- `items` is safe and ends: each turn goes on in the text.
 use borrow.Author.Needs.{needs}
 use Prim.Native.Nat.{_-_}
 use lib.ListN.{length}
-use Rattle.vectors.proofs.parse.text_is.Statement.{statement}
-use Rattle.vectors.proofs.parse.text_is.Tie as tie
+use Rattle.vectors.proofs.item_answers.items.Statement.{statement}
+use Rattle.vectors.proofs.item_answers.items.Tie as tie
 
 abbrev Inv-loop : tie.InvT-loop
-Inv-loop line at bytes next₀ i₀ next i = Unit {0}
+Inv-loop line text past₀ at₀ past at = Unit {0}
 
 abbrev μ-loop : tie.MeasureT-loop
-μ-loop line at bytes next₀ i₀ next i = length bytes - i
+μ-loop line text past₀ at₀ past at = length text - at
 
-pub text-is-spec : {M : Type 1} → statement M
-text-is-spec =
+pub items-spec : {M : Type 1} → statement M
+items-spec =
     tie.close
     (tie.spec
     Inv-loop
     μ-loop
-    (λ c. search needs)
     (λ c. search needs)
     (λ c κs. search needs)
     (λ c. search needs)

@@ -2,14 +2,14 @@
 use borrow.Author.Needs.{needs}
 use Prim.Native.Nat.{_≤_, _-_}
 use lib.ListN.{length}
-use Rattle.vectors.proofs.policy_file.replay_lines.Statement.{statement}
-use Rattle.vectors.proofs.policy_file.replay_lines.Tie as tie
+use Rattle.vectors.proofs.walk.replay_lines.Statement.{statement}
+use Rattle.vectors.proofs.walk.replay_lines.Tie as tie
 
 abbrev Inv-loop : tie.InvT-loop
-Inv-loop name text seen₀ differ₀ store₀ at₀ number₀ kind₀ seen differ store at number kind = (at ≤ length text) × (number ≤ at)
+Inv-loop form name text store₀ walked₀ at₀ number₀ store walked at number = (at ≤ length text) × (number ≤ at)
 
 abbrev μ-loop : tie.MeasureT-loop
-μ-loop name text seen₀ differ₀ store₀ at₀ number₀ kind₀ seen differ store at number kind = length text - at
+μ-loop form name text store₀ walked₀ at₀ number₀ store walked at number = length text - at
 
 pub replay-lines-spec : {M : Type 1} → statement M
 replay-lines-spec =
@@ -19,7 +19,6 @@ replay-lines-spec =
     μ-loop
     (λ c. search needs)
     (λ c. search needs)
-    (λ c κs. search needs)
     (λ c κs. search needs)
     (λ c. search needs)
     (λ c κs. search needs)

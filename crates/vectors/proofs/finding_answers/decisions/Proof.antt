@@ -1,0 +1,29 @@
+-- `decisions` is safe and ends: each turn goes on in the item.
+use borrow.Author.Needs.{needs}
+use Prim.Native.Nat.{_-_}
+use lib.ListN.{length}
+use Rattle.vectors.proofs.finding_answers.decisions.Statement.{statement}
+use Rattle.vectors.proofs.finding_answers.decisions.Tie as tie
+
+abbrev Inv-loop : tie.InvT-loop
+Inv-loop line raw policy past₀ at₀ past at = Unit {0}
+
+abbrev μ-loop : tie.MeasureT-loop
+μ-loop line raw policy past₀ at₀ past at = length raw - at
+
+pub decisions-spec : {M : Type 1} → statement M
+decisions-spec =
+    tie.close
+    (tie.spec
+    Inv-loop
+    μ-loop
+    (λ c. search needs)
+    (λ c κs. search needs)
+    (λ c. search needs)
+    (λ c. search needs)
+    (λ c. search needs)
+    (λ c. search needs)
+    (λ c κs. search needs)
+    (λ c. search needs)
+    (λ c. search needs)
+    (λ c. search needs))

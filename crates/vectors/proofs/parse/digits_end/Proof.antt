@@ -1,0 +1,27 @@
+-- `digits_end` is safe and ends: each turn leaves less of the line.
+use borrow.Author.Needs.{needs}
+use Prim.Native.Nat.{_-_}
+use lib.ListN.{length}
+use Rattle.vectors.proofs.parse.digits_end.Statement.{statement}
+use Rattle.vectors.proofs.parse.digits_end.Tie as tie
+
+abbrev Inv-loop : tie.InvT-loop
+Inv-loop line at i₀ i = Unit {0}
+
+abbrev μ-loop : tie.MeasureT-loop
+μ-loop line at i₀ i = length line - i
+
+pub digits-end-spec : {M : Type 1} → statement M
+digits-end-spec =
+    tie.close
+    (tie.spec
+    Inv-loop
+    μ-loop
+    (λ c. search needs)
+    (λ c. search needs)
+    (λ c κs. search needs)
+    (λ c. search needs)
+    (λ c. search needs)
+    (λ c. search needs)
+    (λ c. search needs)
+    (λ c. search needs))

@@ -1,0 +1,205 @@
+// What the findings of a line must be: the proved analysis gives the counts, the default decisions and
+// the replacements of the items of the text, and each is held to what stands in the line.
+use crate::notation::Read;
+use crate::notation::bytes_of;
+use crate::notation::is_end;
+use crate::notation::mark;
+use crate::notation::number;
+use crate::notation::read_to;
+use crate::notation::selector;
+use crate::notation::span;
+use crate::parse::Place;
+use analysis::ItemAnalysis;
+use analysis::analyze_scan_item;
+use analysis::choice::ChoiceStep;
+use analysis::choice::next_choice;
+use analysis::render::canonical_replacement_with_decisions;
+use analysis::render::default_canonical_replacement;
+use analysis::types::Finding;
+use analysis::types::MendAnswer;
+use analysis::types::NonCanonicality;
+use policy::Policy;
+
+// The room for a replacement.
+const ROOM: usize = 2048;
+
+// Lists of decisions, of which the front is taken: all text, all emoji, emoji and text by turns.
+const ALL_TEXT: [u8; 8] = *b"\x00\x00\x00\x00\x00\x00\x00\x00";
+
+const ALL_EMOJI: [u8; 8] = *b"\x01\x01\x01\x01\x01\x01\x01\x01";
+
+const BY_TURNS: [u8; 8] = *b"\x01\x00\x01\x00\x01\x00\x01\x00";
+
+// A count behind its letter, or nothing where it is 0.
+fn count(line: &[u8], place: Place, letter: u8, n: usize) -> Place {
+    if n == 0 {
+        return place;
+    }
+    number(line, mark(line, place, letter), n)
+}
+
+// The first four counts.
+fn first_counts(line: &[u8], place: Place, counts: NonCanonicality) -> Place {
+    let u = count(line, place, b'u', counts.unsanctioned_selectors);
+    let m = count(line, u, b'm', counts.modifier_defective_selectors);
+    let a = count(line, m, b'a', counts.additional_defective_selectors);
+    count(line, a, b'c', counts.tag_conflicting_selectors)
+}
+
+// The last four counts.
+fn last_counts(line: &[u8], place: Place, counts: NonCanonicality) -> Place {
+    let f = count(line, place, b'f', counts.tag_forced_presentations);
+    let r = count(line, f, b'r', counts.tag_redundant_selectors);
+    let p = count(line, r, b'p', counts.policy_redundant_selectors);
+    count(line, p, b'd', counts.presentation_decisions)
+}
+
+// The default decisions of the bytes of an item, as its choices have them.
+fn decisions(line: &[u8], place: Place, raw: &[u8], policy: Policy) -> Place {
+    let mut past = place;
+    let mut at = 0;
+    while at < raw.len() {
+        let ChoiceStep::Choice(choice) = next_choice(raw, at, policy) else {
+            return past;
+        };
+        if choice.next <= at {
+            return Place::Missing;
+        }
+        let default = choice.default;
+        past = selector(line, past, default);
+        at = choice.next;
+    }
+    past
+}
+
+// A replacement that was written at the front of the bytes.
+fn written(line: &[u8], place: Place, answer: MendAnswer, bytes: &[u8]) -> Place {
+    let MendAnswer::Mended { len } = answer else {
+        return Place::Missing;
+    };
+    if len > bytes.len() {
+        return Place::Missing;
+    }
+    bytes_of(line, mark(line, place, b'='), &bytes[0..len])
+}
+
+// The replacement of the finding at an offset, every decision at its default.
+fn by_default(line: &[u8], place: Place, text: &[u8], at: usize, policy: Policy) -> Place {
+    let mut bytes = [0u8; ROOM];
+    let answer = default_canonical_replacement(text, at, policy, &mut bytes);
+    written(line, place, answer, &bytes)
+}
+
+// The replacement of the finding at an offset under decisions.
+fn decided(
+    line: &[u8],
+    place: Place,
+    text: &[u8],
+    at: usize,
+    policy: Policy,
+    decisions: &[u8],
+) -> Place {
+    let mut bytes = [0u8; ROOM];
+    let answer = canonical_replacement_with_decisions(text, at, policy, decisions, &mut bytes);
+    written(line, place, answer, &bytes)
+}
+
+// The replacement of the finding at an offset under the first n of a list of decisions.
+fn decided_by(
+    line: &[u8],
+    place: Place,
+    text: &[u8],
+    at: usize,
+    policy: Policy,
+    list: &[u8],
+    n: usize,
+) -> Place {
+    if n > list.len() {
+        return Place::Missing;
+    }
+    decided(line, place, text, at, policy, &list[0..n])
+}
+
+// The replacements under n decisions, beside that by default.
+fn replacements(
+    line: &[u8],
+    place: Place,
+    text: &[u8],
+    at: usize,
+    policy: Policy,
+    n: usize,
+) -> Place {
+    if n == 0 {
+        return place;
+    }
+    let past_text = decided_by(line, place, text, at, policy, &ALL_TEXT, n);
+    let past_emoji = decided_by(line, past_text, text, at, policy, &ALL_EMOJI, n);
+    if n == 1 {
+        return past_emoji;
+    }
+    decided_by(line, past_emoji, text, at, policy, &BY_TURNS, n)
+}
+
+// A finding, behind a blank.
+fn finding_at(line: &[u8], place: Place, text: &[u8], finding: Finding, policy: Policy) -> Place {
+    let start = finding.start;
+    let end = finding.end;
+    if start > end {
+        return Place::Missing;
+    }
+    if end > text.len() {
+        return Place::Missing;
+    }
+    let past_span = span(line, mark(line, place, b' '), start, end);
+    let counts = finding.counts;
+    let past_first = first_counts(line, mark(line, past_span, b':'), counts);
+    let past_counts = mark(line, last_counts(line, past_first, counts), b':');
+    let past_decisions = decisions(line, past_counts, &text[start..end], policy);
+    let past_default = by_default(line, past_decisions, text, start, policy);
+    replacements(
+        line,
+        past_default,
+        text,
+        start,
+        policy,
+        counts.presentation_decisions,
+    )
+}
+
+// The finding of the text at an offset, or nothing where the item there has none.
+fn finding_of(line: &[u8], place: Place, text: &[u8], at: usize, policy: Policy) -> Read {
+    match analyze_scan_item(text, at, policy) {
+        ItemAnalysis::End => Read::Apart,
+        ItemAnalysis::Canonical { end } => read_to(place, end),
+        ItemAnalysis::NonCanonical(finding) => read_to(
+            finding_at(line, place, text, finding, policy),
+            finding.end,
+        ),
+    }
+}
+
+// The findings of the text.
+fn findings(line: &[u8], place: Place, text: &[u8], policy: Policy) -> Place {
+    let mut past = place;
+    let mut at = 0;
+    while at < text.len() {
+        let Read::To {
+            place: next,
+            at: behind,
+        } = finding_of(line, past, text, at, policy)
+        else {
+            return Place::Missing;
+        };
+        if behind <= at {
+            return Place::Missing;
+        }
+        past = Place::Past(next);
+        at = behind;
+    }
+    past
+}
+
+// Whether the findings of the text are those of the line from `at` on.
+pub(crate) fn findings_agree(line: &[u8], at: usize, text: &[u8], policy: Policy) -> bool {
+    is_end(line, findings(line, Place::Past(at), text, policy))
+}

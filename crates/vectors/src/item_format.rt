@@ -1,0 +1,76 @@
+// The grammar of the files of items, as the comments at their heads have it: which line may stand
+// behind which, and the text that a line has. What items and findings must be is decided in
+// `item_answers` and `finding_answers`.
+use crate::lines::COMMENT;
+use crate::lines::word_end;
+use crate::parse::Field;
+use crate::parse::Place;
+use crate::parse::after_blank;
+use crate::parse::after_mark;
+use crate::parse::digits_at;
+
+// The keywords; the first stands for comments.
+pub const KEYWORDS: [u8; 23] = *b"# policy text under end";
+
+// The kinds of lines, behind the comments.
+pub const POLICY: usize = 1;
+
+pub const TEXT: usize = 2;
+
+pub const UNDER: usize = 3;
+
+pub const END: usize = 4;
+
+// The room for a text, which must be shorter.
+pub const TEXT_ROOM: usize = 512;
+
+// Whether a line may stand behind one of the kind `last`.
+pub(crate) fn may_follow(last: usize, kind: usize) -> bool {
+    match kind {
+        COMMENT => last == COMMENT,
+        POLICY => last == COMMENT || last == POLICY,
+        TEXT => last == POLICY || last == UNDER,
+        UNDER => last == TEXT || last == UNDER,
+        END => last == UNDER,
+        _ => false,
+    }
+}
+
+// The text of a line: how many bytes it has, and where it ends in the line.
+pub enum TextRead {
+    Text { len: usize, end: usize },
+    NoText,
+}
+
+// Puts a byte, if there is room for it.
+fn put_byte(bytes: &mut [u8], i: usize, value: u64) {
+    if i < bytes.len() {
+        bytes[i] = (value % 256) as u8;
+    }
+}
+
+// Puts the bytes whose digits stand at `at` up to a full stop.
+fn text_at(line: &[u8], at: usize, bytes: &mut [u8]) -> TextRead {
+    let mut i = at;
+    let mut len = 0;
+    while len < TEXT_ROOM {
+        if let Place::Past(end) = after_mark(line, i, b'.') {
+            return TextRead::Text { len, end };
+        }
+        let Field::Value(value, end) = digits_at(line, i, 2, 16) else {
+            return TextRead::NoText;
+        };
+        put_byte(bytes, len, value);
+        i = end;
+        len += 1;
+    }
+    TextRead::NoText
+}
+
+// Puts the text behind the keyword of a line.
+pub(crate) fn text_of(line: &[u8], bytes: &mut [u8]) -> TextRead {
+    match after_blank(line, word_end(line, 0)) {
+        Place::Past(start) => text_at(line, start, bytes),
+        Place::Missing => TextRead::NoText,
+    }
+}

@@ -1,0 +1,177 @@
+// The nested structure of an item: it is read from the text by the scanner's functions, part by part,
+// and held to what stands in the line.
+use crate::notation::Read;
+use crate::notation::bytes_of;
+use crate::notation::character;
+use crate::notation::mark;
+use crate::notation::mark_and_selectors;
+use crate::notation::read_to;
+use crate::notation::selectors;
+use crate::parse::Place;
+use scanner::parts::EmojiLike;
+use scanner::parts::EmojiModification;
+use scanner::parts::EmojiStem;
+use scanner::parts::EmojiTagRun;
+use scanner::parts::SequencePart;
+use scanner::parts::consume_emoji_like;
+use scanner::parts::consume_emoji_modification;
+use scanner::parts::consume_emoji_tag_run;
+use scanner::parts::consume_sequence_part;
+
+// The tags of the text from an offset up to another, behind their letter.
+fn tags(line: &[u8], place: Place, text: &[u8], at: usize, end: usize) -> Place {
+    if end < at {
+        return Place::Missing;
+    }
+    if end > text.len() {
+        return Place::Missing;
+    }
+    bytes_of(line, mark(line, place, b'r'), &text[at..end])
+}
+
+// A run of tags with its selectors.
+fn tag_run(line: &[u8], place: Place, text: &[u8], at: usize) -> Read {
+    match consume_emoji_tag_run(text, at) {
+        EmojiTagRun::Run {
+            tags_end,
+            selectors: run,
+        } => {
+            let past = tags(line, place, text, at, tags_end);
+            read_to(selectors(line, past, run), run.end)
+        }
+        EmojiTagRun::NoTags => Read::Apart,
+    }
+}
+
+// The runs of tags from an offset up to another.
+fn tag_runs(line: &[u8], place: Place, text: &[u8], from: usize, end: usize) -> Place {
+    let mut past = place;
+    let mut at = from;
+    while at < end {
+        let Read::To {
+            place: next,
+            at: behind,
+        } = tag_run(line, past, text, at)
+        else {
+            return Place::Missing;
+        };
+        if behind <= at {
+            return Place::Missing;
+        }
+        past = Place::Past(next);
+        at = behind;
+    }
+    past
+}
+
+// A modification.
+fn modification(line: &[u8], place: Place, text: &[u8], at: usize) -> Read {
+    match consume_emoji_modification(text, at) {
+        EmojiModification::EmojiModifier {
+            modifier,
+            selectors: run,
+        } => read_to(character(line, place, b'm', modifier, run), run.end),
+        EmojiModification::EnclosingKeycap { selectors: run } => read_to(
+            mark_and_selectors(line, place, b'k', run),
+            run.end,
+        ),
+        EmojiModification::TagModifier { end } => read_to(
+            tag_runs(line, mark(line, place, b'g'), text, at, end),
+            end,
+        ),
+        EmojiModification::NoModification => Read::Apart,
+    }
+}
+
+// The modifications from an offset up to another.
+fn modifications(line: &[u8], place: Place, text: &[u8], from: usize, end: usize) -> Place {
+    let mut past = place;
+    let mut at = from;
+    while at < end {
+        let Read::To {
+            place: next,
+            at: behind,
+        } = modification(line, past, text, at)
+        else {
+            return Place::Missing;
+        };
+        if behind <= at {
+            return Place::Missing;
+        }
+        past = Place::Past(next);
+        at = behind;
+    }
+    past
+}
+
+// A stem.
+fn stem(line: &[u8], place: Place, found: EmojiStem) -> Place {
+    match found {
+        EmojiStem::SingletonBase {
+            base,
+            selectors: run,
+        } => { character(line, place, b'b', base, run) }
+        EmojiStem::Flag {
+            first_ri,
+            after_first_ri,
+            second_ri,
+            after_second_ri,
+        } => character(
+            line,
+            character(line, place, b'f', first_ri, after_first_ri),
+            b',',
+            second_ri,
+            after_second_ri,
+        ),
+        EmojiStem::NoStem => Place::Missing,
+    }
+}
+
+// A unit.
+pub(crate) fn unit(line: &[u8], place: Place, text: &[u8], at: usize) -> Read {
+    let EmojiLike {
+        stem: found,
+        modifiers_start,
+        end,
+    } = consume_emoji_like(text, at);
+    let past = stem(line, place, found);
+    read_to(modifications(line, past, text, modifiers_start, end), end)
+}
+
+// A link with the unit that it joins, or a link left over.
+fn part(line: &[u8], place: Place, text: &[u8], at: usize, item_end: usize) -> Read {
+    match consume_sequence_part(text, at, item_end) {
+        SequencePart::JoiningLink(run) => unit(
+            line,
+            mark_and_selectors(line, place, b'j', run),
+            text,
+            run.end,
+        ),
+        SequencePart::LeftOverLink(run) => read_to(
+            mark_and_selectors(line, place, b'z', run),
+            run.end,
+        ),
+        SequencePart::NoPart => Read::Apart,
+    }
+}
+
+// The links and joined units from an offset up to the end of an item.
+pub(crate) fn parts(line: &[u8], place: Place, text: &[u8], from: usize, item_end: usize) -> Place {
+    let mut past = place;
+    let mut at = from;
+    while at < item_end {
+        let Read::To {
+            place: next,
+            at: behind,
+        } = part(line, past, text, at, item_end)
+        else {
+            return Place::Missing;
+        };
+        if behind <= at {
+            return Place::Missing;
+        }
+        past = Place::Past(next);
+        at = behind;
+    }
+    past
+}

@@ -1,0 +1,133 @@
+//! The C functions of the library as a trait of safe functions on lent buffers, and the word that each answers.
+//!
+//! [`Calls`] has three kinds of implementations: the linked library, [`Reference`], and wrappers with a planted fault.
+
+use std::fmt::{self, Display, Formatter};
+
+use crate::reference::calls::{self, Draft};
+use crate::reference::{characters, policy};
+
+/// The bytes of a policy.
+pub const POLICY_BYTES: usize = 192;
+/// The bytes of a finding in a table.
+pub const FINDING_BYTES: usize = 80;
+/// The bytes of an item in a table.
+pub const ITEM_BYTES: usize = 32;
+
+/// The functions of `include/tilghorz.h`, each with its slices.
+pub trait Calls {
+    /// `tilghorz_format`.
+    fn format(&self, text: &[u8], policy: &[u8], out: &mut [u8]) -> u64;
+    /// `tilghorz_list`.
+    fn list(&self, text: &[u8], policy: &[u8], table: &mut [u8]) -> u64;
+    /// `tilghorz_mend`.
+    fn mend(
+        &self,
+        text: &[u8],
+        policy: &[u8],
+        offset: u64,
+        decisions: &[u8],
+        out: &mut [u8],
+    ) -> u64;
+    /// `tilghorz_scan`.
+    fn scan(&self, text: &[u8], table: &mut [u8]) -> u64;
+    /// `tilghorz_default_policy`.
+    fn default_policy(&self, out: &mut [u8]) -> u64;
+    /// `tilghorz_variation_entry`.
+    fn variation_entry(&self, index: u64) -> u64;
+}
+
+/// An answer: the number in a word's top 8 bits, and the value in its low 56.
+#[derive(Debug, Clone, Copy, PartialEq, Eq)]
+pub struct Answer {
+    /// 0 done, 1 to 8 a refusal, 255 nothing to do.
+    pub number: u8,
+    /// What document 01's table says is returned, or what was written.
+    pub value: u64,
+}
+
+impl Answer {
+    /// The number of an answer that wrote its result.
+    pub const DONE: u8 = 0;
+    /// The answer of a call with nothing to do.
+    pub const NOTHING: Self = Self::new(255, 0);
+
+    /// An answer.
+    #[must_use]
+    pub const fn new(number: u8, value: u64) -> Self {
+        Self { number, value }
+    }
+
+    /// The answer of a word.
+    #[must_use]
+    pub const fn of_word(word: u64) -> Self {
+        Self::new((word >> 56) as u8, word & 0x00FF_FFFF_FFFF_FFFF)
+    }
+
+    /// The word of an answer.
+    #[must_use]
+    pub const fn word(self) -> u64 {
+        ((self.number as u64) << 56) | self.value
+    }
+
+    /// Whether it is one of the refusals.
+    #[must_use]
+    pub const fn is_refusal(self) -> bool {
+        self.number != Self::DONE && self.number != Self::NOTHING.number
+    }
+}
+
+impl Display for Answer {
+    fn fmt(&self, out: &mut Formatter<'_>) -> fmt::Result {
+        let Self { number, value } = *self;
+        match number {
+            Self::DONE => write!(out, "done, {value}"),
+            255 => write!(out, "nothing to do, {value}"),
+            _ => write!(out, "refused {number}, {value}"),
+        }
+    }
+}
+
+/// The answers of the independent reading of document 01.
+pub struct Reference;
+
+impl Calls for Reference {
+    fn format(&self, text: &[u8], policy: &[u8], out: &mut [u8]) -> u64 {
+        write(&calls::format(text, policy), out)
+    }
+
+    fn list(&self, text: &[u8], policy: &[u8], table: &mut [u8]) -> u64 {
+        write(&calls::list(text, policy), table)
+    }
+
+    fn mend(
+        &self,
+        text: &[u8],
+        policy: &[u8],
+        offset: u64,
+        decisions: &[u8],
+        out: &mut [u8],
+    ) -> u64 {
+        write(&calls::mend(text, policy, offset, decisions), out)
+    }
+
+    fn scan(&self, text: &[u8], table: &mut [u8]) -> u64 {
+        write(&calls::scan(text), table)
+    }
+
+    fn default_policy(&self, out: &mut [u8]) -> u64 {
+        write(&Draft::bytes(policy::default_policy().to_vec()), out)
+    }
+
+    fn variation_entry(&self, index: u64) -> u64 {
+        let entry = characters::entry(index).map(|entry| Answer::new(Answer::DONE, entry.into()));
+        entry.unwrap_or(Answer::NOTHING).word()
+    }
+}
+
+/// Writes what a call writes where it has this room, and gives its word.
+fn write(draft: &Draft, out: &mut [u8]) -> u64 {
+    let (answer, written) = draft.with_room(out.len());
+    out[..written.len()].copy_from_slice(written);
+    answer.word()
+}

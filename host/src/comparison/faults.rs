@@ -1,0 +1,91 @@
+//! The faults that are planted. A run of the comparison must report each of them: that is the test of the comparison.
+
+/// A planted fault.
+#[derive(Debug, Clone, Copy, PartialEq, Eq)]
+pub enum Fault {
+    /// The ordinary sets are read for a keycap.
+    KeycapRule,
+    /// The end of the first finding is off by one byte.
+    FindingSpan,
+    /// The end of the first item is off by one byte.
+    ItemSpan,
+    /// The tags of every item are said to be complete.
+    TagReport,
+    /// The first count of the first finding is off by one.
+    InventedCount,
+    /// The byte behind the result is changed.
+    ByteBehind,
+    /// A refusal writes a byte.
+    RefusalWrites,
+    /// A text that needs no change is written.
+    UnchangedWrites,
+    /// A text that needs no change gives 8.
+    UnchangedTooShort,
+    /// The text is tested before the policy.
+    TextBeforePolicy,
+    /// The decision bytes are tested before their number.
+    BytesBeforeNumber,
+    /// The room is tested before the offset.
+    RoomBeforeOffset,
+    /// The length wanted is one too long.
+    WantedLength,
+    /// The places wanted are one too many.
+    WantedPlaces,
+    /// The well-formed beginning is one byte too long.
+    Beginning,
+    /// A policy with an unused bit is taken, and the bit cleared.
+    UnusedBit,
+    /// A text of the longest length is refused.
+    LimitTooLow,
+    /// A text longer by one byte is taken.
+    LimitTooHigh,
+    /// The default policy has one bit more or less.
+    DefaultPolicy,
+    /// There is an entry behind the last one.
+    FurtherEntry,
+    /// Every text is refused.
+    RefusesAll,
+    /// No text is ever changed.
+    NeverChanges,
+    /// A result is said to be written, and is not.
+    WritesNothing,
+    /// The last item is not told.
+    EndsEarly,
+    /// No offset has a finding.
+    MendsNothing,
+    /// The first mending formats the whole text, and later ones copy it.
+    MendsAllAtOnce,
+    /// A text that a mending has just written has no finding.
+    ForgetsFindings,
+}
+
+/// The faults with their names.
+pub const FAULTS: [(&str, Fault); 27] = [
+    ("keycap-rule", Fault::KeycapRule),
+    ("finding-span", Fault::FindingSpan),
+    ("item-span", Fault::ItemSpan),
+    ("tag-report", Fault::TagReport),
+    ("invented-count", Fault::InventedCount),
+    ("byte-behind", Fault::ByteBehind),
+    ("refusal-writes", Fault::RefusalWrites),
+    ("unchanged-writes", Fault::UnchangedWrites),
+    ("unchanged-too-short", Fault::UnchangedTooShort),
+    ("text-before-policy", Fault::TextBeforePolicy),
+    ("bytes-before-number", Fault::BytesBeforeNumber),
+    ("room-before-offset", Fault::RoomBeforeOffset),
+    ("wanted-length", Fault::WantedLength),
+    ("wanted-places", Fault::WantedPlaces),
+    ("beginning", Fault::Beginning),
+    ("unused-bit", Fault::UnusedBit),
+    ("limit-too-low", Fault::LimitTooLow),
+    ("limit-too-high", Fault::LimitTooHigh),
+    ("default-policy", Fault::DefaultPolicy),
+    ("further-entry", Fault::FurtherEntry),
+    ("refuses-all", Fault::RefusesAll),
+    ("never-changes", Fault::NeverChanges),
+    ("writes-nothing", Fault::WritesNothing),
+    ("ends-early", Fault::EndsEarly),
+    ("mends-nothing", Fault::MendsNothing),
+    ("mends-all-at-once", Fault::MendsAllAtOnce),
+    ("forgets-findings", Fault::ForgetsFindings),
+];

@@ -1,0 +1,247 @@
+//! A wrapper of calls with a planted fault.
+
+use std::cell::{Cell, RefCell};
+
+use super::faults::Fault;
+use crate::calls::{Answer, Calls, FINDING_BYTES, ITEM_BYTES};
+use crate::reference::calls::LONGEST_TEXT;
+
+/// Calls with a planted fault.
+pub struct Faulty<'a> {
+    calls: &'a dyn Calls,
+    fault: Fault,
+    has_mended: Cell<bool>,
+    last_mended: RefCell<Vec<u8>>,
+}
+
+impl<'a> Faulty<'a> {
+    /// Plants a fault.
+    #[must_use]
+    pub const fn new(calls: &'a dyn Calls, fault: Fault) -> Self {
+        Self {
+            calls,
+            fault,
+            has_mended: Cell::new(false),
+            last_mended: RefCell::new(Vec::new()),
+        }
+    }
+
+    /// A call that takes a text, with the faults that can be in any such call.
+    fn around(
+        &self,
+        text: &[u8],
+        policy: &[u8],
+        out: &mut [u8],
+        call: impl Fn(&[u8], &[u8], &mut [u8]) -> u64,
+    ) -> u64 {
+        let (text, policy) = match self.inputs(text, policy) {
+            Ok(inputs) => inputs,
+            Err(refusal) => return refusal.word(),
+        };
+        if self.fault == Fault::WritesNothing {
+            return call(text, &policy, &mut out.to_vec());
+        }
+        let mut answer = Answer::of_word(call(text, &policy, out));
+        match (self.fault, answer.number) {
+            (Fault::TextBeforePolicy, 2) => {
+                let tested = Answer::of_word(self.calls.scan(text, &mut []));
+                if tested.number == 3 {
+                    answer = tested;
+                }
+            }
+            (Fault::WantedLength, 8) | (Fault::WantedPlaces, 7) | (Fault::Beginning, 3) => {
+                answer.value += 1;
+            }
+            (Fault::RefusalWrites, 1..=8) => flip(out, 0),
+            _ => {}
+        }
+        answer.word()
+    }
+
+    /// The text and the policy that the call is made with instead, or a refusal.
+    fn inputs<'t>(&self, text: &'t [u8], policy: &[u8]) -> Result<(&'t [u8], Vec<u8>), Answer> {
+        let mut policy = policy.to_vec();
+        let set = policy.len() / 4;
+        match self.fault {
+            Fault::RefusesAll => return Err(Answer::new(1, 0)),
+            Fault::LimitTooLow if text.len() == LONGEST_TEXT => return Err(Answer::new(1, 0)),
+            Fault::LimitTooHigh if text.len() == LONGEST_TEXT + 1 => {
+                return Ok((&text[..LONGEST_TEXT], policy));
+            }
+            Fault::KeycapRule => {
+                policy.copy_within(..set, set);
+                policy.copy_within(2 * set..3 * set, 3 * set);
+            }
+            // Of a set's 48 bytes the last four hold two entries.
+            Fault::UnusedBit => policy.chunks_mut(48).for_each(|set| {
+                if let [.., a, b, c, d] = set {
+                    (*a, *b, *c, *d) = (*a & 3, 0, 0, 0);
+                }
+            }),
+            _ => {}
+        }
+        Ok((text, policy))
+    }
+
+    /// What a mending answers instead.
+    fn mend_answer(&self, answer: Answer, decisions: &[u8], out: &[u8]) -> Answer {
+        match (self.fault, answer.number) {
+            (Fault::BytesBeforeNumber, 5) => {
+                let first = decisions.iter().position(|&byte| byte > 1);
+                first.map_or(answer, |first| Answer::new(6, first as u64))
+            }
+            (Fault::RoomBeforeOffset, 4) if out.is_empty() => Answer::new(8, 1),
+            _ => answer,
+        }
+    }
+
+    /// What a mending that would not be refused does instead, if it does.
+    fn mend_instead(&self, text: &[u8], policy: &[u8], out: &mut [u8]) -> Option<Answer> {
+        let no_finding = Answer::new(4, 0);
+        match self.fault {
+            Fault::MendsNothing => Some(no_finding),
+            Fault::ForgetsFindings if *self.last_mended.borrow() == text => Some(no_finding),
+            Fault::MendsAllAtOnce if self.has_mended.replace(true) => {
+                let length = text.len() as u64;
+                let Some(front) = out.get_mut(..text.len()) else {
+                    return Some(Answer::new(8, length));
+                };
+                front.copy_from_slice(text);
+                Some(Answer::new(Answer::DONE, length))
+            }
+            Fault::MendsAllAtOnce => Some(Answer::of_word(self.calls.format(text, policy, out))),
+            _ => None,
+        }
+    }
+
+    /// Scans, and does not tell the last item.
+    fn scan_but_one(&self, text: &[u8], table: &mut [u8]) -> Answer {
+        let mut whole = table.to_vec();
+        let mut answer = Answer::of_word(self.calls.scan(text, &mut whole));
+        if answer.number == Answer::DONE && answer.value > 0 {
+            answer.value -= 1;
+            let length = answer.value as usize * ITEM_BYTES;
+            table[..length].copy_from_slice(&whole[..length]);
+        }
+        answer
+    }
+
+    /// Changes the byte behind the result, if that is the fault.
+    fn spoil_behind(&self, answer: Answer, place: usize, out: &mut [u8]) {
+        if self.fault == Fault::ByteBehind && answer.number == Answer::DONE {
+            flip(out, answer.value as usize * place);
+        }
+    }
+}
+
+/// Changes a byte, if it is there.
+fn flip(bytes: &mut [u8], place: usize) {
+    if let Some(byte) = bytes.get_mut(place) {
+        *byte ^= 1;
+    }
+}
+
+impl Calls for Faulty<'_> {
+    fn format(&self, text: &[u8], policy: &[u8], out: &mut [u8]) -> u64 {
+        if self.fault == Fault::NeverChanges {
+            // Without room a change is refused, or there is nothing to write.
+            let answer = Answer::of_word(self.calls.format(text, policy, &mut []));
+            let is_taken = !answer.is_refusal() || answer.number == 8;
+            return if is_taken { Answer::NOTHING } else { answer }.word();
+        }
+        let word = self.around(text, policy, out, |text, policy, out| {
+            self.calls.format(text, policy, out)
+        });
+        let answer = Answer::of_word(word);
+        self.spoil_behind(answer, 1, out);
+        match (self.fault, answer.number) {
+            (Fault::UnchangedWrites, 255) => {
+                let length = text.len().min(out.len());
+                out[..length].copy_from_slice(&text[..length]);
+            }
+            (Fault::UnchangedTooShort, 255) if out.len() < text.len() => {
+                return Answer::new(8, text.len() as u64).word();
+            }
+            _ => {}
+        }
+        word
+    }
+
+    fn list(&self, text: &[u8], policy: &[u8], table: &mut [u8]) -> u64 {
+        let word = self.around(text, policy, table, |text, policy, table| {
+            self.calls.list(text, policy, table)
+        });
+        let answer = Answer::of_word(word);
+        self.spoil_behind(answer, FINDING_BYTES, table);
+        if answer.number == Answer::DONE && answer.value > 0 {
+            match self.fault {
+                Fault::FindingSpan => flip(table, 8),
+                Fault::InventedCount => flip(table, 16),
+                _ => {}
+            }
+        }
+        word
+    }
+
+    fn mend(
+        &self,
+        text: &[u8],
+        policy: &[u8],
+        offset: u64,
+        decisions: &[u8],
+        out: &mut [u8],
+    ) -> u64 {
+        // Without room a mending is refused, or there is nothing to write.
+        let tried = self.calls.mend(text, policy, offset, decisions, &mut []);
+        if matches!(Answer::of_word(tried).number, Answer::DONE | 8)
+            && let Some(answer) = self.mend_instead(text, policy, out)
+        {
+            return answer.word();
+        }
+        let word = self.around(text, policy, out, |text, policy, out| {
+            self.calls.mend(text, policy, offset, decisions, out)
+        });
+        let answer = self.mend_answer(Answer::of_word(word), decisions, out);
+        self.spoil_behind(answer, 1, out);
+        if self.fault == Fault::ForgetsFindings && answer.number == Answer::DONE {
+            *self.last_mended.borrow_mut() = out[..answer.value as usize].to_vec();
+        }
+        answer.word()
+    }
+
+    fn scan(&self, text: &[u8], table: &mut [u8]) -> u64 {
+        if self.fault == Fault::EndsEarly {
+            return self.scan_but_one(text, table).word();
+        }
+        let word = self.around(text, &[], table, |text, _, table| {
+            self.calls.scan(text, table)
+        });
+        let answer = Answer::of_word(word);
+        self.spoil_behind(answer, ITEM_BYTES, table);
+        if answer.number == Answer::DONE && self.fault != Fault::WritesNothing {
+            let rows = &mut table[..answer.value as usize * ITEM_BYTES];
+            match self.fault {
+                Fault::ItemSpan => flip(rows, 8),
+                Fault::TagReport => rows.chunks_mut(ITEM_BYTES).for_each(|row| row[24] = 1),
+                _ => {}
+            }
+        }
+        word
+    }
+
+    fn default_policy(&self, out: &mut [u8]) -> u64 {
+        let word = self.calls.default_policy(out);
+        if self.fault == Fault::DefaultPolicy && Answer::of_word(word).number == Answer::DONE {
+            flip(out, 40);
+        }
+        word
+    }
+
+    fn variation_entry(&self, index: u64) -> u64 {
+        let word = self.calls.variation_entry(index);
+        if self.fault == Fault::FurtherEntry && word == Answer::NOTHING.word() {
+            return self.calls.variation_entry(index - 1);
+        }
+        word
+    }
+}

@@ -1,0 +1,121 @@
+//! A call with a lent buffer: its answer, the bytes it writes, and the bytes it leaves as they were.
+
+use std::fmt::{self, Display, Formatter, Write};
+use std::sync::LazyLock;
+
+use crate::calls::Answer;
+use crate::reference::calls::Draft;
+
+/// The bytes before and after a lent buffer that are watched too. They are an odd number, so that the buffer begins at
+/// an odd place.
+const MARGIN: usize = 13;
+
+/// A difference between what a call did and what it should have done.
+#[derive(Debug, Clone, PartialEq, Eq)]
+pub struct Difference {
+    /// The call, with its numbers.
+    pub call: String,
+    /// What should have come.
+    pub expected: String,
+    /// What came.
+    pub found: String,
+}
+
+impl Display for Difference {
+    fn fmt(&self, out: &mut Formatter<'_>) -> fmt::Result {
+        writeln!(out, "  call      {}", self.call)?;
+        writeln!(out, "  expected  {}", self.expected)?;
+        write!(out, "  found     {}", self.found)
+    }
+}
+
+/// Compares two values that are not in a lent buffer.
+pub fn same<T: PartialEq>(
+    call: impl FnOnce() -> String,
+    expected: &T,
+    found: &T,
+    show: impl Fn(&T) -> String,
+) -> Result<(), Difference> {
+    if expected == found {
+        return Ok(());
+    }
+    Err(Difference {
+        call: call(),
+        expected: show(expected),
+        found: show(found),
+    })
+}
+
+/// Makes a call with a buffer of this room, which has a pattern in it, and compares the answer and the whole buffer
+/// with what the draft says. The buffer's margins must stay as they were too.
+pub fn lend(
+    name: impl Fn() -> String,
+    draft: &Draft,
+    room: usize,
+    call: impl FnOnce(&mut [u8]) -> u64,
+) -> Result<(), Difference> {
+    let (answer, written) = draft.with_room(room);
+    let mut buffer = pattern(room + 2 * MARGIN);
+    let found = Answer::of_word(call(&mut buffer[MARGIN..MARGIN + room]));
+    let name = || format!("{}, room {room}", name());
+    same(name, &answer, &found, Answer::to_string)?;
+    let mut expected = pattern(buffer.len());
+    expected[MARGIN..MARGIN + written.len()].copy_from_slice(written);
+    if buffer == expected {
+        return Ok(());
+    }
+    let place = (0..buffer.len()).find(|&place| buffer[place] != expected[place]);
+    let place = place.unwrap_or(0);
+    let show = |bytes: &[u8]| {
+        let at = place.wrapping_sub(MARGIN);
+        let whose = if place < MARGIN {
+            "before the buffer".to_owned()
+        } else if at < written.len() {
+            format!("byte {at} of the {} written", written.len())
+        } else if at < room {
+            format!(
+                "byte {} behind the {} written",
+                at - written.len(),
+                written.len()
+            )
+        } else {
+            "after the buffer".to_owned()
+        };
+        format!("{:02X} at {whose}", bytes[place])
+    };
+    Err(Difference {
+        call: name(),
+        expected: show(&expected),
+        found: show(&buffer),
+    })
+}
+
+/// Bytes as a report has them: the first of many.
+#[must_use]
+pub fn hexadecimal(bytes: &[u8]) -> String {
+    const MOST: usize = 240;
+    let shown = &bytes[..bytes.len().min(MOST)];
+    let mut text = format!("{} bytes:", bytes.len());
+    for byte in shown {
+        // Writing to a string does not fail.
+        let _ = write!(text, " {byte:02X}");
+    }
+    if shown.len() < bytes.len() {
+        text.push_str(" ..");
+    }
+    text
+}
+
+/// What a buffer holds before a call: no two neighbours are equal, and places 256 apart differ too.
+fn pattern(length: usize) -> Vec<u8> {
+    static PERIOD: LazyLock<Vec<u8>> = LazyLock::new(|| {
+        let byte = |place: usize| (place as u8).wrapping_mul(0x9D) ^ (place >> 8) as u8 ^ 0xC5;
+        (0..1 << 16).map(byte).collect()
+    });
+    let mut bytes = Vec::with_capacity(length);
+    while bytes.len() < length {
+        let rest = length - bytes.len();
+        bytes.extend_from_slice(&PERIOD[..rest.min(PERIOD.len())]);
+    }
+    bytes
+}

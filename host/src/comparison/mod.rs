@@ -1,0 +1,31 @@
+//! The comparison of an implementation of [`Calls`](crate::calls::Calls) with the crate evfmt and with the independent
+//! reading of document 01.
+//!
+//! | module | does |
+//! |---|---|
+//! | [`lent`] | makes a call with a lent buffer, and compares the answer and every byte of the buffer |
+//! | [`tables`] | compares the default policy and the variation entries |
+//! | [`text_case`] | compares all that the calls do to one text under one policy |
+//! | [`list_case`] | compares a list of mending calls with its book |
+//! | [`texts`], [`policies`] | make the texts and policies: exhaustive, random, damaged |
+//! | [`limits`] | makes texts around the limits |
+//! | [`reduce`] | makes a text or a list with a difference smaller |
+//! | [`run`], [`report`] | runs all of it, within bounds, and reports the first difference |
+//! | [`programs`] | compares the two programs |
+//! | [`faults`], [`faulty`] | faults that are planted into calls, which a run must report |
+//! | [`command`] | the command line of the program |
+
+pub mod command;
+pub mod faults;
+pub mod faulty;
+pub mod lent;
+pub mod limits;
+pub mod list_case;
+pub mod policies;
+pub mod programs;
+pub mod reduce;
+pub mod report;
+pub mod run;
+pub mod tables;
+pub mod text_case;
+pub mod texts;

@@ -1,0 +1,292 @@
+//! A run of the comparison: the kinds of cases in turn, within bounds, and the report of the first difference.
+
+use std::io::{self, Write};
+use std::path::PathBuf;
+use std::time::{Duration, Instant};
+use std::{env, fs};
+
+use super::policies::{self, Policy};
+use super::reduce::{reduced, reduced_text};
+use super::report::report;
+use super::texts::{Alphabet, every_text, published_text};
+use super::{limits, list_case, tables, text_case};
+use crate::Random;
+use crate::calls::Calls;
+use crate::reference::book::LONGEST_FIRST_TEXT;
+use crate::reference::characters;
+
+/// The variable that names the file emoji-test.txt.
+pub const EMOJI_TEST_VARIABLE: &str = "EMOJI_TEST";
+/// Where that file is without the variable.
+const EMOJI_TEST: &str = "/usr/share/unicode/emoji/emoji-test.txt";
+
+/// The bounds of a run.
+#[derive(Debug, Clone, Copy, PartialEq, Eq)]
+pub struct Options {
+    /// The most cases of each drawn kind.
+    pub cases: u64,
+    /// After this many seconds no further short or drawn text is begun. The texts around the limits come after those.
+    pub seconds: u64,
+    /// The seed of the drawn cases.
+    pub seed: u64,
+    /// The length in characters up to which every text is tried.
+    pub length: usize,
+    /// Whether texts around the limits are tried.
+    pub limits: bool,
+}
+
+impl Default for Options {
+    fn default() -> Self {
+        Self {
+            cases: 200_000,
+            seconds: 90,
+            seed: 1,
+            length: 4,
+            limits: true,
+        }
+    }
+}
+
+/// Why a run ended early: a difference, told in lines, or a line that could not be printed.
+enum Stop {
+    Difference(String),
+    Output(io::Error),
+}
+
+impl From<io::Error> for Stop {
+    fn from(error: io::Error) -> Self {
+        Self::Output(error)
+    }
+}
+
+/// Runs the comparison and prints how many cases of each kind there were. True if there was no difference; the first
+/// one is printed, with a reduced text.
+pub fn run(calls: &dyn Calls, options: &Options, out: &mut dyn Write) -> io::Result<bool> {
+    let mut run = Run::new(calls, *options, out);
+    match run.all() {
+        Ok(()) => {
+            writeln!(out, "no difference")?;
+            Ok(true)
+        }
+        Err(Stop::Difference(report)) => {
+            writeln!(out, "{report}")?;
+            Ok(false)
+        }
+        Err(Stop::Output(error)) => Err(error),
+    }
+}
+
+/// What a run needs at hand.
+struct Run<'a> {
+    calls: &'a dyn Calls,
+    options: Options,
+    out: &'a mut dyn Write,
+    start: Instant,
+    alphabet: Alphabet,
+    policies: Vec<Policy>,
+}
+
+impl<'a> Run<'a> {
+    fn new(calls: &'a dyn Calls, options: Options, out: &'a mut dyn Write) -> Self {
+        let mut random = Random::from_seed(options.seed);
+        Self {
+            calls,
+            options,
+            out,
+            start: Instant::now(),
+            alphabet: Alphabet::new(),
+            policies: policies::accepted(&mut random),
+        }
+    }
+
+    /// Each kind in turn.
+    fn all(&mut self) -> Result<(), Stop> {
+        writeln!(self.out, "seed {}", self.options.seed)?;
+        self.tables()?;
+        self.published()?;
+        for length in 0..=self.options.length {
+            self.every_text(length)?;
+        }
+        self.drawn()?;
+        if self.options.limits {
+            self.limits()?;
+        }
+        Ok(())
+    }
+
+    /// Prints a line on a kind.
+    fn told(&mut self, kind: &str, cases: u64, what: &str) -> Result<(), Stop> {
+        let seconds = self.start.elapsed().as_secs_f32();
+        let line = format!("{kind:<12}{cases:>9} {what} ({seconds:.1} s)");
+        Ok(writeln!(self.out, "{line}")?)
+    }
+
+    /// Whether the seconds are over.
+    fn is_over(&self) -> bool {
+        self.start.elapsed() >= Duration::from_secs(self.options.seconds)
+    }
+
+    /// What a line says of a kind that ended because the seconds are over.
+    fn stopped(&self) -> &'static str {
+        if self.is_over() {
+            ", stopped by --seconds"
+        } else {
+            ""
+        }
+    }
+
+    /// Compares a text under a policy; a difference is reduced first.
+    fn text(&self, kind: &str, text: &[u8], policy: &Policy) -> Result<(), Stop> {
+        let Err(difference) = text_case::check(self.calls, text, policy) else {
+            return Ok(());
+        };
+        let check = |text: &[u8]| text_case::check(self.calls, text, policy).err();
+        let small = reduced_text(text, |text| check(text).is_some());
+        Err(Stop::Difference(match check(&small) {
+            Some(difference) => report(kind, (&small, text.len()), policy, &[], &difference),
+            None => report(kind, (text, text.len()), policy, &[], &difference),
+        }))
+    }
+
+    /// Compares a list of mending calls; a difference is reduced first.
+    fn list(&self, text: &[u8], policy: &Policy, list: &[list_case::Mend]) -> Result<(), Stop> {
+        let Err(difference) = list_case::check(self.calls, text, policy, list) else {
+            return Ok(());
+        };
+        let check =
+            |text: &[u8], list: &[_]| list_case::check(self.calls, text, policy, list).err();
+        let fewer = reduced(list, |list| check(text, list).is_some());
+        let small = reduced_text(text, |text| check(text, &fewer).is_some());
+        Err(Stop::Difference(match check(&small, &fewer) {
+            Some(difference) => report("lists", (&small, text.len()), policy, &fewer, &difference),
+            None => report("lists", (text, text.len()), policy, list, &difference),
+        }))
+    }
+
+    /// The default policy and the variation entries.
+    fn tables(&mut self) -> Result<(), Stop> {
+        let difference = tables::check(self.calls).err();
+        if let Some(difference) = difference {
+            return Err(Stop::Difference(format!(
+                "difference in tables\n{difference}"
+            )));
+        }
+        self.told(
+            "tables",
+            1 + characters::entries() as u64,
+            "default policy and entries",
+        )
+    }
+
+    /// The lines of Unicode's emoji-test.txt, as they are and without their selectors.
+    fn published(&mut self) -> Result<(), Stop> {
+        let named = env::var_os(EMOJI_TEST_VARIABLE).filter(|name| !name.is_empty());
+        let path = named.map_or_else(|| PathBuf::from(EMOJI_TEST), PathBuf::from);
+        let Ok(file) = fs::read_to_string(&path) else {
+            let path = path.display();
+            let line =
+                format!("emoji-test.txt is not at {path} ({EMOJI_TEST_VARIABLE}): passed over");
+            return Ok(writeln!(self.out, "{line}")?);
+        };
+        let mut lines = 0;
+        for text in file.lines().filter_map(published_text) {
+            lines += 1;
+            for policy in &self.policies {
+                self.text("published", text.as_bytes(), policy)?;
+                let bare = text.replace('\u{FE0F}', "");
+                self.text("published", bare.as_bytes(), policy)?;
+            }
+        }
+        self.told("published", lines, "lines of emoji-test.txt")
+    }
+
+    /// Every text of a length over one character of each kind. The longer ones have fewer policies.
+    fn every_text(&mut self, length: usize) -> Result<(), Stop> {
+        let characters = self.alphabet.one_of_each();
+        let policies = match length {
+            0..=3 => &self.policies[..],
+            4 => &self.policies[..2],
+            _ => &self.policies[..1],
+        };
+        let mut texts = 0;
+        every_text(&characters, length, |text| {
+            if self.is_over() {
+                return Ok(());
+            }
+            texts += 1;
+            policies
+                .iter()
+                .try_for_each(|policy| self.text("every text", text.as_bytes(), policy))
+        })?;
+        let number = policies.len();
+        let stopped = self.stopped();
+        let what = format!("texts of {length} characters, {number} policies{stopped}");
+        self.told("every text", texts, &what)
+    }
+
+    /// Drawn texts, damaged ones, and lists of mending calls, in turns.
+    fn drawn(&mut self) -> Result<(), Stop> {
+        let mut cases = 0;
+        let mut calls = 0;
+        while cases < self.options.cases && !self.is_over() {
+            let mut random = Random::from_seed(self.options.seed ^ (cases << 20));
+            self.drawn_text(&mut random)?;
+            self.damaged_text(&mut random)?;
+            calls += self.drawn_list(&mut random)?;
+            cases += 1;
+        }
+        let stopped = self.stopped();
+        self.told("random", cases, &format!("texts{stopped}"))?;
+        self.told("damaged", cases, "texts or policies")?;
+        let what = format!("lists of mending calls, {calls} calls");
+        self.told("lists", cases, &what)
+    }
+
+    fn drawn_policy(&self, random: &mut Random) -> Policy {
+        if random.below(4) == 0 {
+            return policies::drawn(random);
+        }
+        self.policies[random.below(self.policies.len())].clone()
+    }
+
+    fn drawn_text(&self, random: &mut Random) -> Result<(), Stop> {
+        let text = self.alphabet.drawn(random);
+        self.text("random", &text, &self.drawn_policy(random))
+    }
+
+    /// A damaged text, a policy that is refused, or both.
+    fn damaged_text(&self, random: &mut Random) -> Result<(), Stop> {
+        let (text, policy) = match random.below(4) {
+            0 => (self.alphabet.drawn(random), policies::refused(random)),
+            1 => (self.alphabet.damaged(random), policies::refused(random)),
+            _ => (self.alphabet.damaged(random), self.drawn_policy(random)),
+        };
+        self.text("damaged", &text, &policy)
+    }
+
+    /// A list of mending calls, and how many they are.
+    fn drawn_list(&self, random: &mut Random) -> Result<u64, Stop> {
+        let text = self.alphabet.drawn(random);
+        let policy = self.drawn_policy(random);
+        let list = list_case::drawn(random, &text, &policy);
+        self.list(&text, &policy, &list)?;
+        Ok(list.len() as u64)
+    }
+
+    /// Texts around the limits, and a list that starts from a text of the longest length.
+    fn limits(&mut self) -> Result<(), Stop> {
+        let mut random = Random::from_seed(self.options.seed);
+        let mut texts = 0;
+        for length in limits::lengths() {
+            for (text, policy) in limits::cases(length, &mut random) {
+                self.text("limits", &text, &policy)?;
+                texts += 1;
+            }
+        }
+        let text = limits::sparse(LONGEST_FIRST_TEXT);
+        let policy = Policy::default_policy();
+        let list = list_case::drawn(&mut random, &text, &policy);
+        self.list(&text, &policy, &list)?;
+        self.told("limits", texts + 1, "texts of lengths around the limits")
+    }
+}

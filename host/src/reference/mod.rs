@@ -1,0 +1,27 @@
+//! An independent reading of document 01, written from its sentences, and neither from the crate's code nor from the
+//! port's.
+//!
+//! What the crate has too (items, counts, replacements, formatted text) is held to the crate by tests. What it lacks
+//! (refusals, the tag report, listing, mending, the book of a list of calls) the port is compared with here. Only the
+//! Unicode tables and the default policy come from elsewhere: from the crate as built by the wrapper, which document 01
+//! names for both.
+//!
+//! | module | sets out |
+//! |---|---|
+//! | [`utf8`] | well-formed texts |
+//! | [`characters`] | what a character is |
+//! | [`policy`] | which bytes are a policy, and its rule for a base |
+//! | [`items`] | the grammar of items, and the tag report |
+//! | [`rules`] | counts and replacements |
+//! | [`calls`] | formatting, listing, mending and scanning, with their refusals |
+//! | [`book`] | a list of mending calls |
+//! | [`programs`] | what the two programs write |
+
+pub mod book;
+pub mod calls;
+pub mod characters;
+pub mod items;
+pub mod policy;
+pub mod programs;
+pub mod rules;
+pub mod utf8;

@@ -1,0 +1,110 @@
+//! Document 01, "Key set and policy": which bytes are a policy, and what it says of a base.
+
+use std::sync::LazyLock;
+
+use super::characters;
+
+/// What a policy says of a base.
+#[derive(Debug, Clone, Copy, PartialEq, Eq)]
+pub enum SingletonRule {
+    /// Neither set holds the base.
+    BareToEmoji,
+    /// Only `bare_as_text` holds it.
+    BareToText,
+    /// Only `prefer_bare` holds it.
+    EmojiToBare,
+    /// Both hold it.
+    TextToBare,
+}
+
+/// A policy: the four character sets, each as its words.
+#[derive(Debug, Clone, PartialEq, Eq)]
+pub struct Policy {
+    prefer_bare: KeySet,
+    bare_as_text: KeySet,
+}
+
+/// The words of an ordinary and a keycap character set.
+#[derive(Debug, Clone, PartialEq, Eq)]
+struct KeySet {
+    ordinary: Vec<u64>,
+    keycap: Vec<u64>,
+}
+
+/// W: the number of words of a character set.
+#[must_use]
+pub fn words() -> usize {
+    characters::entries().div_ceil(64)
+}
+
+/// The number of bytes of a policy: 4W words of 8 bytes.
+#[must_use]
+pub fn bytes() -> usize {
+    4 * words() * 8
+}
+
+impl Policy {
+    /// The policy of some bytes. None if they are not 4W words or an unused bit is set.
+    #[must_use]
+    pub fn read(bytes: &[u8]) -> Option<Self> {
+        if bytes.len() != self::bytes() {
+            return None;
+        }
+        let mut sets = bytes.chunks(8 * words()).map(read_words);
+        let mut key_set = || {
+            Some(KeySet {
+                ordinary: sets.next()??,
+                keycap: sets.next()??,
+            })
+        };
+        Some(Self {
+            prefer_bare: key_set()?,
+            bare_as_text: key_set()?,
+        })
+    }
+
+    /// The rule for the variation entry of this number, before a keycap or not.
+    #[must_use]
+    pub fn singleton_rule(&self, entry: u16, before_keycap: bool) -> SingletonRule {
+        let prefer_bare = self.prefer_bare.holds(entry, before_keycap);
+        let bare_as_text = self.bare_as_text.holds(entry, before_keycap);
+        match (prefer_bare, bare_as_text) {
+            (false, false) => SingletonRule::BareToEmoji,
+            (false, true) => SingletonRule::BareToText,
+            (true, false) => SingletonRule::EmojiToBare,
+            (true, true) => SingletonRule::TextToBare,
+        }
+    }
+}
+
+impl KeySet {
+    /// "Entry i at bit i mod 64 of word i/64."
+    fn holds(&self, entry: u16, before_keycap: bool) -> bool {
+        let set = if before_keycap {
+            &self.keycap
+        } else {
+            &self.ordinary
+        };
+        (set[usize::from(entry / 64)] >> (entry % 64)) & 1 == 1
+    }
+}
+
+/// The words of a character set, lowest byte first. None if an unused bit is set.
+fn read_words(bytes: &[u8]) -> Option<Vec<u64>> {
+    let number = |bytes: &[u8]| {
+        let bytes = bytes.iter().rev();
+        bytes.fold(0, |number, &byte| (number << 8) | u64::from(byte))
+    };
+    let words: Vec<u64> = bytes.chunks(8).map(number).collect();
+    let is_set = |bit: usize| (words[bit / 64] >> (bit % 64)) & 1 == 1;
+    let any_unused = (characters::entries()..64 * words.len()).any(is_set);
+    (!any_unused).then_some(words)
+}
+
+/// The bytes of the default policy. "Reference: `Policy::default`."
+#[must_use]
+pub fn default_policy() -> &'static [u8] {
+    static BYTES: LazyLock<Vec<u8>> =
+        LazyLock::new(|| crate::beside::policy_bytes(evfmt::Policy::default()));
+    &BYTES
+}

@@ -1,0 +1,226 @@
+//! The comparison itself: it finds nothing in the reading of document 01, and every planted fault.
+
+use std::path::PathBuf;
+
+use tilghorz_comparison::Random;
+use tilghorz_comparison::calls::{Calls, Reference};
+use tilghorz_comparison::comparison::command::{Command, Planted};
+use tilghorz_comparison::comparison::faults::{FAULTS, Fault};
+use tilghorz_comparison::comparison::faulty::Faulty;
+use tilghorz_comparison::comparison::lent::lend;
+use tilghorz_comparison::comparison::programs::{Programs, written};
+use tilghorz_comparison::comparison::reduce::{characters, reduced, reduced_text};
+use tilghorz_comparison::comparison::run::{Options, run};
+use tilghorz_comparison::comparison::texts::published_text;
+use tilghorz_comparison::comparison::{limits, text_case};
+use tilghorz_comparison::reference::calls::{Draft, LONGEST_TEXT};
+
+/// A short run.
+const SHORT: Options = Options {
+    cases: 300,
+    seconds: 60,
+    seed: 1,
+    length: 2,
+    limits: false,
+};
+
+/// The faults that show at a limit alone, with the length of a text in which they do.
+const AT_LIMITS: [(Fault, usize); 2] = [
+    (Fault::LimitTooLow, LONGEST_TEXT),
+    (Fault::LimitTooHigh, LONGEST_TEXT + 1),
+];
+
+/// What a run prints, and whether there was no difference.
+fn printed(calls: &dyn Calls, options: &Options) -> (bool, String) {
+    let mut out = Vec::new();
+    let is_same = run(calls, options, &mut out).expect("printed");
+    (is_same, String::from_utf8(out).expect("a text"))
+}
+
+#[test]
+fn the_reference_has_no_difference_from_itself() {
+    let (is_same, text) = printed(&Reference, &SHORT);
+    assert!(is_same, "{text}");
+    for kind in ["tables", "every text", "random", "damaged", "lists"] {
+        assert!(text.lines().any(|line| line.starts_with(kind)), "{text}");
+    }
+    assert!(text.ends_with("no difference\n"), "{text}");
+}
+
+#[test]
+fn every_planted_fault_is_reported() {
+    for (name, fault) in FAULTS {
+        if AT_LIMITS.iter().any(|(at_limit, _)| *at_limit == fault) {
+            continue;
+        }
+        let (is_same, text) = printed(&Faulty::new(&Reference, fault), &SHORT);
+        assert!(!is_same, "{name} is not reported:\n{text}");
+        let report = text.split_once("difference in ").expect("a report").1;
+        for line in ["call", "expected", "found"] {
+            assert!(report.contains(&format!("\n  {line} ")), "{name}: {text}");
+        }
+    }
+}
+
+#[test]
+fn faults_at_limits_are_found_in_texts_of_those_lengths() {
+    let mut random = Random::new();
+    for (fault, length) in AT_LIMITS {
+        assert!(limits::lengths().contains(&length));
+        let (text, policy) = limits::cases(length, &mut random).swap_remove(0);
+        assert_eq!(text.len(), length);
+        assert_eq!(text_case::check(&Reference, &text, &policy), Ok(()));
+        assert!(text_case::check(&Faulty::new(&Reference, fault), &text, &policy).is_err());
+    }
+}
+
+#[test]
+fn a_report_has_a_reduced_text() {
+    let (_, text) = printed(&Faulty::new(&Reference, Fault::KeycapRule), &SHORT);
+    let line = text.lines().find(|line| line.starts_with("  text "));
+    assert_eq!(line, Some("  text      5 bytes: C2 A9 E2 83 A3"), "{text}");
+    let (_, text) = printed(&Faulty::new(&Reference, Fault::ForgetsFindings), &SHORT);
+    assert!(
+        text.contains("difference in lists, in a text of "),
+        "{text}"
+    );
+    assert!(text.contains("\n  list 1 "), "{text}");
+}
+
+#[test]
+fn the_same_seed_gives_the_same_run() {
+    let report = |seed| {
+        let options = Options { seed, ..SHORT };
+        let (_, text) = printed(&Faulty::new(&Reference, Fault::Beginning), &options);
+        text.split_once("difference in")
+            .map(|parts| parts.1.to_owned())
+    };
+    assert_eq!(report(3), report(3));
+    assert_ne!(report(3), report(4));
+}
+
+#[test]
+fn a_list_is_reduced_to_what_has_the_fault() {
+    let numbers: Vec<u32> = (0..1000).collect();
+    let has_both = |rest: &[u32]| rest.contains(&17) && rest.contains(&801);
+    assert_eq!(reduced(&numbers, has_both), [17, 801]);
+    assert_eq!(reduced(&numbers, |_| true), []);
+    let text = "ab\u{2764}c\u{FE0F}d".as_bytes();
+    let has_heart = |text: &[u8]| text.windows(3).any(|bytes| bytes == "\u{2764}".as_bytes());
+    assert_eq!(reduced_text(text, has_heart), "\u{2764}".as_bytes());
+    assert_eq!(
+        characters(b"a\xC3\xA9\xC3"),
+        [&b"a"[..], b"\xC3\xA9", b"\xC3"]
+    );
+}
+
+/// The command of some arguments.
+fn parsed(arguments: &str) -> Result<Command, String> {
+    Command::parse(arguments.split_whitespace().map(str::to_owned))
+}
+
+#[test]
+fn arguments_are_read() {
+    let command =
+        parsed("--cases 5 --seconds 6 --seed 7 --length 2 --without-limits --fault beginning");
+    let options = Options {
+        cases: 5,
+        seconds: 6,
+        seed: 7,
+        length: 2,
+        limits: false,
+    };
+    let planted = Planted::One(Fault::Beginning);
+    let expected = Command {
+        options,
+        planted,
+        programs: None,
+    };
+    assert_eq!(command, Ok(expected));
+    assert_eq!(
+        parsed("").map(|command| command.options),
+        Ok(Options::default())
+    );
+    let programs = parsed("--programs a b").map(|command| command.programs);
+    let [format, report] = ["a", "b"].map(Into::into);
+    assert_eq!(programs, Ok(Some(Programs { format, report })));
+    for wrong in [
+        "--cases",
+        "--cases five",
+        "--fault none",
+        "--programs a",
+        "--other",
+        "5",
+    ] {
+        assert!(parsed(wrong).is_err(), "{wrong}");
+    }
+}
+
+#[test]
+fn a_fault_that_is_not_reported_is_told() {
+    // Texts of no character, and nothing drawn: too little to find most faults.
+    let command = parsed("--cases 0 --length 0 --without-limits --faults").expect("a command");
+    let mut out = Vec::new();
+    let are_reported = command.execute(&Reference, &mut out).expect("printed");
+    let text = String::from_utf8(out).expect("a text");
+    assert!(
+        !are_reported && text.contains("keycap-rule          NOT REPORTED"),
+        "{text}"
+    );
+    assert!(
+        text.contains("byte-behind          difference in every text"),
+        "{text}"
+    );
+}
+
+#[test]
+fn every_byte_of_a_lent_buffer_counts() {
+    let draft = Draft::bytes(b"abc".to_vec());
+    let call = |spoil: fn(&mut [u8])| {
+        let lent = lend(
+            || "a call".to_owned(),
+            &draft,
+            5,
+            |out| {
+                out[..3].copy_from_slice(b"abc");
+                spoil(out);
+                3
+            },
+        );
+        lent.map_err(|difference| difference.found)
+    };
+    assert_eq!(call(|_| ()), Ok(()));
+    let found = |spoil| call(spoil).expect_err("a difference");
+    assert_eq!(found(|out| out[2] = b'd'), "64 at byte 2 of the 3 written");
+    assert!(found(|out| out[3] ^= 1).ends_with(" at byte 0 behind the 3 written"));
+    assert!(found(|out| out[4] ^= 1).ends_with(" at byte 1 behind the 3 written"));
+    let short = lend(|| "a call".to_owned(), &draft, 2, |_| 8 << 56 | 3);
+    assert_eq!(short, Ok(()));
+}
+
+#[test]
+fn a_line_of_the_published_file_is_read() {
+    let line = "1F44B 1F3FB ; fully-qualified     # \u{1F44B}\u{1F3FB} E1.0 waving hand";
+    assert_eq!(published_text(line).as_deref(), Some("\u{1F44B}\u{1F3FB}"));
+    assert_eq!(published_text("# group: Smileys & Emotion"), None);
+    assert_eq!(published_text(""), None);
+}
+
+#[test]
+fn programs_are_run_on_a_standard_input() {
+    // A program that copies is right where the text needs no change, and wrong where it does.
+    let cat = PathBuf::from("cat");
+    assert_eq!(written(&cat, b"abc").expect("run"), b"abc");
+    let programs = Programs {
+        format: cat.clone(),
+        report: cat,
+    };
+    let mut out = Vec::new();
+    assert!(!programs.compare(1, &mut out).expect("run"));
+    let text = String::from_utf8(out).expect("a text");
+    assert!(
+        text.starts_with("difference in programs\n  call      cat on "),
+        "{text}"
+    );
+    assert!(written("no such program".as_ref(), b"").is_err());
+}

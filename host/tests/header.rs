@@ -1,0 +1,167 @@
+//! The C header, the declarations that the comparison links by, and the trait of the calls say the same.
+
+use std::fs;
+use std::path::Path;
+
+use tilghorz_comparison::calls::{FINDING_BYTES, ITEM_BYTES, POLICY_BYTES};
+
+/// A function: its name, its parameters with name and kind, and the kind of its answer.
+#[derive(Debug, PartialEq, Eq)]
+struct Function {
+    name: String,
+    parameters: Vec<(String, String)>,
+    answer: String,
+}
+
+/// The text of a file, by its path from `host/`.
+fn file(path: &str) -> String {
+    let path = Path::new(env!("CARGO_MANIFEST_DIR")).join(path);
+    fs::read_to_string(&path).unwrap_or_else(|error| panic!("{}: {error}", path.display()))
+}
+
+/// A text without its comments from `open` to `close` and without the preprocessor's lines, and with each run of white
+/// space as one blank.
+fn plain(text: &str, open: &str, close: &str) -> String {
+    let mut out = String::new();
+    let mut rest = text;
+    while let Some((before, comment)) = rest.split_once(open) {
+        out.push_str(before);
+        out.push('\n');
+        rest = comment.split_once(close).map_or("", |parts| parts.1);
+    }
+    out.push_str(rest);
+    let lines = out.lines().filter(|line| !line.starts_with('#'));
+    let words = lines.flat_map(str::split_whitespace);
+    words.collect::<Vec<_>>().join(" ")
+}
+
+/// The kind in Rust of a kind in C.
+fn kind(of: &str) -> String {
+    match of.replace(' ', "").as_str() {
+        "constuint8_t*" => "*const u8",
+        "uint8_t*" => "*mut u8",
+        "size_t" => "usize",
+        "uint64_t" => "u64",
+        other => panic!("the header has a kind that is not known here: {other}"),
+    }
+    .to_owned()
+}
+
+/// The functions that the header declares.
+fn header_functions() -> Vec<Function> {
+    let text = plain(&file("../include/tilghorz.h"), "/*", "*/");
+    // Behind the brace of `extern "C"`.
+    let (_, block) = text.split_once('{').expect("a block");
+    let declarations = block.split(';').filter_map(|part| {
+        let (head, parameters) = part.strip_suffix(')')?.split_once('(')?;
+        let (answer, name) = head.trim().split_once(' ')?;
+        let parameter = |parameter: &str| {
+            let at = parameter.rfind([' ', '*']).expect("a name") + 1;
+            (parameter[at..].to_owned(), kind(&parameter[..at]))
+        };
+        Some(Function {
+            name: name.to_owned(),
+            parameters: parameters.split(", ").map(parameter).collect(),
+            answer: kind(answer),
+        })
+    });
+    declarations.collect()
+}
+
+/// The functions of the block `extern "C"`.
+fn linked_functions() -> Vec<Function> {
+    let text = plain(&file("compare/src/library.rs"), "//", "\n");
+    let (_, block) = text.split_once("unsafe extern \"C\" {").expect("a block");
+    let (block, _) = block.split_once('}').expect("its end");
+    let declarations = block.split(';').filter_map(|part| {
+        let (head, rest) = part.split_once('(')?;
+        let (parameters, answer) = rest.split_once(')')?;
+        let parameters = parameters.split(',').map(str::trim);
+        let parameter = |parameter: &str| {
+            let (name, kind) = parameter.split_once(": ").expect("a kind");
+            (name.to_owned(), kind.to_owned())
+        };
+        Some(Function {
+            name: head.trim().strip_prefix("fn ")?.to_owned(),
+            parameters: parameters
+                .filter(|p| !p.is_empty())
+                .map(parameter)
+                .collect(),
+            answer: answer.trim().strip_prefix("-> ")?.to_owned(),
+        })
+    });
+    declarations.collect()
+}
+
+/// The functions of the trait `Calls`, each slice as a pointer and a length, in the names of the header.
+fn trait_functions() -> Vec<Function> {
+    let text = plain(&file("src/calls.rs"), "//", "\n");
+    let (_, block) = text.split_once("pub trait Calls {").expect("a trait");
+    let (block, _) = block.split_once('}').expect("its end");
+    let declarations = block.split(';').filter_map(|part| {
+        let (head, rest) = part.split_once('(')?;
+        let (parameters, answer) = rest.split_once(')')?;
+        let named = parameters
+            .split(',')
+            .filter_map(|p| p.trim().split_once(": "));
+        let parameters = named.flat_map(|(name, kind)| {
+            let pointer = match kind {
+                "&[u8]" => "*const u8",
+                "&mut [u8]" => "*mut u8",
+                plain => return vec![(name.to_owned(), plain.to_owned())],
+            };
+            vec![
+                (name.to_owned(), pointer.to_owned()),
+                (format!("{name}_len"), "usize".to_owned()),
+            ]
+        });
+        Some(Function {
+            name: format!("tilghorz_{}", head.trim().strip_prefix("fn ")?),
+            parameters: parameters.collect(),
+            answer: answer.trim().strip_prefix("-> ")?.to_owned(),
+        })
+    });
+    declarations.collect()
+}
+
+#[test]
+fn the_header_declares_six_functions() {
+    let functions = header_functions();
+    let names: Vec<&str> = functions.iter().map(|of| of.name.as_str()).collect();
+    let expected = [
+        "tilghorz_format",
+        "tilghorz_list",
+        "tilghorz_mend",
+        "tilghorz_scan",
+        "tilghorz_default_policy",
+        "tilghorz_variation_entry",
+    ];
+    assert_eq!(names, expected);
+    let numbers: Vec<usize> = functions.iter().map(|of| of.parameters.len()).collect();
+    assert_eq!(numbers, [6, 6, 9, 4, 2, 1]);
+}
+
+#[test]
+fn the_declarations_agree_with_the_header() {
+    assert_eq!(linked_functions(), header_functions());
+}
+
+#[test]
+fn the_trait_agrees_with_the_header() {
+    assert_eq!(trait_functions(), header_functions());
+}
+
+#[test]
+fn the_sizes_agree_with_the_header() {
+    let header = file("../include/tilghorz.h");
+    for (name, size) in [
+        ("TILGHORZ_POLICY_BYTES", POLICY_BYTES),
+        ("TILGHORZ_FINDING_BYTES", FINDING_BYTES),
+        ("TILGHORZ_ITEM_BYTES", ITEM_BYTES),
+    ] {
+        let mut lines = header.lines();
+        let line = lines.find(|line| line.starts_with(&format!("#define {name} ")));
+        let found = line.and_then(|line| line.split_whitespace().nth(2));
+        assert_eq!(found, Some(size.to_string().as_str()), "{name}");
+    }
+}

@@ -1,0 +1,62 @@
+//! The stored runs of the two programs (tests/programs) are what document 01 and the crate evfmt say.
+
+use std::fs;
+use std::path::{Path, PathBuf};
+
+use evfmt::Policy;
+use tilghorz_comparison::beside;
+use tilghorz_comparison::reference::programs::{LONGEST_INPUT, formatted, report};
+
+/// The inputs of the stored runs.
+fn inputs() -> Vec<PathBuf> {
+    let folder = Path::new(env!("CARGO_MANIFEST_DIR")).join("../tests/programs");
+    let mut inputs: Vec<PathBuf> = fs::read_dir(folder)
+        .expect("the folder of the stored runs")
+        .map(|entry| entry.expect("an entry of the folder").path())
+        .filter(|path| path.extension().is_some_and(|extension| extension == "in"))
+        .collect();
+    inputs.sort();
+    inputs
+}
+
+/// The bytes of a file.
+fn bytes(path: &Path) -> Vec<u8> {
+    fs::read(path).unwrap_or_else(|error| panic!("{}: {error}", path.display()))
+}
+
+#[test]
+fn the_stored_runs_are_what_document_01_says() {
+    let inputs = inputs();
+    assert!(!inputs.is_empty());
+    for path in inputs {
+        let input = bytes(&path);
+        assert!(
+            bytes(&path.with_extension("format")) == formatted(&input),
+            "{}",
+            path.display()
+        );
+        assert!(
+            bytes(&path.with_extension("report")) == report(&input),
+            "{}",
+            path.display()
+        );
+    }
+}
+
+#[test]
+fn the_stored_formatted_texts_are_the_crates() {
+    for path in inputs() {
+        let input = bytes(&path);
+        let Ok(text) = str::from_utf8(&input) else {
+            continue;
+        };
+        if input.len() <= LONGEST_INPUT {
+            let expected = beside::formatted(text, &Policy::default()).unwrap_or(input.clone());
+            assert!(
+                bytes(&path.with_extension("format")) == expected,
+                "{}",
+                path.display()
+            );
+        }
+    }
+}
