@@ -1,0 +1,2 @@
+-- Formatting a message never lacks room.
+pub mod Rooms

@@ -1,0 +1,53 @@
+-- A formatted text has at most four times the message's length, so formatting into an output of that length is never refused for
+-- want of room.
+use mathlib.Core.Path.{_≡_, refl, sym, ap, _∙_, subst}
+use mathlib.Core.Bool.{Bool, true, false}
+use mathlib.Core.List.{List}
+use mathlib.Core.Option.{Option, none, some}
+use Prim.Native.Nat.{ℕ, _*_, _≤_}
+use native.Mathlib.Omega.{arith}
+use lib.ListN.{drop, length}
+use lib.Seq.{take-append-seam}
+use borrow.Author.Tests.{le-leb}
+use Rattle.base.specs.Refusals.{After}
+use Rattle.base.specs.declared.Refusal.{Refusal}
+use Rattle.policy.specs.DefaultPolicy.{defaultPolicy}
+use Rattle.policy.specs.PolicyBytes.{policyBytes}
+use Rattle.formatter.specs.Format.{format, formatted, sameBytes}
+use Rattle.formatter.specs.Intake.{intakeRefusal}
+use Rattle.formatter.specs.Theorems.{IntakeComesFirst}
+use Rattle.formatter.specs.declared.FormatAnswer.{FormatAnswer}
+use Rattle.formatter.proofs.FormattedClaim.{formatted-claim}
+use Rattle.formatter.proofs.Formatting.{format-is, formatTests, same-true}
+use Rattle.formatter.proofs.Outcomes.{comes-first}
+use Rattle.formatter.proofs.Passing.{passed-accepted}
+use Rattle.format.specs.Answers.{Answers}
+
+module _ (message : List ℕ) where
+  abbrev policy : List ℕ
+  policy = policyBytes defaultPolicy
+
+  -- What a call leaves is an answer.
+  abbrev pub IsAnswer : After FormatAnswer ℕ → Type 0
+  IsAnswer a = Answers message (a .answer) (a .buffer)
+
+  tested : (out : List ℕ) (same : Bool) → sameBytes (formatted message policy) message ≡ same
+      → IsAnswer (formatTests same true (formatted message policy) out)
+  tested out true e = sym (same-true (formatted message policy) message e)
+  tested out false e = take-append-seam (formatted message policy) (drop (length (formatted message policy)) out)
+
+  pub answers : (out : List ℕ) → 4 * length message ≤ length out → IsAnswer (format message policy out)
+  unfolding IntakeComesFirst
+  answers out h = go (intakeRefusal message policy) refl
+    where
+      F : List ℕ
+      F = formatted message policy
+
+      go : (o : Option Refusal) → intakeRefusal message policy ≡ o → IsAnswer (format message policy out)
+      go (some r) e = subst IsAnswer (sym (comes-first message policy r e .0 out)) e
+      go none e =
+          let a = passed-accepted message policy e in
+          let f : length F ≤ length out = omega (arith, h, formatted-claim policy message a .four-times) in
+          subst IsAnswer
+          (sym (format-is policy message out a ∙ ap (λ (fits : Bool). formatTests (sameBytes F message) fits F out) (le-leb (length F) (length out) f)))
+          (tested out (sameBytes F message) refl)

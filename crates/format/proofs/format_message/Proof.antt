@@ -1,0 +1,33 @@
+-- What `format_text` leaves, with room for every formatted text.
+use mathlib.Core.Path.{subst, sym, ap, _∙_}
+use mathlib.Core.List.{List}
+use Prim.Native.Nat.{ℕ}
+use borrow.Author.Needs.{needs}
+use Rattle.formatter.specs.Format.{format}
+use Rattle.format.proofs.Rooms.{IsAnswer, answers}
+use Rattle.format.proofs.format_message.Statement.{statement}
+use Rattle.format.proofs.format_message.Tie as tie
+
+put-default-policy-requires : tie.Need-put-default-policy-requires
+put-default-policy-requires c κs = search needs
+
+slice-aggregate-format-text : tie.Need-slice-aggregate-format-text
+slice-aggregate-format-text c = search needs
+
+format-text-requires : tie.Need-format-text-requires
+format-text-requires c κs = search needs
+
+same-length : tie.Need-same-length
+same-length c = search needs
+
+returns : tie.Need-returns
+returns c =
+    let x = c .before .before .before .before .before .before .before .before .before in
+    let m = x .args .message .now in
+    let out = x .args .out .now in
+    let d = c .before .before .before .before .before .put-default-policy .ensures .1 in
+    subst (IsAnswer m) (sym (c .before .before .format-text .ensures ∙ ap (λ (p : List ℕ). format m p out) d)) (answers m out (x .pre))
+
+pub format-message-spec : {M : Type 1} → statement M
+format-message-spec =
+    tie.close (tie.spec put-default-policy-requires slice-aggregate-format-text format-text-requires same-length returns)

@@ -1,0 +1,15 @@
+-- The statements of specs/, each with its proof.
+use mathlib.Core.Path.{refl}
+use native.Mathlib.Omega.{arith}
+use Rattle.base.specs.Refusals.{refusalRow}
+use Rattle.message_io.specs.Lines.{decimal, decimalBy, findingLine, line, parted, refusalLine, returned, totalLine}
+use Rattle.message_io.specs.Theorems.{DecimalTells, WorkedLines}
+use Rattle.message_io.proofs.Digits.{tells}
+
+pub decimal-tells : DecimalTells
+unfolding DecimalTells decimal
+decimal-tells n = tells n n (omega arith)
+
+pub worked-lines : WorkedLines
+unfolding WorkedLines findingLine totalLine refusalLine line parted decimal decimalBy refusalRow returned
+worked-lines = (refl, refl, refl, refl, refl)

@@ -1,0 +1,5 @@
+-- The laws that the functions' proofs cite, and the claims.
+pub mod Digits
+pub mod Texts
+pub mod DefaultBytes
+pub mod Claims

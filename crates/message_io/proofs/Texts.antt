@@ -1,0 +1,67 @@
+-- Lines as they are put, piece by piece.
+use mathlib.Core.Path.{_≡_, refl, sym, ap, _∙_}
+use mathlib.Core.List.{List, [], _∷_, _++_, append-assoc, append-nil, map}
+use Prim.Native.Nat.{ℕ, zero, suc, _+_, _<_, _≤_}
+use native.Mathlib.Nat.{add-zero, not-suc-le-zero, zero-add}
+use native.Mathlib.Omega.{arith}
+use lib.ListN.{drop, getD, length, take}
+use lib.Seq.{drop-cons, length-sets, sets-eq, take-append-seam}
+use Rattle.io.specs.Counts.{Counts}
+use Rattle.base.specs.Output.{PutAt}
+use Rattle.base.specs.declared.Refusal.{Refusal}
+use Rattle.base.proofs.Writer.{put-as, put-then}
+use Rattle.message_io.specs.Lines.{behindBlanks, decimal, findingLine, line, parted, returned}
+
+-- a line is its first text, and the others behind blanks
+blanks : (t : List ℕ) (ts : List (List ℕ)) → parted (t ∷ ts) ≡ t ++ behindBlanks ts
+unfolding parted behindBlanks
+blanks t [] = sym (append-nil t)
+blanks t (u ∷ ts) = ap (λ (xs : List ℕ). t ++ (0x20 ∷ xs)) (blanks u ts)
+
+pub line-put : {o o₁ o₂ o₃ t : List ℕ} {i j r : ℕ} (ts : List (List ℕ)) → PutAt o 0 t o₁ i → PutAt o₁ i (behindBlanks ts) o₂ j
+    → PutAt o₂ j (0x0A ∷ []) o₃ r → PutAt o 0 (line (t ∷ ts)) o₃ r
+unfolding line
+line-put {t = t} ts p q s =
+    put-as (parted (t ∷ ts) ++ (0x0A ∷ [])) (ap (λ (xs : List ℕ). xs ++ (0x0A ∷ [])) (sym (blanks t ts))) (put-then (put-then p q) s)
+
+-- what is put at the front of a buffer is its front
+pub front : {o o′ xs : List ℕ} {r : ℕ} → PutAt o 0 xs o′ r → r ≤ length o → Counts r o′ × (take r o′ ≡ xs)
+front {o} {o′} {xs} {r} p h =
+    let e : r ≡ length xs = p .ends ∙ zero-add (length xs) in
+    let t : take r o′ ≡ xs =
+    ap (λ (k : ℕ). take k o′) e ∙ ap (take (length xs)) (p .bytes ∙ sets-eq xs o 0 (omega arith))
+    ∙ take-append-seam xs (drop (0 + length xs) o) in
+    ((omega (arith, ap length (p .bytes), length-sets o 0 xs), e ∙ ap length (sym t)), t)
+
+-- one number more
+pub numbers-next : (i : ℕ) (ns : List ℕ) → i < length ns
+    → behindBlanks (map decimal (take (suc i) ns)) ≡ behindBlanks (map decimal (take i ns)) ++ (0x20 ∷ decimal (getD ns i 0))
+unfolding behindBlanks
+numbers-next zero [] h = absurd (not-suc-le-zero h)
+numbers-next (suc i) [] h = absurd (not-suc-le-zero h)
+numbers-next zero (n ∷ ns) h = ap (λ (xs : List ℕ). 0x20 ∷ xs) (append-nil (decimal n))
+numbers-next (suc i) (n ∷ ns) h =
+    let m = behindBlanks (map decimal (take i ns)) in
+    let x : List ℕ = 0x20 ∷ decimal (getD ns i 0) in
+    ap (λ (xs : List ℕ). 0x20 ∷ (decimal n ++ xs)) (numbers-next i ns (omega arith))
+    ∙ ap (λ (xs : List ℕ). 0x20 ∷ xs) (sym (append-assoc (decimal n) m x))
+
+-- ten numbers are the first and the others
+pub first-number : (ns : List ℕ) → 0 < length ns → line (decimal (getD ns 0 0) ∷ map decimal (drop 1 ns)) ≡ findingLine ns
+unfolding findingLine
+first-number ns h = ap (λ (xs : List ℕ). line (map decimal xs)) (sym (drop-cons ns 0 0 h))
+
+-- what is returned with a refusal: a number, or nothing
+pub value-put : {o o₁ : List ℕ} {s r n : ℕ} (x : Refusal) → returned x ≡ n ∷ [] → PutAt o s (0x20 ∷ decimal n) o₁ r
+    → PutAt o s (behindBlanks (map decimal (returned x))) o₁ r
+unfolding behindBlanks
+value-put {n = n} x e p =
+    put-as (behindBlanks (map decimal (returned x))) (
+    ap (λ (xs : List ℕ). 0x20 ∷ xs) (sym (append-nil (decimal n)))
+    ∙ ap (λ (ns : List ℕ). behindBlanks (map decimal ns)) (sym e)
+    ) p
+
+pub nothing-put : {o : List ℕ} {s : ℕ} (x : Refusal) → returned x ≡ [] → PutAt o s (behindBlanks (map decimal (returned x))) o s
+unfolding behindBlanks
+nothing-put {o} {s} x e =
+    put-as (behindBlanks (map decimal (returned x))) (ap (λ (ns : List ℕ). behindBlanks (map decimal ns)) (sym e)) (record { ends = sym (add-zero s); bytes = refl })

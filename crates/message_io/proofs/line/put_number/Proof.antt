@@ -1,0 +1,28 @@
+-- A blank, and the digits behind it.
+use native.Mathlib.Omega.{arith}
+use Rattle.base.proofs.Writer.{put-then}
+use borrow.Author.Needs.{needs}
+use Rattle.message_io.proofs.line.put_number.Statement.{statement}
+use Rattle.message_io.proofs.line.put_number.Tie as tie
+
+slice-aggregate-put-bytes : tie.Need-slice-aggregate-put-bytes
+slice-aggregate-put-bytes c = search needs
+
+put-bytes-requires : tie.Need-put-bytes-requires
+put-bytes-requires c κs = search needs
+
+put-decimal-requires : tie.Need-put-decimal-requires
+put-decimal-requires c κs = search needs
+
+same-length : tie.Need-same-length
+same-length c = search needs
+
+returns : tie.Need-returns
+returns c =
+    let p = c .before .before .before .before .before .before .put-bytes .ensures in
+    let q = c .before .before .put-decimal .ensures in
+    (put-then p (q .0), omega (arith, p .ends, q .1))
+
+pub put-number-spec : {M : Type 1} → statement M
+put-number-spec =
+    tie.close (tie.spec slice-aggregate-put-bytes put-bytes-requires put-decimal-requires same-length returns)

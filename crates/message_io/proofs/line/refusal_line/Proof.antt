@@ -1,0 +1,52 @@
+-- The word, the number and what is returned.
+use mathlib.Core.Path.{ap, _∙_}
+use mathlib.Core.List.{List, [], _∷_, map}
+use Prim.Native.Nat.{ℕ}
+use native.Mathlib.Omega.{arith}
+use Rattle.base.proofs.Writer.{put-then}
+use Rattle.message_io.specs.Lines.{behindBlanks, decimal, line, refusalLine, returned}
+use Rattle.message_io.proofs.Texts.{front, line-put}
+use borrow.Author.Needs.{needs}
+use Rattle.message_io.proofs.line.refusal_line.Statement.{statement}
+use Rattle.message_io.proofs.line.refusal_line.Tie as tie
+
+-- `refused`
+abbrev word : List ℕ
+word = 0x72 ∷ 0x65 ∷ 0x66 ∷ 0x75 ∷ 0x73 ∷ 0x65 ∷ 0x64 ∷ []
+
+slice-aggregate-put-bytes : tie.Need-slice-aggregate-put-bytes
+slice-aggregate-put-bytes c = search needs
+
+put-bytes-requires : tie.Need-put-bytes-requires
+put-bytes-requires c κs = search needs
+
+refusal-number-requires : tie.Need-refusal-number-requires
+refusal-number-requires c κs = search needs
+
+put-number-requires : tie.Need-put-number-requires
+put-number-requires c κs = search needs
+
+put-returned-requires : tie.Need-put-returned-requires
+put-returned-requires c κs = search needs
+
+slice-aggregate-put-bytes-2 : tie.Need-slice-aggregate-put-bytes-2
+slice-aggregate-put-bytes-2 c = search needs
+
+put-bytes-requires-2 : tie.Need-put-bytes-requires-2
+put-bytes-requires-2 c κs = search needs
+
+returns : tie.Need-returns
+unfolding refusalLine behindBlanks
+returns c =
+    let x = c .before .before .before .before .before .before .before .before .before .before .before .args .refusal in
+    let p = c .before .before .before .before .before .before .before .before .put-bytes .ensures in
+    let n = c .before .before .before .before .before .before .refusal-number in
+    let q = c .before .before .before .before .before .put-number .ensures in
+    let v = c .before .before .before .put-returned .ensures in
+    let s = c .put-bytes2 .ensures in
+    let w = front (line-put (map decimal (n .result ∷ returned x)) p (put-then (q .0) (v .0)) s) (omega (arith, p .ends, q .1, v .1, s .ends)) in
+    (w .0, w .1 ∙ ap (λ (k : ℕ). line (word ∷ map decimal (k ∷ returned x))) (n .ensures))
+
+pub refusal-line-spec : {M : Type 1} → statement M
+refusal-line-spec =
+    tie.close (tie.spec slice-aggregate-put-bytes put-bytes-requires refusal-number-requires put-number-requires put-returned-requires slice-aggregate-put-bytes-2 put-bytes-requires-2 returns)

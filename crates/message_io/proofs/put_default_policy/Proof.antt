@@ -1,0 +1,22 @@
+-- The buffer is as long as the policy.
+use mathlib.Core.Path.{_≡_, ap, _∙_}
+use lib.ListN.{length}
+use borrow.Author.Needs.{needs}
+use Rattle.message_io.proofs.DefaultBytes.{default-length, default-written}
+use Rattle.message_io.proofs.put_default_policy.Statement.{statement}
+use Rattle.message_io.proofs.put_default_policy.Tie as tie
+
+default-requires : tie.Need-default-requires
+default-requires c κs = search needs
+
+write-policy-requires : tie.Need-write-policy-requires
+write-policy-requires c κs = search needs
+
+returns : tie.Need-returns
+returns c =
+    let l : length (c .before .before .before .args .out .now) ≡ 192 = search needs in
+    let w = default-written l (c .before .before .default .ensures) (c .write-policy .ensures) in
+    (ap length w ∙ default-length, w)
+
+pub put-default-policy-spec : {M : Type 1} → statement M
+put-default-policy-spec = tie.close (tie.spec default-requires write-policy-requires returns)

@@ -1,0 +1,70 @@
+-- The lines that the programs write (document 01, "Programs"): of a finding, of the totals, of a refusal.
+use mathlib.Core.Bool.{cond}
+use mathlib.Core.List.{List, [], _∷_, _++_, map}
+use Prim.Native.Nat.{ℕ, zero, suc, _+_, _/_, _%_}
+use lib.Dec.{ltb}
+use Rattle.base.specs.Refusals.{refusalRow}
+use Rattle.base.specs.declared.Refusal.{Refusal}
+use Rattle.base.specs.declared.Refusal.the-variants.{
+  BadDecision,
+  NoFinding,
+  NotAPolicy,
+  NotWellFormed,
+  OutputTooShort,
+  TableTooShort,
+  TextTooLong,
+  WrongNumberOfDecisions,
+}
+
+-- ---- numbers
+
+-- The digits of a number: those of a tenth of it, and the last. There are at most one more than the fuel.
+unfoldable pub decimalBy : ℕ → ℕ → List ℕ
+decimalBy zero n = (48 + n) ∷ []
+decimalBy (suc fuel) n = cond (ltb n 10) ((48 + n) ∷ []) (decimalBy fuel (n / 10) ++ ((48 + n % 10) ∷ []))
+
+-- A number in decimal digits, with no 0 in front but for the number 0. A number is fuel enough for itself.
+unfoldable pub decimal : ℕ → List ℕ
+decimal n = decimalBy n n
+
+-- ---- lines
+
+-- ".. parted by one blank"
+unfoldable pub parted : List (List ℕ) → List ℕ
+parted [] = []
+parted (t ∷ []) = t
+parted (t ∷ u ∷ ts) = t ++ (0x20 ∷ parted (u ∷ ts))
+
+-- Texts with a blank before each.
+unfoldable pub behindBlanks : List (List ℕ) → List ℕ
+behindBlanks [] = []
+behindBlanks (t ∷ ts) = 0x20 ∷ (t ++ behindBlanks ts)
+
+-- ".. each line ended by 0A"
+unfoldable pub line : List (List ℕ) → List ℕ
+line ts = parted ts ++ (0x0A ∷ [])
+
+-- "The report writes, per finding, start, end and eight counts": of these ten numbers.
+unfoldable pub findingLine : List ℕ → List ℕ
+findingLine numbers = line (map decimal numbers)
+
+-- ".. then totals", behind the word `total`: of the eight.
+unfoldable pub totalLine : List ℕ → List ℕ
+totalLine numbers = line ((0x74 ∷ 0x6F ∷ 0x74 ∷ 0x61 ∷ 0x6C ∷ []) ∷ map decimal numbers)
+
+-- "Returned" of a cause in document 01's table: none where it says "nothing more". The programs give only 1 and 3, whose value is
+-- the offset.
+unfoldable pub returned : Refusal → List ℕ
+returned TextTooLong = []
+returned NotAPolicy = []
+returned (NotWellFormed n) = n ∷ []
+returned NoFinding = []
+returned (WrongNumberOfDecisions n) = n ∷ []
+returned (BadDecision n) = n ∷ []
+returned (TableTooShort n) = n ∷ []
+returned (OutputTooShort n) = n ∷ []
+
+-- "`refused`, the number and any offset"
+unfoldable pub refusalLine : Refusal → List ℕ
+refusalLine r =
+    line ((0x72 ∷ 0x65 ∷ 0x66 ∷ 0x75 ∷ 0x73 ∷ 0x65 ∷ 0x64 ∷ []) ∷ map decimal (refusalRow r .number ∷ returned r))

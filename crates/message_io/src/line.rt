@@ -1,0 +1,121 @@
+// The lines that the programs write (document 01, "Programs"): of a finding, of the totals, of a refusal. Each is put at the front
+// of a lent buffer that has room for every such line, and equals its definition in specs/Lines.antt.
+ghost use mathlib.Core.Path.{_≡_};
+ghost use mathlib.Core.List.{_∷_, map};
+ghost use Prim.Native.Nat.{_+_, _*_, _≤_};
+ghost use lib.ListN.{length, take};
+ghost use Rattle.io.specs.Counts.{Counts};
+ghost use Rattle.base.specs.Output.{PutAt};
+ghost use Rattle.base.specs.Refusals.{refusalRow};
+ghost use Rattle.message_io.specs.Lines.{behindBlanks, decimal, findingLine, refusalLine, returned, totalLine};
+use base::Refusal;
+
+// The most bytes of a line, with its 0A: ten numbers of up to 20 digits, each with a blank or the line's end behind it.
+pub const LINE_ROOM: usize = 210;
+
+// Puts bytes at a place, for which there is room, and says where they end.
+fn put_bytes(out: &mut [u8], start: usize, bytes: &[u8]) -> usize
+    requires { ⌜ start + length (now bytes) ≤ length (now out) ⌝ }
+    ensures { λ r. ⌜ PutAt (now (out .entry)) start (now (bytes .entry)) (now (out .exit)) r ⌝ }
+{
+    base::write_bytes(out, start, bytes);
+    start + bytes.len()
+}
+
+// Puts a number's digits.
+fn put_decimal(out: &mut [u8], start: usize, n: usize) -> usize
+    requires { ⌜ start + 20 ≤ length (now out) ⌝ }
+    ensures { λ r. ⌜ PutAt (now (out .entry)) start (decimal n) (now (out .exit)) r × (r ≤ start + 20) ⌝ }
+{
+    let mut digits = [0u8; 20];
+    let k = io::decimal(n as u64, &mut digits);
+    put_bytes(out, start, &digits[..k])
+}
+
+// Puts a blank and a number.
+fn put_number(out: &mut [u8], start: usize, n: usize) -> usize
+    requires { ⌜ start + 21 ≤ length (now out) ⌝ }
+    ensures { λ r. ⌜ PutAt (now (out .entry)) start (0x20 ∷ decimal n) (now (out .exit)) r × (r ≤ start + 21) ⌝ }
+{
+    let at = put_bytes(out, start, b" ");
+    put_decimal(out, at, n)
+}
+
+// Puts each number behind a blank.
+fn put_numbers(out: &mut [u8], start: usize, numbers: &[usize]) -> usize
+    requires { ⌜ start + 21 * length (now numbers) ≤ length (now out) ⌝ }
+    ensures { λ r. ⌜ PutAt (now (out .entry)) start (behindBlanks (map decimal (now (numbers .entry)))) (now (out .exit)) r × (r ≤ start + 21 * length (now (numbers .entry))) ⌝ }
+{
+    let mut at = start;
+    let mut i = 0;
+    while i < numbers.len() {
+        at = put_number(out, at, numbers[i]);
+        i += 1;
+    }
+    at
+}
+
+// Puts the line of a finding, by its start, its end and its eight counts, and answers its length.
+pub fn finding_line(numbers: &[usize; 10], out: &mut [u8; LINE_ROOM]) -> usize
+    ensures { λ r. ⌜ Counts r (now (out .exit)) ⌝ }
+    ensures { λ r. ⌜ take r (now (out .exit)) ≡ findingLine (now (numbers .entry)) ⌝ }
+{
+    let all = &numbers[..];
+    let mut at = put_decimal(out, 0, all[0]);
+    at = put_numbers(out, at, &all[1..]);
+    put_bytes(out, at, b"\n")
+}
+
+// Puts the line of the eight totals, and answers its length.
+pub fn total_line(numbers: &[usize; 8], out: &mut [u8; LINE_ROOM]) -> usize
+    ensures { λ r. ⌜ Counts r (now (out .exit)) ⌝ }
+    ensures { λ r. ⌜ take r (now (out .exit)) ≡ totalLine (now (numbers .entry)) ⌝ }
+{
+    let mut at = put_bytes(out, 0, b"total");
+    at = put_numbers(out, at, numbers);
+    put_bytes(out, at, b"\n")
+}
+
+// The number of a refusal in document 01's table.
+fn refusal_number(refusal: Refusal) -> usize
+    ensures { λ r. ⌜ r ≡ refusalRow refusal .number ⌝ }
+{
+    match refusal {
+        Refusal::TextTooLong => 1,
+        Refusal::NotAPolicy => 2,
+        Refusal::NotWellFormed { valid_up_to: _ } => 3,
+        Refusal::NoFinding => 4,
+        Refusal::WrongNumberOfDecisions { wanted: _ } => 5,
+        Refusal::BadDecision { index: _ } => 6,
+        Refusal::TableTooShort { findings: _ } => 7,
+        Refusal::OutputTooShort { wanted: _ } => 8,
+    }
+}
+
+// Puts what is returned with a refusal, behind a blank, if anything is.
+fn put_returned(out: &mut [u8], start: usize, refusal: Refusal) -> usize
+    requires { ⌜ start + 21 ≤ length (now out) ⌝ }
+    ensures { λ r. ⌜ PutAt (now (out .entry)) start (behindBlanks (map decimal (returned refusal))) (now (out .exit)) r × (r ≤ start + 21) ⌝ }
+{
+    match refusal {
+        Refusal::NotWellFormed { valid_up_to } => put_number(out, start, valid_up_to),
+        Refusal::WrongNumberOfDecisions { wanted } => put_number(out, start, wanted),
+        Refusal::BadDecision { index } => put_number(out, start, index),
+        Refusal::TableTooShort { findings } => put_number(out, start, findings),
+        Refusal::OutputTooShort { wanted } => put_number(out, start, wanted),
+        Refusal::TextTooLong => start,
+        Refusal::NotAPolicy => start,
+        Refusal::NoFinding => start,
+    }
+}
+
+// Puts the line of a refusal, and answers its length.
+pub fn refusal_line(refusal: Refusal, out: &mut [u8; LINE_ROOM]) -> usize
+    ensures { λ r. ⌜ Counts r (now (out .exit)) ⌝ }
+    ensures { λ r. ⌜ take r (now (out .exit)) ≡ refusalLine refusal ⌝ }
+{
+    let mut at = put_bytes(out, 0, b"refused");
+    at = put_number(out, at, refusal_number(refusal));
+    at = put_returned(out, at, refusal);
+    put_bytes(out, at, b"\n")
+}

@@ -1,0 +1,29 @@
+-- The statements of specs/, each with its proof.
+use mathlib.Core.Path.{refl}
+use Rattle.base.specs.Words.{littleEndian, number, wordBytes}
+use Rattle.utf8.specs.Rfc3629.{chars, encode, encodeAll, foldChars, foldStep, readChar, readFour, utf8-1, utf8-2, utf8-3, utf8-4, validUpTo}
+use Rattle.unicode.specs.Presentation.{asSelector, fromSelector, isSelector}
+use Rattle.unicode.specs.Tables.{inRanges, indexOf, member, next}
+use Rattle.unicode.specs.Unicode.{hasVariationSequence, isEmoji, isEmojiDefault, isEmojiModifier, isEmojiModifierBase, isEmojiPresentation, isRi, isTag, variationSequenceIndex}
+use Rattle.unicode.specs.UnicodeData.{emojiModifierBases, emojiModifiers, emojiPresentationRanges, emojiRanges, riRanges, variationEntries}
+use Rattle.policy_key_set.specs.Sets.{allBelow, contains, entryCount, member as Sets·member, memberAt, one}
+use Rattle.policy.specs.DefaultPolicy.{bareAsText, bareAsTextKeycap, defaultPolicy, preferBare, preferBareKeycap}
+use Rattle.policy.specs.Policy.{holdsBase, ruleOf, singletonRule}
+use Rattle.policy.specs.PolicyBytes.{bytesOf, isPolicy, keyWords, noUnusedBit, noUnusedBits, policyBytes, policyOf, policyWords, wordCount, wordsFrom}
+use Rattle.scanner.specs.Classes.{classOf}
+use Rattle.scanner.specs.Items.{begin, cut, items, kindOf, step}
+use Rattle.scanner.specs.Spans.{found, width}
+use Rattle.scanner.specs.Tags.{allComplete, tagModifications, tagRuns, tagsComplete, withTags}
+use Rattle.analysis.specs.Cells.{addChar, split}
+use Rattle.analysis.specs.Analysis.{countCells, countsOf, following, nonCanonicality, render, renew, replacement, replacementOf}
+use Rattle.analysis.specs.Rules.{byFirst, byKeycap, byModifier, byTags, isBareSide, outcome, rule1, rule2, rule3, rule4, rule5, rule6, textFirst, withoutSelector}
+use Rattle.formatter.specs.Findings.{findingRow, findings, totals}
+use Rattle.formatter.specs.Intake.{intakeRefusal}
+use Rattle.formatter.specs.List.{rowNumbers}
+use Rattle.message_io.specs.Lines.{decimal, decimalBy, findingLine, line, parted, totalLine}
+use Rattle.report.specs.Report.{countNumbers, linesFrom, reported, rowLines, totalsAt}
+use Rattle.report.specs.Theorems.{ExampleReported}
+
+pub example-reported : ExampleReported
+unfolding ExampleReported findingLine totalLine line parted decimal decimalBy tagsComplete tagModifications tagRuns withTags allComplete intakeRefusal findingRow findings totals littleEndian number wordBytes chars encode encodeAll foldChars foldStep readChar readFour utf8-1 utf8-2 utf8-3 utf8-4 validUpTo asSelector fromSelector isSelector inRanges indexOf member next hasVariationSequence isEmoji isEmojiDefault isEmojiModifier isEmojiModifierBase isEmojiPresentation isRi isTag variationSequenceIndex emojiModifierBases emojiModifiers emojiPresentationRanges emojiRanges riRanges variationEntries allBelow contains entryCount Sets·member memberAt one bareAsText bareAsTextKeycap defaultPolicy preferBare preferBareKeycap holdsBase ruleOf singletonRule bytesOf isPolicy keyWords noUnusedBit noUnusedBits policyBytes policyOf policyWords wordCount wordsFrom classOf begin cut items kindOf step found width addChar split countCells countsOf following nonCanonicality render renew replacement replacementOf byFirst byKeycap byModifier byTags isBareSide outcome rule1 rule2 rule3 rule4 rule5 rule6 textFirst withoutSelector reported linesFrom rowLines totalsAt countNumbers rowNumbers
+example-reported = refl

@@ -1,0 +1,3 @@
+-- The lines from a place on, and the claims.
+pub mod Reports
+pub mod Claims

@@ -1,0 +1,41 @@
+-- What the analysis says of the item.
+use mathlib.Core.Path.{refl, sym, _∙_}
+use native.Mathlib.Omega.{arith}
+use Rattle.report.proofs.Reports.{a-finding, at-end, no-finding}
+use borrow.Author.Needs.{needs}
+use Rattle.report.proofs.lines.next_line.Statement.{statement}
+use Rattle.report.proofs.lines.next_line.Tie as tie
+
+analyze-scan-item-requires : tie.Need-analyze-scan-item-requires
+analyze-scan-item-requires c κs = search needs
+
+enum-told : tie.Need-enum-told
+enum-told c = search needs
+
+enum-known-end : tie.Need-enum-known-end
+enum-known-end c = search needs
+
+enum-known-finding : tie.Need-enum-known-finding
+enum-known-finding c = search needs
+
+put-finding-requires : tie.Need-put-finding-requires
+put-finding-requires c κs = search needs
+
+returns : tie.Need-returns
+returns c =
+    let a = c .before .before .before .before .args in
+    ((omega arith, refl), at-end (a .policy) (a .message .now) (a .at) _ (sym (c .enum-told .given .1) ∙ c .before .before .analyze-scan-item .ensures))
+
+returns-2 : tie.Need-returns-2
+returns-2 c =
+    let a = c .before .before .before .before .before .args in
+    ((omega arith, refl), no-finding (a .policy) (a .message .now) (a .at) _ (sym (c .before .end .given .1) ∙ c .before .before .before .analyze-scan-item .ensures))
+
+returns-3 : tie.Need-returns-3
+returns-3 c =
+    let a = c .before .before .before .before .before .before .before .args in
+    let w = c .put-finding .ensures in
+    (w .0, a-finding (a .policy) (a .message .now) (a .at) _ (sym (c .before .before .before .finding .given .1) ∙ c .before .before .before .before .before .analyze-scan-item .ensures) (w .1))
+
+pub next-line-spec : {M : Type 1} → statement M
+next-line-spec = tie.close (tie.spec analyze-scan-item-requires enum-told enum-known-end enum-known-finding put-finding-requires returns returns-2 returns-3)

@@ -1,0 +1,15 @@
+-- The eight numbers.
+use Rattle.report.specs.Report.{countNumbers}
+use borrow.Author.Needs.{needs}
+use Rattle.report.proofs.lines.put_totals.Statement.{statement}
+use Rattle.report.proofs.lines.put_totals.Tie as tie
+
+total-line-requires : tie.Need-total-line-requires
+total-line-requires c κs = search needs
+
+returns : tie.Need-returns
+unfolding countNumbers
+returns c = c .total-line .ensures
+
+pub put-totals-spec : {M : Type 1} → statement M
+put-totals-spec = tie.close (tie.spec total-line-requires returns)

@@ -1,0 +1,3 @@
+-- What the program `report` writes (document 01, "Programs").
+pub mod Report
+pub mod Theorems

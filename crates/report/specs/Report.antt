@@ -1,0 +1,64 @@
+-- The report of a message, `reported` (document 01, "Programs": "per finding, start, end and eight counts, then totals"), and what the
+-- program's functions put of it.
+use mathlib.Core.Path.{_≡_}
+use mathlib.Core.Bool.{cond}
+use mathlib.Core.List.{List, [], _∷_, _++_, map}
+use Prim.Native.Nat.{ℕ, _<_, _≤_}
+use lib.Dec.{leb}
+use lib.ListN.{length, take}
+use Rattle.base.specs.Refusals.{orElse}
+use Rattle.base.specs.declared.Refusal.the-variants.{TextTooLong}
+use Rattle.policy.specs.declared.Policy.{Policy}
+use Rattle.policy.specs.DefaultPolicy.{defaultPolicy}
+use Rattle.policy.specs.PolicyBytes.{policyBytes}
+use Rattle.analysis.specs.declared.types.Finding.{Finding}
+use Rattle.analysis.specs.declared.types.NonCanonicality.{NonCanonicality}
+use Rattle.scanner.specs.Spans.{Found}
+use Rattle.formatter.specs.Findings.{findingRow, findingsFrom, totals}
+use Rattle.formatter.specs.Intake.{intakeRefusal}
+use Rattle.formatter.specs.List.{rowNumbers}
+use Rattle.message_io.specs.Lines.{findingLine, refusalLine, totalLine}
+use Rattle.message_io.specs.Message.{messageLimit}
+use Rattle.report.specs.declared.lines.Line.{Line}
+
+-- The eight counts, in document 01's order.
+unfoldable pub countNumbers : NonCanonicality → List ℕ
+countNumbers n =
+    n .«unsanctioned_selectors»
+    ∷ n .«modifier_defective_selectors»
+    ∷ n .«additional_defective_selectors»
+    ∷ n .«tag_conflicting_selectors»
+    ∷ n .«tag_forced_presentations»
+    ∷ n .«tag_redundant_selectors»
+    ∷ n .«policy_redundant_selectors»
+    ∷ n .«presentation_decisions»
+    ∷ []
+
+-- Findings, a line for each.
+unfoldable pub rowLines : List Finding → List ℕ
+rowLines [] = []
+rowLines (f ∷ fs) = findingLine (rowNumbers f) ++ rowLines fs
+
+-- The lines of the findings from a place on.
+unfoldable pub linesFrom : Policy → List ℕ → ℕ → List ℕ
+linesFrom p text at = rowLines (map (findingRow p) (findingsFrom p text at))
+
+-- The eight totals of a text.
+unfoldable pub totalsAt : Policy → List ℕ → NonCanonicality
+totalsAt p text = totals p (map (λ (f : Found). f .item) (findingsFrom p text 0))
+
+-- What the program writes: "more gives `refused 1`"; "On a refusal either program writes only one such line"; else the lines of the
+-- findings, and the totals.
+unfoldable pub reported : List ℕ → List ℕ
+reported message =
+    cond (leb (length message) messageLimit)
+    (orElse (intakeRefusal message (policyBytes defaultPolicy)) refusalLine
+    (linesFrom defaultPolicy message 0 ++ totalLine (countNumbers (totalsAt defaultPolicy message))))
+    (refusalLine TextTooLong)
+
+-- A line, or none, and a place further on: the lines from the place on are this one and those from the next place on. So the lines
+-- that are put from place 0 on up to the end are `linesFrom policy text 0`.
+pub record LineAt (policy : Policy) (text : List ℕ) (at : ℕ) (line : List ℕ) (r : Line) : Type 0 where
+  pub lines : linesFrom policy text at ≡ take (r .len) line ++ linesFrom policy text (r .next)
+  pub further : at < length text → at < r .next
+  pub inside : r .next ≤ length text

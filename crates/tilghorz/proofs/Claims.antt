@@ -1,0 +1,18 @@
+-- The proof of the statement of specs/Theorems.antt.
+use native.Mathlib.Omega.{arith}
+use Rattle.unicode.specs.Unicode.{variationEntry}
+use Rattle.tilghorz.specs.AnswerWord.{entryRow, formatRow, listRow, mendRow, writeRow}
+use Rattle.tilghorz.specs.Theorems.{WordsTellAnswers}
+use Rattle.tilghorz.proofs.SmallAnswers.{default-small, entry-small, format-small, items-small, list-small, mend-small}
+use Rattle.tilghorz.proofs.Telling.{entry-rows, format-rows, list-rows, mend-rows, tell, write-rows}
+
+pub words-tell-answers : WordsTellAnswers
+unfolding WordsTellAnswers
+words-tell-answers = (
+  tell formatRow _ (λ c. omega (arith, format-small (c .0) (c .1) (c .2))) format-rows,
+  tell listRow _ (λ c. omega (arith, list-small (c .0) (c .1) (c .2))) list-rows,
+  tell mendRow _ (λ c. omega (arith, mend-small (c .0) (c .1) (c .2 .offset) (c .2 .decisions) (c .2 .out))) mend-rows,
+  tell listRow _ (λ c. omega (arith, items-small (c .0) (c .1))) list-rows,
+  tell writeRow _ (λ out. omega (arith, default-small out)) write-rows,
+  tell entryRow variationEntry (λ i. omega (arith, entry-small i)) entry-rows,
+)

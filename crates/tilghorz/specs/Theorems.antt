@@ -1,0 +1,30 @@
+-- What is claimed of the answer words. It is proved in proofs/Claims.antt.
+use mathlib.Core.Path.{_≡_}
+use mathlib.Core.List.{List}
+use Prim.Native.Nat.{ℕ, _/_, _%_, _^_}
+use Rattle.base.specs.Output.{answerOf}
+use Rattle.base.specs.Refusals.{RefusalRow}
+use Rattle.unicode.specs.Unicode.{variationEntry}
+use Rattle.policy.specs.DefaultPolicy.{defaultPolicy}
+use Rattle.policy.specs.PolicyBytes.{policyBytes}
+use Rattle.formatter.specs.Format.{format}
+use Rattle.formatter.specs.List.{listBytes, listItems}
+use Rattle.formatter.specs.Mend.{Call, mendCall}
+use Rattle.tilghorz.specs.AnswerWord.{entryRow, formatRow, listRow, mendRow, word, writeRow}
+
+-- The words of a function tell its answers: two outcomes with one word have the same answer, whatever was handed in; and a word's
+-- top 8 bits are the answer's number, its low 56 bits the answer's value.
+pub record Tell {I A : Type 0} (row : A → RefusalRow) (answer : I → A) : Type 0 where
+  pub same : (i j : I) → word (row (answer i)) ≡ word (row (answer j)) → answer i ≡ answer j
+  pub number : (i : I) → word (row (answer i)) / 2 ^ 56 ≡ row (answer i) .number
+  pub value : (i : I) → word (row (answer i)) % 2 ^ 56 ≡ row (answer i) .value
+
+-- So it is with every function: formatting, listing, mending, listing items, the default policy, an entry.
+unfoldable pub WordsTellAnswers : Type 0
+WordsTellAnswers =
+    Tell formatRow (λ (c : List ℕ × List ℕ × List ℕ). format (c .0) (c .1) (c .2) .answer)
+    × Tell listRow (λ (c : List ℕ × List ℕ × List ℕ). listBytes (c .0) (c .1) (c .2) .answer)
+    × Tell mendRow (λ (c : List ℕ × List ℕ × Call). mendCall (c .0) (c .1) (c .2) .answer)
+    × Tell listRow (λ (c : List ℕ × List ℕ). listItems (c .0) (c .1) .answer)
+    × Tell writeRow (λ (out : List ℕ). answerOf (policyBytes defaultPolicy) out)
+    × Tell entryRow variationEntry

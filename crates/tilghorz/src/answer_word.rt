@@ -1,0 +1,99 @@
+// Answers as words: each function equals `word` of the row that specs/AnswerWord.antt gives for its answer.
+ghost use mathlib.Core.Path.{_≡_};
+ghost use Prim.Native.Nat.{_≤_};
+ghost use Rattle.base.specs.Refusals.{refusalRow};
+ghost use Rattle.tilghorz.specs.AnswerWord.{
+  entryRow,
+  formatRow,
+  listRow,
+  mendRow,
+  word,
+  writeRow,
+};
+use analysis::types::MendAnswer;
+use base::Refusal;
+use base::WriteAnswer;
+use formatter::FormatAnswer;
+use formatter::ListAnswer;
+use unicode::VariationEntry;
+
+// One more than the largest value.
+const VALUES: u64 = 0x100_0000_0000_0000;
+
+// Nothing to do: no change is needed, or there is no such entry.
+const NOTHING: u64 = 255;
+
+// A word of a number and a value.
+fn word_of(number: u64, value: usize) -> u64
+    requires { ⌜ number ≤ 255 ⌝ }
+    ensures { λ r. ⌜ r ≡ word (record { number = number; value = value }) ⌝ }
+{
+    number * VALUES + value as u64 % VALUES
+}
+
+// The word of a refusal.
+fn refusal_word(refusal: Refusal) -> u64
+    ensures { λ r. ⌜ r ≡ word (refusalRow refusal) ⌝ }
+{
+    match refusal {
+        Refusal::TextTooLong => word_of(1, 0),
+        Refusal::NotAPolicy => word_of(2, 0),
+        Refusal::NotWellFormed { valid_up_to } => word_of(3, valid_up_to),
+        Refusal::NoFinding => word_of(4, 0),
+        Refusal::WrongNumberOfDecisions { wanted } => word_of(5, wanted),
+        Refusal::BadDecision { index } => word_of(6, index),
+        Refusal::TableTooShort { findings } => word_of(7, findings),
+        Refusal::OutputTooShort { wanted } => word_of(8, wanted),
+    }
+}
+
+// The word of formatting's answer.
+pub fn format_word(answer: FormatAnswer) -> u64
+    ensures { λ r. ⌜ r ≡ word (formatRow answer) ⌝ }
+{
+    match answer {
+        FormatAnswer::Unchanged => word_of(NOTHING, 0),
+        FormatAnswer::Changed { len } => word_of(0, len),
+        FormatAnswer::Refused(refusal) => refusal_word(refusal),
+    }
+}
+
+// The word of a listing's answer.
+pub fn list_word(answer: ListAnswer) -> u64
+    ensures { λ r. ⌜ r ≡ word (listRow answer) ⌝ }
+{
+    match answer {
+        ListAnswer::Listed { findings } => word_of(0, findings),
+        ListAnswer::Refused(refusal) => refusal_word(refusal),
+    }
+}
+
+// The word of mending's answer.
+pub fn mend_word(answer: MendAnswer) -> u64
+    ensures { λ r. ⌜ r ≡ word (mendRow answer) ⌝ }
+{
+    match answer {
+        MendAnswer::Mended { len } => word_of(0, len),
+        MendAnswer::Refused(refusal) => refusal_word(refusal),
+    }
+}
+
+// The word of the answer to writing a result.
+pub fn write_word(answer: WriteAnswer) -> u64
+    ensures { λ r. ⌜ r ≡ word (writeRow answer) ⌝ }
+{
+    match answer {
+        WriteAnswer::Written { len } => word_of(0, len),
+        WriteAnswer::TooShort { wanted } => word_of(8, wanted),
+    }
+}
+
+// The word of an entry.
+pub fn entry_word(entry: VariationEntry) -> u64
+    ensures { λ r. ⌜ r ≡ word (entryRow entry) ⌝ }
+{
+    match entry {
+        VariationEntry::Char(ch) => word_of(0, ch as usize),
+        VariationEntry::NoEntry => word_of(NOTHING, 0),
+    }
+}

@@ -1,0 +1,79 @@
+// The C functions, on byte slices and numbers (document 01: "The intake host, written in Rust, calls formatting, listing and mending
+// through C functions"). Each is one call of a layer below, its answer turned into one word: specs/AnswerWord.antt. A slice
+// passes as a pointer and a length; include/tilghorz.h says the same for C.
+mod answer_word;
+
+ghost use mathlib.Core.Path.{_≡_};
+ghost use Rattle.base.specs.Output.{answerOf, bufferOf};
+ghost use Rattle.unicode.specs.Unicode.{variationEntry};
+ghost use Rattle.policy.specs.DefaultPolicy.{defaultPolicy};
+ghost use Rattle.policy.specs.PolicyBytes.{policyBytes};
+ghost use Rattle.formatter.specs.Format.{format};
+ghost use Rattle.formatter.specs.List.{listBytes, listItems};
+ghost use Rattle.formatter.specs.Mend.{mend};
+ghost use Rattle.tilghorz.specs.AnswerWord.{entryRow, formatRow, listRow, mendRow, word, writeRow};
+use answer_word::entry_word;
+use answer_word::format_word;
+use answer_word::list_word;
+use answer_word::mend_word;
+use answer_word::write_word;
+use policy::Policy;
+
+// Formats a text under a policy: refusals 1, 2, 3 and 8, or nothing to do.
+#[no_mangle]
+pub extern "C" fn tilghorz_format(text: &[u8], policy: &[u8], out: &mut [u8]) -> u64
+    ensures word { λ r. ⌜ r ≡ word (formatRow (format (now (text .entry)) (now (policy .entry)) (now (out .entry)) .answer)) ⌝ }
+    ensures bytes { λ _. ⌜ now (out .exit) ≡ format (now (text .entry)) (now (policy .entry)) (now (out .entry)) .buffer ⌝ }
+{
+    format_word(formatter::format::format_text(text, policy, out))
+}
+
+// Lists the findings of a text under a policy: ten numbers of 8 bytes each, start, end and the eight counts. Refusals 1, 2, 3 and 7.
+#[no_mangle]
+pub extern "C" fn tilghorz_list(text: &[u8], policy: &[u8], table: &mut [u8]) -> u64
+    ensures word { λ r. ⌜ r ≡ word (listRow (listBytes (now (text .entry)) (now (policy .entry)) (now (table .entry)) .answer)) ⌝ }
+    ensures bytes { λ _. ⌜ now (table .exit) ≡ listBytes (now (text .entry)) (now (policy .entry)) (now (table .entry)) .buffer ⌝ }
+{
+    list_word(formatter::list::list_findings(text, policy, table))
+}
+
+// Mends the finding that starts at an offset: refusals 1, 2, 3, 4, 5, 6 and 8.
+#[no_mangle]
+pub extern "C" fn tilghorz_mend(
+    text: &[u8],
+    policy: &[u8],
+    offset: u64,
+    decisions: &[u8],
+    out: &mut [u8],
+) -> u64
+    ensures word { λ r. ⌜ r ≡ word (mendRow (mend (now (text .entry)) (now (policy .entry)) offset (now (decisions .entry)) (now (out .entry)) .answer)) ⌝ }
+    ensures bytes { λ _. ⌜ now (out .exit) ≡ mend (now (text .entry)) (now (policy .entry)) offset (now (decisions .entry)) (now (out .entry)) .buffer ⌝ }
+{
+    mend_word(formatter::mend::mend(text, policy, offset as usize, decisions, out))
+}
+
+// Lists the items of a text: four numbers of 8 bytes each, start, end, kind and whether its tags are complete. Refusals 1, 3 and 7.
+#[no_mangle]
+pub extern "C" fn tilghorz_scan(text: &[u8], table: &mut [u8]) -> u64
+    ensures word { λ r. ⌜ r ≡ word (listRow (listItems (now (text .entry)) (now (table .entry)) .answer)) ⌝ }
+    ensures bytes { λ _. ⌜ now (table .exit) ≡ listItems (now (text .entry)) (now (table .entry)) .buffer ⌝ }
+{
+    list_word(formatter::items::list_items(text, table))
+}
+
+// Writes the default policy's words: refusal 8.
+#[no_mangle]
+pub extern "C" fn tilghorz_default_policy(out: &mut [u8]) -> u64
+    ensures word { λ r. ⌜ r ≡ word (writeRow (answerOf (policyBytes defaultPolicy) (now (out .entry)))) ⌝ }
+    ensures bytes { λ _. ⌜ now (out .exit) ≡ bufferOf (policyBytes defaultPolicy) (now (out .entry)) ⌝ }
+{
+    write_word(policy::write_policy(Policy::default(), out))
+}
+
+// The code point of a variation entry, or nothing where there is no such entry.
+#[no_mangle]
+pub extern "C" fn tilghorz_variation_entry(index: u64) -> u64
+    ensures { λ r. ⌜ r ≡ word (entryRow (variationEntry index)) ⌝ }
+{
+    entry_word(unicode::variation_entry(index as usize))
+}

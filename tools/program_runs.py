@@ -1,0 +1,161 @@
+#!/usr/bin/env python3
+"""The stored runs of the two programs, in tests/programs: NAME.in is what a program reads, NAME.format and NAME.report
+are what the two are to write.
+
+    tools/program_runs.py run [FOLDER]   run FOLDER/format and FOLDER/report (target/bin) on each NAME.in
+    tools/program_runs.py check          NAME.in is what this script makes, and nothing else is stored
+    tools/program_runs.py make           write NAME.in, and the outputs as the host's program-output gives them
+
+The outputs are not the programs' own: host/ has an independent reading of document 01, and for the formatted text the
+crate evfmt. The host's tests hold the stored files to both.
+
+Each input goes to a program twice: as a file, and through a pipe in pieces, so that reads are short. A read that fails
+(standard input is a folder) must give nothing on standard output and a line on standard error. Each difference is a line
+on standard error; the exit status is 1 if there is one.
+"""
+
+import pathlib
+import subprocess
+import sys
+import tempfile
+
+ROOT = pathlib.Path(__file__).resolve().parent.parent
+PROGRAMS = ("format", "report")
+LIMIT = 12288
+PIECE = 1000
+SECONDS = 60
+
+# A thread of messages. Each line has findings of one kind, but for the last, which have several at once.
+THREAD = [
+    ("ann", "shall we meet at 9\ufe0e or at 10\ufe0e? bring a \u231a\ufe0f and 2\ufe0e \u2615\ufe0f"),  # policy-redundant
+    ("ben", "with love \u2764, \u00a9 2024, room 4\u20e3, press #\u20e3"),  # decisions
+    ("ann", "stray a\ufe0f selectors \ufe0e\ufe0f here, a flag \U0001f1e6\ufe0f\U0001f1e7\ufe0e, \u231a\ufe0e\ufe0f"),  # unsanctioned
+    ("ben", "this way \u261d\ufe0f\U0001f3fb, not that \u270c\ufe0f\U0001f3ff"),  # modifier-defective
+    ("ann", "a dark heart \u2764\ufe0f\U0001f3fb and \u2600\ufe0f\U0001f3fe"),  # additional-defective
+    ("ben", "tagged \u2764\ufe0e\U000e0061\U000e007f and \u231a\ufe0e\U000e0062\U000e007f"),  # tag-conflicting
+    ("ann", "tagged \u2764\U000e0061\U000e007f and \u2602\U000e0062"),  # tag-forced
+    ("ben", "\u231a\ufe0f\U000e0061\U000e007f and \U0001f3f4\ufe0f\U000e0067\U000e0062\U000e0065\U000e006e\U000e0067\U000e007f"),  # tag-redundant
+    ("ann", "nothing wrong: \u261d\ufe0e\U0001f3fb \u231a \u2764\ufe0f \U0001f1e6\U0001f1e7 \U0001f469\u200d\U0001f680, 5 o'clock"),
+    ("ben", "\U0001f469\u200d\u2764\ufe0f\u200d\U0001f468 and \U0001f469\u200d\u2764\u200d\U0001f468, \u200d\ufe0f\u200d, \u231a\u200d\u200d\u231a\ufe0f"),
+    ("ann", "\u2764\ufe0f\ufe0e\ufe0f\u20e3\ufe0e\U0001f3fb\ufe0f\u200d\ufe0f\u261d\ufe0f\U0001f3fb\ufe0e\u200d1\ufe0e\u20e3\ufe0f\u200d"),
+]
+ROUNDS = 8
+
+
+def inputs():
+    """What the programs read, by name."""
+    thread = "".join(f"{n:03} {who}: {text}\n" for n, (who, text) in enumerate(THREAD * ROUNDS))
+    return {
+        "empty": b"",
+        "unchanged": "Meet at \u231a 9, \u261d\ufe0e\U0001f3fb, \u2764\ufe0f.\n".encode(),
+        "copyright_signs": "\u00a9".encode() * (LIMIT // 2),
+        "too_long": b"a" * (LIMIT + 1),
+        "damaged": "caf\u00e9 \u2764 ".encode() + b"\xe2\x9d" + " \u2764".encode(),
+        "reads_refused": b"refused 1\n",
+        "thread": thread.encode(),
+    }
+
+
+def stored(folder):
+    """The names of the stored runs."""
+    return sorted(path.stem for path in folder.glob("*.in"))
+
+
+def wrong_files(folder):
+    made = inputs()
+    for name, text in made.items():
+        path = folder / f"{name}.in"
+        if not path.is_file() or path.read_bytes() != text:
+            yield f"{path}: not what tools/program_runs.py makes"
+    for path in sorted(folder.iterdir()):
+        if path.stem not in made or path.suffix[1:] not in ("in", *PROGRAMS):
+            yield f"{path}: tools/program_runs.py does not make it"
+
+
+def make(folder):
+    folder.mkdir(parents=True, exist_ok=True)
+    for name, text in inputs().items():
+        (folder / f"{name}.in").write_bytes(text)
+        for program in PROGRAMS:
+            command = ["cargo", "run", "--offline", "--quiet", "--bin", "program-output", "--", program]
+            answer = subprocess.run(command, input=text, stdout=subprocess.PIPE, cwd=ROOT / "host", check=True)
+            (folder / f"{name}.{program}").write_bytes(answer.stdout)
+
+
+def from_file(program, path):
+    with path.open("rb") as source:
+        answer = subprocess.run([program], stdin=source, capture_output=True, timeout=SECONDS, check=False)
+    return answer.stdout
+
+
+def in_pieces(program, text):
+    """What the program writes that reads a pipe in which one piece at a time stands."""
+    with tempfile.TemporaryFile() as output:
+        with subprocess.Popen([program], stdin=subprocess.PIPE, stdout=output, bufsize=0) as process:
+            try:
+                for at in range(0, len(text), PIECE):
+                    process.stdin.write(text[at : at + PIECE])
+                process.stdin.close()
+            except BrokenPipeError:
+                pass  # a program need not read what is too long
+            process.wait(timeout=SECONDS)
+        output.seek(0)
+        return output.read()
+
+
+def difference(expected, found):
+    """Where two outputs part."""
+    at = next((i for i, (a, b) in enumerate(zip(expected, found)) if a != b), min(len(expected), len(found)))
+    return f"{len(found)} bytes for {len(expected)}, other from byte {at} on: {found[at : at + 16].hex(' ')} for {expected[at : at + 16].hex(' ')}"
+
+
+def wrong_runs(folder, programs):
+    """The runs that differ from the stored ones."""
+    names = stored(folder)
+    if not names:
+        yield f"{folder}: no stored run"
+    for program in PROGRAMS:
+        path = programs / program
+        if not path.is_file():
+            yield f"{path}: is not built"
+            continue
+        for name in names:
+            source = folder / f"{name}.in"
+            expected = (folder / f"{name}.{program}").read_bytes()
+            runs = {"as a file": from_file(path, source), "in pieces": in_pieces(path, source.read_bytes())}
+            for way, found in runs.items():
+                if found != expected:
+                    yield f"{program} {name}, {way}: {difference(expected, found)}"
+        yield from wrong_failure(path, folder)
+
+
+def wrong_failure(program, folder):
+    """What is wrong where standard input cannot be read."""
+    with subprocess.Popen(["sh", "-c", 'exec "$1" < "$2"', "sh", program, folder], stdout=subprocess.PIPE, stderr=subprocess.PIPE) as process:
+        out, error = process.communicate(timeout=SECONDS)
+    if out:
+        yield f"{program.name}: writes {out[:16]!r} where standard input cannot be read"
+    lines = error.count(b"\n")
+    if lines != 1:
+        yield f"{program.name}: {lines} lines on standard error where standard input cannot be read"
+
+
+def main(arguments):
+    folder = ROOT / "tests" / "programs"
+    if arguments == ["make"]:
+        make(folder)
+        return 0
+    if arguments == ["check"]:
+        found = list(wrong_files(folder))
+    elif arguments[:1] == ["run"] and len(arguments) <= 2:
+        found = list(wrong_runs(folder, pathlib.Path(arguments[1]) if arguments[1:] else ROOT / "target" / "bin"))
+    else:
+        print(__doc__, file=sys.stderr)
+        return 2
+    for line in found:
+        print(line, file=sys.stderr)
+    return 1 if found else 0
+
+
+if __name__ == "__main__":
+    sys.exit(main(sys.argv[1:]))

@@ -1,0 +1,95 @@
+"""Tests of program_runs.py, with programs of a few lines."""
+
+import pathlib
+import tempfile
+import unittest
+
+import program_runs
+
+FAILS = '#!/bin/sh\nif [ -d /dev/stdin ]; then echo "standard input: no" >&2; else cat; fi\n'
+READS_ONCE = "#!/bin/sh\nif [ -d /dev/stdin ]; then echo no >&2; else dd bs=65536 count=1 2>/dev/null; fi\n"
+
+
+class Runs(unittest.TestCase):
+    def setUp(self):
+        folder = tempfile.TemporaryDirectory()
+        self.addCleanup(folder.cleanup)
+        self.runs = pathlib.Path(folder.name, "runs")
+        self.programs = pathlib.Path(folder.name, "bin")
+        self.runs.mkdir()
+        self.programs.mkdir()
+
+    def program(self, name, text):
+        path = self.programs / name
+        path.write_text(text, encoding="utf-8")
+        path.chmod(0o755)
+
+    def store(self, name, text, format_output, report_output):
+        for suffix, content in (("in", text), ("format", format_output), ("report", report_output)):
+            (self.runs / f"{name}.{suffix}").write_bytes(content)
+
+    def wrong(self):
+        return list(program_runs.wrong_runs(self.runs, self.programs))
+
+    def test_as_stored(self):
+        self.store("a", b"abc", b"abc", b"abc")
+        self.program("format", FAILS)
+        self.program("report", FAILS)
+        self.assertEqual(self.wrong(), [])
+
+    def test_another_byte(self):
+        self.store("a", b"abc", b"abc", b"abd")
+        self.program("format", FAILS)
+        self.program("report", FAILS)
+        found = self.wrong()
+        self.assertEqual(len(found), 2)
+        self.assertIn("report a, as a file: 3 bytes for 3, other from byte 2 on: 63 for 64", found[0])
+        self.assertIn("in pieces", found[1])
+
+    def test_a_short_read_taken_for_the_end(self):
+        text = b"x" * (200 * program_runs.PIECE)
+        self.store("long", text, text, text)
+        self.program("format", READS_ONCE)
+        self.program("report", FAILS)
+        self.assertTrue(any("format long, in pieces" in line for line in self.wrong()))
+
+    def test_a_failing_read_taken_for_the_end(self):
+        self.store("a", b"", b"", b"")
+        self.program("format", FAILS)
+        self.program("report", "#!/bin/sh\ncat 2>/dev/null || true\n")
+        self.assertEqual(self.wrong(), ["report: 0 lines on standard error where standard input cannot be read"])
+
+    def test_a_failing_read_that_writes(self):
+        self.store("a", b"", b"", b"")
+        self.program("format", FAILS)
+        self.program("report", "#!/bin/sh\nif [ -d /dev/stdin ]; then echo no; echo no >&2; fi\n")
+        self.assertEqual(self.wrong(), ["report: writes b'no\\n' where standard input cannot be read"])
+
+    def test_nothing_stored_and_nothing_built(self):
+        found = self.wrong()
+        self.assertEqual(len(found), 3)
+        self.assertIn("no stored run", found[0])
+        self.assertIn("format: is not built", found[1])
+
+
+class Files(unittest.TestCase):
+    def test_the_inputs(self):
+        made = program_runs.inputs()
+        self.assertEqual(len(made["copyright_signs"]), program_runs.LIMIT)
+        self.assertEqual(len(made["too_long"]), program_runs.LIMIT + 1)
+        self.assertLessEqual(len(made["thread"]), program_runs.LIMIT)
+
+    def test_another_file(self):
+        with tempfile.TemporaryDirectory() as name:
+            folder = pathlib.Path(name)
+            for run, text in program_runs.inputs().items():
+                (folder / f"{run}.in").write_bytes(text)
+            self.assertEqual(list(program_runs.wrong_files(folder)), [])
+            (folder / "empty.in").write_bytes(b" ")
+            (folder / "more.in").write_bytes(b"")
+            found = list(program_runs.wrong_files(folder))
+            self.assertEqual([line.split(":")[0].rsplit("/", 1)[1] for line in found], ["empty.in", "more.in"])
+
+
+if __name__ == "__main__":
+    unittest.main()
