@@ -1,4 +1,6 @@
 -- Demand 3: one claim about a list of mending calls as a whole, `ListClaim`, and the same of a formatted text, `FormattedClaim` (document 01, "Mending in sequence").
+-- It is about the code: `mend`, `list` and `format` here are the definitions that the contracts of src/mend.rt, src/list.rt (by `listBytes`, specs/Theorems.antt,
+-- ListedAsBytes) and src/format.rt cite for the answer and the buffer of every call; there is no second model of a call.
 use mathlib.Core.Path.{_≡_}
 use mathlib.Core.Logic.{_↔_}
 use mathlib.Core.Bool.{Bool, true, false, cond}
