@@ -5,7 +5,7 @@ use Prim.Native.Nat.{ℕ, zero, suc, _+_, _<_, _≤_}
 use native.Mathlib.Nat.{add-zero, not-suc-le-zero, zero-add}
 use native.Mathlib.Omega.{arith}
 use lib.ListN.{drop, getD, length, take}
-use lib.Seq.{drop-cons, length-sets, sets-eq, take-append-seam}
+use lib.Seq.{drop-append-seam, drop-cons, length-sets, sets-eq, take-append-seam}
 use Rattle.io.specs.Counts.{Counts}
 use Rattle.base.specs.Output.{PutAt}
 use Rattle.base.specs.declared.Refusal.{Refusal}
@@ -24,14 +24,15 @@ unfolding line
 line-put {t = t} ts p q s =
     put-as (parted (t ∷ ts) ++ (0x0A ∷ [])) (ap (λ (xs : List ℕ). xs ++ (0x0A ∷ [])) (sym (blanks t ts))) (put-then (put-then p q) s)
 
--- what is put at the front of a buffer is its front
-pub front : {o o′ xs : List ℕ} {r : ℕ} → PutAt o 0 xs o′ r → r ≤ length o → Counts r o′ × (take r o′ ≡ xs)
+-- what is put at the front of a buffer is its front, and what is behind it is as it was
+pub front : {o o′ xs : List ℕ} {r : ℕ} → PutAt o 0 xs o′ r → r ≤ length o → Counts r o′ × ((take r o′ ≡ xs) × (drop r o′ ≡ drop r o))
 front {o} {o′} {xs} {r} p h =
     let e : r ≡ length xs = p .ends ∙ zero-add (length xs) in
-    let t : take r o′ ≡ xs =
-    ap (λ (k : ℕ). take k o′) e ∙ ap (take (length xs)) (p .bytes ∙ sets-eq xs o 0 (omega arith))
-    ∙ take-append-seam xs (drop (0 + length xs) o) in
-    ((omega (arith, ap length (p .bytes), length-sets o 0 xs), e ∙ ap length (sym t)), t)
+    let b : o′ ≡ xs ++ drop (length xs) o = p .bytes ∙ sets-eq xs o 0 (omega arith) ∙ ap (λ (k : ℕ). xs ++ drop k o) (zero-add (length xs)) in
+    let t : take r o′ ≡ xs = ap (λ (k : ℕ). take k o′) e ∙ ap (take (length xs)) b ∙ take-append-seam xs (drop (length xs) o) in
+    let d : drop r o′ ≡ drop r o =
+    ap (λ (k : ℕ). drop k o′) e ∙ ap (drop (length xs)) b ∙ drop-append-seam xs (drop (length xs) o) ∙ ap (λ (k : ℕ). drop k o) (sym e) in
+    ((omega (arith, ap length (p .bytes), length-sets o 0 xs), e ∙ ap length (sym t)), (t, d))
 
 -- one number more
 pub numbers-next : (i : ℕ) (ns : List ℕ) → i < length ns

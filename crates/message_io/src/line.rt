@@ -3,7 +3,7 @@
 ghost use mathlib.Core.Path.{_≡_};
 ghost use mathlib.Core.List.{_∷_, map};
 ghost use Prim.Native.Nat.{_+_, _*_, _≤_};
-ghost use lib.ListN.{length, take};
+ghost use lib.ListN.{drop, length, take};
 ghost use Rattle.io.specs.Counts.{Counts};
 ghost use Rattle.base.specs.Output.{PutAt};
 ghost use Rattle.base.specs.Refusals.{refusalRow};
@@ -59,6 +59,7 @@ fn put_numbers(out: &mut [u8], start: usize, numbers: &[usize]) -> usize
 pub fn finding_line(numbers: &[usize; 10], out: &mut [u8; LINE_ROOM]) -> usize
     ensures { λ r. ⌜ Counts r (now (out .exit)) ⌝ }
     ensures { λ r. ⌜ take r (now (out .exit)) ≡ findingLine (now (numbers .entry)) ⌝ }
+    ensures { λ r. ⌜ drop r (now (out .exit)) ≡ drop r (now (out .entry)) ⌝ }
 {
     let all = &numbers[..];
     let mut at = put_decimal(out, 0, all[0]);
@@ -70,6 +71,7 @@ pub fn finding_line(numbers: &[usize; 10], out: &mut [u8; LINE_ROOM]) -> usize
 pub fn total_line(numbers: &[usize; 8], out: &mut [u8; LINE_ROOM]) -> usize
     ensures { λ r. ⌜ Counts r (now (out .exit)) ⌝ }
     ensures { λ r. ⌜ take r (now (out .exit)) ≡ totalLine (now (numbers .entry)) ⌝ }
+    ensures { λ r. ⌜ drop r (now (out .exit)) ≡ drop r (now (out .entry)) ⌝ }
 {
     let mut at = put_bytes(out, 0, b"total");
     at = put_numbers(out, at, numbers);
@@ -113,6 +115,7 @@ fn put_returned(out: &mut [u8], start: usize, refusal: Refusal) -> usize
 pub fn refusal_line(refusal: Refusal, out: &mut [u8; LINE_ROOM]) -> usize
     ensures { λ r. ⌜ Counts r (now (out .exit)) ⌝ }
     ensures { λ r. ⌜ take r (now (out .exit)) ≡ refusalLine refusal ⌝ }
+    ensures { λ r. ⌜ drop r (now (out .exit)) ≡ drop r (now (out .entry)) ⌝ }
 {
     let mut at = put_bytes(out, 0, b"refused");
     at = put_number(out, at, refusal_number(refusal));

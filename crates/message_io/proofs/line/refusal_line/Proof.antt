@@ -45,7 +45,7 @@ returns c =
     let v = c .before .before .before .put-returned .ensures in
     let s = c .put-bytes2 .ensures in
     let w = front (line-put (map decimal (n .result ∷ returned x)) p (put-then (q .0) (v .0)) s) (omega (arith, p .ends, q .1, v .1, s .ends)) in
-    (w .0, w .1 ∙ ap (λ (k : ℕ). line (word ∷ map decimal (k ∷ returned x))) (n .ensures))
+    (w .0, (w .1 .0 ∙ ap (λ (k : ℕ). line (word ∷ map decimal (k ∷ returned x))) (n .ensures), w .1 .1))
 
 pub refusal-line-spec : {M : Type 1} → statement M
 refusal-line-spec =

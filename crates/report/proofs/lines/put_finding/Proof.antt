@@ -9,7 +9,7 @@ finding-line-requires c κs = search needs
 
 returns : tie.Need-returns
 unfolding rowNumbers
-returns c = c .finding-line .ensures
+returns c = (c .finding-line .ensures .0, c .finding-line .ensures .1 .0)
 
 pub put-finding-spec : {M : Type 1} → statement M
 put-finding-spec = tie.close (tie.spec finding-line-requires returns)

@@ -9,7 +9,7 @@ total-line-requires c κs = search needs
 
 returns : tie.Need-returns
 unfolding countNumbers
-returns c = c .total-line .ensures
+returns c = (c .total-line .ensures .0, c .total-line .ensures .1 .0)
 
 pub put-totals-spec : {M : Type 1} → statement M
 put-totals-spec = tie.close (tie.spec total-line-requires returns)
