@@ -58,5 +58,20 @@ class Committed(unittest.TestCase):
         self.assertNotEqual(committed, maker.source(version, changed))
 
 
+class Blocks(unittest.TestCase):
+    def test_words_and_ranks(self):
+        ranges = [0x23, 0x24, 0x3F, 0x41]
+        tables = [("EMOJI_RANGES", "", "", 2, ranges), ("VARIATION_ENTRIES", "", "", 1, [0x24, 0x3F, 0x41])]
+        low = (1 << 0x23 | 1 << 0x24 | 1 << 0x3F, 1 << 0x24 | 1 << 0x3F, 0)
+        self.assertEqual(maker.blocks(tables), [(0, *low), (1, 0b11, 0b10, 2)])
+
+    def test_every_block_is_in_one_group(self):
+        _, tables = maker.tables()
+        listed = [row for _, _, rows in maker.grouped(tables) for row in rows]
+        self.assertEqual(listed, maker.blocks(tables))
+        self.assertEqual(len(listed), 54)
+        self.assertEqual(sum(bin(entries).count("1") for _, _, entries, _ in listed), 354)
+
+
 if __name__ == "__main__":
     unittest.main()

@@ -8,6 +8,9 @@ It reads crates/published_data/data/{emoji-data.txt,emoji-variation-sequences.tx
 - crates/unicode/src/unicode_data.rt: the tables. A range table has the first and the last number of each range
   in turn; lines of the data file that touch are one range;
 - crates/unicode/specs/UnicodeData.antt: the same numbers as the lists that contracts cite;
+- crates/unicode/src/blocks.rt: the emoji and the variation entries as words, a block of 64 code points to an arm;
+- crates/unicode/specs/BlockData.antt: the same words as lists of blocks;
+- crates/unicode/proofs/blocks/*_block/Proof.antt: an answer for each arm, all alike;
 - crates/policy_key_set/src/named_sets.rt: the words of the named sets, entry i at bit i % 64 of word i / 64;
 - crates/policy/src/default_policy.rt and crates/policy/specs/DefaultPolicy.antt: the words of the default policy.
 """
@@ -20,12 +23,24 @@ ROOT = pathlib.Path(__file__).resolve().parent.parent
 DATA = ROOT / "crates" / "published_data" / "data"
 SOURCE = ROOT / "crates" / "unicode" / "src" / "unicode_data.rt"
 SPECS = ROOT / "crates" / "unicode" / "specs" / "UnicodeData.antt"
+BLOCKS = ROOT / "crates" / "unicode" / "src" / "blocks.rt"
+BLOCK_SPECS = ROOT / "crates" / "unicode" / "specs" / "BlockData.antt"
+BLOCK_PROOFS = ROOT / "crates" / "unicode" / "proofs" / "blocks"
 NAMED_SETS = ROOT / "crates" / "policy_key_set" / "src" / "named_sets.rt"
 DEFAULT_POLICY = ROOT / "crates" / "policy" / "src" / "default_policy.rt"
 DEFAULT_POLICY_SPECS = ROOT / "crates" / "policy" / "specs" / "DefaultPolicy.antt"
 
 # Document 01, "Character": the data files have no property for the regional indicators.
 REGIONAL_INDICATORS = range(0x1F1E6, 0x1F1FF + 1)
+
+# The groups of blocks, told apart by the first block of each: a name, that block, and what the group holds. The
+# symbols and the pictographs stand close together, so that the compiler makes a table of each.
+BLOCK_GROUPS = [
+    ("low", 0, "before the symbols"),
+    ("symbol", 0x80, "of the symbols, 2000 to 27BF"),
+    ("middle", 0x9F, "between the symbols and the pictographs"),
+    ("pictograph", 0x7C0, "of the pictographs, from 1F000 on"),
+]
 
 
 class Malformed(Exception):
@@ -154,6 +169,117 @@ def specs(numbered, tables):
     return "\n".join(out) + "\n"
 
 
+def blocks(tables):
+    """Of each block of 64 code points that has an emoji or a variation entry: its number, the word of its emoji, the
+    word of its entries, and how many entries stand before it."""
+    of = {name: numbers for name, *_, numbers in tables}
+    entries = of["VARIATION_ENTRIES"]
+    bounds = of["EMOJI_RANGES"]
+    emoji = [point for first, last in zip(bounds[::2], bounds[1::2]) for point in range(first, last + 1)]
+    out = []
+    for block in sorted({point // 64 for point in emoji + entries}):
+        inside = [sum(1 << point % 64 for point in points if point // 64 == block) for points in (emoji, entries)]
+        out.append((block, *inside, sum(point < block * 64 for point in entries)))
+    return out
+
+
+def grouped(tables):
+    """Of each group of blocks: its name, what it holds, and its blocks."""
+    ends = [first for _, first, _ in BLOCK_GROUPS[1:]] + [0x110000 // 64]
+    made = blocks(tables)
+    return [
+        (name, what, [row for row in made if first <= row[0] < end])
+        for (name, first, what), end in zip(BLOCK_GROUPS, ends)
+    ]
+
+
+def block_source(numbered, tables):
+    major, minor = numbered
+    out = [
+        f"// The emoji and the variation entries of Unicode {major}.{minor} as words, a block of 64 code points to an arm,",
+        "// made by tools/unicode_tables.py. A `match` becomes a table in read-only memory, while a read of a constant",
+        "// array copies the array. Each function equals the search in the list of the same blocks, in specs/BlockData.antt.",
+        "ghost use mathlib.Core.Path.{_≡_};",
+        "ghost use Rattle.unicode.specs.Blocks.{blockIn};",
+        "ghost use Rattle.unicode.specs.BlockData.{",
+        *[f"  {name}," for name in sorted(["blocks"] + [f"{name}Blocks" for name, *_ in BLOCK_GROUPS])],
+        "};",
+        "",
+        "// Bit j of `emoji` says that character j of the block is emoji, bit j of `entries` that it is a variation",
+        "// entry; `rank` entries stand before the block.",
+        "pub(crate) struct Block {",
+        "    pub(crate) emoji: u64,",
+        "    pub(crate) entries: u64,",
+        "    pub(crate) rank: u32,",
+        "}",
+    ]
+    for name, what, rows in grouped(tables):
+        out += ["", f"// The blocks {what}: {len(rows)}.", f"fn {name}_block(k: u32) -> Block"]
+        out += [f"    ensures {{ λ r. ⌜ r ≡ blockIn k {name}Blocks ⌝ }}", "{", "    match k {"]
+        for block, emoji, entries, rank in rows:
+            out += [f"        0x{block:X} => Block {{", f"            emoji: 0x{emoji:016X},"]
+            out += [f"            entries: 0x{entries:016X},", f"            rank: {rank},", "        },"]
+        out += ["        _ => Block {", "            emoji: 0,", "            entries: 0,", "            rank: 0,"]
+        out += ["        },", "    }", "}"]
+    out += ["", "// The block k.", "pub(crate) fn block_of(k: u32) -> Block"]
+    out += ["    ensures { λ r. ⌜ r ≡ blockIn k blocks ⌝ }", "{"]
+    for (name, _, _), (_, end, _) in zip(BLOCK_GROUPS, BLOCK_GROUPS[1:]):
+        out += [f"    if k < 0x{end:X} {{", f"        return {name}_block(k);", "    }"]
+    out += [f"    {BLOCK_GROUPS[-1][0]}_block(k)", "}"]
+    return "\n".join(out) + "\n"
+
+
+def block_specs(numbered, tables):
+    major, minor = numbered
+    out = [
+        f"-- The emoji and the variation entries of Unicode {major}.{minor} as words, made by tools/unicode_tables.py: of",
+        "-- each block of 64 code points that has any, its number, the word of its emoji, the word of its variation",
+        "-- entries, and the number of entries before it.",
+        "use mathlib.Core.List.{List, [], _∷_, _++_}",
+        "use Rattle.unicode.specs.Blocks.{BlockRow, row}",
+    ]
+    for name, what, rows in grouped(tables):
+        out += ["", f"-- the blocks {what}: {len(rows)}"]
+        out += [f"unfoldable pub {name}Blocks : List BlockRow", f"{name}Blocks ="]
+        out += [f"    row 0x{block:X} 0x{emoji:016X} 0x{entries:016X} {rank} ∷" for block, emoji, entries, rank in rows]
+        out[-1] += " []"
+    names = [f"{name}Blocks" for name, *_ in BLOCK_GROUPS]
+    out += ["", "-- all blocks", "unfoldable pub blocks : List BlockRow"]
+    out += ["blocks = " + " ++ (".join(names[:-1]) + f" ++ {names[-1]}" + ")" * (len(names) - 2)]
+    return "\n".join(out) + "\n"
+
+
+def block_proof(name):
+    """The maker of the proof of one group's function: an answer for each arm, and one for the rest."""
+
+    def make(numbered, tables):
+        rows = next(rows for group, _, rows in grouped(tables) if group == name)
+        listed = f"{name}Blocks"
+        out = [
+            "-- Each arm is found in the list, and nothing else is. Made by tools/unicode_tables.py.",
+            "use mathlib.Core.Path.{sym, ap}",
+            "use Prim.Native.Nat.{ℕ}",
+            "use Rattle.unicode.specs.Blocks.{blockIn, noBlock}",
+            f"use Rattle.unicode.specs.BlockData.{{{listed}}}",
+            "use Rattle.unicode.proofs.BlockSearch.{in-no-arm}",
+            f"use Rattle.unicode.proofs.blocks.{name}_block.Statement.{{statement}}",
+            f"use Rattle.unicode.proofs.blocks.{name}_block.Tie as tie",
+        ]
+        needs = ["returns"] + [f"returns-{i}" for i in range(2, len(rows) + 2)]
+        for i, need in enumerate(needs, 1):
+            out += ["", f"{need} : tie.Need-{need}", f"unfolding blockIn noBlock {listed}"]
+            if i <= len(rows):
+                out += [f"{need} c = sym (ap (λ (k : ℕ). blockIn k {listed}) (c .match .keys{i}))"]
+            else:
+                out += [f"{need} c = sym (in-no-arm (c .before .args .k) {listed} (c .match .rest))"]
+        out += ["", f"pub {name}-block-spec : {{M : Type 1}} → statement M", f"{name}-block-spec ="]
+        out += ["    tie.close", "    (tie.spec"] + [f"    {need}" for need in needs]
+        out[-1] += ")"
+        return "\n".join(out) + "\n"
+
+    return make
+
+
 def words(members, entries):
     """The words of a character set: entry i at bit i % 64 of word i / 64."""
     out = [0] * (-(-len(entries) // 64))
@@ -264,6 +390,9 @@ def main(arguments):
     files = [
         (SOURCE, source),
         (SPECS, specs),
+        (BLOCKS, block_source),
+        (BLOCK_SPECS, block_specs),
+        *[(BLOCK_PROOFS / f"{name}_block" / "Proof.antt", block_proof(name)) for name, *_ in BLOCK_GROUPS],
         (NAMED_SETS, named_sets),
         (DEFAULT_POLICY, default_policy),
         (DEFAULT_POLICY_SPECS, default_policy_specs),

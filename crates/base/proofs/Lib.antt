@@ -1,7 +1,8 @@
--- Laws that every layer shares: tests, words, and writing into a lent buffer.
+-- Laws that every layer shares: tests, words, bits, and writing into a lent buffer.
 pub mod Tests
 pub mod Writer
 pub mod Words
+pub mod Bits
 pub mod Output
 pub mod Rows
 pub mod Claims

@@ -1,6 +1,8 @@
--- What every layer shares: ranges of numbers, numbers of eight bytes, and results that are written into a lent buffer.
+-- What every layer shares: ranges of numbers, numbers of eight bytes, bits of a word, and results that are written
+-- into a lent buffer.
 pub mod Ranges
 pub mod Words
+pub mod Bits
 pub mod Refusals
 pub mod Output
 pub mod Theorems

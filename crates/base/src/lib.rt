@@ -1,11 +1,12 @@
-// What every layer shares: a byte of a slice, and numbers of eight bytes, lowest first (document 01: "There a
-// policy word, a start, an end or a count is 8 bytes, lowest first"). `read_word` equals `number` of the eight
-// bytes, `write_word` puts `wordBytes`, and `write_bytes` puts the bytes it is given.
+// What every layer shares: a bit of a word, a byte of a slice, and numbers of eight bytes, lowest first (document
+// 01: "There a policy word, a start, an end or a count is 8 bytes, lowest first"). `read_word` equals `number` of the
+// eight bytes, `write_word` puts `wordBytes`, and `write_bytes` puts the bytes it is given.
 ghost use mathlib.Core.Path.{_≡_};
 ghost use mathlib.Core.Bool.{cond};
-ghost use Prim.Native.Nat.{_+_, _*_, _≤_};
+ghost use Prim.Native.Nat.{_+_, _*_, _%_, _≤_};
 ghost use lib.ListN.{drop, getD, length, take};
 ghost use lib.Seq.{sets};
+ghost use Rattle.base.specs.Bits.{one};
 ghost use Rattle.base.specs.Output.{PutAt, roomFor};
 ghost use Rattle.base.specs.Words.{hasRoom, littleEndian, number, wordBytes};
 
@@ -36,6 +37,13 @@ pub enum Refusal {
 pub enum Check {
     Passed,
     Refused(Refusal),
+}
+
+// Whether bit i mod 64 of a word is one.
+pub fn has_bit(w: u64, i: usize) -> bool
+    ensures { λ r. ⌜ r ≡ one (i % 64) w ⌝ }
+{
+    (w >> (i % 64)) % 2 == 1
 }
 
 // The byte i behind the place at, or 0 where there is none.

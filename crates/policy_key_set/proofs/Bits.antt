@@ -1,14 +1,13 @@
 -- One bit of a word: what an operation on words does to it, at any place.
 use mathlib.Core.Path.{_≡_, refl, sym, ap, _∙_}
-use mathlib.Core.Bool.{Bool, false, not, _||_, _&&_}
+use mathlib.Core.Bool.{Bool, not, _||_, _&&_}
 use Prim.Native.Nat.{ℕ, zero, suc, _+_, _-_, _*_, _/_, _%_, _^_, min, max, _<_}
-use native.Mathlib.Nat.{le-of-suc-le-suc, not-suc-le-zero, pow-suc, zero-div}
-use native.Mathlib.Numerals.{one-add}
+use native.Mathlib.Nat.{le-of-suc-le-suc, not-suc-le-zero, pow-suc}
 use native.Mathlib.Omega.{arith}
 use lib.Dec.{eqb, eqb·suc-suc, eqb·suc-zero, eqb·zero-suc}
 use lib.Bits.{and-shr, and-step, bitAnd, bitOr, bitXor, differ, or-shr, or-step, xor-shr, xor-step}
-use lib.Pow.{shr-shr}
-use Rattle.policy_key_set.specs.Sets.{one}
+use Rattle.base.specs.Bits.{one}
+use Rattle.base.proofs.Bits.{low-bit, next-bit, zero-one}
 use Rattle.policy_key_set.specs.Sets as Sets
 
 -- an operation that acts on each bit by itself, and the test that it is on bits
@@ -55,19 +54,6 @@ xor-one =
     bit-by-bit bitXor differ Sets.differ xor-shr xor-step
     (bits-are (λ x y. (differ x y < 2) × (eqb (differ x y) 1 ≡ Sets.differ (eqb x 1) (eqb y 1))) (omega arith, refl)
     (omega arith, refl) (omega arith, refl) (omega arith, refl))
-
--- the lowest bit, and the others: those of the half
-pub low-bit : (w : ℕ) → one 0 w ≡ eqb (w % 2) 1
-unfolding one
-low-bit w = let e : w / 2 ^ 0 % 2 ≡ w % 2 = omega arith in ap (λ (n : ℕ). eqb n 1) e
-
-pub next-bit : (k w : ℕ) → one (suc k) w ≡ one k (w / 2)
-unfolding one
-next-bit k w = ap (λ (n : ℕ). eqb (n % 2) 1) (sym (shr-shr w 1 k ∙ ap (λ (m : ℕ). w / 2 ^ m) (one-add k)))
-
-pub zero-one : (k : ℕ) → one k 0 ≡ false
-unfolding one
-zero-one k = ap (λ (n : ℕ). eqb (n % 2) 1) (zero-div (2 ^ k))
 
 -- the complement of n bits
 half-not : (p a : ℕ) → a < p * 2 → (p * 2 - 1 - a) / 2 ≡ p - 1 - a / 2

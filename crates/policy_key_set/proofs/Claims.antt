@@ -6,7 +6,8 @@ use native.Mathlib.Omega.{arith}
 use Rattle.unicode.specs.Unicode.{hasVariationSequence, isEmojiDefault, isEmojiPresentation, isTextDefault}
 use Rattle.unicode.specs.UnicodeData.{variationEntries}
 use Rattle.unicode.proofs.Between.{every, every-member}
-use Rattle.policy_key_set.specs.Sets.{countBelow, entryCount, member, one, sameEntries, sizeOf}
+use Rattle.base.specs.Bits.{one}
+use Rattle.policy_key_set.specs.Sets.{countBelow, entryCount, member, sameEntries, sizeOf}
 use Rattle.policy_key_set.specs.KeySets.{isAscii, isKeycapRgi, keycap, ordinary}
 use Rattle.policy_key_set.specs.Display.{
   display,

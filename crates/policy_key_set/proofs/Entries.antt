@@ -14,7 +14,8 @@ use Rattle.unicode.specs.declared.VariationSequenceIndex.the-variants as Index
 use Rattle.base.proofs.Tests.{both-true, le-or-lt}
 use Rattle.unicode.proofs.Ascent.{entry-in, entry-out, index-holds, place-is-index}
 use Rattle.unicode.proofs.InOrder.{variation-entries-ascend}
-use Rattle.policy_key_set.specs.Sets.{Holds, HoldsChars, allBelow, entryCount, member, one, sizeOf}
+use Rattle.base.specs.Bits.{one}
+use Rattle.policy_key_set.specs.Sets.{Holds, HoldsChars, allBelow, entryCount, member, sizeOf}
 use Rattle.policy_key_set.specs.KeySets.{rightWords}
 use Rattle.policy_key_set.proofs.Below.{count-le}
 use Rattle.policy_key_set.proofs.Members.{decide, holds-same, none-held, one-member, test-holds}

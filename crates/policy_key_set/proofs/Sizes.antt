@@ -10,8 +10,9 @@ use lib.Count.{ones, ones-step}
 use lib.Dec.{eqb}
 use lib.ListN.{getD}
 use borrow.Author.Tests.{le-ltb}
-use Rattle.policy_key_set.specs.Sets.{HoldsBelow, countBelow, member, number, one, sumBelow}
-use Rattle.policy_key_set.proofs.Bits.{low-bit, next-bit}
+use Rattle.base.specs.Bits.{one}
+use Rattle.base.proofs.Bits.{low-bit, next-bit}
+use Rattle.policy_key_set.specs.Sets.{HoldsBelow, countBelow, member, number, sumBelow}
 use Rattle.policy_key_set.proofs.Below.{count-same, count-to}
 use Rattle.policy_key_set.proofs.Members.{held}
 

@@ -3,9 +3,10 @@
 use mathlib.Core.Path.{_≡_}
 use mathlib.Core.Bool.{Bool, true, false, Bool·beq, _&&_, _||_, not}
 use mathlib.Core.List.{List}
-use Prim.Native.Nat.{ℕ, zero, suc, _+_, _/_, _%_, _^_}
-use lib.Dec.{eqb, ltb}
+use Prim.Native.Nat.{ℕ, zero, suc, _+_, _/_, _%_}
+use lib.Dec.{ltb}
 use lib.ListN.{getD, length}
+use Rattle.base.specs.Bits.{one}
 use Rattle.unicode.specs.Unicode.{variationSequenceIndex}
 use Rattle.unicode.specs.UnicodeData.{variationEntries}
 use Rattle.unicode.specs.declared.VariationSequenceIndex.{VariationSequenceIndex}
@@ -18,10 +19,6 @@ use Rattle.policy_key_set.specs.declared.char_set.SetOperation.the-varia
   SymmetricDifference,
   Union,
 }
-
--- bit k of a word
-unfoldable pub one : ℕ → ℕ → Bool
-one k w = eqb (w / 2 ^ k % 2) 1
 
 -- "entry i at bit i mod 64 of word i/64"; past the words there is no member
 unfoldable pub member : ℕ → List ℕ → Bool

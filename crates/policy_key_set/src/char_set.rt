@@ -5,6 +5,7 @@ ghost use mathlib.Core.Path.{_≡_};
 ghost use mathlib.Core.Bool.{_&&_, _||_, true, false};
 ghost use Prim.Native.Nat.{ℕ, _<_, _≤_};
 ghost use lib.Dec.{eqb};
+ghost use Rattle.base.specs.Bits.{one};
 ghost use Rattle.policy_key_set.specs.Sets.{
   butNot,
   contains,
@@ -14,7 +15,6 @@ ghost use Rattle.policy_key_set.specs.Sets.{
   HoldsChars,
   keeps,
   MadeBy,
-  one,
   sameEntries,
   sizeOf,
 };
@@ -77,14 +77,6 @@ fn bit(k: usize) -> u64
     1u64 << k
 }
 
-// Whether a bit of a word is one.
-fn has_bit(w: u64, k: usize) -> bool
-    requires { ⌜ k < 64 ⌝ }
-    ensures { λ r. ⌜ r ≡ one k w ⌝ }
-{
-    (w >> k) % 2 == 1
-}
-
 impl CharSet {
     pub fn all() -> Self
         ensures { λ r. ⌜ Holds (λ (i : ℕ). true) (r .bits) ⌝ }
@@ -119,7 +111,7 @@ impl CharSet {
     {
         let words = self.bits;
         match unicode::variation_sequence_index(ch) {
-            VariationSequenceIndex::At(index) => has_bit(words[index / 64], index % 64),
+            VariationSequenceIndex::At(index) => base::has_bit(words[index / 64], index),
             VariationSequenceIndex::NoEntry => false,
         }
     }

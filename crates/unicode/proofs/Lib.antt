@@ -3,4 +3,8 @@ pub mod Ascent
 pub mod Ranges
 pub mod Between
 pub mod InOrder
+pub mod BlockSearch
+pub mod BlockBits
+pub mod RangeNumbers
+pub mod BlockTables
 pub mod Claims

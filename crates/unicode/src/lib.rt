@@ -1,12 +1,18 @@
 // What a character is to the formatter: unicode.rs of the crate evfmt; document 01, "Character".
 // Each function answers for every number, and equals membership in the lists of specs/UnicodeData.antt.
-// The tables are lent to one search of each kind, which asks that its table is in order: a test that the
-// proof of each caller computes over the whole table.
+// The questions that every character is asked go by the words of its block of 64 code points (blocks.rt). The other
+// tables are lent to one search of each kind, which asks that its table is in order: a test that the proof of each
+// caller computes over the whole table.
+mod blocks;
 pub mod presentation;
 pub mod unicode_data;
 
 ghost use mathlib.Core.Path.{_≡_};
 ghost use mathlib.Core.Bool.{true};
+ghost use Prim.Native.Nat.{_%_, _^_, _≤_};
+ghost use lib.Count.{ones};
+ghost use Rattle.base.specs.Ranges.{within};
+ghost use Rattle.unicode.specs.Blocks.{entryIn};
 ghost use Rattle.unicode.specs.Tables.{ascending, inRanges, indexOf, member, rangesApart};
 ghost use Rattle.unicode.specs.Unicode.{
   hasVariationSequence,
@@ -21,10 +27,10 @@ ghost use Rattle.unicode.specs.Unicode.{
   variationEntry,
   variationSequenceIndex,
 };
+use blocks::Block;
 use unicode_data::EMOJI_MODIFIER_BASES;
 use unicode_data::EMOJI_MODIFIERS;
 use unicode_data::EMOJI_PRESENTATION_RANGES;
-use unicode_data::EMOJI_RANGES;
 use unicode_data::RI_RANGES;
 use unicode_data::VARIATION_ENTRIES;
 use unicode_data::VARIATION_ENTRY_COUNT;
@@ -107,14 +113,40 @@ fn in_ranges(ranges: &[u32], ch: u32) -> bool
     false
 }
 
+// Whether a number is one from first to last.
+fn is_within(first: u32, last: u32, ch: u32) -> bool
+    ensures { λ r. ⌜ r ≡ within first last ch ⌝ }
+{
+    if ch < first {
+        return false;
+    }
+    ch <= last
+}
+
+// The number of ones of a word below bit i mod 64.
+fn ones_below(w: u64, i: u32) -> u32
+    ensures { λ r. ⌜ (r ≡ ones (w % 2 ^ (i % 64))) × (r ≤ 64) ⌝ }
+{
+    u64::count_ones(w % (1u64 << (i % 64)))
+}
+
+// The place among the variation entries of a character in a block.
+fn entry_in(block: Block, ch: u32) -> VariationSequenceIndex
+    ensures { λ r. ⌜ r ≡ entryIn (ch % 64) block ⌝ }
+{
+    let entries = block.entries;
+    if base::has_bit(entries, ch as usize) {
+        VariationSequenceIndex::At(block.rank as usize + ones_below(entries, ch) as usize)
+    } else {
+        VariationSequenceIndex::NoEntry
+    }
+}
+
 // Whether a character is a tag, from E0020 to E007F.
 pub fn is_tag(ch: u32) -> bool
     ensures { λ r. ⌜ r ≡ isTag ch ⌝ }
 {
-    if ch < 0xE0020 {
-        return false;
-    }
-    ch <= 0xE007F
+    is_within(0xE0020, 0xE007F, ch)
 }
 
 // The variation entry at an index.
@@ -132,14 +164,15 @@ pub fn variation_entry(index: usize) -> VariationEntry
 pub fn variation_sequence_index(ch: u32) -> VariationSequenceIndex
     ensures { λ r. ⌜ r ≡ variationSequenceIndex ch ⌝ }
 {
-    binary_search(&VARIATION_ENTRIES, ch)
+    entry_in(blocks::block_of(ch / 64), ch)
 }
 
 // Whether a character is a variation entry.
 pub fn has_variation_sequence(ch: u32) -> bool
     ensures { λ r. ⌜ r ≡ hasVariationSequence ch ⌝ }
 {
-    in_char_table(&VARIATION_ENTRIES, ch)
+    let block = blocks::block_of(ch / 64);
+    base::has_bit(block.entries, ch as usize)
 }
 
 // Whether a character has the property Emoji_Presentation.
@@ -173,7 +206,7 @@ pub fn is_emoji_default(ch: u32) -> bool
 pub fn is_emoji_modifier(ch: u32) -> bool
     ensures { λ r. ⌜ r ≡ isEmojiModifier ch ⌝ }
 {
-    in_char_table(&EMOJI_MODIFIERS, ch)
+    is_within(EMOJI_MODIFIERS[0], EMOJI_MODIFIERS[4], ch)
 }
 
 // Whether a character has the property Emoji_Modifier_Base.
@@ -187,12 +220,13 @@ pub fn is_emoji_modifier_base(ch: u32) -> bool
 pub fn is_emoji(ch: u32) -> bool
     ensures { λ r. ⌜ r ≡ isEmoji ch ⌝ }
 {
-    in_ranges(&EMOJI_RANGES, ch)
+    let block = blocks::block_of(ch / 64);
+    base::has_bit(block.emoji, ch as usize)
 }
 
 // Whether a character is a regional indicator.
 pub fn is_ri(ch: u32) -> bool
     ensures { λ r. ⌜ r ≡ isRi ch ⌝ }
 {
-    in_ranges(&RI_RANGES, ch)
+    is_within(RI_RANGES[0], RI_RANGES[1], ch)
 }

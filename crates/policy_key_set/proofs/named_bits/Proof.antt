@@ -4,7 +4,8 @@ use borrow.Author.Needs.{needs}
 use Rattle.unicode.specs.Tables as Tables
 use Rattle.unicode.specs.Unicode.{hasVariationSequence, isEmojiDefault, isEmojiPresentation, isTextDefault}
 use Rattle.unicode.specs.UnicodeData.{emojiPresentationRanges, variationEntries}
-use Rattle.policy_key_set.specs.Sets.{HoldsChars, allBelow, entryCount, member, one}
+use Rattle.base.specs.Bits.{one}
+use Rattle.policy_key_set.specs.Sets.{HoldsChars, allBelow, entryCount, member}
 use Rattle.policy_key_set.specs.KeySets.{namedEntryMatches, rightWords}
 use Rattle.policy_key_set.specs.declared.NamedSet.{NamedSet}
 use Rattle.policy_key_set.specs.declared.char_set.CharSet.{CharSet}

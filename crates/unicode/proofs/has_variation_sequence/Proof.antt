@@ -1,21 +1,24 @@
--- The table is in order, by the one test of it.
+-- The character's bit in its block.
+use mathlib.Core.Path.{sym, ap, _∙_}
+use Prim.Native.Nat.{_%_}
 use borrow.Author.Needs.{needs}
-use Rattle.unicode.specs.Unicode.{hasVariationSequence}
-use Rattle.unicode.specs.UnicodeData.{variationEntries}
-use Rattle.unicode.proofs.InOrder.{variation-entries-ascend}
+use Rattle.base.specs.Bits.{one}
+use Rattle.unicode.specs.declared.blocks.Block.{Block}
+use Rattle.unicode.proofs.BlockTables.{entry-bit}
 use Rattle.unicode.proofs.has_variation_sequence.Statement.{statement}
 use Rattle.unicode.proofs.has_variation_sequence.Tie as tie
 
-slice-aggregate-in-char-table : tie.Need-slice-aggregate-in-char-table
-slice-aggregate-in-char-table c = search needs
+block-of-requires : tie.Need-block-of-requires
+block-of-requires c κs = search needs
 
-in-char-table-requires : tie.Need-in-char-table-requires
-unfolding variationEntries
-in-char-table-requires c κs = variation-entries-ascend
+has-bit-requires : tie.Need-has-bit-requires
+has-bit-requires c κs = search needs
 
 returns : tie.Need-returns
-unfolding hasVariationSequence variationEntries
-returns c = c .in-char-table .ensures
+returns c =
+    let x = c .before in
+    let ch = x .before .args .ch in
+    c .has-bit .ensures ∙ ap (λ (b : Block). one (ch % 64) (b .entries)) (x .block-of .ensures) ∙ sym (entry-bit ch)
 
 pub has-variation-sequence-spec : {M : Type 1} → statement M
-has-variation-sequence-spec = tie.close (tie.spec slice-aggregate-in-char-table in-char-table-requires returns)
+has-variation-sequence-spec = tie.close (tie.spec block-of-requires has-bit-requires returns)

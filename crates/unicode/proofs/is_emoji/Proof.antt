@@ -1,21 +1,24 @@
--- The table is in order, by the one test of it.
+-- The character's bit in its block.
+use mathlib.Core.Path.{sym, ap, _∙_}
+use Prim.Native.Nat.{_%_}
 use borrow.Author.Needs.{needs}
-use Rattle.unicode.specs.Unicode.{isEmoji}
-use Rattle.unicode.specs.UnicodeData.{emojiRanges}
-use Rattle.unicode.proofs.InOrder.{emoji-ranges-apart}
+use Rattle.base.specs.Bits.{one}
+use Rattle.unicode.specs.declared.blocks.Block.{Block}
+use Rattle.unicode.proofs.BlockTables.{emoji-bit}
 use Rattle.unicode.proofs.is_emoji.Statement.{statement}
 use Rattle.unicode.proofs.is_emoji.Tie as tie
 
-slice-aggregate-in-ranges : tie.Need-slice-aggregate-in-ranges
-slice-aggregate-in-ranges c = search needs
+block-of-requires : tie.Need-block-of-requires
+block-of-requires c κs = search needs
 
-in-ranges-requires : tie.Need-in-ranges-requires
-unfolding emojiRanges
-in-ranges-requires c κs = emoji-ranges-apart
+has-bit-requires : tie.Need-has-bit-requires
+has-bit-requires c κs = search needs
 
 returns : tie.Need-returns
-unfolding isEmoji emojiRanges
-returns c = c .in-ranges .ensures
+returns c =
+    let x = c .before in
+    let ch = x .before .args .ch in
+    c .has-bit .ensures ∙ ap (λ (b : Block). one (ch % 64) (b .emoji)) (x .block-of .ensures) ∙ sym (emoji-bit ch)
 
 pub is-emoji-spec : {M : Type 1} → statement M
-is-emoji-spec = tie.close (tie.spec slice-aggregate-in-ranges in-ranges-requires returns)
+is-emoji-spec = tie.close (tie.spec block-of-requires has-bit-requires returns)

@@ -1,21 +1,27 @@
--- The table is in order, by the one test of it.
+-- The modifiers are the numbers of one range.
+use mathlib.Core.Path.{_∙_}
+use mathlib.Core.List.{[], _∷_}
 use borrow.Author.Needs.{needs}
 use Rattle.unicode.specs.Unicode.{isEmojiModifier}
 use Rattle.unicode.specs.UnicodeData.{emojiModifiers}
-use Rattle.unicode.proofs.InOrder.{emoji-modifiers-ascend}
+use Rattle.unicode.proofs.RangeNumbers.{in-numbers, numbersFrom, numbersOf, one-range}
 use Rattle.unicode.proofs.is_emoji_modifier.Statement.{statement}
 use Rattle.unicode.proofs.is_emoji_modifier.Tie as tie
 
-slice-aggregate-in-char-table : tie.Need-slice-aggregate-in-char-table
-slice-aggregate-in-char-table c = search needs
+array-read-is-within : tie.Need-array-read-is-within
+array-read-is-within c = search needs
 
-in-char-table-requires : tie.Need-in-char-table-requires
-unfolding emojiModifiers
-in-char-table-requires c κs = emoji-modifiers-ascend
+array-read-is-within-2 : tie.Need-array-read-is-within-2
+array-read-is-within-2 c = search needs
+
+is-within-requires : tie.Need-is-within-requires
+is-within-requires c κs = search needs
 
 returns : tie.Need-returns
-unfolding isEmojiModifier emojiModifiers
-returns c = c .in-char-table .ensures
+unfolding isEmojiModifier emojiModifiers numbersOf numbersFrom
+returns c =
+    let ch = c .before .args .ch in
+    c .is-within .ensures ∙ one-range 0x1F3FB 0x1F3FF ch ∙ in-numbers ch (0x1F3FB ∷ 0x1F3FF ∷ [])
 
 pub is-emoji-modifier-spec : {M : Type 1} → statement M
-is-emoji-modifier-spec = tie.close (tie.spec slice-aggregate-in-char-table in-char-table-requires returns)
+is-emoji-modifier-spec = tie.close (tie.spec array-read-is-within array-read-is-within-2 is-within-requires returns)

@@ -1,21 +1,22 @@
--- The table is in order, by the one test of it.
+-- The character's place in its block.
+use mathlib.Core.Path.{sym, ap, _∙_}
+use Prim.Native.Nat.{_%_}
 use borrow.Author.Needs.{needs}
-use Rattle.unicode.specs.Unicode.{variationSequenceIndex}
-use Rattle.unicode.specs.UnicodeData.{variationEntries}
-use Rattle.unicode.proofs.InOrder.{variation-entries-ascend}
+use Rattle.unicode.specs.Blocks.{entryIn}
+use Rattle.unicode.proofs.BlockTables.{entry-place}
 use Rattle.unicode.proofs.variation_sequence_index.Statement.{statement}
 use Rattle.unicode.proofs.variation_sequence_index.Tie as tie
 
-slice-aggregate-binary-search : tie.Need-slice-aggregate-binary-search
-slice-aggregate-binary-search c = search needs
+block-of-requires : tie.Need-block-of-requires
+block-of-requires c κs = search needs
 
-binary-search-requires : tie.Need-binary-search-requires
-unfolding variationEntries
-binary-search-requires c κs = variation-entries-ascend
+entry-in-requires : tie.Need-entry-in-requires
+entry-in-requires c κs = search needs
 
 returns : tie.Need-returns
-unfolding variationSequenceIndex variationEntries
-returns c = c .binary-search .ensures
+returns c =
+    let ch = c .before .before .args .ch in
+    c .entry-in .ensures ∙ ap (entryIn (ch % 64)) (c .before .block-of .ensures) ∙ sym (entry-place ch)
 
 pub variation-sequence-index-spec : {M : Type 1} → statement M
-variation-sequence-index-spec = tie.close (tie.spec slice-aggregate-binary-search binary-search-requires returns)
+variation-sequence-index-spec = tie.close (tie.spec block-of-requires entry-in-requires returns)

@@ -4,7 +4,7 @@ use Prim.Native.Nat.{_*_, _%_, _^_}
 use native.Mathlib.Nat.{one-mul}
 use native.Mathlib.Omega.{arith}
 use lib.Pow.{shl-exact}
-use Rattle.policy_key_set.specs.Sets.{one}
+use Rattle.base.specs.Bits.{one}
 use Rattle.policy_key_set.proofs.Bits.{power-one}
 use borrow.Author.Needs.{needs}
 use Rattle.policy_key_set.proofs.char_set.bit.Statement.{statement}

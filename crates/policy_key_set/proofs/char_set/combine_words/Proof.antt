@@ -4,7 +4,8 @@ use mathlib.Core.Bool.{Bool, _&&_}
 use Prim.Native.Nat.{ℕ, _-_, _^_}
 use lib.Bits.{bitAnd, bitOr, bitXor}
 use borrow.Author.Needs.{needs}
-use Rattle.policy_key_set.specs.Sets.{keeps, one}
+use Rattle.base.specs.Bits.{one}
+use Rattle.policy_key_set.specs.Sets.{keeps}
 use Rattle.policy_key_set.specs.declared.char_set.SetOperation.{SetOperation}
 use Rattle.policy_key_set.proofs.Bits.{and-one, not-one, or-one, xor-one}
 use Rattle.policy_key_set.proofs.char_set.combine_words.Statement.{statement}

@@ -1,0 +1,15 @@
+-- The bit as the definition reads it.
+use borrow.Author.Needs.{needs}
+use Rattle.base.specs.Bits.{one}
+use Rattle.base.proofs.has_bit.Statement.{statement}
+use Rattle.base.proofs.has_bit.Tie as tie
+
+shr-result : tie.Need-shr-result
+shr-result c = search needs
+
+returns : tie.Need-returns
+unfolding one
+returns c = search needs
+
+pub has-bit-spec : {M : Type 1} → statement M
+has-bit-spec = tie.close (tie.spec shr-result returns)

@@ -1,0 +1,58 @@
+-- The search for a block: what the arms of a `match` say of it, and where it may stop.
+use mathlib.Core.Path.{_≡_, refl, sym, ap}
+use mathlib.Core.Bool.{Bool, true, cond, _&&_}
+use mathlib.Core.List.{List, [], _∷_, _++_}
+use Prim.Native.Nat.{ℕ, suc, _≤_, _<_}
+use native.Mathlib.Omega.{arith}
+use lib.Dec.{eqb, leb, ltb}
+use borrow.Author.Tests.{leb-true, ltb-true, ne-eqb}
+use Rattle.base.proofs.Tests.{both-true}
+use Rattle.unicode.specs.Blocks.{BlockRow, blockIn, noBlock}
+
+-- what the last arm of a `match` knows, after an arm for each block: that k is none of them
+abbrev pub NoneOf : ℕ → Type 0 → List BlockRow → Type 0
+NoneOf k known [] = known
+NoneOf k known (r ∷ rs) = NoneOf k (known × (k ≡ r .key → ⊥)) rs
+
+none-of : (k : ℕ) (known : Type 0) (rs : List BlockRow) → NoneOf k known rs → known × (blockIn k rs ≡ noBlock)
+unfolding blockIn
+none-of k known [] h = (h, refl)
+none-of k known (r ∷ rs) h =
+    let t = none-of k (known × (k ≡ r .key → ⊥)) rs h in
+    (t .0 .0, rw (ne-eqb (r .key) k (λ e. t .0 .1 (sym e))) (t .1))
+
+pub in-no-arm : (k : ℕ) (rs : List BlockRow) → NoneOf k Unit rs → blockIn k rs ≡ noBlock
+in-no-arm k rs h = none-of k Unit rs h .1
+
+-- every block of a list is before block n
+unfoldable pub allBefore : ℕ → List BlockRow → Bool
+allBefore n [] = true
+allBefore n (r ∷ rs) = ltb (r .key) n && allBefore n rs
+
+-- the blocks of a list ascend, from block n on
+unfoldable pub ascendFrom : ℕ → List BlockRow → Bool
+ascendFrom n [] = true
+ascendFrom n (r ∷ rs) = leb n (r .key) && ascendFrom (suc (r .key)) rs
+
+-- blocks before n do not have block k
+pub search-past : (n : ℕ) (qs rs : List BlockRow) → allBefore n qs ≡ true → (k : ℕ) → n ≤ k → blockIn k (qs ++ rs) ≡ blockIn k rs
+unfolding allBefore blockIn
+search-past n [] rs t k h = refl
+search-past n (q ∷ qs) rs t k h =
+    let s = both-true (ltb (q .key) n) (allBefore n qs) t in
+    let l = ltb-true (q .key) n (s .0) in
+    rw (ne-eqb (q .key) k (λ e. omega arith)) (search-past n qs rs (s .1) k h)
+
+-- blocks from n on do not have block k
+pub none-from : (n : ℕ) (rs : List BlockRow) → ascendFrom n rs ≡ true → (k : ℕ) → k < n → blockIn k rs ≡ noBlock
+unfolding ascendFrom blockIn
+none-from n [] t k h = refl
+none-from n (r ∷ rs) t k h =
+    let s = both-true (leb n (r .key)) (ascendFrom (suc (r .key)) rs) t in
+    let l = leb-true n (r .key) (s .0) in
+    rw (ne-eqb (r .key) k (λ e. omega arith)) (none-from (suc (r .key)) rs (s .1) k (omega arith))
+
+pub search-stops : (n : ℕ) (qs rs : List BlockRow) → ascendFrom n rs ≡ true → (k : ℕ) → k < n → blockIn k (qs ++ rs) ≡ blockIn k qs
+unfolding blockIn
+search-stops n [] rs t k h = none-from n rs t k h
+search-stops n (q ∷ qs) rs t k h = ap (cond (eqb (q .key) k) (q .block)) (search-stops n qs rs t k h)
