@@ -53,13 +53,13 @@ same-3 p q r = cc
 same-4 : {a b c d x y z t : ℕ} → x ≡ a → y ≡ b → z ≡ c → t ≡ d → x ∷ y ∷ z ∷ t ∷ [] ≡ a ∷ b ∷ c ∷ d ∷ []
 same-4 p q r s = cc
 
-encode-value-2 : (a b : ℕ) → In 0xC2 0xDF a → Tail b → encode (value-2 a b) ≡ a ∷ b ∷ []
+pub encode-value-2 : (a b : ℕ) → In 0xC2 0xDF a → Tail b → encode (value-2 a b) ≡ a ∷ b ∷ []
 encode-value-2 a b p q = encode-2 (value-2 a b) (omega arith) (omega arith) ∙ same-2 (omega arith) (omega arith)
 
-encode-value-3 : (a b c : ℕ) → In 0xE0 0xEF a → Tail b → Tail c → 0x800 ≤ value-3 a b c → encode (value-3 a b c) ≡ a ∷ b ∷ c ∷ []
+pub encode-value-3 : (a b c : ℕ) → In 0xE0 0xEF a → Tail b → Tail c → 0x800 ≤ value-3 a b c → encode (value-3 a b c) ≡ a ∷ b ∷ c ∷ []
 encode-value-3 a b c p q r l = encode-3 (value-3 a b c) l (omega arith) ∙ same-3 (omega arith) (omega arith) (omega arith)
 
-encode-value-4 : (a b c d : ℕ) → In 0xF0 0xF4 a → Tail b → Tail c → Tail d → 0x10000 ≤ value-4 a b c d → encode (value-4 a b c d) ≡ a ∷ b ∷ c ∷ d ∷ []
+pub encode-value-4 : (a b c d : ℕ) → In 0xF0 0xF4 a → Tail b → Tail c → Tail d → 0x10000 ≤ value-4 a b c d → encode (value-4 a b c d) ≡ a ∷ b ∷ c ∷ d ∷ []
 encode-value-4 a b c d p q r s l = encode-4 (value-4 a b c d) l ∙ same-4 (omega arith) (omega arith) (omega arith) (omega arith)
 
 -- s begins with the character v: v is a scalar value, and its w bytes are its encoding.

@@ -5,9 +5,12 @@ pub mod Rows
 pub mod Scalars
 pub mod Encoding
 pub mod Decoding
+pub mod Values
 pub mod Folds
 pub mod Texts
 pub mod Places
+pub mod Packed
+pub mod AsciiRuns
 pub mod Answers
 pub mod Grammar
 pub mod Claims

@@ -1,5 +1,5 @@
 -- Characters as bytes: RFC 3629.
 pub mod Rfc3629
-pub mod Rows
 pub mod Write
+pub mod Ascii
 pub mod Theorems

@@ -77,6 +77,18 @@ unfoldable pub readChar : List ℕ → ReadChar
 readChar [] = End
 readChar (a ∷ s) = readFour a (getD s 0 0) (getD s 1 0) (getD s 2 0)
 
+-- How many bytes the character read has; 0 where none is.
+unfoldable pub charLen : ReadChar → ℕ
+charLen (Char v w) = w
+charLen IllFormed = 0
+charLen End = 0
+
+-- The character read as one number, 8 times its value and its width, which is at most 4; 0 where none is.
+unfoldable pub packed : ReadChar → ℕ
+packed (Char v w) = 8 * v + w
+packed IllFormed = 0
+packed End = 0
+
 -- A value made of the characters from the front on, until the end or the first place where none begins (document 01, "Item").
 -- `more` takes a character's value, its width, and what is made of the bytes behind it; `stop` is made where no character begins.
 module _ {A : Type 0} (stop : A) (more : ℕ → ℕ → A → A) where

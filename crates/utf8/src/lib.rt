@@ -1,16 +1,17 @@
 // Characters as bytes: which bytes are a character and which value it has, and the bytes of a value.
 // From RFC 3629, sections 3 and 4; added by document 01 ("Character"), since the Rust crate gets a `str`.
-// `read_char` equals `readChar`, `valid_up_to` equals `validUpTo` and `is_scalar` equals `isScalar` of specs/Rfc3629,
-// `char_width` is the length of `encode`, and `write_char` equals `writeChar` and `afterWriteChar` of specs/Write.
+// `read_char` equals `readChar`, `char_len` and `decode` are the width and the packed number of it, `valid_up_to`
+// equals `validUpTo` and `is_scalar` equals `isScalar` of specs/Rfc3629, `char_width` is the length of `encode`, and
+// `write_char` equals `writeChar` and `afterWriteChar` of specs/Write.
 ghost use mathlib.Core.Path.{_≡_};
 ghost use mathlib.Core.List.{[], _∷_};
-ghost use Prim.Native.Nat.{_+_, _/_, _%_, _≤_};
+ghost use Prim.Native.Nat.{ℕ, _+_, _/_, _%_, _≤_};
 ghost use lib.ListN.{length, drop, getD};
 ghost use lib.Seq.{sets};
-ghost use Rattle.base.specs.Ranges.{within};
-ghost use Rattle.utf8.specs.Rfc3629.{utf8-tail, value-2, value-3, value-4, readChar, validUpTo, isScalar, encode};
-ghost use Rattle.utf8.specs.Rows.{IsRow};
+ghost use Rattle.utf8.specs.Rfc3629.{readFour, readChar, charLen, packed, validUpTo, isScalar, encode};
 ghost use Rattle.utf8.specs.Write.{writeChar, afterWriteChar};
+
+pub mod ascii;
 
 // What stands at a place of a text.
 pub enum ReadChar {
@@ -26,90 +27,118 @@ pub enum WriteChar {
     NotScalar,
 }
 
-// The row of the table (RFC 3629, section 4) that a first byte picks: how many bytes the character has, and
-// the lowest and the highest second byte. Width 0: no character begins with this byte.
-struct Row(usize, u32, u32);
-
-fn row_of(a: u32) -> Row
-    ensures { λ r. ⌜ IsRow a (r .0) (r .1) (r .2) ⌝ }
+// A byte as a wider number.
+fn wide(b: u8) -> u32
+    ensures { λ r. ⌜ r ≡ b ⌝ }
 {
-    if a <= 0x7F {
-        return Row(1, 0, 0);
+    b as u32
+}
+
+// The packed number of three bytes, or 0 if their value is too small for three bytes or a surrogate.
+fn pack_3(a: u32, b: u32, c: u32) -> u32
+    requires { ⌜ (0xE0 ≤ a) × (a ≤ 0xEF) × (0x80 ≤ b) × (b ≤ 0xBF) × (0x80 ≤ c) × (c ≤ 0xBF) ⌝ }
+    ensures { λ r. ⌜ ((d : ℕ) → r ≡ packed (readFour a b c d)) ⌝ }
+{
+    let value = ((a - 0xE0) * 64 + (b - 0x80)) * 64 + (c - 0x80);
+    if value < 0x800 {
+        return 0;
+    }
+    if value < 0xD800 {
+        return 8 * value + 3;
+    }
+    if value < 0xE000 {
+        return 0;
+    }
+    8 * value + 3
+}
+
+// The packed number of four bytes, or 0 if the last is no tail, or their value is too small for four bytes or above
+// 10FFFF.
+fn pack_4(a: u32, b: u32, c: u32, d: u32) -> u32
+    requires { ⌜ (0xF0 ≤ a) × (a ≤ 0xF4) × (0x80 ≤ b) × (b ≤ 0xBF) × (0x80 ≤ c) × (c ≤ 0xBF) ⌝ }
+    ensures { λ r. ⌜ r ≡ packed (readFour a b c d) ⌝ }
+{
+    if d < 0x80 {
+        return 0;
+    }
+    if 0xBF < d {
+        return 0;
+    }
+    let value = (((a - 0xF0) * 64 + (b - 0x80)) * 64 + (c - 0x80)) * 64 + (d - 0x80);
+    if value < 0x10000 {
+        return 0;
+    }
+    if 0x10FFFF < value {
+        return 0;
+    }
+    8 * value + 4
+}
+
+// `decode` at two bytes that begin a character of three or four.
+fn decode_long(s: &[u8], at: usize, a: u32, b: u32) -> u32
+    requires bytes { ⌜ (at + 2 ≤ length (now s)) × (a ≡ getD (now s) at 0) × (b ≡ getD (now s) (at + 1) 0) ⌝ }
+    requires ranges { ⌜ (0xE0 ≤ a) × (a ≤ 0xF4) × (0x80 ≤ b) × (b ≤ 0xBF) ⌝ }
+    ensures { λ r. ⌜ r ≡ packed (readChar (drop at (now (s .entry)))) ⌝ }
+{
+    if s.len() - at < 3 {
+        return 0;
+    }
+    let c = wide(s[at + 2]);
+    if c < 0x80 {
+        return 0;
+    }
+    if 0xBF < c {
+        return 0;
+    }
+    if a < 0xF0 {
+        return pack_3(a, b, c);
+    }
+    if s.len() - at < 4 {
+        return 0;
+    }
+    pack_4(a, b, c, wide(s[at + 3]))
+}
+
+// The character at a place as one number, 8 times its value and its width, or 0 where none begins. A number comes
+// back in a register, and an enum through memory. Forms that are too long, surrogates and values above 10FFFF are
+// told by the value, which costs fewer steps than the ranges of the second byte.
+pub fn decode(s: &[u8], at: usize) -> u32
+    ensures { λ r. ⌜ r ≡ packed (readChar (drop at (now (s .entry)))) ⌝ }
+{
+    if s.len() <= at {
+        return 0;
+    }
+    let a = wide(s[at]);
+    if a < 0x80 {
+        return 8 * a + 1;
     }
     if a < 0xC2 {
-        return Row(0, 0, 0);
+        return 0;
     }
-    if a <= 0xDF {
-        return Row(2, 0x80, 0xBF);
+    if 0xF4 < a {
+        return 0;
     }
-    if a == 0xE0 {
-        return Row(3, 0xA0, 0xBF);
+    if s.len() - at < 2 {
+        return 0;
     }
-    if a <= 0xEC {
-        return Row(3, 0x80, 0xBF);
+    let b = wide(s[at + 1]);
+    if b < 0x80 {
+        return 0;
     }
-    if a == 0xED {
-        return Row(3, 0x80, 0x9F);
+    if 0xBF < b {
+        return 0;
     }
-    if a <= 0xEF {
-        return Row(3, 0x80, 0xBF);
+    if a < 0xE0 {
+        return 8 * ((a - 0xC0) * 64 + (b - 0x80)) + 2;
     }
-    if a == 0xF0 {
-        return Row(4, 0x90, 0xBF);
-    }
-    if a <= 0xF3 {
-        return Row(4, 0x80, 0xBF);
-    }
-    if a == 0xF4 {
-        return Row(4, 0x80, 0x8F);
-    }
-    Row(0, 0, 0)
+    decode_long(s, at, a, b)
 }
 
-// The byte i behind the place at, or 0 where there is none.
-fn byte(s: &[u8], at: usize, i: usize) -> u32
-    ensures { λ r. ⌜ r ≡ getD (drop at (now (s .entry))) i 0 ⌝ }
+// How many bytes the character at a place has, or 0 where none begins.
+pub fn char_len(s: &[u8], at: usize) -> usize
+    ensures { λ r. ⌜ r ≡ charLen (readChar (drop at (now (s .entry)))) ⌝ }
 {
-    base::byte_at(s, at, i) as u32
-}
-
-// A byte from lo to hi.
-fn is_within(lo: u32, hi: u32, b: u32) -> bool
-    ensures { λ r. ⌜ r ≡ within lo hi b ⌝ }
-{
-    if b < lo {
-        return false;
-    }
-    b <= hi
-}
-
-// A byte that may stand behind the second: UTF8-tail.
-fn is_tail(b: u32) -> bool
-    ensures { λ r. ⌜ r ≡ utf8-tail b ⌝ }
-{
-    is_within(0x80, 0xBF, b)
-}
-
-// The values of two, three and four bytes (RFC 3629, section 3).
-fn value_2(a: u32, b: u32) -> u32
-    requires { ⌜ (0xC0 ≤ a) × (a ≤ 0xDF) × (0x80 ≤ b) × (b ≤ 0xBF) ⌝ }
-    ensures { λ r. ⌜ r ≡ value-2 a b ⌝ }
-{
-    (a - 0xC0) * 64 + (b - 0x80)
-}
-
-fn value_3(a: u32, b: u32, c: u32) -> u32
-    requires { ⌜ (0xE0 ≤ a) × (a ≤ 0xEF) × (0x80 ≤ b) × (b ≤ 0xBF) × (0x80 ≤ c) × (c ≤ 0xBF) ⌝ }
-    ensures { λ r. ⌜ r ≡ value-3 a b c ⌝ }
-{
-    ((a - 0xE0) * 64 + (b - 0x80)) * 64 + (c - 0x80)
-}
-
-fn value_4(a: u32, b: u32, c: u32, d: u32) -> u32
-    requires { ⌜ (0xF0 ≤ a) × (a ≤ 0xF7) × (0x80 ≤ b) × (b ≤ 0xBF) × (0x80 ≤ c) × (c ≤ 0xBF) × (0x80 ≤ d) × (d ≤ 0xBF) ⌝ }
-    ensures { λ r. ⌜ r ≡ value-4 a b c d ⌝ }
-{
-    (((a - 0xF0) * 64 + (b - 0x80)) * 64 + (c - 0x80)) * 64 + (d - 0x80)
+    (decode(s, at) % 8) as usize
 }
 
 // What stands at a place of a text: a character, no character, or the end.
@@ -119,55 +148,27 @@ pub fn read_char(s: &[u8], at: usize) -> ReadChar
     if s.len() <= at {
         return ReadChar::End;
     }
-    let a = byte(s, at, 0);
-    let Row(width, lo, hi) = row_of(a);
-    if width == 0 {
+    let number = decode(s, at);
+    if number == 0 {
         return ReadChar::IllFormed;
     }
-    if width == 1 {
-        return ReadChar::Char { value: a, width };
-    }
-    let b = byte(s, at, 1);
-    if !is_within(lo, hi, b) {
-        return ReadChar::IllFormed;
-    }
-    if width == 2 {
-        let value = value_2(a, b);
-        return ReadChar::Char { value, width };
-    }
-    let c = byte(s, at, 2);
-    if !is_tail(c) {
-        return ReadChar::IllFormed;
-    }
-    if width == 3 {
-        let value = value_3(a, b, c);
-        return ReadChar::Char { value, width };
-    }
-    let d = byte(s, at, 3);
-    if !is_tail(d) {
-        return ReadChar::IllFormed;
-    }
-    let value = value_4(a, b, c, d);
+    let value = number / 8;
+    let width = (number % 8) as usize;
     ReadChar::Char { value, width }
 }
 
-// The length of the longest well-formed beginning.
+// The length of the longest well-formed beginning. ASCII is passed in blocks.
 pub fn valid_up_to(s: &[u8]) -> usize
     ensures { λ r. ⌜ r ≡ validUpTo (now (s .entry)) ⌝ }
 {
     let mut at: usize = 0;
     loop {
-        match read_char(s, at) {
-            ReadChar::Char { value: _, width } => {
-                at += width;
-            }
-            ReadChar::IllFormed => {
-                return at;
-            }
-            ReadChar::End => {
-                return at;
-            }
+        let next = ascii::ascii_end(s, at);
+        let width = char_len(s, next);
+        if width == 0 {
+            return next;
         }
+        at = next + width;
     }
 }
 

@@ -1,12 +1,13 @@
 -- `utf8::valid_up_to` meets its contract. The loop's invariant: `at`, with the longest well-formed beginning from there on, is `validUpTo` of the text.
 -- The measure is the number of bytes left.
-use mathlib.Core.Path.{_≡_, sym, _∙_}
+use mathlib.Core.Path.{_≡_}
 use Prim.Native.Nat.{_+_, _-_, _≤_}
 use native.Mathlib.Omega.{arith}
 use borrow.Author.Needs.{needs}
 use lib.ListN.{length, drop}
 use Rattle.utf8.specs.Rfc3629.{validUpTo}
-use Rattle.utf8.proofs.Places.{step, stop-ill-formed, stop-end}
+use Rattle.utf8.proofs.AsciiRuns.{validUpTo-past}
+use Rattle.utf8.proofs.Packed.{step-len, stop-len}
 use Rattle.utf8.proofs.valid_up_to.Statement.{statement}
 use Rattle.utf8.proofs.valid_up_to.Tie as tie
 
@@ -19,50 +20,46 @@ abbrev μ-loop : tie.MeasureT-loop
 loop-holds : tie.Need-loop-holds Inv-loop μ-loop
 loop-holds c = omega arith
 
-read-char-requires : tie.Need-read-char-requires Inv-loop μ-loop
-read-char-requires c κs = search needs
+ascii-end-requires : tie.Need-ascii-end-requires Inv-loop μ-loop
+ascii-end-requires c κs = search needs
 
-enum-known-width : tie.Need-enum-known-width Inv-loop μ-loop
-enum-known-width c = search needs
+char-len-requires : tie.Need-char-len-requires Inv-loop μ-loop
+char-len-requires c κs = search needs
+
+returns : tie.Need-returns Inv-loop μ-loop
+returns c =
+    let s = c .before .before .before .before .before .args .s .now in
+    let i = c .before .before .before .loop .inv in
+    let a = c .before .before .ascii-end in
+    let w = c .before .char-len in
+    let p = validUpTo-past (a .ensures) (i .0) (i .1) in
+    let k = stop-len s (a .result) (w .result) (w .ensures) (c .if1 .taken) in
+    omega arith
 
 add-at : tie.Need-add-at Inv-loop μ-loop
 add-at c =
-    let s = c .before .before .before .before .before .before .args .s .now in
-    let at = c .before .before .before .before .loop .at in
-    let g = c .before .width .given in
-    let k = step s at (g .0 .0) (g .0 .1 .0) (sym (c .before .before .before .read-char .ensures) ∙ g .1) in
+    let s = c .before .before .before .before .before .args .s .now in
+    let a = c .before .before .ascii-end in
+    let w = c .before .char-len in
+    let k = step-len s (a .result) (w .result) (w .ensures) (omega arith) .on in
     omega arith
 
 loop-less : tie.Need-loop-less Inv-loop μ-loop
 loop-less c =
-    let s = c .before .before .before .before .before .before .args .s .now in
-    let at = c .before .before .before .before .loop .at in
-    let g = c .before .width .given in
-    let k = step s at (g .0 .0) (g .0 .1 .0) (sym (c .before .before .before .read-char .ensures) ∙ g .1) in
-    omega arith
+    let s = c .before .before .before .before .before .args .s .now in
+    let a = c .before .before .ascii-end in
+    let w = c .before .char-len in
+    let k = step-len s (a .result) (w .result) (w .ensures) (omega arith) .on in
+    omega (arith, a .ensures .from-le)
 
 loop-again : tie.Need-loop-again Inv-loop μ-loop
 loop-again c =
-    let s = c .before .before .before .before .before .before .args .s .now in
-    let at = c .before .before .before .before .loop .at in
-    let g = c .before .width .given in
-    let k = step s at (g .0 .0) (g .0 .1 .0) (sym (c .before .before .before .read-char .ensures) ∙ g .1) in
-    omega arith
-
-enum-told : tie.Need-enum-told Inv-loop μ-loop
-enum-told c = search needs
-
-returns : tie.Need-returns Inv-loop μ-loop
-returns c =
-    let k = stop-ill-formed (c .before .before .before .before .before .args .s .now) (c .before .before .before .loop .at) (sym (c .before .before .read-char .ensures) ∙ c .enum-told .given .1) in
-    omega arith
-
-enum-told-2 : tie.Need-enum-told-2 Inv-loop μ-loop
-enum-told-2 c = search needs
-
-returns-2 : tie.Need-returns-2 Inv-loop μ-loop
-returns-2 c =
-    let k = stop-end (c .before .before .before .before .before .args .s .now) (c .before .before .before .loop .at) (sym (c .before .before .read-char .ensures) ∙ c .enum-told2 .given .1) in
+    let s = c .before .before .before .before .before .args .s .now in
+    let i = c .before .before .before .loop .inv in
+    let a = c .before .before .ascii-end in
+    let w = c .before .char-len in
+    let p = validUpTo-past (a .ensures) (i .0) (i .1) in
+    let k = step-len s (a .result) (w .result) (w .ensures) (omega arith) .on in
     omega arith
 
 pub valid-up-to-spec : {M : Type 1} → statement M
@@ -72,12 +69,9 @@ valid-up-to-spec =
     Inv-loop
     μ-loop
     loop-holds
-    read-char-requires
-    enum-known-width
+    ascii-end-requires
+    char-len-requires
+    returns
     add-at
     loop-less
-    loop-again
-    enum-told
-    returns
-    enum-told-2
-    returns-2)
+    loop-again)
