@@ -9,7 +9,7 @@ use lib.Dec.{eqb}
 use lib.Pow.{pow-mono, shl-shr, shr-lt, shr-mono}
 use borrow.Author.Tests.{eqb-false}
 use Rattle.base.proofs.Tests.{le-or-lt}
-use Rattle.policy_key_set.specs.Sets.{one}
+use Rattle.base.specs.Bits.{one}
 
 -- a word below 2 to the n has no one from bit n on
 pub high-bits : (n k w : ℕ) → w < 2 ^ n → n ≤ k → one k w ≡ false

@@ -5,14 +5,15 @@ use mathlib.Core.List.{List, _++_}
 use Prim.Native.Nat.{ℕ, _^_, _<_}
 use native.Mathlib.Omega.{arith}
 use lib.ListN.{getD, length}
-use borrow.Author.Tests.{eq-eqb}
+use borrow.Author.Tests.{eq-eqb, ltb-true}
 use Rattle.unicode.specs.Tables.{inRanges, member as Tables·member}
 use Rattle.unicode.specs.Unicode.{hasVariationSequence, isEmojiDefault, isEmojiPresentation, isTextDefault}
 use Rattle.unicode.specs.UnicodeData.{emojiPresentationRanges, variationEntries}
 use Rattle.unicode.specs.Theorems.{NoIndexNoEntry}
 use Rattle.unicode.specs.declared.VariationSequenceIndex.{VariationSequenceIndex}
 use Rattle.unicode.proofs.Claims.{no-index-no-entry}
-use Rattle.policy_key_set.specs.Sets.{allBelow, contains, entryCount, member, memberAt, one}
+use Rattle.base.specs.Bits.{one}
+use Rattle.policy_key_set.specs.Sets.{allBelow, contains, entryCount, member, memberAt}
 use Rattle.policy_key_set.specs.KeySets.{isAscii, rightWords}
 use Rattle.policy_key_set.proofs.Contains.{contains-chars}
 use Rattle.policy_key_set.proofs.Entries.{right-words}
@@ -22,14 +23,17 @@ use Rattle.policy.specs.PolicyBytes.{PolicyValue, bytesOf, isPolicy, key
 use Rattle.policy.specs.declared.Policy.{Policy}
 use Rattle.policy.specs.declared.SingletonRule.the-variants.{BareToText, EmojiToBare, TextToBare}
 use Rattle.policy.specs.Theorems.{
+  AsciiBasesBare,
   DefaultPolicyHolds,
   DefaultRules,
   ReadWritten,
   RefusedByTwo,
+  RuleByEntry,
   RuleWithoutEntry,
   SameWordsSamePolicy,
   WriteRead,
 }
+use Rattle.policy.proofs.ByEntry.{ascii-rule-bare, rule-by-entry}
 use Rattle.policy.proofs.Bytes.{length-bytesOf}
 use Rattle.policy.proofs.RoundTrips.{Sixes, append-below, many-words, read-words, same-words, sixes-of, words-of, write-words}
 
@@ -94,6 +98,14 @@ unfolding RuleWithoutEntry singletonRule holdsBase ruleOf
 rule-without-entry p c false h = ap₂ ruleOf (in-none c (p .«prefer_bare» .chars .bits) h) (in-none c (p .«bare_as_text» .chars .bits) h)
 rule-without-entry p c true h =
     ap₂ ruleOf (in-none c (p .«prefer_bare» .«keycap_chars» .bits) h) (in-none c (p .«bare_as_text» .«keycap_chars» .bits) h)
+
+pub rule-by-entries : RuleByEntry
+unfolding RuleByEntry
+rule-by-entries p c i keycap e = rule-by-entry p c i keycap e
+
+pub ascii-bases-bare : AsciiBasesBare
+unfolding AsciiBasesBare
+ascii-bases-bare bs t c a h = ascii-rule-bare bs t c (omega (arith, ltb-true c 0x80 a)) h
 
 sixes : (p : Policy) → PolicyValue p → Sixes p
 unfolding wordCount entryCount variationEntries

@@ -2,5 +2,7 @@
 pub mod Bounds
 pub mod Unused
 pub mod Bytes
+pub mod ByteBits
+pub mod ByEntry
 pub mod RoundTrips
 pub mod Claims

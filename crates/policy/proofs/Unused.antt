@@ -10,7 +10,8 @@ use lib.ListN.{getD}
 use lib.Pow.{pow-pos}
 use borrow.Author.Tests.{le-leb, le-ltb, leb-true, lt-ltb, not-true}
 use Rattle.base.proofs.Tests.{le-or-lt}
-use Rattle.policy_key_set.specs.Sets.{allBelow, member, one}
+use Rattle.base.specs.Bits.{one}
+use Rattle.policy_key_set.specs.Sets.{allBelow, member}
 use Rattle.policy_key_set.proofs.Below.{all-below, below-all}
 use Rattle.policy.proofs.Bounds.{high-bits, low-word}
 

@@ -28,3 +28,12 @@ ruleOf true true = TextToBare
 -- the rule for a base, ordinary or keycap
 unfoldable pub singletonRule : Policy → ℕ → Bool → SingletonRule
 singletonRule p c keycap = ruleOf (holdsBase (p .«prefer_bare») c keycap) (holdsBase (p .«bare_as_text») c keycap)
+
+-- a key set holds entry i, in its ordinary or in its keycap set
+unfoldable pub holdsEntry : PolicyKeySet → ℕ → Bool → Bool
+holdsEntry s i false = ordinary s i
+holdsEntry s i true = keycap s i
+
+-- the rule for entry i, ordinary or keycap; `RuleByEntry` says that it is the rule for the base at that entry
+unfoldable pub entryRule : Policy → ℕ → Bool → SingletonRule
+entryRule p i keycap = ruleOf (holdsEntry (p .«prefer_bare») i keycap) (holdsEntry (p .«bare_as_text») i keycap)

@@ -9,7 +9,9 @@ use lib.ListN.{drop, getD, length, take}
 use mathlib.Core.Option.{Option, none, some}
 use Rattle.base.specs.Refusals.{RefusalRow}
 use Rattle.base.specs.Words.{number, wordBytes}
+use Rattle.unicode.specs.UnicodeData.{variationEntries}
 use Rattle.policy_key_set.specs.Sets.{allBelow, entryCount, member}
+use Rattle.policy_key_set.specs.KeySets.{isAscii, ordinary}
 use Rattle.policy_key_set.specs.declared.char_set.CharSet.{CharSet}
 use Rattle.policy_key_set.specs.declared.PolicyKeySet.{PolicyKeySet}
 use Rattle.policy.specs.declared.Policy.{Policy}
@@ -69,6 +71,13 @@ readPolicy bs = record { accepted = isPolicy bs; policy = policyOf bs }
 -- "policy not 4W words, or an unused bit set | 2 | nothing more"
 unfoldable pub policyRefusal : ReadPolicy → Option RefusalRow
 policyRefusal r = cond (r .accepted) none (some (record { number = 2; value = 0 }))
+
+-- the policy that bytes say has every ASCII entry among the ordinary keys of `prefer_bare`. Then such a base, where it
+-- has no selector and rule 6 holds, stays as it is: `AsciiBasesBare`
+unfoldable pub asciiKeysBare : List ℕ → Bool
+asciiKeysBare bs =
+    allBelow entryCount
+    (λ (i : ℕ). not (isAscii (getD variationEntries i 0)) || ordinary (policyOf bs .«prefer_bare») i)
 
 -- what every value of the type is: W words of 64 bits in each of the four sets
 pub record SetValue (ws : List ℕ) : Type 0 where

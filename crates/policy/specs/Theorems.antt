@@ -1,17 +1,30 @@
 -- What is claimed of policies. The proofs are in proofs/Claims.antt.
 use mathlib.Core.Path.{_≡_}
+use mathlib.Core.Logic.{_⊎_}
 use mathlib.Core.Bool.{Bool, true, false, cond, _||_}
 use mathlib.Core.List.{List}
 use mathlib.Core.Option.{none, some}
 use Prim.Native.Nat.{ℕ, _*_}
 use lib.ListN.{getD, length}
 use Rattle.base.specs.Words.{allBytes}
-use Rattle.unicode.specs.Unicode.{hasVariationSequence, isEmojiDefault, isTextDefault}
+use Rattle.unicode.specs.Unicode.{hasVariationSequence, isEmojiDefault, isTextDefault, variationSequenceIndex}
 use Rattle.unicode.specs.UnicodeData.{variationEntries}
+use Rattle.unicode.specs.declared.VariationSequenceIndex.the-variants.{At}
 use Rattle.policy_key_set.specs.KeySets.{HoldsKeys, isAscii}
-use Rattle.policy.specs.Policy.{singletonRule}
+use Rattle.policy.specs.Policy.{entryRule, singletonRule}
 use Rattle.policy.specs.DefaultPolicy.{defaultPolicy}
-use Rattle.policy.specs.PolicyBytes.{PolicyValue, isPolicy, noUnusedBits, policyBytes, policyOf, policyRefusal, policyWords, readPolicy, wordCount}
+use Rattle.policy.specs.PolicyBytes.{
+  PolicyValue,
+  asciiKeysBare,
+  isPolicy,
+  noUnusedBits,
+  policyBytes,
+  policyOf,
+  policyRefusal,
+  policyWords,
+  readPolicy,
+  wordCount,
+}
 use Rattle.policy.specs.declared.Policy.{Policy}
 use Rattle.policy.specs.declared.SingletonRule.the-variants.{BareToEmoji, BareToText, EmojiToBare, TextToBare}
 
@@ -35,6 +48,18 @@ DefaultRules =
 unfoldable pub RuleWithoutEntry : Type 0
 RuleWithoutEntry =
     (p : Policy) (c : ℕ) (keycap : Bool) → hasVariationSequence c ≡ false → singletonRule p c keycap ≡ BareToEmoji
+
+-- The rule for a base is that for its entry.
+unfoldable pub RuleByEntry : Type 0
+RuleByEntry =
+    (p : Policy) (c i : ℕ) (keycap : Bool) → variationSequenceIndex c ≡ At i
+    → singletonRule p c keycap ≡ entryRule p i keycap
+
+-- Where the ASCII keys are bare, the rule for each ASCII base is one of the two whose result is bare.
+unfoldable pub AsciiBasesBare : Type 0
+AsciiBasesBare =
+    (bs : List ℕ) → asciiKeysBare bs ≡ true → (c : ℕ) → isAscii c ≡ true → hasVariationSequence c ≡ true
+    → (singletonRule (policyOf bs) c false ≡ TextToBare) ⊎ (singletonRule (policyOf bs) c false ≡ EmojiToBare)
 
 -- Two policies with the same words are equal.
 unfoldable pub SameWordsSamePolicy : Type 0

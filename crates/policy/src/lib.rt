@@ -1,21 +1,17 @@
 // Formatter policy: policy.rs of the crate evfmt; document 01, "Key set and policy". A policy is two key sets; it
-// crosses as 4W words of 8 bytes, and `read_policy` is the one test of a policy handed in (refusal 2).
+// crosses as 4W words of 8 bytes, and `is_policy` is the one test of a policy handed in (refusal 2).
 mod default_policy;
+pub mod policy_bytes;
 
 ghost use mathlib.Core.Path.{_≡_};
-ghost use mathlib.Core.Bool.{_&&_, _||_, not};
-ghost use Prim.Native.Nat.{ℕ, _+_, _≤_};
-ghost use lib.Dec.{eqb, ltb};
+ghost use Prim.Native.Nat.{_+_, _≤_};
 ghost use lib.ListN.{length};
 ghost use Rattle.base.specs.Output.{PutAt, Wrote};
-ghost use Rattle.policy_key_set.specs.Sets.{allBelow, one};
-ghost use Rattle.policy.specs.Policy.{Cleared, holdsBase, singletonRule};
+ghost use Rattle.policy.specs.Policy.{Cleared, holdsBase, ruleOf, singletonRule};
 ghost use Rattle.policy.specs.DefaultPolicy.{defaultPolicy};
 ghost use Rattle.policy.specs.PolicyBytes.{
   bytesOf,
   keyWords,
-  noUnusedBit,
-  noUnusedBits,
   policyBytes,
   readPolicy,
   wordCount,
@@ -52,6 +48,22 @@ fn holds(set: PolicyKeySet, base: u32, is_keycap: bool) -> bool
         return set.contains_keycap(base);
     }
     set.contains(base)
+}
+
+// What a policy says of a base, by whether `prefer_bare`, and whether `bare_as_text`, holds it.
+pub(crate) fn rule_of(prefers_bare: bool, bare_is_text: bool) -> SingletonRule
+    ensures { λ r. ⌜ r ≡ ruleOf «prefers_bare» «bare_is_text» ⌝ }
+{
+    if prefers_bare {
+        if bare_is_text {
+            return SingletonRule::TextToBare;
+        }
+        return SingletonRule::EmojiToBare;
+    }
+    if bare_is_text {
+        return SingletonRule::BareToText;
+    }
+    SingletonRule::BareToEmoji
 }
 
 // A key set with its unused bits cleared.
@@ -112,16 +124,9 @@ impl Policy {
     {
         let prefer_bare = self.prefer_bare;
         let bare_as_text = self.bare_as_text;
-        if holds(prefer_bare, base, is_keycap) {
-            if holds(bare_as_text, base, is_keycap) {
-                return SingletonRule::TextToBare;
-            }
-            return SingletonRule::EmojiToBare;
-        }
-        if holds(bare_as_text, base, is_keycap) {
-            return SingletonRule::BareToText;
-        }
-        SingletonRule::BareToEmoji
+        let prefers_bare = holds(prefer_bare, base, is_keycap);
+        let bare_is_text = holds(bare_as_text, base, is_keycap);
+        rule_of(prefers_bare, bare_is_text)
     }
 }
 
@@ -132,7 +137,7 @@ pub struct ReadPolicy {
 }
 
 // The bytes of a set, and of a policy.
-const SET_BYTES: usize = CHARSET_WORDS * WORD_BYTES;
+pub(crate) const SET_BYTES: usize = CHARSET_WORDS * WORD_BYTES;
 
 pub const POLICY_BYTES: usize = 4 * SET_BYTES;
 
@@ -150,50 +155,7 @@ fn read_set(bytes: &[u8], at: usize) -> CharSet
     CharSet { bits }
 }
 
-// Whether the last word of a set has ones among the used bits only.
-fn last_is_used(last: u64) -> bool
-    ensures { λ r. ⌜ r ≡ allBelow 64 (λ (k : ℕ). ltb (320 + k) 354 || not (one k last)) ⌝ }
-{
-    let used = ALL_BITS;
-    last <= used[CHARSET_WORDS - 1]
-}
-
-// Whether a set has no one among the unused bits.
-fn has_no_unused_bit(set: CharSet) -> bool
-    ensures { λ r. ⌜ r ≡ noUnusedBit (set .bits) ⌝ }
-{
-    let words = set.bits;
-    last_is_used(words[CHARSET_WORDS - 1])
-}
-
-// Whether a key set has no one among the unused bits of its two sets.
-fn keys_have_no_unused_bit(set: PolicyKeySet) -> bool
-    ensures { λ r. ⌜ r ≡ (noUnusedBit (set .chars .bits) && noUnusedBit (set .«keycap_chars» .bits)) ⌝ }
-{
-    let chars = set.chars;
-    let keycap_chars = set.keycap_chars;
-    if has_no_unused_bit(chars) {
-        return has_no_unused_bit(keycap_chars);
-    }
-    false
-}
-
-// Whether a policy that was read from so many bytes is accepted.
-fn is_accepted(len: usize, policy: Policy) -> bool
-    ensures { λ r. ⌜ r ≡ (eqb len 192 && noUnusedBits policy) ⌝ }
-{
-    let prefer_bare = policy.prefer_bare;
-    let bare_as_text = policy.bare_as_text;
-    if len != POLICY_BYTES {
-        return false;
-    }
-    if keys_have_no_unused_bit(prefer_bare) {
-        return keys_have_no_unused_bit(bare_as_text);
-    }
-    false
-}
-
-// The policy of the bytes handed in, and whether they are one: the test of refusal 2.
+// The policy of the bytes handed in, and whether they are one.
 pub fn read_policy(bytes: &[u8]) -> ReadPolicy
     ensures { λ r. ⌜ r ≡ readPolicy (now (bytes .entry)) ⌝ }
 {
@@ -207,7 +169,7 @@ pub fn read_policy(bytes: &[u8]) -> ReadPolicy
             keycap_chars: read_set(bytes, 3 * SET_BYTES),
         },
     };
-    let accepted = is_accepted(bytes.len(), policy);
+    let accepted = policy_bytes::is_policy(bytes);
     ReadPolicy { accepted, policy }
 }
 

@@ -1,11 +1,9 @@
 -- The four sets that were read are the policy of the bytes.
-use mathlib.Core.Path.{_≡_, ap, _∙_}
-use mathlib.Core.Bool.{Bool, _&&_}
-use lib.Dec.{eqb}
-use lib.ListN.{length}
+use mathlib.Core.Path.{_≡_}
+use mathlib.Core.Bool.{Bool}
 use Rattle.unicode.specs.UnicodeData.{variationEntries}
 use Rattle.policy_key_set.specs.Sets.{entryCount}
-use Rattle.policy.specs.PolicyBytes.{isPolicy, noUnusedBits, readPolicy, wordCount}
+use Rattle.policy.specs.PolicyBytes.{readPolicy, wordCount}
 use Rattle.policy.specs.declared.Policy.{Policy}
 use Rattle.policy.specs.declared.ReadPolicy.{ReadPolicy}
 use Rattle.policy.proofs.Bytes.{policy-made}
@@ -31,11 +29,11 @@ mul-read-set-2 c = search needs
 read-set-requires-4 : tie.Need-read-set-requires-4
 read-set-requires-4 c κs = search needs
 
-is-accepted-requires : tie.Need-is-accepted-requires
-is-accepted-requires c κs = search needs
+is-policy-requires : tie.Need-is-policy-requires
+is-policy-requires c κs = search needs
 
 returns : tie.Need-returns
-unfolding readPolicy isPolicy wordCount entryCount variationEntries
+unfolding readPolicy wordCount entryCount variationEntries
 returns c =
     let bs = c .before .before .before .before .before .before .args .bytes .now in
     let a = c .before .before .before .before .read-set in
@@ -43,7 +41,7 @@ returns c =
     let d = c .before .before .read-set3 in
     let e = c .before .read-set4 in
     let p = policy-made (a .result) (b .result) (d .result) (e .result) bs (a .ensures) (b .ensures) (d .ensures) (e .ensures) in
-    made (c .is-accepted .ensures ∙ ap (λ (x : Policy). eqb (length bs) 192 && noUnusedBits x) p) p
+    made (c .is-policy .ensures) p
   where
     made : {t u : Bool} {x y : Policy} → t ≡ u → x ≡ y → _≡_ {A = ReadPolicy} (record { accepted = t; policy = x }) (record { accepted = u; policy = y })
     made e f = cc
@@ -58,5 +56,5 @@ read-policy-spec =
     read-set-requires-3
     mul-read-set-2
     read-set-requires-4
-    is-accepted-requires
+    is-policy-requires
     returns)

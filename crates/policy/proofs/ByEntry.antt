@@ -1,0 +1,113 @@
+-- What a policy says of a base by its entry, and of the ASCII keys, and where that stands in its bytes.
+use mathlib.Core.Path.{_≡_, refl, sym, ap, ap₂, _∙_}
+use mathlib.Core.Logic.{_⊎_, inl, inr, ⊎-elim}
+use mathlib.Core.Bool.{Bool, true, false, Bool·beq, cond, not, _||_}
+use mathlib.Core.List.{List}
+use Prim.Native.Nat.{ℕ, _+_, _%_, _<_, _≤_}
+use native.Mathlib.Omega.{arith}
+use lib.Dec.{eqb, ltb}
+use lib.ListN.{drop, getD, take}
+use borrow.Author.Tests.{le-ltb, lt-ltb}
+use Rattle.base.specs.Words.{number}
+use Rattle.base.proofs.Tests.{le-or-lt}
+use Rattle.unicode.specs.Unicode.{hasVariationSequence, variationSequenceIndex}
+use Rattle.unicode.specs.UnicodeData.{variationEntries}
+use Rattle.unicode.specs.declared.VariationSequenceIndex.{VariationSequenceIndex}
+use Rattle.unicode.specs.declared.VariationSequenceIndex.the-variants as Index
+use Rattle.unicode.proofs.Ascent.{isAt}
+use Rattle.policy_key_set.specs.Sets.{allBelow, contains, entryCount, member, memberAt}
+use Rattle.policy_key_set.specs.KeySets.{isAscii, ordinary}
+use Rattle.policy_key_set.specs.declared.PolicyKeySet.{PolicyKeySet}
+use Rattle.policy_key_set.proofs.Below.{all-below, below-all, beq-so}
+use Rattle.policy_key_set.proofs.Contains.{has-index}
+use Rattle.policy_key_set.proofs.Entries.{entry-count, index-has-place}
+use Rattle.policy.specs.Policy.{entryRule, holdsBase, holdsEntry, ruleOf, singletonRule}
+use Rattle.policy.specs.PolicyBytes.{asciiKeysBare, policyOf, wordCount, wordsFrom}
+use Rattle.policy.specs.declared.Policy.{Policy}
+use Rattle.policy.specs.declared.SingletonRule.the-variants.{EmojiToBare, TextToBare}
+use Rattle.policy.proofs.Unused.{same-truth}
+use Rattle.policy.proofs.ByteBits.{low-ones}
+
+-- a key set holds a base where it holds the base's entry
+pub holds-by-entry : (s : PolicyKeySet) (c i : ℕ) (keycap : Bool) → variationSequenceIndex c ≡ Index.At i
+    → holdsBase s c keycap ≡ holdsEntry s i keycap
+unfolding holdsBase holdsEntry contains memberAt
+holds-by-entry s c i false e = ap (λ (r : VariationSequenceIndex). memberAt r (s .chars .bits)) e
+holds-by-entry s c i true e = ap (λ (r : VariationSequenceIndex). memberAt r (s .«keycap_chars» .bits)) e
+
+pub rule-by-entry : (p : Policy) (c i : ℕ) (keycap : Bool) → variationSequenceIndex c ≡ Index.At i
+    → singletonRule p c keycap ≡ entryRule p i keycap
+unfolding singletonRule entryRule
+rule-by-entry p c i keycap e =
+    ap₂ ruleOf (holds-by-entry (p .«prefer_bare») c i keycap e) (holds-by-entry (p .«bare_as_text») c i keycap e)
+
+-- the sets of the bytes that a base is asked of
+pub rule-by-sets : (bs : List ℕ) (i start : ℕ) (keycap : Bool) → start ≡ cond keycap 48 0
+    → ruleOf (member i (wordsFrom wordCount start bs)) (member i (wordsFrom wordCount (96 + start) bs))
+    ≡ entryRule (policyOf bs) i keycap
+unfolding entryRule holdsEntry policyOf wordCount entryCount variationEntries
+rule-by-sets bs i start false e =
+    ap (λ (at : ℕ). ruleOf (member i (wordsFrom 6 at bs)) (member i (wordsFrom 6 (96 + at) bs))) e
+rule-by-sets bs i start true e =
+    ap (λ (at : ℕ). ruleOf (member i (wordsFrom 6 at bs)) (member i (wordsFrom 6 (96 + at) bs))) e
+
+-- the ASCII entries are the first twelve
+first-entries : allBelow entryCount (λ (i : ℕ). Bool·beq (isAscii (getD variationEntries i 0)) (ltb i 12)) ≡ true
+unfolding allBelow entryCount variationEntries
+first-entries = refl
+
+ascii-entry : (i : ℕ) → i < entryCount → isAscii (getD variationEntries i 0) ≡ ltb i 12
+ascii-entry i h =
+    beq-so (isAscii (getD variationEntries i 0)) (ltb i 12)
+    (all-below entryCount (λ (i : ℕ). Bool·beq (isAscii (getD variationEntries i 0)) (ltb i 12)) first-entries i h)
+
+-- a test of the ASCII entries is a test of the first twelve
+abbrev asciiTest : (ℕ → Bool) → ℕ → Bool
+asciiTest p i = not (isAscii (getD variationEntries i 0)) || p i
+
+ascii-below : (p : ℕ → Bool) → allBelow entryCount (asciiTest p) ≡ allBelow 12 p
+ascii-below p =
+    same-truth (allBelow entryCount (asciiTest p)) (allBelow 12 p)
+    (λ t. below-all 12 p (λ i h.
+    let l : i < entryCount = omega (arith, entry-count) in
+    ap (λ (b : Bool). not b || p i) (sym (ascii-entry i l ∙ lt-ltb i 12 h)) ∙ all-below entryCount (asciiTest p) t i l))
+    (λ t. below-all entryCount (asciiTest p) (λ i l.
+    ⊎-elim (λ (h : 12 ≤ i). ap (λ (b : Bool). not b || p i) (ascii-entry i l ∙ le-ltb i 12 h))
+    (λ h. ap (λ (b : Bool). not b || p i) (ascii-entry i l ∙ lt-ltb i 12 h) ∙ all-below 12 p t i h) (le-or-lt 12 i)))
+
+-- so the ASCII keys are the lowest twelve bits of the first word
+first-bits : (bs : List ℕ)
+    → allBelow 12 (ordinary (policyOf bs .«prefer_bare»)) ≡ eqb (number (take 8 (drop 0 bs)) % 4096) 4095
+unfolding allBelow member policyOf wordsFrom wordCount entryCount variationEntries
+first-bits bs = low-ones 12 (number (take 8 (drop 0 bs)))
+
+pub ascii-keys-word : (bs : List ℕ) → asciiKeysBare bs ≡ eqb (number (take 8 (drop 0 bs)) % 4096) 4095
+unfolding asciiKeysBare
+ascii-keys-word bs = ascii-below (ordinary (policyOf bs .«prefer_bare»)) ∙ first-bits bs
+
+-- where the ASCII keys are bare, `prefer_bare` holds each ASCII base
+pub ascii-base-bare : (bs : List ℕ) → asciiKeysBare bs ≡ true → (c : ℕ) → c ≤ 0x7F → hasVariationSequence c ≡ true
+    → holdsBase (policyOf bs .«prefer_bare») c false ≡ true
+unfolding asciiKeysBare holdsEntry isAt
+ascii-base-bare bs t c l h = go (variationSequenceIndex c) refl (sym (has-index c) ∙ h)
+  where
+    go : (r : VariationSequenceIndex) → variationSequenceIndex c ≡ r → isAt r ≡ true
+        → holdsBase (policyOf bs .«prefer_bare») c false ≡ true
+    go (Index.At i) e a =
+        let p = index-has-place c i e in
+        holds-by-entry (policyOf bs .«prefer_bare») c i false e
+        ∙ ap (λ (b : Bool). not b || ordinary (policyOf bs .«prefer_bare») i)
+        (sym (ap isAscii (p .1) ∙ lt-ltb c 0x80 (omega arith)))
+        ∙ all-below entryCount (asciiTest (ordinary (policyOf bs .«prefer_bare»))) t i (p .0)
+    go Index.NoEntry e a = cc
+
+-- .. and its rule is one of the two whose result is bare
+pub ascii-rule-bare : (bs : List ℕ) → asciiKeysBare bs ≡ true → (c : ℕ) → c ≤ 0x7F → hasVariationSequence c ≡ true
+    → (singletonRule (policyOf bs) c false ≡ TextToBare) ⊎ (singletonRule (policyOf bs) c false ≡ EmojiToBare)
+unfolding singletonRule ruleOf
+ascii-rule-bare bs t c l h = go (holdsBase (policyOf bs .«bare_as_text») c false) refl
+  where
+    go : (b : Bool) → holdsBase (policyOf bs .«bare_as_text») c false ≡ b
+        → (singletonRule (policyOf bs) c false ≡ TextToBare) ⊎ (singletonRule (policyOf bs) c false ≡ EmojiToBare)
+    go true e = inl (ap₂ ruleOf (ascii-base-bare bs t c l h) e)
+    go false e = inr (ap₂ ruleOf (ascii-base-bare bs t c l h) e)

@@ -1,0 +1,43 @@
+-- Entry i is bit i mod 8 of byte i / 8 of the set.
+use mathlib.Core.Path.{_≡_, ap, sym, _∙_}
+use Prim.Native.Nat.{ℕ, _%_}
+use native.Mathlib.Omega.{arith}
+use Rattle.unicode.specs.UnicodeData.{variationEntries}
+use Rattle.base.specs.Bits.{one}
+use Rattle.policy_key_set.specs.Sets.{entryCount}
+use Rattle.policy_key_set.proofs.Members.{member-past}
+use Rattle.policy.specs.PolicyBytes.{wordCount, wordsFrom}
+use Rattle.policy.proofs.Bytes.{length-wordsFrom}
+use Rattle.policy.proofs.ByteBits.{member-of-bytes}
+use borrow.Author.Needs.{needs}
+use Rattle.policy.proofs.policy_bytes.holds_entry.Statement.{statement}
+use Rattle.policy.proofs.policy_bytes.holds_entry.Tie as tie
+
+returns : tie.Need-returns
+unfolding wordCount entryCount variationEntries
+returns c =
+    let x = c .before .before .args in
+    let ws = wordsFrom 6 (x .at) (x .bytes .now) in
+    sym (member-past ws (x .index) (omega (arith, length-wordsFrom 6 (x .at) (x .bytes .now))))
+
+byte-at-requires : tie.Need-byte-at-requires
+byte-at-requires c κs = search needs
+
+cast-has-bit : tie.Need-cast-has-bit
+cast-has-bit c = search needs
+
+has-bit-requires : tie.Need-has-bit-requires
+has-bit-requires c κs = search needs
+
+returns-2 : tie.Need-returns-2
+unfolding wordCount entryCount variationEntries
+returns-2 c =
+    let x = c .before .before .before .before .args in
+    let k : x .index % 8 % 64 ≡ x .index % 8 = omega arith in
+    c .has-bit .ensures ∙ ap (λ (i : ℕ). one i (c .before .byte-at .result)) k ∙ ap (one (x .index % 8)) (c .before .byte-at .ensures)
+    ∙ sym
+    (member-of-bytes 6 (x .at) (x .index) (x .bytes .now)
+    (λ j. c .before .before .before .shared-slice-known .given j .fits) (omega arith))
+
+pub holds-entry-spec : {M : Type 1} → statement M
+holds-entry-spec = tie.close (tie.spec returns byte-at-requires cast-has-bit has-bit-requires returns-2)

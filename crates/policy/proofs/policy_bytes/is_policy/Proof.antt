@@ -1,0 +1,96 @@
+-- By the length, and by what the four sets answered.
+use mathlib.Core.Path.{sym, _∙_}
+use lib.ListN.{length}
+use borrow.Author.Tests.{eq-eqb, ne-eqb, not-false, not-true}
+use Rattle.unicode.specs.UnicodeData.{variationEntries}
+use Rattle.policy_key_set.specs.Sets.{entryCount}
+use Rattle.policy.specs.PolicyBytes.{isPolicy, noUnusedBits, policyOf, wordCount}
+use borrow.Author.Needs.{needs}
+use Rattle.policy.proofs.policy_bytes.is_policy.Statement.{statement}
+use Rattle.policy.proofs.policy_bytes.is_policy.Tie as tie
+
+returns : tie.Need-returns
+unfolding isPolicy noUnusedBits policyOf wordCount entryCount variationEntries
+returns c = simp (ne-eqb (length (c .before .before .args .bytes .now)) 192 (c .if1 .taken))
+
+has-no-unused-bit-requires : tie.Need-has-no-unused-bit-requires
+has-no-unused-bit-requires c κs = search needs
+
+returns-2 : tie.Need-returns-2
+unfolding isPolicy noUnusedBits policyOf wordCount entryCount variationEntries
+returns-2 c =
+    let x = c .before .before in
+    simp (
+      eq-eqb (length (x .before .before .args .bytes .now)) 192 (x .if1 .left),
+      sym (c .before .has-no-unused-bit .ensures) ∙ not-true _ (c .if2 .taken),
+    )
+
+has-no-unused-bit-requires-2 : tie.Need-has-no-unused-bit-requires-2
+has-no-unused-bit-requires-2 c κs = search needs
+
+returns-3 : tie.Need-returns-3
+unfolding isPolicy noUnusedBits policyOf wordCount entryCount variationEntries
+returns-3 c =
+    let y = c .before .before in
+    let x = y .before .before in
+    simp (
+      eq-eqb (length (x .before .before .args .bytes .now)) 192 (x .if1 .left),
+      sym (y .before .has-no-unused-bit .ensures) ∙ not-false _ (y .if2 .left),
+      sym (c .before .has-no-unused-bit2 .ensures) ∙ not-true _ (c .if3 .taken),
+    )
+
+mul-has-no-unused-bit : tie.Need-mul-has-no-unused-bit
+mul-has-no-unused-bit c = search needs
+
+has-no-unused-bit-requires-3 : tie.Need-has-no-unused-bit-requires-3
+has-no-unused-bit-requires-3 c κs = search needs
+
+returns-4 : tie.Need-returns-4
+unfolding isPolicy noUnusedBits policyOf wordCount entryCount variationEntries
+returns-4 c =
+    let z = c .before .before in
+    let y = z .before .before in
+    let x = y .before .before in
+    simp (
+      eq-eqb (length (x .before .before .args .bytes .now)) 192 (x .if1 .left),
+      sym (y .before .has-no-unused-bit .ensures) ∙ not-false _ (y .if2 .left),
+      sym (z .before .has-no-unused-bit2 .ensures) ∙ not-false _ (z .if3 .left),
+      sym (c .before .has-no-unused-bit3 .ensures) ∙ not-true _ (c .if4 .taken),
+    )
+
+mul-has-no-unused-bit-2 : tie.Need-mul-has-no-unused-bit-2
+mul-has-no-unused-bit-2 c = search needs
+
+has-no-unused-bit-requires-4 : tie.Need-has-no-unused-bit-requires-4
+has-no-unused-bit-requires-4 c κs = search needs
+
+returns-5 : tie.Need-returns-5
+unfolding isPolicy noUnusedBits policyOf wordCount entryCount variationEntries
+returns-5 c =
+    let w = c .before in
+    let z = w .before .before in
+    let y = z .before .before in
+    let x = y .before .before in
+    simp (
+      eq-eqb (length (x .before .before .args .bytes .now)) 192 (x .if1 .left),
+      sym (y .before .has-no-unused-bit .ensures) ∙ not-false _ (y .if2 .left),
+      sym (z .before .has-no-unused-bit2 .ensures) ∙ not-false _ (z .if3 .left),
+      sym (w .before .has-no-unused-bit3 .ensures) ∙ not-false _ (w .if4 .left),
+      sym (c .has-no-unused-bit4 .ensures),
+    )
+
+pub is-policy-spec : {M : Type 1} → statement M
+is-policy-spec =
+    tie.close
+    (tie.spec
+    returns
+    has-no-unused-bit-requires
+    returns-2
+    has-no-unused-bit-requires-2
+    returns-3
+    mul-has-no-unused-bit
+    has-no-unused-bit-requires-3
+    returns-4
+    mul-has-no-unused-bit-2
+    has-no-unused-bit-requires-4
+    returns-5)

@@ -1,0 +1,44 @@
+-- The two sets that a keycap base, or another, is asked of.
+use mathlib.Core.Path.{ap₂, _∙_}
+use Rattle.policy.specs.Policy.{ruleOf}
+use Rattle.policy.proofs.ByEntry.{rule-by-sets}
+use borrow.Author.Needs.{needs}
+use Rattle.policy.proofs.policy_bytes.rule_at.Statement.{statement}
+use Rattle.policy.proofs.policy_bytes.rule_at.Tie as tie
+
+set-start-requires : tie.Need-set-start-requires
+set-start-requires c κs = search needs
+
+holds-entry-requires : tie.Need-holds-entry-requires
+holds-entry-requires c κs = search needs
+
+mul-holds-entry : tie.Need-mul-holds-entry
+mul-holds-entry c = search needs
+
+add-holds-entry : tie.Need-add-holds-entry
+add-holds-entry c = search needs
+
+holds-entry-requires-2 : tie.Need-holds-entry-requires-2
+holds-entry-requires-2 c κs = search needs
+
+rule-of-requires : tie.Need-rule-of-requires
+rule-of-requires c κs = search needs
+
+returns : tie.Need-returns
+returns c =
+    let x = c .before .before .before .before .before .args in
+    let start = c .before .before .before .set-start in
+    c .rule-of .ensures ∙ ap₂ ruleOf (c .before .before .holds-entry .ensures) (c .before .holds-entry2 .ensures)
+    ∙ rule-by-sets (x .bytes .now) (x .index) (start .result) (x .is-keycap) (start .ensures .0)
+
+pub rule-at-spec : {M : Type 1} → statement M
+rule-at-spec =
+    tie.close
+    (tie.spec
+    set-start-requires
+    holds-entry-requires
+    mul-holds-entry
+    add-holds-entry
+    holds-entry-requires-2
+    rule-of-requires
+    returns)
