@@ -10,9 +10,8 @@ use lib.Seq.{take-append-seam, drop-append-seam, drop-append-le, drop-drop}
 use Rattle.utf8.specs.Rfc3629.{readChar, chars, validUpTo, isScalar, allScalar, encode, encodeAll}
 use Rattle.utf8.specs.declared.ReadChar.the-variants.{Char, IllFormed}
 use Rattle.base.proofs.Tests.{both-true, le-or-lt}
-use Rattle.utf8.proofs.FirstBytes.{row-80-C1}
-use Rattle.utf8.proofs.Fronts.{width-0}
 use Rattle.utf8.proofs.Encoding.{encode-1, encode-2, encode-3, encode-4, encode-few}
+use Rattle.utf8.proofs.Values.{ill-formed-80-C1}
 use Rattle.utf8.proofs.Folds.{chars-ill-formed}
 use Rattle.utf8.proofs.Texts.{chars-encodeAll, chars-allScalar, encodeAll-append, encodeAll-chars-rest, length-encodeAll-chars}
 use Rattle.utf8.proofs.Places as Places
@@ -79,7 +78,7 @@ tail-ill-formed : (s : List ℕ) → TailFirst s → readChar s ≡ IllFormed
 unfolding readChar
 tail-ill-formed s f =
     ap readChar (f .bytes)
-    ∙ sym (width-0 (row-80-C1 (f .byte) (f .low) (let h = f .high in omega arith)) (getD (f .rest) 0 0) (getD (f .rest) 1 0) (getD (f .rest) 2 0) refl)
+    ∙ sym (ill-formed-80-C1 (f .byte) (getD (f .rest) 0 0) (getD (f .rest) 1 0) (getD (f .rest) 2 0) (f .low) (let h = f .high in omega arith))
 
 inside : (v k : ℕ) → 0 < k → k < length (encode v) → TailFirst (drop k (encode v))
 inside v k p q =

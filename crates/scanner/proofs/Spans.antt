@@ -45,6 +45,10 @@ pub scan-spells : (text : List ℕ) (at : ℕ) → Spells text (scanFrom text at
 unfolding scanFrom
 scan-spells text at = spans-spell text at (items (chars (drop at text))) (sym (tiling (chars (drop at text))))
 
+pub spells-first : {text : List ℕ} {s : ScanItem} {ss : List ScanItem} {x : Item} {xs : List Item} → Spells text (s ∷ ss) (x ∷ xs)
+    → take (s .end - s .start) (drop (s .start) text) ≡ encodeAll (x .chars)
+spells-first (span-and b c d h) = b
+
 -- ---- afresh from a span's end
 
 -- The items of the spans up to a span, and those behind it.

@@ -8,6 +8,8 @@ pub mod Structure
 pub mod Tags
 pub mod TagReport
 pub mod Spans
+pub mod TextCheck
+pub mod Scanner
 pub mod Peek
 pub mod SelectorRun
 pub mod Parts

@@ -5,8 +5,10 @@ pub mod char_class;
 pub mod consume;
 pub mod parts;
 pub mod place;
+pub mod scanner;
 pub mod selectors;
 pub mod tag_report;
+pub mod text_check;
 
 ghost use mathlib.Core.Path.{_≡_};
 ghost use Prim.Native.Nat.{_+_};

@@ -21,6 +21,7 @@ use crate::policy_format::POLICIES;
 use crate::policy_store::STORE_WORDS;
 use crate::policy_store::keep_policy;
 use crate::policy_store::policy_of;
+use crate::scanner_answers::scanner_agrees;
 use crate::sets::policy_at;
 use crate::sets::same_policy;
 use crate::walk::KINDS;
@@ -67,7 +68,8 @@ fn text_outcome(line: &[u8]) -> Outcome {
     if len > TEXT_ROOM {
         return Outcome::Malformed;
     }
-    compared(items_agree(line, end, &bytes[0..len]))
+    let text = &bytes[0..len];
+    compared(items_agree(line, end, text) && scanner_agrees(text))
 }
 
 // The findings of a line from `at` on, in the text of the line `subject`.

@@ -80,7 +80,7 @@ pub(crate) fn word_at(text: &[u8], at: usize) -> &[u8]
 }
 
 // Whether two words are the same.
-fn is_word(a: &[u8], b: &[u8]) -> bool {
+pub(crate) fn is_word(a: &[u8], b: &[u8]) -> bool {
     if a.len() != b.len() {
         return false;
     }

@@ -15,6 +15,7 @@ mod policy_file;
 mod policy_format;
 mod policy_store;
 mod report;
+mod scanner_answers;
 mod sets;
 mod structure_answers;
 mod walk;

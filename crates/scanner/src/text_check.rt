@@ -1,0 +1,22 @@
+// The tests of a text alone, by whoever takes a text and no policy (document 01, "Turned back", numbers 1 and 3).
+// `check_text` equals `textRefusal` of specs/TextCheck.antt.
+ghost use mathlib.Core.Path.{_≡_};
+ghost use Rattle.base.specs.Refusals.{checked};
+ghost use Rattle.scanner.specs.TextCheck.{textRefusal};
+use base::Check;
+use base::Refusal;
+use base::TEXT_LIMIT;
+
+// The bytes of a text: both of its tests have passed, or the first refusal.
+pub fn check_text(text: &[u8]) -> Check
+    ensures { λ r. ⌜ r ≡ checked (textRefusal (now (text .entry))) ⌝ }
+{
+    if TEXT_LIMIT < text.len() {
+        return Check::Refused(Refusal::TextTooLong);
+    }
+    let valid_up_to = utf8::valid_up_to(text);
+    if valid_up_to != text.len() {
+        return Check::Refused(Refusal::NotWellFormed { valid_up_to });
+    }
+    Check::Passed
+}

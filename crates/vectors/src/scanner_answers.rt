@@ -1,0 +1,89 @@
+// The scanner that borrows the text against the cursor: item by item they must answer the same, with the same bytes,
+// and behind the last item the scanner says end on each call. A text that is cut inside a character is turned back.
+use crate::item_answers::kind_letter;
+use crate::lines::is_word;
+use base::Check;
+use scanner::ScanItem;
+use scanner::ScanStep;
+use scanner::scanner::NthItem;
+use scanner::scanner::nth_item;
+use scanner::scanner::nth_raw;
+
+// Whether two items are the same.
+fn same_item(a: ScanItem, b: ScanItem) -> bool {
+    let kind = a.kind;
+    let other = b.kind;
+    a.start == b.start
+        && a.end == b.end
+        && kind_letter(kind) == kind_letter(other)
+        && a.tags_complete == b.tags_complete
+}
+
+// Whether the scanner's n-th item of a text that passes is this one, with its bytes.
+fn hands_out(text: &[u8], n: usize, item: ScanItem) -> bool {
+    let NthItem { verdict, step } = nth_item(text, n);
+    let Check::Passed = verdict else {
+        return false;
+    };
+    let ScanStep::Item(found) = step else {
+        return false;
+    };
+    let start = item.start;
+    let end = item.end;
+    if start > end || end > text.len() {
+        return false;
+    }
+    same_item(found, item) && is_word(nth_raw(text, n), &text[start..end])
+}
+
+// Whether the scanner's n-th answer is the end, with no bytes.
+fn says_end(text: &[u8], n: usize) -> bool {
+    let NthItem { verdict: _, step } = nth_item(text, n);
+    match step {
+        ScanStep::Item(_) => false,
+        ScanStep::End => nth_raw(text, n).len() == 0,
+    }
+}
+
+// Whether a text that ends inside a character is turned back, and its scanner says end at once.
+fn turned_back(text: &[u8]) -> bool {
+    let NthItem { verdict, step: _ } = nth_item(text, 0);
+    match verdict {
+        Check::Passed => false,
+        Check::Refused(_) => says_end(text, 0),
+    }
+}
+
+// Whether a text without its last byte is turned back, if that byte is not a character of its own.
+fn cut_is_turned_back(text: &[u8]) -> bool {
+    let len = text.len();
+    if len == 0 {
+        return true;
+    }
+    let last = len - 1;
+    if text[last] < 0x80 {
+        return true;
+    }
+    turned_back(&text[0..last])
+}
+
+// Whether the scanner hands out the items that the cursor gives, and then the end.
+pub(crate) fn scanner_agrees(text: &[u8]) -> bool {
+    let mut at = 0;
+    let mut n = 0;
+    while at < text.len() {
+        let ScanStep::Item(item) = scanner::next_item(text, at) else {
+            return false;
+        };
+        if !hands_out(text, n, item) {
+            return false;
+        }
+        let end = item.end;
+        if end <= at {
+            return false;
+        }
+        at = end;
+        n += 1;
+    }
+    says_end(text, n) && says_end(text, text.len()) && cut_is_turned_back(text)
+}
