@@ -21,6 +21,7 @@ use Rattle.unicode.specs.UnicodeData.{
   riRanges,
   variationEntries,
 }
+use Rattle.base.specs.Bits.{one}
 use Rattle.policy_key_set.specs.Sets as Sets
 use Rattle.policy.specs.Policy.{holdsBase, ruleOf, singletonRule}
 use Rattle.policy.specs.DefaultPolicy.{bareAsText, bareAsTextKeycap, defaultPolicy, preferBare, preferBareKeycap}
@@ -60,7 +61,7 @@ use Rattle.analysis.specs.Rules.{
 use Rattle.analysis.specs.Theorems.{WorkedChoices, WorkedDecisions, WorkedRules, WorkedTexts}
 
 pub computed : WorkedTexts × WorkedRules × WorkedChoices × WorkedDecisions
-unfolding WorkedTexts WorkedRules WorkedChoices WorkedDecisions classOf isSelector isTag isRi isEmojiModifier isEmoji inRanges member emojiModifiers emojiRanges riRanges step begin kindOf cut items asSelector fromSelector addChar split following hasVariationSequence isEmojiDefault isEmojiModifierBase isEmojiPresentation emojiModifierBases emojiPresentationRanges variationEntries variationSequenceIndex indexOf next Sets.contains Sets.memberAt Sets.member Sets.one holdsBase ruleOf singletonRule preferBare preferBareKeycap bareAsText bareAsTextKeycap defaultPolicy byFirst byKeycap byModifier byTags isBareSide outcome rule1 rule2 rule3 rule4 rule5 rule6 textFirst withoutSelector countCells countsOf nonCanonicality render renew replacement replacementOf upToLink choicesOfCells choicesOf choices
+unfolding WorkedTexts WorkedRules WorkedChoices WorkedDecisions classOf isSelector isTag isRi isEmojiModifier isEmoji inRanges member emojiModifiers emojiRanges riRanges step begin kindOf cut items asSelector fromSelector addChar split following hasVariationSequence isEmojiDefault isEmojiModifierBase isEmojiPresentation emojiModifierBases emojiPresentationRanges variationEntries variationSequenceIndex indexOf next Sets.contains Sets.memberAt Sets.member one holdsBase ruleOf singletonRule preferBare preferBareKeycap bareAsText bareAsTextKeycap defaultPolicy byFirst byKeycap byModifier byTags isBareSide outcome rule1 rule2 rule3 rule4 rule5 rule6 textFirst withoutSelector countCells countsOf nonCanonicality render renew replacement replacementOf upToLink choicesOfCells choicesOf choices
 computed = (
   (refl, refl, refl, refl, refl, refl, refl, refl, refl, refl, refl, refl, refl, refl),
   (refl, refl, refl, refl, refl, refl),

@@ -3,8 +3,6 @@
 use mathlib.Core.List.{List, [], _∷_}
 use Prim.Native.Nat.{ℕ}
 use lib.ListN.{length}
-use Rattle.base.specs.Refusals.{After}
-use Rattle.utf8.specs.Rfc3629.{chars, encodeAll}
 use Rattle.policy.specs.declared.Policy.{Policy}
 use Rattle.scanner.specs.Classes.{classOf}
 use Rattle.scanner.specs.declared.char_class.Class.{Class}
@@ -12,9 +10,7 @@ use Rattle.scanner.specs.declared.char_class.Class.the-variants.{Other as other
 use Rattle.analysis.specs.Analysis.{countCells, render}
 use Rattle.analysis.specs.Cells.{cells, leading}
 use Rattle.analysis.specs.Counts.{_⊕_, unsanctioned}
-use Rattle.analysis.specs.Decisions.{withinLimit, writeOut}
 use Rattle.analysis.specs.Rules.{Slot, bare, decided, fixed}
-use Rattle.analysis.specs.declared.types.MendAnswer.{MendAnswer}
 use Rattle.analysis.specs.declared.types.NonCanonicality.{NonCanonicality}
 
 -- The class of the first character; `other` where there is none.
@@ -36,7 +32,3 @@ module _ (p : Policy) where
   -- The eight totals; the selectors before the first other character are unsanctioned.
   unfoldable pub totalCells : List ℕ → NonCanonicality
   totalCells t = unsanctioned (length (leading t)) ⊕ countCells p (cells t)
-
-  -- The call that writes them for a slice: refusals 1 and 8 in this order.
-  unfoldable pub writeCells : List ℕ → List ℕ → After MendAnswer ℕ
-  writeCells text out = withinLimit text out (writeOut (encodeAll (formatCells (chars text))) out)

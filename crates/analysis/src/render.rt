@@ -1,7 +1,6 @@
 // Replacements as bytes: render.rs of the crate evfmt, and what analysis.rs puts together; document 01, "Replacement and text".
 // The cells of a slice are written with the selectors that the rules and the decisions give them (`render` of
-// specs/Analysis.antt). `canonical_replacement_with_decisions` equals `replaceAt` of specs/ItemAt.antt, `write_cells` equals
-// `writeCells` of specs/CellView.antt.
+// specs/Analysis.antt). `canonical_replacement_with_decisions` equals `replaceAt` of specs/ItemAt.antt.
 ghost use mathlib.Core.Path.{_≡_};
 ghost use mathlib.Core.Bool.{true};
 ghost use mathlib.Core.List.{map};
@@ -12,7 +11,6 @@ ghost use Rattle.base.specs.Refusals.{textLimit};
 ghost use Rattle.utf8.specs.Rfc3629.{chars, encode, encodeAll, isScalar};
 ghost use Rattle.unicode.specs.Presentation.{asSelector};
 ghost use Rattle.analysis.specs.Analysis.{chosen, decide, render};
-ghost use Rattle.analysis.specs.CellView.{writeCells};
 ghost use Rattle.analysis.specs.Cells.{cells};
 ghost use Rattle.analysis.specs.Decisions.{cellBytes, decisionsUsed, meaning, writeOut};
 ghost use Rattle.analysis.specs.ItemAt.{lengthAt, replaceAt, replaceByDefault};
@@ -150,16 +148,6 @@ pub(crate) fn write_out(raw: &[u8], policy: Policy, decisions: &[u8], out: &mut 
     }
     put_cells(raw, policy, decisions, out);
     MendAnswer::Mended { len }
-}
-
-// Writes the cells of a text, every decision at its default.
-pub fn write_cells(text: &[u8], policy: Policy, out: &mut [u8]) -> MendAnswer
-    ensures { λ r. ⌜ record { answer = r; buffer = now (out .exit) } ≡ writeCells policy (now (text .entry)) (now (out .entry)) ⌝ }
-{
-    if TEXT_LIMIT < text.len() {
-        return MendAnswer::Refused(Refusal::TextTooLong);
-    }
-    write_out(text, policy, b"", out)
 }
 
 // Writes the replacement of the finding at an offset under decisions.

@@ -1,0 +1,170 @@
+-- What stays of the selectors behind a base is what the rules leave, by the first selector and the class of what follows them.
+use mathlib.Core.Path.{_≡_, refl, ap, sym, _∙_, subst}
+use mathlib.Core.Bool.{Bool, true, false, cond}
+use mathlib.Core.List.{List, [], _∷_}
+use Prim.Native.Nat.{ℕ, zero, suc, _+_, _*_, _/_}
+use native.Mathlib.Omega.{arith}
+use types.Run.{OneOf}
+use denote.Enum.Declared.{tagOf}
+use lib.ListN.{drop, length}
+use Rattle.utf8.specs.Rfc3629.{chars, packed, readChar}
+use Rattle.utf8.specs.declared.ReadChar.{ReadChar}
+use Rattle.utf8.specs.declared.ReadChar.the-variants.{Char, End, IllFormed}
+use Rattle.utf8.proofs.Packed.{packed-reads}
+use Rattle.utf8.proofs.Places.{Stop, step, stop-end, stop-ill-formed}
+use Rattle.unicode.specs.Unicode.{hasVariationSequence, isEmojiDefault, isEmojiModifierBase, variationSequenceIndex}
+use Rattle.unicode.specs.UnicodeData.{variationEntries}
+use Rattle.unicode.specs.declared.VariationSequenceIndex.the-variants.{At}
+use Rattle.unicode.specs.declared.presentation.FromSelector.{FromSelector}
+use Rattle.unicode.specs.declared.presentation.FromSelector.the-variants.{NoSelector, Selector}
+use Rattle.unicode.specs.declared.presentation.Presentation.{Presentation}
+use Rattle.unicode.specs.declared.presentation.Presentation.the-variants.{Emoji, Text}
+use Rattle.unicode.proofs.Ascent.{isAt, member-index}
+use Rattle.policy.specs.Policy.{entryRule, singletonRule}
+use Rattle.policy.specs.declared.Policy.{Policy}
+use Rattle.policy.specs.declared.SingletonRule.{SingletonRule}
+use Rattle.policy.specs.declared.SingletonRule.the-variants.{BareToEmoji, BareToText, EmojiToBare, TextToBare}
+use Rattle.policy.proofs.ByEntry.{rule-by-entry}
+use Rattle.scanner.specs.Classes.{classOf}
+use Rattle.scanner.specs.declared.char_class.Class.{Class}
+use Rattle.scanner.specs.declared.char_class.Class.the-variants.{Selector as selector, Link as link, Ri as ri, Modifier as modifier, Emoji as emoji, Keycap as keycap, Tag as tag, Other as other}
+use Rattle.scanner.proofs.Arms.{class-arm}
+use Rattle.scanner.proofs.char_class.Class.{the-type as the-class}
+use Rattle.analysis.specs.Analysis.{chosen, following}
+use Rattle.analysis.specs.CellView.{classInFront}
+use Rattle.analysis.specs.Cells.{Cell, cells, leading, split}
+use Rattle.analysis.specs.Rules.{byFirst, firstOf, isBareSide, outcome, rule2, rule3, rule4, rule5, rule6, runWith, textFirst, withoutSelector}
+use Rattle.analysis.specs.declared.singleton.Outcome.{Outcome}
+use Rattle.analysis.proofs.Cells.{CharIs, a-selector, char-is, no-selector, split-char, split-selector}
+use Rattle.analysis.proofs.CellsAt.{behind-at, split-behind}
+use Rattle.analysis.proofs.NumberRules.{by-numbers}
+use Rattle.analysis.proofs.Rules.{outcome-entry, rule23}
+use Rattle.changes.specs.Changes.{SameRules, keptByModifier, keptByPolicy, keptByTags, outcomeFrom}
+use Rattle.changes.proofs.RuleClasses.{rules-before, same-outcome}
+
+-- ---- rule by rule
+
+pub kept-modifier : (b : Bool) (a : FromSelector) (n : ℕ) → runWith (keptByModifier a) 1 ≡ chosen (rule23 b (runWith a n) .slot) []
+unfolding keptByModifier rule2 rule3 byFirst textFirst runWith
+kept-modifier b NoSelector n = refl
+kept-modifier b (Selector Text) n = refl
+kept-modifier b (Selector Emoji) n = refl
+
+pub kept-tags : (d : Bool) (a : FromSelector) (n : ℕ) → runWith (keptByTags d) 1 ≡ chosen (cond d (rule4 (runWith a n)) (rule5 (runWith a n)) .slot) []
+unfolding keptByTags rule4 rule5 byFirst runWith
+kept-tags true NoSelector n = refl
+kept-tags true (Selector q) n = refl
+kept-tags false NoSelector n = refl
+kept-tags false (Selector q) n = refl
+
+pub kept-policy : (r : SingletonRule) (a : FromSelector) (n : ℕ) → runWith (keptByPolicy r a) 1 ≡ chosen (rule6 r (runWith a n) .slot) []
+unfolding keptByPolicy rule6 withoutSelector isBareSide runWith
+kept-policy TextToBare NoSelector n = refl
+kept-policy TextToBare (Selector Text) n = refl
+kept-policy TextToBare (Selector Emoji) n = refl
+kept-policy EmojiToBare NoSelector n = refl
+kept-policy EmojiToBare (Selector Text) n = refl
+kept-policy EmojiToBare (Selector Emoji) n = refl
+kept-policy BareToText NoSelector n = refl
+kept-policy BareToText (Selector q) n = refl
+kept-policy BareToEmoji NoSelector n = refl
+kept-policy BareToEmoji (Selector q) n = refl
+
+-- ---- the rule that holds
+
+pub has-entry : (c i : ℕ) → variationSequenceIndex c ≡ At i → hasVariationSequence c ≡ true
+unfolding hasVariationSequence variationSequenceIndex isAt
+has-entry c i e = member-index c variationEntries ∙ ap isAt e
+
+module _ (p : Policy) (c i : ℕ) (e : variationSequenceIndex c ≡ At i) (a r : FromSelector) where
+  by-rule : (k : Class) (n : ℕ) (o : Outcome) → outcome p c k (runWith a n) ≡ o → runWith r 1 ≡ chosen (o .slot) [] → runWith r 1 ≡ chosen (outcome p c k (runWith a n) .slot) []
+  by-rule k n o f h = h ∙ ap (λ (x : Outcome). chosen (x .slot) []) (sym f)
+
+  pub before-modifier-kept : (k : Class) → k ≡ modifier → r ≡ keptByModifier a → (n : ℕ) → runWith r 1 ≡ chosen (outcome p c k (runWith a n) .slot) []
+  before-modifier-kept k f h n =
+      by-rule k n (rule23 (isEmojiModifierBase c) (runWith a n)) (ap (λ (x : Class). outcome p c x (runWith a n)) f ∙ outcome-entry p c modifier (runWith a n) (has-entry c i e))
+      (ap (λ (x : FromSelector). runWith x 1) h ∙ kept-modifier (isEmojiModifierBase c) a n)
+
+  pub before-tags-kept : (k : Class) (d : Bool) → k ≡ tag → d ≡ isEmojiDefault c → r ≡ keptByTags d → (n : ℕ) → runWith r 1 ≡ chosen (outcome p c k (runWith a n) .slot) []
+  before-tags-kept k d f g h n =
+      by-rule k n (cond (isEmojiDefault c) (rule4 (runWith a n)) (rule5 (runWith a n))) (ap (λ (x : Class). outcome p c x (runWith a n)) f ∙ outcome-entry p c tag (runWith a n) (has-entry c i e))
+      (ap (λ (x : FromSelector). runWith x 1) (h ∙ ap keptByTags g) ∙ kept-tags (isEmojiDefault c) a n)
+
+  policy-kept : (k : Class) (b : Bool) → ((n : ℕ) → outcome p c k (runWith a n) ≡ rule6 (singletonRule p c b) (runWith a n)) → (s : SingletonRule) → s ≡ entryRule p i b → r ≡ keptByPolicy s a
+      → (n : ℕ) → runWith r 1 ≡ chosen (outcome p c k (runWith a n) .slot) []
+  policy-kept k b o s g h n =
+      by-rule k n (rule6 (singletonRule p c b) (runWith a n)) (o n)
+      (ap (λ (x : FromSelector). runWith x 1) (h ∙ ap (λ (x : SingletonRule). keptByPolicy x a) (g ∙ sym (rule-by-entry p c i b e))) ∙ kept-policy (singletonRule p c b) a n)
+
+  pub before-keycap-kept : (k : Class) (s : SingletonRule) → k ≡ keycap → s ≡ entryRule p i true → r ≡ keptByPolicy s a → (n : ℕ) → runWith r 1 ≡ chosen (outcome p c k (runWith a n) .slot) []
+  before-keycap-kept k s f = policy-kept k true (λ n. ap (λ (x : Class). outcome p c x (runWith a n)) f ∙ outcome-entry p c keycap (runWith a n) (has-entry c i e)) s
+
+  pub before-other-kept : (k : Class) (s : SingletonRule) → OneOf (0 ∷ 1 ∷ 2 ∷ 4 ∷ 7 ∷ []) (tagOf the-class k) → s ≡ entryRule p i false → r ≡ keptByPolicy s a
+      → (n : ℕ) → runWith r 1 ≡ chosen (outcome p c k (runWith a n) .slot) []
+  before-other-kept k s o =
+      policy-kept k false (λ n. class-arm (0 ∷ 1 ∷ 2 ∷ 4 ∷ 7 ∷ []) (λ (x : Class). outcome p c x (runWith a n) ≡ rule6 (singletonRule p c false) (runWith a n)) (
+        outcome-entry p c selector (runWith a n) (has-entry c i e),
+        outcome-entry p c link (runWith a n) (has-entry c i e),
+        outcome-entry p c ri (runWith a n) (has-entry c i e),
+        tt,
+        outcome-entry p c emoji (runWith a n) (has-entry c i e),
+        tt,
+        tt,
+        outcome-entry p c other (runWith a n) (has-entry c i e),
+      ) k o) s
+
+-- ---- the class of what follows
+
+same-then : {i j k : Class} → SameRules i j → SameRules j k → SameRules i k
+same-then a b = record { modifier = a .modifier ∙ b .modifier; tags = a .tags ∙ b .tags; keycap = a .keycap ∙ b .keycap }
+
+same-back : {i j : Class} → SameRules i j → SameRules j i
+same-back a = record { modifier = sym (a .modifier); tags = sym (a .tags); keycap = sym (a .keycap) }
+
+-- The packed number 0 says that no character begins, or none is left.
+pub packed-stop : (s : List ℕ) (at n : ℕ) → n ≡ packed (readChar (drop at s)) → n ≡ 0 → Stop s at
+unfolding packed
+packed-stop s at n e h = go (readChar (drop at s)) refl e
+  where
+    go : (r : ReadChar) → readChar (drop at s) ≡ r → n ≡ packed r → Stop s at
+    go (Char v u) p q = absurd (omega (arith, step s at v u p .some))
+    go IllFormed p q = stop-ill-formed s at p
+    go End p q = stop-end s at p
+
+-- The packed number of the character at an offset is 0 where none stands, and 0 is to the rules as any other character.
+pub class-in-front : (text : List ℕ) (at n : ℕ) (k : Class) → n ≡ packed (readChar (drop at text)) → SameRules k (classOf (n / 8)) → SameRules k (classInFront (chars (drop at text)))
+unfolding classInFront
+class-in-front text at zero k e h =
+    subst (λ (t : List ℕ). SameRules k (classInFront t)) (sym (packed-stop text at zero e refl .chars-none)) (same-then h (same-back (rules-before 0 (omega arith))))
+class-in-front text at (suc n) k e h =
+    let s = step text at (suc n / 8) _ (packed-reads (drop at text) (suc n) e (omega arith)) in
+    subst (λ (t : List ℕ). SameRules k (classInFront t)) (sym (s .chars-on)) h
+
+front-class : (u : List ℕ) → leading u ≡ [] → classInFront u ≡ following (cells u)
+unfolding classInFront following split
+front-class [] e = refl
+front-class (c ∷ u) e = go (char-is c)
+  where
+    go : CharIs c → classInFront (c ∷ u) ≡ following (cells (c ∷ u))
+    go (no-selector f) = sym (ap (λ (a : List Presentation × List Cell). following (a .1)) (split-char c u f))
+    go (a-selector q f) =
+        let l : q ∷ leading u ≡ [] = sym (ap (λ (x : ℕ). leading (x ∷ u)) f ∙ ap (λ (a : List Presentation × List Cell). a .0) (split-selector q u)) ∙ e in
+        absurd (omega (arith, ap length l))
+
+-- ---- all together
+
+module _ (p : Policy) (text : List ℕ) (base at : ℕ) where
+  abbrev T : List ℕ
+  T = chars (drop at text)
+
+  follows : (end : ℕ) → end ≡ at + 3 * length (leading T) → classInFront (chars (drop end text)) ≡ following (cells T)
+  follows end e =
+      let b = ap (λ (n : ℕ). chars (drop n text)) e ∙ behind-at text at in
+      let s = ap split b ∙ split-behind T in
+      front-class (chars (drop end text)) (ap (λ (a : List Presentation × List Cell). a .0) s) ∙ ap (λ (a : List Presentation × List Cell). following (a .1)) s
+
+  pub outcome-read : (first : FromSelector) (end : ℕ) (k : Class) → first ≡ firstOf (leading T) → end ≡ at + 3 * length (leading T) → SameRules k (classInFront (chars (drop end text)))
+      → outcome p base k (runWith first (length (leading T))) ≡ outcomeFrom p text base at
+  outcome-read first end k f e h =
+      same-outcome p base (runWith first (length (leading T))) (subst (SameRules k) (follows end e) h)
+      ∙ ap (λ (x : FromSelector). outcome p base (following (cells T)) (runWith x (length (leading T)))) f ∙ sym (by-numbers p base (following (cells T)) (leading T))

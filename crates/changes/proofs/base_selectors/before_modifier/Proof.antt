@@ -1,0 +1,34 @@
+-- `changes::base_selectors::before_modifier` meets its contract: each arm is a line of the definition.
+use Rattle.changes.specs.Changes.{keptByModifier}
+use borrow.Author.Needs.{needs}
+use Rattle.changes.proofs.base_selectors.before_modifier.Statement.{statement}
+use Rattle.changes.proofs.base_selectors.before_modifier.Tie as tie
+
+enum-told : tie.Need-enum-told
+enum-told c = search needs
+
+enum-known-first : tie.Need-enum-known-first
+enum-known-first c = search needs
+
+enum-told-2 : tie.Need-enum-told-2
+enum-told-2 c = search needs
+
+enum-told-3 : tie.Need-enum-told-3
+enum-told-3 c = search needs
+
+returns : tie.Need-returns
+unfolding keptByModifier
+returns c = cc
+
+returns-2 : tie.Need-returns-2
+unfolding keptByModifier
+returns-2 c = cc
+
+returns-3 : tie.Need-returns-3
+unfolding keptByModifier
+returns-3 c = cc
+
+pub before-modifier-spec : {M : Type 1} → statement M
+before-modifier-spec =
+    tie.close
+    (tie.spec enum-told enum-known-first enum-told-2 enum-told-3 returns returns-2 returns-3)

@@ -1,0 +1,75 @@
+-- `changes::change_at` meets its contract: a base with its selectors, a selector, or a plain character.
+use Rattle.changes.proofs.PlainText.{stays-plain}
+use Rattle.changes.proofs.Bases.{change-at-base, change-at-selector, entry-no-selector, plain-char, selector-value}
+use Rattle.policy.specs.PolicyBytes.{policyOf}
+use Rattle.utf8.proofs.Places.{Step, step}
+use native.Mathlib.Omega.{arith}
+use Prim.Native.Nat.{ℕ}
+use mathlib.Core.Bool.{true≢false}
+use mathlib.Core.Path.{sym, _∙_, subst}
+use borrow.Author.Needs.{needs}
+use Rattle.changes.proofs.change_at.Statement.{statement}
+use Rattle.changes.proofs.change_at.Tie as tie
+
+add-next : tie.Need-add-next
+add-next c =
+    let x = c .before .before .args in
+    let s = step (x .text .now) (x .at) (x .ch) (x .width) (c .before .before .pre) in
+    omega (arith, s .room, c .before .before .good .0 .0)
+
+variation-sequence-index-requires : tie.Need-variation-sequence-index-requires
+variation-sequence-index-requires c κs = search needs
+
+enum-known-index : tie.Need-enum-known-index
+enum-known-index c = search needs
+
+base-change-requires : tie.Need-base-change-requires
+base-change-requires c κs = sym (c .before .before .before .variation-sequence-index .ensures) ∙ c .before .index .given .1
+
+enum-told : tie.Need-enum-told
+enum-told c = search needs
+
+from-selector-requires : tie.Need-from-selector-requires
+from-selector-requires c κs = search needs
+
+enum-told-2 : tie.Need-enum-told-2
+enum-told-2 c = search needs
+
+enum-told-3 : tie.Need-enum-told-3
+enum-told-3 c = search needs
+
+returns : tie.Need-returns
+returns c =
+    let x = c .before .before .before .before .before .before .before .args in
+    let s = step (x .text .now) (x .at) (x .ch) (x .width) (c .before .before .before .before .before .before .before .pre) in
+    change-at-base (policyOf (x .policy .now)) s (entry-no-selector (x .ch) _ (sym (c .before .before .before .before .variation-sequence-index .ensures) ∙ c .before .before .index .given .1)) (c .base-change .result) (c .base-change .ensures)
+
+returns-2 : tie.Need-returns-2
+returns-2 c =
+    let x = c .before .before .before .before .before .before .before .before .args in
+    let s = step (x .text .now) (x .at) (x .ch) (x .width) (c .before .before .before .before .before .before .before .before .pre) in
+    let q = c .enum-told2 .given .0 .0 in
+    change-at-selector (policyOf (x .policy .now)) q (subst (λ (v : ℕ). Step (x .text .now) (x .at) v (x .width)) (selector-value (x .ch) q (sym (c .before .before .from-selector .ensures) ∙ c .enum-told2 .given .1)) s)
+
+returns-3 : tie.Need-returns-3
+returns-3 c =
+    let x = c .before .before .before .before .before .before .before .before .args in
+    let s = step (x .text .now) (x .at) (x .ch) (x .width) (c .before .before .before .before .before .before .before .before .pre) in
+    let n = plain-char (x .ch) (sym (c .before .before .before .before .before .variation-sequence-index .ensures) ∙ c .before .before .before .enum-told .given .1) (sym (c .before .before .from-selector .ensures) ∙ c .enum-told3 .given .1) in
+    (λ f. absurd (true≢false (sym f)), λ _. (stays-plain (policyOf (x .policy .now)) s n, omega (arith, s .some)))
+
+pub change-at-spec : {M : Type 1} → statement M
+change-at-spec =
+    tie.close
+    (tie.spec
+    add-next
+    variation-sequence-index-requires
+    enum-known-index
+    base-change-requires
+    enum-told
+    from-selector-requires
+    enum-told-2
+    enum-told-3
+    returns
+    returns-2
+    returns-3)

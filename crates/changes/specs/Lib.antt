@@ -1,0 +1,2 @@
+-- Where formatting changes a text.
+pub mod Changes

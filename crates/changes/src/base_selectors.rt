@@ -1,0 +1,200 @@
+// What becomes of the selectors behind a base that has a variation entry (document 01, "Counts and finding", rules 2 to 6): the
+// selector that stays, and whether that is a change. `base_change` equals `BaseChange` of specs/Changes.antt.
+ghost use mathlib.Core.Path.{_≡_};
+ghost use mathlib.Core.Bool.{_&&_, not};
+ghost use mathlib.Core.List.{[]};
+ghost use Prim.Native.Nat.{ℕ, _+_, _*_};
+ghost use lib.Dec.{eqb, leb};
+ghost use lib.ListN.{drop, length};
+ghost use Rattle.utf8.specs.Rfc3629.{chars};
+ghost use Rattle.unicode.specs.Unicode.{variationSequenceIndex};
+ghost use Rattle.unicode.specs.declared.VariationSequenceIndex.the-variants.{At};
+ghost use Rattle.policy.specs.PolicyBytes.{policyOf};
+ghost use Rattle.scanner.specs.Classes.{classOf};
+ghost use Rattle.analysis.specs.Analysis.{chosen};
+ghost use Rattle.analysis.specs.CellView.{classInFront};
+ghost use Rattle.analysis.specs.Cells.{leading};
+ghost use Rattle.analysis.specs.Rules.{firstOf, outcome, runWith};
+ghost use Rattle.changes.specs.Changes.{BaseChange, SameRules, keptByModifier, keptByPolicy, keptByTags, selectorNumber};
+use crate::Change;
+use policy::SingletonRule;
+use scanner::char_class::Class;
+use unicode::COMBINING_ENCLOSING_KEYCAP;
+use unicode::presentation::FromSelector;
+use unicode::presentation::Presentation;
+
+// Each selector has three bytes.
+const SELECTOR_BYTES: usize = 3;
+
+// The selector at an offset, by its three bytes: EF B8 8E and EF B8 8F.
+fn selector_at(text: &[u8], at: usize) -> FromSelector
+    ensures { λ r. ⌜ r ≡ firstOf (leading (chars (drop at (now (text .entry))))) ⌝ }
+{
+    if base::byte_at(text, at, 0) != 0xEF {
+        return FromSelector::NoSelector;
+    }
+    if base::byte_at(text, at, 1) != 0xB8 {
+        return FromSelector::NoSelector;
+    }
+    let last = base::byte_at(text, at, 2);
+    if last == 0x8E {
+        return FromSelector::Selector(Presentation::Text);
+    }
+    if last == 0x8F {
+        return FromSelector::Selector(Presentation::Emoji);
+    }
+    FromSelector::NoSelector
+}
+
+// The end of the selectors from an offset on.
+fn selectors_end(text: &[u8], from: usize) -> usize
+    ensures { λ r. ⌜ r ≡ from + 3 * length (leading (chars (drop from (now (text .entry))))) ⌝ }
+{
+    let mut at = from;
+    while let FromSelector::Selector(_) = selector_at(text, at) {
+        at += SELECTOR_BYTES;
+    }
+    at
+}
+
+// What a character behind a base is to the rules: a modifier, a tag, the keycap, or any other.
+fn rule_class(ch: u32) -> Class
+    ensures { λ r. ⌜ SameRules r (classOf ch) ⌝ }
+{
+    if ch < COMBINING_ENCLOSING_KEYCAP {
+        return Class::Other;
+    }
+    if ch == COMBINING_ENCLOSING_KEYCAP {
+        return Class::Keycap;
+    }
+    if unicode::is_emoji_modifier(ch) {
+        return Class::Modifier;
+    }
+    if unicode::is_tag(ch) {
+        return Class::Tag;
+    }
+    Class::Other
+}
+
+// The same of the character at an offset; 0 stands for none.
+fn rule_class_at(text: &[u8], at: usize) -> Class
+    ensures { λ r. ⌜ SameRules r (classInFront (chars (drop at (now (text .entry))))) ⌝ }
+{
+    rule_class(utf8::decode(text, at) / 8)
+}
+
+// Rule 6: what stays of the selectors by what the policy says of the base.
+fn by_policy(rule: SingletonRule, first: FromSelector) -> FromSelector
+    ensures { λ r. ⌜ r ≡ keptByPolicy rule first ⌝ }
+{
+    match rule {
+        SingletonRule::TextToBare => match first {
+            FromSelector::NoSelector => first,
+            FromSelector::Selector(presentation) => match presentation {
+                Presentation::Text => FromSelector::NoSelector,
+                Presentation::Emoji => first,
+            },
+        },
+        SingletonRule::EmojiToBare => match first {
+            FromSelector::NoSelector => first,
+            FromSelector::Selector(presentation) => match presentation {
+                Presentation::Text => first,
+                Presentation::Emoji => FromSelector::NoSelector,
+            },
+        },
+        SingletonRule::BareToText => match first {
+            FromSelector::NoSelector => FromSelector::Selector(Presentation::Text),
+            FromSelector::Selector(_) => first,
+        },
+        SingletonRule::BareToEmoji => match first {
+            FromSelector::NoSelector => FromSelector::Selector(Presentation::Emoji),
+            FromSelector::Selector(_) => first,
+        },
+    }
+}
+
+// Rules 2 and 3: what stays of the selectors before a modifier.
+fn before_modifier(first: FromSelector) -> FromSelector
+    ensures { λ r. ⌜ r ≡ keptByModifier first ⌝ }
+{
+    match first {
+        FromSelector::NoSelector => first,
+        FromSelector::Selector(presentation) => match presentation {
+            Presentation::Text => first,
+            Presentation::Emoji => FromSelector::NoSelector,
+        },
+    }
+}
+
+// Rules 4 and 5: what stays of the selectors before tags.
+fn before_tags(is_emoji_default: bool) -> FromSelector
+    ensures { λ r. ⌜ r ≡ keptByTags «is_emoji_default» ⌝ }
+{
+    if is_emoji_default {
+        return FromSelector::NoSelector;
+    }
+    FromSelector::Selector(Presentation::Emoji)
+}
+
+// What stays of the selectors behind a base, by the class of what follows them and the first of them.
+fn kept_selector(
+    policy: &[u8],
+    base: u32,
+    index: usize,
+    next: Class,
+    first: FromSelector,
+) -> FromSelector
+    requires { ⌜ variationSequenceIndex base ≡ At index ⌝ }
+    ensures { λ r. ⌜ ((n : ℕ) → runWith r 1 ≡ chosen (outcome (policyOf (now (policy .entry))) base next (runWith first n) .slot) []) ⌝ }
+{
+    match next {
+        Class::Modifier => before_modifier(first),
+        Class::Tag => before_tags(unicode::is_emoji_default(base)),
+        Class::Keycap => by_policy(policy::policy_bytes::rule_at(policy, index, true), first),
+        _ => by_policy(policy::policy_bytes::rule_at(policy, index, false), first),
+    }
+}
+
+// A selector, or none, by number.
+fn number_of(selector: FromSelector) -> u8
+    ensures { λ r. ⌜ r ≡ selectorNumber selector ⌝ }
+{
+    match selector {
+        FromSelector::NoSelector => 0,
+        FromSelector::Selector(presentation) => match presentation {
+            Presentation::Text => 1,
+            Presentation::Emoji => 2,
+        },
+    }
+}
+
+// Whether selectors of so many bytes, of which the first is known, are other ones than the selector that stays.
+fn is_change(first: FromSelector, bytes: usize, selector: FromSelector) -> bool
+    ensures { λ r. ⌜ r ≡ not (eqb (selectorNumber first) (selectorNumber selector) && leb bytes 3) ⌝ }
+{
+    if number_of(first) != number_of(selector) {
+        return true;
+    }
+    if SELECTOR_BYTES < bytes {
+        return true;
+    }
+    false
+}
+
+// What becomes of the selectors from an offset on, which stand behind a base with a variation entry.
+pub(crate) fn base_change(text: &[u8], policy: &[u8], base: u32, index: usize, at: usize) -> Change
+    requires { ⌜ variationSequenceIndex base ≡ At index ⌝ }
+    ensures { λ r. ⌜ BaseChange (policyOf (now (policy .entry))) (now (text .entry)) base at r ⌝ }
+{
+    let first = selector_at(text, at);
+    let end = selectors_end(text, at);
+    let next = rule_class_at(text, end);
+    let selector = kept_selector(policy, base, index, next, first);
+    let more = is_change(first, end - at, selector);
+    Change {
+        kept: at,
+        selector,
+        end,
+        more,
+    }
+}
