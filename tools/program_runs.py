@@ -1,13 +1,15 @@
 #!/usr/bin/env python3
 """The stored runs of the two programs, in tests/programs: NAME.in is what a program reads, NAME.format and NAME.report
-are what the two are to write.
+are what the two are to write. And the stored lines of the program findings_table, in its stdin, with what it is to
+write, in its stdout.
 
-    tools/program_runs.py run [FOLDER]   run FOLDER/format and FOLDER/report (target/bin) on each NAME.in
-    tools/program_runs.py check          NAME.in is what this script makes, and nothing else is stored
-    tools/program_runs.py make           write NAME.in, and the outputs as the host's program-output gives them
+    tools/program_runs.py run [FOLDER]   run FOLDER/format and FOLDER/report (target/bin) on each NAME.in, and
+                                         FOLDER/findings_table on the texts of evfmt's stored answers
+    tools/program_runs.py check          NAME.in and the lines are what this script makes, and nothing else is stored
+    tools/program_runs.py make           write these, and by the host's stored-answers what the programs are to write
 
 The outputs are not the programs' own: host/ has an independent reading of document 01, and for the formatted text the
-crate evfmt. The host's tests hold the stored files to both.
+crate evfmt. `stored-answers check` and the host's tests hold the stored files to both.
 
 Each input goes to a program twice: as a file, and through a pipe in pieces, so that reads are short. A read that fails
 (standard input is a folder) must give nothing on standard output and a line on standard error. Each difference is a line
@@ -41,6 +43,33 @@ THREAD = [
 ]
 ROUNDS = 8
 
+# The worked texts of document 01, in its order.
+WORKED = [
+    "",
+    "1\ufe0e",
+    "1\u20e3",
+    "\u231a\ufe0f",
+    "\u231a\ufe0e\ufe0f",
+    "\u231a\ufe0f\ufe0e",
+    "\u261d\ufe0f\U0001f3fb",
+    "\u261d\ufe0e\U0001f3fb",
+    "\u2764\ufe0f\U0001f3fb",
+    "\u2764\ufe0e\U000e0061",
+    "\U0001f1e6\ufe0f\U0001f1e7",
+    "\u231a\u200d\u200d\u231a",
+    "a\ufe0f",
+    "\u20e3",
+]
+
+# How many findings the table of the program findings_table has room for.
+FEW = 8
+
+
+def lines():
+    """What the program findings_table reads: the worked texts, the thread, a full table, one too short, a damaged text."""
+    texts = WORKED + [text for _, text in THREAD] + ["\u00a9" * FEW, "\u00a9" * (FEW + 1)]
+    return "".join(f"{text}\n" for text in texts).encode() + b"\xe2\x9d \xe2\x9d\xa4\n"
+
 
 def inputs():
     """What the programs read, by name."""
@@ -72,14 +101,24 @@ def wrong_files(folder):
             yield f"{path}: tools/program_runs.py does not make it"
 
 
+def wrong_lines(folder):
+    if (folder / "stdin").read_bytes() != lines():
+        yield f"{folder / 'stdin'}: not what tools/program_runs.py makes"
+
+
 def make(folder):
     folder.mkdir(parents=True, exist_ok=True)
     for name, text in inputs().items():
         (folder / f"{name}.in").write_bytes(text)
-        for program in PROGRAMS:
-            command = ["cargo", "run", "--offline", "--quiet", "--bin", "program-output", "--", program]
-            answer = subprocess.run(command, input=text, stdout=subprocess.PIPE, cwd=ROOT / "host", check=True)
-            (folder / f"{name}.{program}").write_bytes(answer.stdout)
+
+
+def make_lines(folder):
+    (folder / "stdin").write_bytes(lines())
+
+
+def make_outputs():
+    command = ["cargo", "run", "--offline", "--quiet", "--release", "--bin", "stored-answers", "--", "make"]
+    subprocess.run(command, cwd=ROOT / "host", check=True)
 
 
 def from_file(program, path):
@@ -129,6 +168,38 @@ def wrong_runs(folder, programs):
         yield from wrong_failure(path, folder)
 
 
+def answered_texts():
+    """The texts of evfmt's stored answers that are one line."""
+    for path in sorted((ROOT / "crates" / "vectors" / "data").glob("items-*.txt")):
+        for line in path.read_text(encoding="utf-8").splitlines():
+            if line.startswith("text "):
+                text = bytes.fromhex(line.split(" ")[1].rstrip("."))
+                if b"\n" not in text:
+                    yield text
+
+
+def in_messages(texts):
+    """Lines, as many to a message as it has room for, and how many there are."""
+    message, count = b"", 0
+    for text in texts:
+        if len(message) + len(text) + 1 > LIMIT:
+            yield message, count
+            message, count = b"", 0
+        message, count = message + text + b"\n", count + 1
+    yield message, count
+
+
+def wrong_tables(program, texts):
+    """The messages in whose lines the table of structs and the table of bytes differ, or that were not read whole."""
+    if not program.is_file():
+        yield f"{program}: is not built"
+        return
+    for message, count in in_messages(texts):
+        found = subprocess.run([program], input=message, capture_output=True, timeout=SECONDS, check=False).stdout.decode()
+        if not (found.startswith(f"{count} lines, ") and found.endswith(" 0 refused, 0 different\n")):
+            yield f"{program.name}: {found!r} for {count} lines that begin with {message[:16].hex(' ')}"
+
+
 def wrong_failure(program, folder):
     """What is wrong where standard input cannot be read."""
     with subprocess.Popen(["sh", "-c", 'exec "$1" < "$2"', "sh", program, folder], stdout=subprocess.PIPE, stderr=subprocess.PIPE) as process:
@@ -142,13 +213,17 @@ def wrong_failure(program, folder):
 
 def main(arguments):
     folder = ROOT / "tests" / "programs"
+    table = ROOT / "crates" / "findings_table"
     if arguments == ["make"]:
         make(folder)
+        make_lines(table)
+        make_outputs()
         return 0
     if arguments == ["check"]:
-        found = list(wrong_files(folder))
+        found = [*wrong_files(folder), *wrong_lines(table)]
     elif arguments[:1] == ["run"] and len(arguments) <= 2:
-        found = list(wrong_runs(folder, pathlib.Path(arguments[1]) if arguments[1:] else ROOT / "target" / "bin"))
+        programs = pathlib.Path(arguments[1]) if arguments[1:] else ROOT / "target" / "bin"
+        found = [*wrong_runs(folder, programs), *wrong_tables(programs / "findings_table", answered_texts())]
     else:
         print(__doc__, file=sys.stderr)
         return 2

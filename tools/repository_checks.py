@@ -60,7 +60,7 @@ def closing(text, at, opening, closes):
 def clauses(text, at):
     """The clauses of the function whose name ends at `at`."""
     at = closing(text, text.index("(", at), "(", ")")
-    result = re.compile(r"\s*->\s*[^{]*?(?=\s*(?:\brequires\b|\bensures\b|\bghost\b|\{|;))").match(text, at)
+    result = re.compile(r"\s*->\s*(?:\[[^]]*\]|[^{])*?(?=\s*(?:\brequires\b|\bensures\b|\bghost\b|\{|;))").match(text, at)
     if result:
         at = result.end()
     found = []

@@ -59,6 +59,19 @@ class Runs(unittest.TestCase):
         self.program("report", "#!/bin/sh\ncat 2>/dev/null || true\n")
         self.assertEqual(self.wrong(), ["report: 0 lines on standard error where standard input cannot be read"])
 
+    def test_tables_that_differ(self):
+        texts = [b"x" * 100] * 200
+        self.program("table", "#!/bin/sh\necho $(wc -l) lines, 0 findings, 0 refused, 0 different\n")
+        self.assertEqual(list(program_runs.wrong_tables(self.programs / "table", texts)), [])
+        self.program("table", "#!/bin/sh\necho $(wc -l) lines, 0 findings, 0 refused, 1 different\n")
+        self.assertEqual(len(list(program_runs.wrong_tables(self.programs / "table", texts))), 2)
+
+    def test_other_lines(self):
+        (self.runs / "stdin").write_bytes(program_runs.lines())
+        self.assertEqual(list(program_runs.wrong_lines(self.runs)), [])
+        (self.runs / "stdin").write_bytes(program_runs.lines()[1:])
+        self.assertEqual(len(list(program_runs.wrong_lines(self.runs))), 1)
+
     def test_a_failing_read_that_writes(self):
         self.store("a", b"", b"", b"")
         self.program("format", FAILS)

@@ -16,6 +16,12 @@ pub fn same(x: u8) -> u8
     x
 }
 
+pub fn twice(x: u8) -> [u8; 2]
+    ensures { λ r. ⌜ r ≡ x ∷ x ∷ [] ⌝ }
+{
+    [x, x]
+}
+
 fn private(x: u8) -> u8
     requires { ⌜ x < 3 ⌝ }
 {

@@ -2,30 +2,32 @@
 use mathlib.Core.Path.{_≡_, refl, ap, sym, _∙_}
 use mathlib.Core.Bool.{Bool, true, false, cond, not, false≢true}
 use mathlib.Core.List.{List, [], _∷_}
-use Prim.Native.Nat.{ℕ, _+_}
+use Prim.Native.Nat.{ℕ, _+_, _<_, _≤_}
 use native.Mathlib.Omega.{arith}
 use lib.Dec.{eqb, leb}
 use lib.ListN.{length}
-use borrow.Author.Tests.{eq-eqb, eqb-true, le-leb}
+use borrow.Author.Tests.{eq-eqb, eqb-true}
+use Rattle.base.specs.Output.{PutAt}
 use Rattle.base.specs.Refusals.{After, kept, written}
-use Rattle.base.specs.declared.Refusal.the-variants.{OutputTooShort, TextTooLong}
-use Rattle.utf8.specs.Rfc3629.{chars, encodeAll}
+use Rattle.base.specs.declared.Refusal.the-variants.{OutputTooShort}
+use Rattle.utf8.specs.Rfc3629.{chars}
 use Rattle.policy.specs.PolicyBytes.{policyOf}
 use Rattle.policy.specs.declared.Policy.{Policy}
 use Rattle.scanner.specs.Items.{Item, items}
 use Rattle.scanner.specs.Spans.{Found, found, size, width}
 use Rattle.analysis.specs.Analysis.{isFinding, nonCanonicality}
-use Rattle.analysis.specs.CellView.{formatCells, totalCells, writeCells}
+use Rattle.analysis.specs.CellView.{totalCells}
 use Rattle.analysis.specs.Counts.{total}
 use Rattle.analysis.specs.Decisions.{writeOut}
 use Rattle.analysis.specs.declared.types.MendAnswer.{MendAnswer}
 use Rattle.analysis.specs.declared.types.MendAnswer.the-variants as Mend
-use Rattle.analysis.specs.declared.types.NonCanonicality.{NonCanonicality}
 use Rattle.formatter.specs.Demand3.{Accepted}
 use Rattle.formatter.specs.Findings.{findings, totals}
 use Rattle.formatter.specs.Format.{format, formatted, sameBytes}
 use Rattle.formatter.specs.declared.FormatAnswer.{FormatAnswer}
 use Rattle.formatter.specs.declared.FormatAnswer.the-variants.{Changed, Refused, Unchanged}
+use Rattle.analysis.proofs.Replacing.{out-put, out-short}
+use Rattle.changes.specs.Changes.{formattedFrom}
 use Rattle.formatter.proofs.CellView.{cell-view}
 use Rattle.formatter.proofs.FirstBook.{totals-is}
 use Rattle.formatter.proofs.FormattedClaim.{formatted-claim}
@@ -86,14 +88,6 @@ module _ (policy text : List ℕ) (a : Accepted policy text) where
           let n = formatted-claim policy text a .no-change .1 (none-found (eqb-true (total (totalCells P (chars text))) 0 f)) in
           sym e ∙ ap (sameBytes F) (sym n) ∙ same-self F
 
-  -- What the cells write is the formatted text.
-  cells-write : (out : List ℕ) → writeCells P text out ≡ writeOut F out
-  unfolding writeCells
-  cells-write out =
-      let R = encodeAll (formatCells P (chars text)) in
-      ap (λ (b : Bool). cond b (writeOut R out) (kept (Mend.Refused TextTooLong) out)) (le-leb (length text) 16777216 (a .short))
-      ∙ ap (λ (r : List ℕ). writeOut r out) (sym (cell-view text policy .0))
-
   write-as : (out : List ℕ) → asFormat (writeOut F out) ≡ formatTests false (leb (length F) (length out)) F out
   write-as out = go (leb (length F) (length out))
     where
@@ -108,15 +102,17 @@ module _ (policy text : List ℕ) (a : Accepted policy text) where
   pub format-unchanged : (out : List ℕ) → eqb (total (totalCells P (chars text))) 0 ≡ true → kept Unchanged out ≡ format text policy out
   format-unchanged out e = sym (test-same out true e)
 
-  pub format-changed : (out : List ℕ) → eqb (total (totalCells P (chars text))) 0 ≡ false → {q : Policy} → q ≡ P
-      → {m : MendAnswer} {o : List ℕ} → record { answer = m; buffer = o } ≡ writeCells q text out
-      → {x : FormatAnswer} → answerAs m ≡ x → record { answer = x; buffer = o } ≡ format text policy out
-  format-changed out e f {o = o} w g =
-      ap (λ (y : FormatAnswer). record { answer = y; buffer = o }) (sym g)
-      ∙ ap asFormat (w ∙ ap (λ (p : Policy). writeCells p text out) f ∙ cells-write out) ∙ write-as out ∙ sym (test-same out false e)
+  -- The formatted text by its cells.
+  cells-are : formattedFrom P text 0 ≡ F
+  cells-are = sym (cell-view text policy .0)
 
-  -- Whether the counts are empty, as the code finds it.
-  pub counts-say : {q : Policy} → q ≡ P → {n : NonCanonicality} → n ≡ totalCells q (chars text) → {r b : Bool} → r ≡ eqb (total n) 0 → r ≡ b
-      → eqb (total (totalCells P (chars text))) 0 ≡ b
-  counts-say e f g h =
-      ap (λ (p : Policy). eqb (total (totalCells p (chars text))) 0) (sym e) ∙ ap (λ (n : NonCanonicality). eqb (total n) 0) (sym f) ∙ sym g ∙ h
+  -- Another text is written where it fits.
+  pub format-short : (out : List ℕ) (n : ℕ) → eqb (total (totalCells P (chars text))) 0 ≡ false → n ≡ length (formattedFrom P text 0) → length out < n
+      → kept (Refused (OutputTooShort n)) out ≡ format text policy out
+  format-short out n e f l =
+      ap asFormat (out-short (formattedFrom P text 0) out n f l ∙ ap (λ (r : List ℕ). writeOut r out) cells-are) ∙ write-as out ∙ sym (test-same out false e)
+
+  pub format-written : (out after : List ℕ) (n r : ℕ) → eqb (total (totalCells P (chars text))) 0 ≡ false → n ≡ length (formattedFrom P text 0) → n ≤ length out
+      → PutAt out 0 (formattedFrom P text 0) after r → record { answer = Changed n; buffer = after } ≡ format text policy out
+  format-written out after n r e f l w =
+      ap asFormat (out-put (formattedFrom P text 0) out n f after r l w ∙ ap (λ (r : List ℕ). writeOut r out) cells-are) ∙ write-as out ∙ sym (test-same out false e)

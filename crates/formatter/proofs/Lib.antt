@@ -19,9 +19,11 @@ pub mod FirstBook
 pub mod ListClaim
 pub mod FormattedClaim
 pub mod Passing
+pub mod Surveying
 pub mod ByCells
 pub mod Steps
 pub mod RowBytes
+pub mod Storing
 pub mod Starting
 pub mod Around
 pub mod Exchanging

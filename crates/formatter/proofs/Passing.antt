@@ -17,7 +17,7 @@ use Rattle.utf8.proofs.Grammar.{whole-well-formed}
 use Rattle.policy.specs.PolicyBytes.{isPolicy, policyOf, readPolicy}
 use Rattle.policy.specs.declared.ReadPolicy.{ReadPolicy}
 use Rattle.formatter.specs.Demand3.{Accepted}
-use Rattle.formatter.specs.Intake.{intakeRefusal, textRefusal}
+use Rattle.formatter.specs.Intake.{intakeRefusal}
 
 -- ---- the tests
 
@@ -32,12 +32,6 @@ unfolding intakeRefusal
 intake-is text policy {a} {b} {f} p q r =
     ap (λ (t : Bool). byTests t (isPolicy policy) (eqb (validUpTo text) (length text)) text) p
     ∙ ap (λ (t : Bool). byTests a t (eqb (validUpTo text) (length text)) text) q ∙ ap (λ (t : Bool). byTests a b t text) r
-
--- The tests of a text alone are the same with any policy that passes.
-pub text-is : (text : List ℕ) {a f : Bool} → leb (length text) textLimit ≡ a → eqb (validUpTo text) (length text) ≡ f → textRefusal text ≡ byTests a true f text
-unfolding textRefusal
-text-is text {a} {f} p r =
-    ap (λ (t : Bool). byTests t true (eqb (validUpTo text) (length text)) text) p ∙ ap (λ (t : Bool). byTests a true t text) r
 
 -- ---- the answer
 
@@ -65,10 +59,6 @@ passed-accepted text policy e = go (leb (length text) textLimit) (isPolicy polic
 -- ---- the policy that was read
 
 module _ (bs : List ℕ) {r : ReadPolicy} (e : r ≡ readPolicy bs) where
-  pub read-accepted : r .accepted ≡ isPolicy bs
-  unfolding readPolicy
-  read-accepted = ap (λ (x : ReadPolicy). x .accepted) e
-
   pub read-policy : r .policy ≡ policyOf bs
   unfolding readPolicy
   read-policy = ap (λ (x : ReadPolicy). x .policy) e

@@ -18,10 +18,11 @@ use Rattle.policy.specs.PolicyBytes.{bytesOf, policyOf}
 use Rattle.policy.proofs.Bytes.{length-bytesOf}
 use Rattle.analysis.specs.declared.types.Finding.{Finding}
 use Rattle.scanner.specs.Spans.{scan}
+use Rattle.scanner.specs.TextCheck.{textRefusal}
 use Rattle.scanner.specs.declared.ScanItem.{ScanItem}
 use Rattle.formatter.specs.Findings.{findingRow, findings}
-use Rattle.formatter.specs.Intake.{intakeRefusal, textRefusal}
-use Rattle.formatter.specs.List.{fillTable, itemNumbers, list, listBytes, listItems, rowNumbers, rowsBytes}
+use Rattle.formatter.specs.Intake.{intakeRefusal}
+use Rattle.formatter.specs.List.{countNumbers, fillTable, itemNumbers, list, listBytes, listItems, rowNumbers, rowsBytes}
 use Rattle.formatter.specs.Theorems.{ListedAsBytes}
 use Rattle.formatter.specs.declared.ListAnswer.{ListAnswer}
 use Rattle.formatter.specs.declared.ListAnswer.the-variants.{Listed, Refused}
@@ -29,7 +30,7 @@ use Rattle.formatter.specs.declared.ListAnswer.the-variants.{Listed, Ref
 -- ---- lengths
 
 pub length-row : (f : Finding) → length (bytesOf (rowNumbers f)) ≡ 80
-unfolding rowNumbers
+unfolding rowNumbers countNumbers
 length-row f = length-bytesOf (rowNumbers f)
 
 pub length-item : (x : ScanItem) → length (bytesOf (itemNumbers x)) ≡ 32

@@ -8,7 +8,8 @@ use Rattle.unicode.specs.Presentation.{asSelector, fromSelector, isSelector}
 use Rattle.unicode.specs.Tables.{inRanges, indexOf, member, next}
 use Rattle.unicode.specs.Unicode.{hasVariationSequence, isEmoji, isEmojiDefault, isEmojiModifier, isEmojiModifierBase, isEmojiPresentation, isRi, isTag, variationSequenceIndex}
 use Rattle.unicode.specs.UnicodeData.{emojiModifierBases, emojiModifiers, emojiPresentationRanges, emojiRanges, riRanges, variationEntries}
-use Rattle.policy_key_set.specs.Sets.{allBelow, contains, entryCount, member as Sets·member, memberAt, one}
+use Rattle.base.specs.Bits.{one}
+use Rattle.policy_key_set.specs.Sets.{allBelow, contains, entryCount, member as Sets·member, memberAt}
 use Rattle.policy.specs.DefaultPolicy.{bareAsText, bareAsTextKeycap, defaultPolicy, preferBare, preferBareKeycap}
 use Rattle.policy.specs.Policy.{holdsBase, ruleOf, singletonRule}
 use Rattle.policy.specs.PolicyBytes.{bytesOf, isPolicy, keyWords, noUnusedBit, noUnusedBits, policyBytes, policyOf, policyWords, wordCount, wordsFrom}

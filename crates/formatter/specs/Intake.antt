@@ -26,10 +26,3 @@ intakeRefusal text policy =
     (cond (not (isPolicy policy)) (some NotAPolicy)
     (cond (not (eqb (validUpTo text) (length text))) (some (NotWellFormed (validUpTo text)))
     none))
-
--- The tests of a text alone, by a call that takes no policy: 1 and 3.
-unfoldable pub textRefusal : List ℕ → Option Refusal
-textRefusal text =
-    cond (not (leb (length text) textLimit)) (some TextTooLong)
-    (cond (not (eqb (validUpTo text) (length text))) (some (NotWellFormed (validUpTo text)))
-    none)

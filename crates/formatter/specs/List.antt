@@ -6,13 +6,15 @@ use lib.Dec.{leb}
 use lib.ListN.{length}
 use Rattle.policy.specs.PolicyBytes.{bytesOf, policyOf}
 use Rattle.scanner.specs.Spans.{scan}
+use Rattle.scanner.specs.TextCheck.{textRefusal}
 use Rattle.scanner.specs.declared.ScanItem.{ScanItem}
 use Rattle.scanner.specs.declared.ScanKind.{ScanKind}
 use Rattle.scanner.specs.declared.ScanKind.the-variants.{EmojiHeaded, LinksOnly, Passthrough, UnsanctionedPresentationSelectors}
 use Rattle.formatter.specs.Findings.{findingRow, findings}
 use Rattle.base.specs.Refusals.{After, kept, orElse, written}
-use Rattle.formatter.specs.Intake.{intakeRefusal, textRefusal}
+use Rattle.formatter.specs.Intake.{intakeRefusal}
 use Rattle.analysis.specs.declared.types.Finding.{Finding}
+use Rattle.analysis.specs.declared.types.NonCanonicality.{NonCanonicality}
 use Rattle.formatter.specs.declared.ListAnswer.{ListAnswer}
 use Rattle.formatter.specs.declared.ListAnswer.the-variants.{Listed, Refused}
 use Rattle.base.specs.declared.Refusal.{Refusal}
@@ -42,20 +44,22 @@ module _ {A : Type 0} (numbers : A → List ℕ) where
 
 -- ---- findings
 
+-- The eight counts, in document 01's order.
+unfoldable pub countNumbers : NonCanonicality → List ℕ
+countNumbers n =
+    n .«unsanctioned_selectors»
+    ∷ n .«modifier_defective_selectors»
+    ∷ n .«additional_defective_selectors»
+    ∷ n .«tag_conflicting_selectors»
+    ∷ n .«tag_forced_presentations»
+    ∷ n .«tag_redundant_selectors»
+    ∷ n .«policy_redundant_selectors»
+    ∷ n .«presentation_decisions»
+    ∷ []
+
 -- "A listed finding is its start, its end and the eight counts": a row of ten numbers.
 unfoldable pub rowNumbers : Finding → List ℕ
-rowNumbers f =
-    f .start
-    ∷ f .end
-    ∷ f .counts .«unsanctioned_selectors»
-    ∷ f .counts .«modifier_defective_selectors»
-    ∷ f .counts .«additional_defective_selectors»
-    ∷ f .counts .«tag_conflicting_selectors»
-    ∷ f .counts .«tag_forced_presentations»
-    ∷ f .counts .«tag_redundant_selectors»
-    ∷ f .counts .«policy_redundant_selectors»
-    ∷ f .counts .«presentation_decisions»
-    ∷ []
+rowNumbers f = f .start ∷ f .end ∷ countNumbers (f .counts)
 
 -- The call on a table of bytes: the rows of `list`, and its refusals in their order. That the two are one: specs/Theorems.antt, ListedAsBytes.
 unfoldable pub listBytes : List ℕ → List ℕ → List ℕ → After ListAnswer ℕ

@@ -1,33 +1,160 @@
 // Formatting a text: `format_text` of formatter.rs of the crate evfmt; document 01, "Replacement and text", "Turned back".
-// The text is counted and measured, and written only where it is changed and fits. `format_text` equals `format` of specs/Format.antt.
+// The text is gone through from change to change (crate changes): once to measure it, and once more to write it where it is changed
+// and fits. `format_text` equals `format` of specs/Format.antt.
 ghost use mathlib.Core.Path.{_≡_};
+ghost use mathlib.Core.Bool.{not};
+ghost use mathlib.Core.List.{[], _∷_};
+ghost use Prim.Native.Nat.{_+_, _-_, _≤_};
+ghost use lib.Dec.{eqb};
+ghost use lib.ListN.{drop, length, take};
+ghost use Rattle.base.specs.Output.{PutAt};
+ghost use Rattle.base.specs.Refusals.{textLimit};
+ghost use Rattle.utf8.specs.Rfc3629.{validUpTo};
+ghost use Rattle.unicode.specs.declared.presentation.FromSelector.the-variants.{Selector};
+ghost use Rattle.policy.specs.PolicyBytes.{policyOf};
+ghost use Rattle.changes.specs.Changes.{formattedFrom, selectorBytes, totalFrom};
 ghost use Rattle.formatter.specs.Format.{format};
 use crate::FormatAnswer;
-use crate::intake::intake;
-use analysis::measure::Measure;
-use analysis::measure::measure_cells;
-use analysis::render::write_cells;
-use analysis::types::MendAnswer;
-use base::Check;
-use policy::ReadPolicy;
+use base::Refusal;
+use base::TEXT_LIMIT;
+use changes::Change;
+use changes::next_change;
+use policy::policy_bytes::is_policy;
+use unicode::presentation::FromSelector;
+use unicode::presentation::Presentation;
+
+// Each selector has three bytes.
+const SELECTOR_BYTES: usize = 3;
+
+// What goes before writing: the length of the longest well-formed beginning, whether it changes, and its length when formatted.
+struct Survey {
+    valid_up_to: usize,
+    changed: bool,
+    len: usize,
+}
+
+// The bytes of a selector, if there is one.
+fn selector_len(selector: FromSelector) -> usize
+    ensures { λ r. ⌜ r ≡ length (selectorBytes selector) ⌝ }
+{
+    match selector {
+        FromSelector::NoSelector => 0,
+        FromSelector::Selector(_) => SELECTOR_BYTES,
+    }
+}
+
+// Measures a text within the limit.
+fn survey_text(text: &[u8], policy: &[u8]) -> Survey
+    requires { ⌜ length (now text) ≤ textLimit ⌝ }
+    ensures valid { λ r. ⌜ r .«valid_up_to» ≡ validUpTo (now (text .entry)) ⌝ }
+    ensures changed { λ r. ⌜ r .changed ≡ not (eqb (totalFrom (policyOf (now (policy .entry))) (now (text .entry)) 0) 0) ⌝ }
+    ensures len { λ r. ⌜ r .len ≡ length (formattedFrom (policyOf (now (policy .entry))) (now (text .entry)) 0) ⌝ }
+{
+    let mut at = 0;
+    let mut len = 0;
+    let mut changed = false;
+    loop {
+        let Change {
+            kept,
+            selector,
+            end,
+            more,
+        } = next_change(text, policy, at);
+        len += kept - at + selector_len(selector);
+        if !more {
+            return Survey {
+                valid_up_to: end,
+                changed,
+                len,
+            };
+        }
+        changed = true;
+        at = end;
+    }
+}
+
+// Puts the bytes of a text from one offset up to another, for which there is room, and says where they end.
+fn put_part(text: &[u8], from: usize, to: usize, out: &mut [u8], at: usize) -> usize
+    requires { ⌜ (from ≤ to) × (to ≤ length (now text)) × (at + (to - from) ≤ length (now out)) ⌝ }
+    ensures { λ r. ⌜ PutAt (now (out .entry)) at (take (to - from) (drop from (now (text .entry)))) (now (out .exit)) r ⌝ }
+{
+    base::write_bytes(out, at, &text[from..to]);
+    at + (to - from)
+}
+
+// The third byte of a selector; the first two are EF B8.
+fn last_byte(presentation: Presentation) -> u8
+    ensures { λ r. ⌜ selectorBytes (Selector presentation) ≡ 0xEF ∷ 0xB8 ∷ r ∷ [] ⌝ }
+{
+    match presentation {
+        Presentation::Text => 0x8E,
+        Presentation::Emoji => 0x8F,
+    }
+}
+
+// Puts a selector, if there is one, for which there is room, and says where it ends.
+fn put_selector(out: &mut [u8], at: usize, selector: FromSelector) -> usize
+    requires { ⌜ at + length (selectorBytes selector) ≤ length (now out) ⌝ }
+    ensures { λ r. ⌜ PutAt (now (out .entry)) at (selectorBytes selector) (now (out .exit)) r ⌝ }
+{
+    match selector {
+        FromSelector::NoSelector => at,
+        FromSelector::Selector(presentation) => {
+            out[at] = 0xEF;
+            out[at + 1] = 0xB8;
+            out[at + 2] = last_byte(presentation);
+            at + SELECTOR_BYTES
+        }
+    }
+}
+
+// Puts the formatted text, for which there is room.
+fn put_changes(text: &[u8], policy: &[u8], out: &mut [u8]) -> usize
+    requires { ⌜ length (formattedFrom (policyOf (now policy)) (now text) 0) ≤ length (now out) ⌝ }
+    ensures { λ r. ⌜ PutAt (now (out .entry)) 0 (formattedFrom (policyOf (now (policy .entry))) (now (text .entry)) 0) (now (out .exit)) r ⌝ }
+{
+    let mut at = 0;
+    let mut to = 0;
+    loop {
+        let Change {
+            kept,
+            selector,
+            end,
+            more,
+        } = next_change(text, policy, at);
+        to = put_part(text, at, kept, out, to);
+        to = put_selector(out, to, selector);
+        if !more {
+            return to;
+        }
+        at = end;
+    }
+}
 
 // Writes the formatted text at the front of the output, if it is another text and fits.
 pub fn format_text(text: &[u8], policy: &[u8], out: &mut [u8]) -> FormatAnswer
     ensures { λ r. ⌜ record { answer = r; buffer = now (out .exit) } ≡ format (now (text .entry)) (now (policy .entry)) (now (out .entry)) ⌝ }
 {
-    if let Check::Refused(refusal) = intake(text, policy) {
-        return FormatAnswer::Refused(refusal);
+    if TEXT_LIMIT < text.len() {
+        return FormatAnswer::Refused(Refusal::TextTooLong);
     }
-    let ReadPolicy {
-        accepted: _,
-        policy: accepted_policy,
-    } = policy::read_policy(policy);
-    let Measure { counts, len: _ } = measure_cells(text, accepted_policy);
-    if counts.is_empty() {
+    if !is_policy(policy) {
+        return FormatAnswer::Refused(Refusal::NotAPolicy);
+    }
+    let Survey {
+        valid_up_to,
+        changed,
+        len,
+    } = survey_text(text, policy);
+    if valid_up_to != text.len() {
+        return FormatAnswer::Refused(Refusal::NotWellFormed { valid_up_to });
+    }
+    if !changed {
         return FormatAnswer::Unchanged;
     }
-    match write_cells(text, accepted_policy, out) {
-        MendAnswer::Mended { len } => FormatAnswer::Changed { len },
-        MendAnswer::Refused(refusal) => FormatAnswer::Refused(refusal),
+    if out.len() < len {
+        return FormatAnswer::Refused(Refusal::OutputTooShort { wanted: len });
     }
+    put_changes(text, policy, out);
+    FormatAnswer::Changed { len }
 }

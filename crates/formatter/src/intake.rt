@@ -1,12 +1,12 @@
 // The tests of a text and a policy that every call makes first (document 01, "Turned back", numbers 1, 2 and 3).
-// `intake` equals `intakeRefusal` of specs/Intake.antt, and `check_text` equals `textRefusal`.
+// `intake` equals `intakeRefusal` of specs/Intake.antt. The tests of a text alone are the crate scanner's (text_check.rt).
 ghost use mathlib.Core.Path.{_≡_};
 ghost use Rattle.base.specs.Refusals.{checked};
-ghost use Rattle.formatter.specs.Intake.{intakeRefusal, textRefusal};
+ghost use Rattle.formatter.specs.Intake.{intakeRefusal};
 use base::Check;
 use base::Refusal;
 use base::TEXT_LIMIT;
-use policy::ReadPolicy;
+use policy::policy_bytes::is_policy;
 
 // The bytes of a text and of a policy: all three tests have passed, or the first refusal.
 pub fn intake(text: &[u8], policy: &[u8]) -> Check
@@ -15,26 +15,8 @@ pub fn intake(text: &[u8], policy: &[u8]) -> Check
     if TEXT_LIMIT < text.len() {
         return Check::Refused(Refusal::TextTooLong);
     }
-    let ReadPolicy {
-        accepted,
-        policy: _,
-    } = policy::read_policy(policy);
-    if !accepted {
+    if !is_policy(policy) {
         return Check::Refused(Refusal::NotAPolicy);
-    }
-    let valid_up_to = utf8::valid_up_to(text);
-    if valid_up_to != text.len() {
-        return Check::Refused(Refusal::NotWellFormed { valid_up_to });
-    }
-    Check::Passed
-}
-
-// The bytes of a text alone: both of its tests have passed, or the first refusal.
-pub fn check_text(text: &[u8]) -> Check
-    ensures { λ r. ⌜ r ≡ checked (textRefusal (now (text .entry))) ⌝ }
-{
-    if TEXT_LIMIT < text.len() {
-        return Check::Refused(Refusal::TextTooLong);
     }
     let valid_up_to = utf8::valid_up_to(text);
     if valid_up_to != text.len() {

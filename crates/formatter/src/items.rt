@@ -9,7 +9,6 @@ ghost use Rattle.policy.specs.PolicyBytes.{bytesOf};
 ghost use Rattle.scanner.specs.Spans.{scan};
 ghost use Rattle.formatter.specs.List.{itemNumbers, kindNumber, listItems, rowsBytes};
 use crate::ListAnswer;
-use crate::intake::check_text;
 use crate::list::put_numbers;
 use base::Check;
 use base::Refusal;
@@ -17,6 +16,7 @@ use base::WORD_BYTES;
 use scanner::ScanItem;
 use scanner::ScanKind;
 use scanner::ScanStep;
+use scanner::text_check::check_text;
 
 // The numbers of a row, and its bytes.
 const ROW_NUMBERS: usize = 4;

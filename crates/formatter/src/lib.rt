@@ -6,6 +6,7 @@ pub mod intake;
 pub mod items;
 pub mod list;
 pub mod mend;
+pub mod table;
 
 use base::Refusal;
 

@@ -22,12 +22,12 @@ use policy::Policy;
 use policy::ReadPolicy;
 
 // The numbers of a row, and its bytes.
-const ROW_NUMBERS: usize = 10;
+pub const ROW_NUMBERS: usize = 10;
 
-const ROW_BYTES: usize = ROW_NUMBERS * WORD_BYTES;
+pub const ROW_BYTES: usize = ROW_NUMBERS * WORD_BYTES;
 
 // How many findings there are.
-fn count_findings(text: &[u8], policy: Policy) -> usize
+pub(crate) fn count_findings(text: &[u8], policy: Policy) -> usize
     ensures { λ r. ⌜ r ≡ length (findingsFrom policy (now (text .entry)) 0) ⌝ }
 {
     let mut at = 0;
@@ -71,13 +71,12 @@ pub(crate) fn put_numbers(table: &mut [u8], start: usize, numbers: &[usize]) -> 
     at
 }
 
-// Puts the row of a finding, for which there is room.
-fn put_row(table: &mut [u8], start: usize, finding: Finding) -> usize
-    requires { ⌜ start + 80 ≤ length (now table) ⌝ }
-    ensures { λ r. ⌜ PutAt (now (table .entry)) start (bytesOf (rowNumbers finding)) (now (table .exit)) r ⌝ }
+// The numbers of a finding's row.
+pub fn row_numbers(finding: Finding) -> [usize; ROW_NUMBERS]
+    ensures { λ r. ⌜ r ≡ rowNumbers finding ⌝ }
 {
     let counts = finding.counts;
-    let numbers = [
+    [
         finding.start,
         finding.end,
         counts.unsanctioned_selectors,
@@ -88,7 +87,15 @@ fn put_row(table: &mut [u8], start: usize, finding: Finding) -> usize
         counts.tag_redundant_selectors,
         counts.policy_redundant_selectors,
         counts.presentation_decisions,
-    ];
+    ]
+}
+
+// Puts the row of a finding, for which there is room.
+fn put_row(table: &mut [u8], start: usize, finding: Finding) -> usize
+    requires { ⌜ start + 80 ≤ length (now table) ⌝ }
+    ensures { λ r. ⌜ PutAt (now (table .entry)) start (bytesOf (rowNumbers finding)) (now (table .exit)) r ⌝ }
+{
+    let numbers = row_numbers(finding);
     put_numbers(table, start, &numbers)
 }
 

@@ -6,7 +6,8 @@ use Rattle.unicode.specs.Presentation.{asSelector, fromSelector, isSelector}
 use Rattle.unicode.specs.Tables.{inRanges, indexOf, member, next}
 use Rattle.unicode.specs.Unicode.{hasVariationSequence, isEmoji, isEmojiDefault, isEmojiModifier, isEmojiModifierBase, isEmojiPresentation, isRi, isTag, variationSequenceIndex}
 use Rattle.unicode.specs.UnicodeData.{emojiModifierBases, emojiModifiers, emojiPresentationRanges, emojiRanges, riRanges, variationEntries}
-use Rattle.policy_key_set.specs.Sets.{allBelow, contains, entryCount, member as Sets·member, memberAt, one}
+use Rattle.base.specs.Bits.{one}
+use Rattle.policy_key_set.specs.Sets.{allBelow, contains, entryCount, member as Sets·member, memberAt}
 use Rattle.policy.specs.DefaultPolicy.{bareAsText, bareAsTextKeycap, defaultPolicy, preferBare, preferBareKeycap}
 use Rattle.policy.specs.Policy.{holdsBase, ruleOf, singletonRule}
 use Rattle.policy.specs.PolicyBytes.{bytesOf, isPolicy, keyWords, noUnusedBit, noUnusedBits, policyBytes, policyOf, policyWords, wordCount, wordsFrom}
@@ -19,9 +20,9 @@ use Rattle.analysis.specs.Analysis.{countCells, countsOf, following, nonCanonic
 use Rattle.analysis.specs.Rules.{byFirst, byKeycap, byModifier, byTags, isBareSide, outcome, rule1, rule2, rule3, rule4, rule5, rule6, textFirst, withoutSelector}
 use Rattle.formatter.specs.Findings.{findingRow, findings, totals}
 use Rattle.formatter.specs.Intake.{intakeRefusal}
-use Rattle.formatter.specs.List.{rowNumbers}
+use Rattle.formatter.specs.List.{countNumbers, rowNumbers}
 use Rattle.message_io.specs.Lines.{decimal, decimalBy, findingLine, line, parted, totalLine}
-use Rattle.report.specs.Report.{countNumbers, linesFrom, reported, rowLines, totalsAt}
+use Rattle.report.specs.Report.{linesFrom, reported, rowLines, totalsAt}
 use Rattle.report.specs.Theorems.{ExampleReported}
 
 pub example-reported : ExampleReported

@@ -16,23 +16,10 @@ use Rattle.analysis.specs.declared.types.NonCanonicality.{NonCanonicality}
 use Rattle.scanner.specs.Spans.{Found}
 use Rattle.formatter.specs.Findings.{findingRow, findingsFrom, totals}
 use Rattle.formatter.specs.Intake.{intakeRefusal}
-use Rattle.formatter.specs.List.{rowNumbers}
+use Rattle.formatter.specs.List.{countNumbers, rowNumbers}
 use Rattle.message_io.specs.Lines.{findingLine, refusalLine, totalLine}
 use Rattle.message_io.specs.Message.{messageLimit}
 use Rattle.report.specs.declared.lines.Line.{Line}
-
--- The eight counts, in document 01's order.
-unfoldable pub countNumbers : NonCanonicality → List ℕ
-countNumbers n =
-    n .«unsanctioned_selectors»
-    ∷ n .«modifier_defective_selectors»
-    ∷ n .«additional_defective_selectors»
-    ∷ n .«tag_conflicting_selectors»
-    ∷ n .«tag_forced_presentations»
-    ∷ n .«tag_redundant_selectors»
-    ∷ n .«policy_redundant_selectors»
-    ∷ n .«presentation_decisions»
-    ∷ []
 
 -- Findings, a line for each.
 unfoldable pub rowLines : List Finding → List ℕ

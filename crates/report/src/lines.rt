@@ -4,14 +4,15 @@ ghost use mathlib.Core.Path.{_≡_};
 ghost use lib.ListN.{take};
 ghost use Rattle.io.specs.Counts.{Counts};
 ghost use Rattle.message_io.specs.Lines.{findingLine, totalLine};
-ghost use Rattle.formatter.specs.List.{rowNumbers};
-ghost use Rattle.report.specs.Report.{LineAt, countNumbers, totalsAt};
+ghost use Rattle.formatter.specs.List.{countNumbers, rowNumbers};
+ghost use Rattle.report.specs.Report.{LineAt, totalsAt};
 use analysis::ItemAnalysis;
 use analysis::analyze_scan_item;
 use analysis::measure::Measure;
 use analysis::measure::measure_cells;
 use analysis::types::Finding;
 use analysis::types::NonCanonicality;
+use formatter::list::row_numbers;
 use message_io::line::LINE_ROOM;
 use policy::Policy;
 
@@ -26,19 +27,7 @@ fn put_finding(finding: Finding, line: &mut [u8; LINE_ROOM]) -> usize
     ensures { λ r. ⌜ Counts r (now (line .exit)) ⌝ }
     ensures { λ r. ⌜ take r (now (line .exit)) ≡ findingLine (rowNumbers finding) ⌝ }
 {
-    let counts = finding.counts;
-    let numbers = [
-        finding.start,
-        finding.end,
-        counts.unsanctioned_selectors,
-        counts.modifier_defective_selectors,
-        counts.additional_defective_selectors,
-        counts.tag_conflicting_selectors,
-        counts.tag_forced_presentations,
-        counts.tag_redundant_selectors,
-        counts.policy_redundant_selectors,
-        counts.presentation_decisions,
-    ];
+    let numbers = row_numbers(finding);
     message_io::line::finding_line(&numbers, line)
 }
 

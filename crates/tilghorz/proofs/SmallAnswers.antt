@@ -26,8 +26,10 @@ use Rattle.policy.specs.declared.Policy.{Policy}
 use Rattle.policy.proofs.Bytes.{length-bytesOf}
 use Rattle.scanner.specs.Items.{Item, items}
 use Rattle.scanner.specs.Spans.{scan, size, width}
+use Rattle.scanner.specs.TextCheck.{textRefusal}
 use Rattle.scanner.proofs.Bytes.{size-chars, size-width}
 use Rattle.scanner.proofs.Reading.{item-derives}
+use Rattle.scanner.proofs.TextTests.{text-is}
 use Rattle.scanner.proofs.Tiling.{tiling}
 use Rattle.analysis.specs.Analysis.{isFinding, replacement}
 use Rattle.analysis.specs.Decisions.{badDecision, decisionsRefusal, judge, meaning, wanted}
@@ -35,7 +37,7 @@ use Rattle.analysis.specs.declared.types.MendAnswer.the-variants as Mend
 use Rattle.formatter.specs.Demand3.{Accepted}
 use Rattle.formatter.specs.Findings.{findingRow, findings}
 use Rattle.formatter.specs.Format.{format, formatted, sameBytes}
-use Rattle.formatter.specs.Intake.{intakeRefusal, textRefusal}
+use Rattle.formatter.specs.Intake.{intakeRefusal}
 use Rattle.formatter.specs.List.{fillTable, itemNumbers, listBytes, listItems, rowNumbers, rowsBytes}
 use Rattle.formatter.specs.Mend.{exchanged, findingAt, mend}
 use Rattle.formatter.specs.declared.FormatAnswer.the-variants as Format
@@ -43,7 +45,7 @@ use Rattle.formatter.specs.declared.ListAnswer.the-variants as Listing
 use Rattle.formatter.proofs.Formatting.{formatTests}
 use Rattle.formatter.proofs.FormattedClaim.{formatted-claim}
 use Rattle.formatter.proofs.Judging.{some-bad}
-use Rattle.formatter.proofs.Passing.{byTests, intake-is, passed-accepted, text-is}
+use Rattle.formatter.proofs.Passing.{byTests, intake-is, passed-accepted}
 use Rattle.formatter.proofs.Replacements.{four-times}
 use Rattle.tilghorz.specs.AnswerWord.{entryRow, formatRow, listRow, mendRow, writeRow}
 use Rattle.tilghorz.proofs.FewItems.{few-found, few-items, few-spans, few-wanted, found-item, within-all}

@@ -1,7 +1,7 @@
 // The C functions, on byte slices and numbers (document 01: "The intake host, written in Rust, calls formatting, listing and mending
 // through C functions"). Each is one call of a layer below, its answer turned into one word: specs/AnswerWord.antt. A slice
 // passes as a pointer and a length; include/tilghorz.h says the same for C.
-mod answer_word;
+pub mod answer_word;
 
 ghost use mathlib.Core.Path.{_≡_};
 ghost use Rattle.base.specs.Output.{answerOf, bufferOf};

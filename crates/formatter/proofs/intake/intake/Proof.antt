@@ -9,7 +9,7 @@ use Rattle.base.specs.Refusals.{checked}
 use Rattle.base.specs.declared.Check.the-variants.{Refused}
 use Rattle.base.specs.declared.Refusal.the-variants.{NotWellFormed}
 use Rattle.utf8.specs.Rfc3629.{validUpTo}
-use Rattle.formatter.proofs.Passing.{intake-is, read-accepted}
+use Rattle.formatter.proofs.Passing.{intake-is}
 use Rattle.formatter.proofs.intake.intake.Statement.{statement}
 use Rattle.formatter.proofs.intake.intake.Tie as tie
 
@@ -19,14 +19,14 @@ returns c =
     let t = x .text .now in
     sym (ap checked (intake-is t (x .policy .now) (lt-leb (length t) 16777216 (omega arith)) refl refl))
 
-read-policy-requires : tie.Need-read-policy-requires
-read-policy-requires c κs = search needs
+is-policy-requires : tie.Need-is-policy-requires
+is-policy-requires c κs = search needs
 
 returns-2 : tie.Need-returns-2
 returns-2 c =
     let x = c .before .before .before .before .before .args in
     let t = x .text .now in
-    let p = sym (read-accepted (x .policy .now) (c .before .read-policy .ensures)) ∙ not-true (c .before .read-policy .result .accepted) (c .if2 .taken) in
+    let p = sym (c .before .is-policy .ensures) ∙ not-true (c .before .is-policy .result) (c .if2 .taken) in
     sym (ap checked (intake-is t (x .policy .now) (le-leb (length t) 16777216 (omega arith)) p refl))
 
 valid-up-to-requires : tie.Need-valid-up-to-requires
@@ -37,7 +37,7 @@ returns-3 c =
     let x = c .before .before .before .before .before .before .before .args in
     let t = x .text .now in
     let v = c .before .valid-up-to in
-    let p = sym (read-accepted (x .policy .now) (c .before .before .before .read-policy .ensures)) ∙ not-false (c .before .before .before .read-policy .result .accepted) (c .before .before .if2 .left) in
+    let p = sym (c .before .before .before .is-policy .ensures) ∙ not-false (c .before .before .before .is-policy .result) (c .before .before .if2 .left) in
     let n = ne-eqb (validUpTo t) (length t) (λ e. omega arith) in
     ap (λ (n : ℕ). Refused (NotWellFormed n)) (v .ensures)
     ∙ sym (ap checked (intake-is t (x .policy .now) (le-leb (length t) 16777216 (omega arith)) p n))
@@ -47,11 +47,11 @@ returns-4 c =
     let x = c .before .before .before .before .before .before .before .args in
     let t = x .text .now in
     let v = c .before .valid-up-to in
-    let p = sym (read-accepted (x .policy .now) (c .before .before .before .read-policy .ensures)) ∙ not-false (c .before .before .before .read-policy .result .accepted) (c .before .before .if2 .left) in
+    let p = sym (c .before .before .before .is-policy .ensures) ∙ not-false (c .before .before .before .is-policy .result) (c .before .before .if2 .left) in
     let n = eq-eqb (validUpTo t) (length t) (omega arith) in
     sym (ap checked (intake-is t (x .policy .now) (le-leb (length t) 16777216 (omega arith)) p n))
 
 pub intake-spec : {M : Type 1} → statement M
 intake-spec =
     tie.close
-    (tie.spec returns read-policy-requires returns-2 valid-up-to-requires returns-3 returns-4)
+    (tie.spec returns is-policy-requires returns-2 valid-up-to-requires returns-3 returns-4)

@@ -3,7 +3,7 @@ use mathlib.Core.Path.{sym, _∙_}
 use native.Mathlib.Omega.{arith}
 use borrow.Author.Needs.{needs}
 use Rattle.scanner.specs.Spans.{scan}
-use Rattle.formatter.specs.Intake.{textRefusal}
+use Rattle.scanner.specs.TextCheck.{textRefusal}
 use Rattle.formatter.specs.List.{itemNumbers}
 use Rattle.formatter.proofs.Passing.{checked-passed, checked-refused}
 use Rattle.formatter.proofs.RowBytes.{items-by, length-item, rows-refused, rows-room, rows-written}

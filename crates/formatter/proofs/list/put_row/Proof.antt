@@ -1,8 +1,10 @@
 -- `formatter::list::put_row` meets its contract.
 use borrow.Author.Needs.{needs}
-use Rattle.formatter.specs.List.{rowNumbers}
 use Rattle.formatter.proofs.list.put_row.Statement.{statement}
 use Rattle.formatter.proofs.list.put_row.Tie as tie
+
+row-numbers-requires : tie.Need-row-numbers-requires
+row-numbers-requires c κs = search needs
 
 slice-aggregate-put-numbers : tie.Need-slice-aggregate-put-numbers
 slice-aggregate-put-numbers c = search needs
@@ -14,8 +16,14 @@ same-length : tie.Need-same-length
 same-length c = search needs
 
 returns : tie.Need-returns
-unfolding rowNumbers
-returns c = c .before .before .put-numbers .ensures
+returns c = rw (c .before .before .before .before .before .row-numbers .ensures) at (c .before .before .put-numbers .ensures)
 
 pub put-row-spec : {M : Type 1} → statement M
-put-row-spec = tie.close (tie.spec slice-aggregate-put-numbers put-numbers-requires same-length returns)
+put-row-spec =
+    tie.close
+    (tie.spec
+    row-numbers-requires
+    slice-aggregate-put-numbers
+    put-numbers-requires
+    same-length
+    returns)

@@ -1,5 +1,5 @@
 -- The eight numbers.
-use Rattle.report.specs.Report.{countNumbers}
+use Rattle.formatter.specs.List.{countNumbers}
 use borrow.Author.Needs.{needs}
 use Rattle.report.proofs.lines.put_totals.Statement.{statement}
 use Rattle.report.proofs.lines.put_totals.Tie as tie

@@ -4,7 +4,8 @@ use Rattle.utf8.specs.Rfc3629.{chars}
 use Rattle.analysis.specs.declared.types.NonCanonicality.{NonCanonicality}
 use Rattle.formatter.proofs.CellView.{totals-by-cells}
 use Rattle.message_io.specs.Lines.{totalLine}
-use Rattle.report.specs.Report.{countNumbers, totalsAt}
+use Rattle.formatter.specs.List.{countNumbers}
+use Rattle.report.specs.Report.{totalsAt}
 use borrow.Author.Needs.{needs}
 use Rattle.report.proofs.lines.total_of.Statement.{statement}
 use Rattle.report.proofs.lines.total_of.Tie as tie

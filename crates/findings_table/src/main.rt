@@ -1,0 +1,168 @@
+// Lists the findings of each line of standard input, under the default policy, into a table of structs and into a table
+// of bytes, and holds the one table to the other, place by place. It writes how many lines there were, how many
+// findings, how many refusals, and in how many lines the two differ.
+ghost use Prim.Native.Nat.{_+_, _≤_};
+ghost use lib.ListN.{length};
+use analysis::types::Finding;
+use base::WORD_BYTES;
+use formatter::ListAnswer;
+use formatter::list::ROW_BYTES;
+use formatter::list::ROW_NUMBERS;
+use formatter::list::list_findings;
+use formatter::list::row_numbers;
+use formatter::table::FEW;
+use formatter::table::FewFindings;
+use formatter::table::list_few;
+use libc::STDOUT_FILENO;
+use message_io::Ending;
+use message_io::MESSAGE_ROOM;
+use message_io::Message;
+use policy::POLICY_BYTES;
+use std::num::wrapping_add_usize;
+use tilghorz::answer_word::list_word;
+
+// As many bytes as a table of structs has room for.
+const TABLE_BYTES: usize = FEW * ROW_BYTES;
+
+// What the lines so far came to.
+struct Seen {
+    lines: usize,
+    findings: usize,
+    refused: usize,
+    different: usize,
+}
+
+// A number as a word.
+fn wide(n: usize) -> u64 {
+    n as u64
+}
+
+// Whether the bytes from a place on are the row of a finding.
+fn same_row(finding: Finding, bytes: &[u8], start: usize) -> bool
+    requires { ⌜ start + 80 ≤ length (now bytes) ⌝ }
+{
+    let numbers = row_numbers(finding);
+    let mut i = 0;
+    while i < ROW_NUMBERS {
+        if base::read_word(bytes, start + i * WORD_BYTES) != wide(numbers[i]) {
+            return false;
+        }
+        i += 1;
+    }
+    true
+}
+
+// Whether the two tables hold the same in every place, also behind the findings.
+fn same_tables(findings: [Finding; FEW], bytes: &[u8; TABLE_BYTES]) -> bool {
+    let mut k = 0;
+    while k < FEW {
+        let finding = findings[k];
+        if !same_row(finding, bytes, k * ROW_BYTES) {
+            return false;
+        }
+        k += 1;
+    }
+    true
+}
+
+// Counts a line with its answer, and whether the two listings were the same.
+fn add_line(seen: Seen, answer: ListAnswer, same: bool) -> Seen {
+    let mut next = seen;
+    next.lines = wrapping_add_usize(seen.lines, 1);
+    match answer {
+        ListAnswer::Listed { findings } => {
+            next.findings = wrapping_add_usize(seen.findings, findings);
+        }
+        ListAnswer::Refused(_) => {
+            next.refused = wrapping_add_usize(seen.refused, 1);
+        }
+    }
+    if !same {
+        next.different = wrapping_add_usize(seen.different, 1);
+    }
+    next
+}
+
+// Lists the findings of a line both ways.
+fn list_line(line: &[u8], policy: &[u8], seen: Seen) -> Seen {
+    let FewFindings { answer, findings } = list_few(line, policy);
+    let mut bytes = [0u8; TABLE_BYTES];
+    let listed = list_findings(line, policy, &mut bytes);
+    let mut same = false;
+    if list_word(answer) == list_word(listed) {
+        same = same_tables(findings, &bytes);
+    }
+    add_line(seen, answer, same)
+}
+
+// Where the line ends that begins at a place.
+fn line_end(message: &[u8], start: usize) -> usize
+    requires { ⌜ start ≤ length (now message) ⌝ }
+    ensures { λ r. ⌜ (start ≤ r) × (r ≤ length (now (message .entry))) ⌝ }
+{
+    let mut at = start;
+    while at < message.len() {
+        if message[at] == b'\n' {
+            return at;
+        }
+        at += 1;
+    }
+    at
+}
+
+// Lists each line of a message.
+fn list_lines(message: &[u8], policy: &[u8]) -> Seen {
+    let mut seen = Seen {
+        lines: 0,
+        findings: 0,
+        refused: 0,
+        different: 0,
+    };
+    let mut at = 0;
+    while at < message.len() {
+        let end = line_end(message, at);
+        seen = list_line(&message[at..end], policy, seen);
+        if end == message.len() {
+            return seen;
+        }
+        at = end + 1;
+    }
+    seen
+}
+
+// Writes a number and what it counts.
+fn say_count(n: usize, what: &[u8]) {
+    io::print_decimal(STDOUT_FILENO, n as u64);
+    io::write_all(STDOUT_FILENO, what);
+}
+
+// Lists each line, and writes what they came to.
+fn list_message(message: &[u8]) {
+    let mut policy = [0u8; POLICY_BYTES];
+    message_io::put_default_policy(&mut policy);
+    let Seen {
+        lines,
+        findings,
+        refused,
+        different,
+    } = list_lines(message, &policy);
+    say_count(lines, b" lines, ");
+    say_count(findings, b" findings, ");
+    say_count(refused, b" refused, ");
+    say_count(different, b" different\n");
+}
+
+// Says that there is more than is read.
+fn say_too_long() {
+    io::write_all(libc::STDERR_FILENO, b"more than 12,288 bytes\n");
+}
+
+fn main() {
+    let mut buf = [0u8; MESSAGE_ROOM];
+    let Message { ending, len } = message_io::read_message(&mut buf);
+    match ending {
+        Ending::Whole => list_message(&buf[..len]),
+        Ending::TooLong => say_too_long(),
+        Ending::Failed => os::fail(b"standard input"),
+    }
+}

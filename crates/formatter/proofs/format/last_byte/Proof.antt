@@ -1,0 +1,24 @@
+-- `formatter::format::last_byte` meets its contract.
+use mathlib.Core.Path.{ap, _∙_}
+use Rattle.formatter.proofs.Surveying.{emoji-bytes, text-bytes}
+use Rattle.unicode.specs.declared.presentation.FromSelector.the-variants.{Selector}
+use Rattle.unicode.specs.declared.presentation.Presentation.{Presentation}
+use Rattle.changes.specs.Changes.{selectorBytes}
+use borrow.Author.Needs.{needs}
+use Rattle.formatter.proofs.format.last_byte.Statement.{statement}
+use Rattle.formatter.proofs.format.last_byte.Tie as tie
+
+enum-told : tie.Need-enum-told
+enum-told c = search needs
+
+enum-told-2 : tie.Need-enum-told-2
+enum-told-2 c = search needs
+
+returns : tie.Need-returns
+returns c = ap (λ (q : Presentation). selectorBytes (Selector q)) (c .enum-told .given .1) ∙ text-bytes
+
+returns-2 : tie.Need-returns-2
+returns-2 c = ap (λ (q : Presentation). selectorBytes (Selector q)) (c .enum-told2 .given .1) ∙ emoji-bytes
+
+pub last-byte-spec : {M : Type 1} → statement M
+last-byte-spec = tie.close (tie.spec enum-told enum-told-2 returns returns-2)

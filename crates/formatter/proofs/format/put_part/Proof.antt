@@ -1,0 +1,54 @@
+-- `formatter::format::put_part` meets its contract.
+use mathlib.Core.Path.{_≡_, subst}
+use Prim.Native.Nat.{ℕ, _+_, _-_}
+use native.Mathlib.Omega.{arith}
+use lib.ListN.{drop, length, length-drop, take}
+use lib.Seq.{length-take-le}
+use Rattle.base.specs.Output.{PutAt}
+use Rattle.base.proofs.Output.{bytes-put}
+use borrow.Author.Needs.{needs}
+use Rattle.formatter.proofs.format.put_part.Statement.{statement}
+use Rattle.formatter.proofs.format.put_part.Tie as tie
+
+sub-write-bytes : tie.Need-sub-write-bytes
+sub-write-bytes c = search needs
+
+part-write-bytes-start : tie.Need-part-write-bytes-start
+part-write-bytes-start c = search needs
+
+part-write-bytes-end : tie.Need-part-write-bytes-end
+part-write-bytes-end c = search needs
+
+write-bytes-requires : tie.Need-write-bytes-requires
+write-bytes-requires c κs = search needs
+
+sub-result : tie.Need-sub-result
+sub-result c = search needs
+
+add-result : tie.Need-add-result
+add-result c = search needs
+
+same-length : tie.Need-same-length
+same-length c = search needs
+
+returns : tie.Need-returns
+returns c =
+    let x = c .before .before .before .before .before .before .before .args in
+    let q = c .before .before .before .before .before .before .before .pre in
+    let t = take (x .to - x .from) (drop (x .from) (x .text .now)) in
+    let n : length t ≡ x .to - x .from = length-take-le (x .to - x .from) (drop (x .from) (x .text .now)) (omega (arith, length-drop (x .from) (x .text .now), q)) in
+    let w = bytes-put (x .out .now) (c .before .before .write-bytes .last .0) (x .at) t (omega (arith, n, q)) (c .before .before .write-bytes .ensures .1) in
+    subst (λ (r : ℕ). PutAt (x .out .now) (x .at) t (c .before .before .write-bytes .last .0) (x .at + r)) n w
+
+pub put-part-spec : {M : Type 1} → statement M
+put-part-spec =
+    tie.close
+    (tie.spec
+    sub-write-bytes
+    part-write-bytes-start
+    part-write-bytes-end
+    write-bytes-requires
+    sub-result
+    add-result
+    same-length
+    returns)
