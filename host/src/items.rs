@@ -45,7 +45,6 @@ pub fn short() -> String {
     let mut texts = texts::worked();
     texts.extend(texts::short());
     answers(
-        "items-short",
         "worked texts, and every short text over an alphabet of the classes",
         &texts,
     )
@@ -54,24 +53,23 @@ pub fn short() -> String {
 /// The part with drawn texts.
 #[must_use]
 pub fn drawn() -> String {
-    answers("items-drawn", "drawn texts", &texts::drawn())
+    answers("drawn texts", &texts::drawn())
 }
 
 /// The part with Unicode's own sequences.
 #[must_use]
 pub fn unicode() -> String {
     answers(
-        "items-unicode",
         "Unicode's variation sequences, modifier bases, and well-known emoji sequences",
         &texts::unicode(),
     )
 }
 
 /// The text of a part.
-fn answers(name: &str, what: &str, texts: &[String]) -> String {
+fn answers(what: &str, texts: &[String]) -> String {
     let mut out = format!(
         "# Answers of the crate evfmt on items: {what}.
-# Made in host/ by: cargo run --offline --release --bin stored-answers -- {name}
+# Made in host/ by: cargo run --offline --release --bin stored-answers -- make
 {GRAMMAR}# The tables are of Unicode {UNICODE_VERSION}.
 "
     );

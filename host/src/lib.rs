@@ -1,11 +1,13 @@
 //! The answers of the crate evfmt, and of an independent reading of document 01, for the port to be compared with.
 //!
-//! - Stored answers, replayed by the port's own program: each part is made by a function that [`PARTS`] lists; the
-//!   program `stored-answers` prints a part. [`policy`] has the key sets and policies; [`items`] the items and findings
-//!   of [`texts`] and [`sequences`], written as [`notation`] says.
-//! - The comparison of the linked library: [`calls`] is its functions as a trait, [`beside`] the crate's answers in the
-//!   same forms, [`reference`] the reading of document 01, and [`comparison`] holds the calls to both. The program
-//!   `compare` is in a package of its own, since it links the library.
+//! - Stored answers, replayed by the port's own program: each part is made by a function that [`PARTS`] lists.
+//!   [`policy`] has the key sets and policies; [`items`] the items and findings of [`texts`] and [`sequences`],
+//!   written as [`notation`] says. [`stored`] has these and every other file that the program `stored-answers` makes
+//!   and checks.
+//! - The comparison of the linked library: [`calls`] is its functions as a trait, [`beside`] the crate's answers in
+//!   the same forms, [`mod@reference`] the reading of document 01, and [`comparison`] holds the calls to both;
+//!   [`boundary`] makes calls on slices of every small length and alignment. The programs that make the calls are in
+//!   a package of their own, `compare`, since it links the library.
 //!
 //! This file has what they share: a line of fields, the words of a key set, and pseudo-random numbers from a given
 //! seed, so that every run is the same.
@@ -19,6 +21,7 @@ use evfmt::PolicyKeySet;
 use evfmt::internals::VARIATION_ENTRIES;
 
 pub mod beside;
+pub mod boundary;
 pub mod calls;
 pub mod comparison;
 pub mod items;
@@ -26,11 +29,12 @@ pub mod notation;
 pub mod policy;
 pub mod reference;
 pub mod sequences;
+pub mod stored;
 pub mod texts;
 
 /// A part of the stored answers.
 pub struct Part {
-    /// What `stored-answers` is asked for.
+    /// The name of its file, without the ending.
     pub name: &'static str,
     /// Makes the text.
     pub answers: fn() -> String,

@@ -10,7 +10,7 @@ use crate::{Random, Record, sizes, words};
 /// The form of the part, which is also its head.
 pub const GRAMMAR: &str = "\
 # Answers of the crate evfmt: key sets and policies.
-# Made in host/ by: cargo run --offline --release --bin stored-answers -- policy
+# Made in host/ by: cargo run --offline --release --bin stored-answers -- make
 #
 # Lines that begin with # are comments and stand only here. Every other line is a keyword and fields, each after
 # one blank, and ends with one line feed. The fields:

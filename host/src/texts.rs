@@ -72,7 +72,7 @@ const FEWER: [char; 10] = [
 /// The smallest alphabet, for texts of four characters: what runs and sequences are made of.
 const FEWEST: [char; 5] = ['\u{FE0F}', '\u{200D}', '\u{1F1E6}', '\u{2764}', '\u{E007F}'];
 
-/// Every text of one or two of [`CLASSES`], of three of [`FEWER`], and of four of [`FEWEST`].
+/// Every text of one or two of `CLASSES`, of three of `FEWER`, and of four of `FEWEST`.
 #[must_use]
 pub fn short() -> Vec<String> {
     [

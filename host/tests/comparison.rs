@@ -1,6 +1,6 @@
 //! The comparison itself: it finds nothing in the reading of document 01, and every planted fault.
 
-use std::path::PathBuf;
+use std::path::{Path, PathBuf};
 
 use tilghorz_comparison::Random;
 use tilghorz_comparison::calls::{Calls, Reference};
@@ -9,9 +9,9 @@ use tilghorz_comparison::comparison::faults::{FAULTS, Fault};
 use tilghorz_comparison::comparison::faulty::Faulty;
 use tilghorz_comparison::comparison::lent::lend;
 use tilghorz_comparison::comparison::programs::{Programs, written};
+use tilghorz_comparison::comparison::published::{LISTS, forms, line_texts, texts};
 use tilghorz_comparison::comparison::reduce::{characters, reduced, reduced_text};
 use tilghorz_comparison::comparison::run::{Options, run};
-use tilghorz_comparison::comparison::texts::published_text;
 use tilghorz_comparison::comparison::{limits, text_case};
 use tilghorz_comparison::reference::calls::{Draft, LONGEST_TEXT};
 
@@ -22,6 +22,7 @@ const SHORT: Options = Options {
     seed: 1,
     length: 2,
     limits: false,
+    published: false,
 };
 
 /// The faults that show at a limit alone, with the length of a text in which they do.
@@ -121,14 +122,16 @@ fn parsed(arguments: &str) -> Result<Command, String> {
 
 #[test]
 fn arguments_are_read() {
-    let command =
-        parsed("--cases 5 --seconds 6 --seed 7 --length 2 --without-limits --fault beginning");
+    let command = parsed(
+        "--cases 5 --seconds 6 --seed 7 --length 2 --without-limits --without-published --fault beginning",
+    );
     let options = Options {
         cases: 5,
         seconds: 6,
         seed: 7,
         length: 2,
         limits: false,
+        published: false,
     };
     let planted = Planted::One(Fault::Beginning);
     let expected = Command {
@@ -159,7 +162,8 @@ fn arguments_are_read() {
 #[test]
 fn a_fault_that_is_not_reported_is_told() {
     // Texts of no character, and nothing drawn: too little to find most faults.
-    let command = parsed("--cases 0 --length 0 --without-limits --faults").expect("a command");
+    let command = parsed("--cases 0 --length 0 --without-limits --without-published --faults")
+        .expect("a command");
     let mut out = Vec::new();
     let are_reported = command.execute(&Reference, &mut out).expect("printed");
     let text = String::from_utf8(out).expect("a text");
@@ -199,11 +203,40 @@ fn every_byte_of_a_lent_buffer_counts() {
 }
 
 #[test]
-fn a_line_of_the_published_file_is_read() {
+fn lines_of_the_published_lists_are_read() {
     let line = "1F44B 1F3FB ; fully-qualified     # \u{1F44B}\u{1F3FB} E1.0 waving hand";
-    assert_eq!(published_text(line).as_deref(), Some("\u{1F44B}\u{1F3FB}"));
-    assert_eq!(published_text("# group: Smileys & Emotion"), None);
-    assert_eq!(published_text(""), None);
+    assert_eq!(line_texts(line), ["\u{1F44B}\u{1F3FB}"]);
+    let line = "231A..231B    ; Basic_Emoji  ; watch..hourglass done  # E0.6   [2]";
+    assert_eq!(line_texts(line), ["\u{231A}", "\u{231B}"]);
+    for nothing in [
+        "# group: Smileys & Emotion",
+        "",
+        "XYZ ; no code point",
+        "231A.. ; half",
+    ] {
+        assert_eq!(line_texts(nothing), [""; 0], "{nothing}");
+    }
+}
+
+#[test]
+fn lists_that_are_not_there_are_named() {
+    let (texts, missing) = texts(Path::new("no such folder"));
+    assert!(texts.is_empty());
+    assert_eq!(missing, LISTS);
+}
+
+#[test]
+fn a_published_text_has_its_forms() {
+    let expected = [
+        "a\u{FE0F}b",
+        "a\u{FE0E}b",
+        "a\u{FE0E}b\u{FE0E}",
+        "a\u{FE0F}b\u{FE0F}",
+        "ca\u{FE0F}b",
+        "c\u{200D}ab",
+        "ab",
+    ];
+    assert_eq!(forms("a\u{FE0F}b", "c"), expected);
 }
 
 #[test]

@@ -1,4 +1,5 @@
-//! The C header, the declarations that the comparison links by, and the trait of the calls say the same.
+//! The C header, the source in Rattle, the declarations that the host links by, and the trait of the calls say the
+//! same.
 
 use std::fs;
 use std::path::Path;
@@ -12,6 +13,9 @@ struct Function {
     parameters: Vec<(String, String)>,
     answer: String,
 }
+
+/// The bindings of the host library.
+const BINDINGS: &str = "tilghorz/src/sys.rs";
 
 /// The text of a file, by its path from `host/`.
 fn file(path: &str) -> String {
@@ -70,7 +74,7 @@ fn header_functions() -> Vec<Function> {
 
 /// The functions of the block `extern "C"`.
 fn linked_functions() -> Vec<Function> {
-    let text = plain(&file("compare/src/library.rs"), "//", "\n");
+    let text = plain(&file(BINDINGS), "//", "\n");
     let (_, block) = text.split_once("unsafe extern \"C\" {").expect("a block");
     let (block, _) = block.split_once('}').expect("its end");
     let declarations = block.split(';').filter_map(|part| {
@@ -93,35 +97,50 @@ fn linked_functions() -> Vec<Function> {
     declarations.collect()
 }
 
-/// The functions of the trait `Calls`, each slice as a pointer and a length, in the names of the header.
+/// A function on slices, each as a pointer and a length in the names of the header, from its name on.
+fn slice_function(text: &str, prefix: &str) -> Option<Function> {
+    let (head, rest) = text.split_once('(')?;
+    let (parameters, answer) = rest.split_once(')')?;
+    let named = parameters
+        .split(',')
+        .filter_map(|p| p.trim().split_once(": "));
+    let parameters = named.flat_map(|(name, kind)| {
+        let pointer = match kind {
+            "&[u8]" => "*const u8",
+            "&mut [u8]" => "*mut u8",
+            plain => return vec![(name.to_owned(), plain.to_owned())],
+        };
+        vec![
+            (name.to_owned(), pointer.to_owned()),
+            (format!("{name}_len"), "usize".to_owned()),
+        ]
+    });
+    let answer = answer.trim().strip_prefix("-> ")?;
+    Some(Function {
+        name: format!("{prefix}{}", head.trim()),
+        parameters: parameters.collect(),
+        answer: answer.split([' ', ';']).next()?.to_owned(),
+    })
+}
+
+/// The functions of a file that stand behind these words.
+fn slice_functions(path: &str, words: &str, prefix: &str) -> Vec<Function> {
+    let text = plain(&file(path), "//", "\n");
+    let functions = text.split(words).skip(1);
+    functions
+        .filter_map(|text| slice_function(text, prefix))
+        .collect()
+}
+
+/// The functions of the trait `Calls`.
 fn trait_functions() -> Vec<Function> {
     let text = plain(&file("src/calls.rs"), "//", "\n");
     let (_, block) = text.split_once("pub trait Calls {").expect("a trait");
     let (block, _) = block.split_once('}').expect("its end");
-    let declarations = block.split(';').filter_map(|part| {
-        let (head, rest) = part.split_once('(')?;
-        let (parameters, answer) = rest.split_once(')')?;
-        let named = parameters
-            .split(',')
-            .filter_map(|p| p.trim().split_once(": "));
-        let parameters = named.flat_map(|(name, kind)| {
-            let pointer = match kind {
-                "&[u8]" => "*const u8",
-                "&mut [u8]" => "*mut u8",
-                plain => return vec![(name.to_owned(), plain.to_owned())],
-            };
-            vec![
-                (name.to_owned(), pointer.to_owned()),
-                (format!("{name}_len"), "usize".to_owned()),
-            ]
-        });
-        Some(Function {
-            name: format!("tilghorz_{}", head.trim().strip_prefix("fn ")?),
-            parameters: parameters.collect(),
-            answer: answer.trim().strip_prefix("-> ")?.to_owned(),
-        })
-    });
-    declarations.collect()
+    let functions = block.split("fn ").skip(1);
+    functions
+        .filter_map(|text| slice_function(text, "tilghorz_"))
+        .collect()
 }
 
 #[test]
@@ -147,6 +166,18 @@ fn the_declarations_agree_with_the_header() {
 }
 
 #[test]
+fn the_source_agrees_with_the_header() {
+    let source = slice_functions("../crates/tilghorz/src/lib.rt", "pub extern \"C\" fn ", "");
+    assert_eq!(source, header_functions());
+}
+
+#[test]
+fn the_safe_functions_agree_with_the_header() {
+    let safe = slice_functions(BINDINGS, "pub fn ", "tilghorz_");
+    assert_eq!(safe, header_functions());
+}
+
+#[test]
 fn the_trait_agrees_with_the_header() {
     assert_eq!(trait_functions(), header_functions());
 }
@@ -154,14 +185,63 @@ fn the_trait_agrees_with_the_header() {
 #[test]
 fn the_sizes_agree_with_the_header() {
     let header = file("../include/tilghorz.h");
+    let bindings = file(BINDINGS);
     for (name, size) in [
-        ("TILGHORZ_POLICY_BYTES", POLICY_BYTES),
-        ("TILGHORZ_FINDING_BYTES", FINDING_BYTES),
-        ("TILGHORZ_ITEM_BYTES", ITEM_BYTES),
+        ("POLICY_BYTES", POLICY_BYTES),
+        ("FINDING_BYTES", FINDING_BYTES),
+        ("ITEM_BYTES", ITEM_BYTES),
     ] {
         let mut lines = header.lines();
-        let line = lines.find(|line| line.starts_with(&format!("#define {name} ")));
+        let line = lines.find(|line| line.starts_with(&format!("#define TILGHORZ_{name} ")));
         let found = line.and_then(|line| line.split_whitespace().nth(2));
         assert_eq!(found, Some(size.to_string().as_str()), "{name}");
+        assert!(
+            bindings.contains(&format!("\npub const {name}: usize = {size};\n")),
+            "{name} in {BINDINGS}"
+        );
     }
+}
+
+/// The refusals that a file names behind a prefix, each with the first number behind its arrow.
+fn refusals(path: &str, prefix: &str) -> Vec<(String, u64)> {
+    let text = file(path);
+    let refusals = text.lines().filter_map(|line| {
+        let (pattern, rest) = line.trim().strip_prefix(prefix)?.split_once(" => ")?;
+        let name = pattern.split_once(' ').map_or(pattern, |(name, _)| name);
+        let digits: String = rest
+            .trim_start_matches("word_of(")
+            .chars()
+            .take_while(char::is_ascii_digit)
+            .collect();
+        Some((name.to_owned(), digits.parse().ok()?))
+    });
+    refusals.collect()
+}
+
+#[test]
+fn the_refusals_agree_with_the_source() {
+    let source = refusals("../crates/tilghorz/src/answer_word.rt", "Refusal::");
+    let numbers: Vec<u64> = source.iter().map(|(_, number)| *number).collect();
+    assert_eq!(numbers, [1, 2, 3, 4, 5, 6, 7, 8]);
+    assert_eq!(refusals("tilghorz/src/refusal.rs", "Self::"), source);
+    let header = file("../include/tilghorz.h");
+    for number in numbers {
+        let mut lines = header.lines();
+        assert!(lines.any(|line| line.starts_with(&format!(" *   {number}          "))));
+    }
+}
+
+#[test]
+fn the_parts_of_a_word_agree_with_the_source() {
+    let nothing = "const NOTHING: u64 = 255;\n";
+    assert!(file("../crates/tilghorz/src/answer_word.rt").contains(nothing));
+    assert!(file("tilghorz/src/answer.rs").contains(nothing));
+    assert!(
+        file("../crates/tilghorz/src/answer_word.rt")
+            .contains("VALUES: u64 = 0x100_0000_0000_0000;\n")
+    );
+    assert!(file("tilghorz/src/answer.rs").contains("NUMBER_SHIFT: u32 = 56;\n"));
+    let header = file("../include/tilghorz.h");
+    assert!(header.contains("#define TILGHORZ_NUMBER(word) ((word) >> 56)\n"));
+    assert!(header.contains("\n *   255        nothing to do "));
 }

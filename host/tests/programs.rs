@@ -1,11 +1,12 @@
-//! The stored runs of the two programs (tests/programs) are what document 01 and the crate evfmt say.
+//! The stored runs of the two programs (tests/programs), which `stored-answers` makes by document 01, are also what the
+//! crate evfmt says.
 
 use std::fs;
 use std::path::{Path, PathBuf};
 
 use evfmt::Policy;
 use tilghorz_comparison::beside;
-use tilghorz_comparison::reference::programs::{LONGEST_INPUT, formatted, report};
+use tilghorz_comparison::reference::programs::LONGEST_INPUT;
 
 /// The inputs of the stored runs.
 fn inputs() -> Vec<PathBuf> {
@@ -25,27 +26,10 @@ fn bytes(path: &Path) -> Vec<u8> {
 }
 
 #[test]
-fn the_stored_runs_are_what_document_01_says() {
+fn the_stored_formatted_texts_are_the_crates() {
     let inputs = inputs();
     assert!(!inputs.is_empty());
     for path in inputs {
-        let input = bytes(&path);
-        assert!(
-            bytes(&path.with_extension("format")) == formatted(&input),
-            "{}",
-            path.display()
-        );
-        assert!(
-            bytes(&path.with_extension("report")) == report(&input),
-            "{}",
-            path.display()
-        );
-    }
-}
-
-#[test]
-fn the_stored_formatted_texts_are_the_crates() {
-    for path in inputs() {
         let input = bytes(&path);
         let Ok(text) = str::from_utf8(&input) else {
             continue;

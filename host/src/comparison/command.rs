@@ -11,16 +11,17 @@ use crate::calls::Calls;
 
 /// How the program is called.
 pub const USAGE: &str = "\
-usage: compare [--cases N] [--seconds S] [--seed N] [--length N] [--without-limits]
+usage: compare [--cases N] [--seconds S] [--seed N] [--length N] [--without-limits] [--without-published]
                [--programs FORMAT REPORT] [--fault NAME | --faults]
-  --cases N         at most N drawn texts, damaged ones and lists of calls each
-  --seconds S       begin no further case after S seconds
-  --seed N          the seed of what is drawn
-  --length N        try every text of up to N characters, one of each kind
-  --without-limits  leave out the texts around the limits
-  --programs ..     compare the two programs at these paths too
-  --fault NAME      plant a fault into the calls: the run must report a difference
-  --faults          plant each fault in turn: each must be reported";
+  --cases N            at most N drawn texts, damaged ones and lists of calls each
+  --seconds S          begin no further case after S seconds
+  --seed N             the seed of what is drawn
+  --length N           try every text of up to N characters, one of each kind
+  --without-limits     leave out the texts around the limits
+  --without-published  leave out the texts of Unicode's lists
+  --programs ..        compare the two programs at these paths too
+  --fault NAME         plant a fault into the calls: the run must report a difference
+  --faults             plant each fault in turn: each must be reported";
 
 /// What the program is asked to do.
 #[derive(Debug, PartialEq, Eq)]
@@ -62,6 +63,7 @@ impl Command {
                 "--seed" => options.seed = number(&name, &value()?)?,
                 "--length" => options.length = number(&name, &value()?)?,
                 "--without-limits" => options.limits = false,
+                "--without-published" => options.published = false,
                 "--programs" => {
                     let (format, report) = (value()?.into(), value()?.into());
                     command.programs = Some(Programs { format, report });

@@ -54,40 +54,47 @@ pub fn lend(
     room: usize,
     call: impl FnOnce(&mut [u8]) -> u64,
 ) -> Result<(), Difference> {
+    lend_between([MARGIN; 2], name, draft, room, call)
+}
+
+/// The same with margins of so many bytes before and after the buffer. Buffer and margins are one allocation, which has
+/// not a byte more.
+pub fn lend_between(
+    [before, after]: [usize; 2],
+    name: impl Fn() -> String,
+    draft: &Draft,
+    room: usize,
+    call: impl FnOnce(&mut [u8]) -> u64,
+) -> Result<(), Difference> {
     let (answer, written) = draft.with_room(room);
-    let mut buffer = pattern(room + 2 * MARGIN);
-    let found = Answer::of_word(call(&mut buffer[MARGIN..MARGIN + room]));
+    let mut buffer = pattern(before + room + after);
+    let found = Answer::of_word(call(&mut buffer[before..before + room]));
     let name = || format!("{}, room {room}", name());
     same(name, &answer, &found, Answer::to_string)?;
     let mut expected = pattern(buffer.len());
-    expected[MARGIN..MARGIN + written.len()].copy_from_slice(written);
+    expected[before..before + written.len()].copy_from_slice(written);
     if buffer == expected {
         return Ok(());
     }
     let place = (0..buffer.len()).find(|&place| buffer[place] != expected[place]);
     let place = place.unwrap_or(0);
-    let show = |bytes: &[u8]| {
-        let at = place.wrapping_sub(MARGIN);
-        let whose = if place < MARGIN {
-            "before the buffer".to_owned()
-        } else if at < written.len() {
-            format!("byte {at} of the {} written", written.len())
-        } else if at < room {
-            format!(
-                "byte {} behind the {} written",
-                at - written.len(),
-                written.len()
-            )
-        } else {
-            "after the buffer".to_owned()
-        };
-        format!("{:02X} at {whose}", bytes[place])
-    };
+    let whose = whose_byte(place, before, written.len(), room);
+    let show = |bytes: &[u8]| format!("{:02X} at {whose}", bytes[place]);
     Err(Difference {
         call: name(),
         expected: show(&expected),
         found: show(&buffer),
     })
+}
+
+/// What a byte of a buffer with margins is.
+fn whose_byte(place: usize, before: usize, written: usize, room: usize) -> String {
+    match place.checked_sub(before) {
+        None => "before the buffer".to_owned(),
+        Some(at) if at < written => format!("byte {at} of the {written} written"),
+        Some(at) if at < room => format!("byte {} behind the {written} written", at - written),
+        Some(_) => "after the buffer".to_owned(),
+    }
 }
 
 /// Bytes as a report has them: the first of many.

@@ -9,6 +9,7 @@
 //! | [`list_case`] | compares a list of mending calls with its book |
 //! | [`texts`], [`policies`] | make the texts and policies: exhaustive, random, damaged |
 //! | [`limits`] | makes texts around the limits |
+//! | [`published`] | takes texts from Unicode's lists of emoji |
 //! | [`reduce`] | makes a text or a list with a difference smaller |
 //! | [`run`], [`report`] | runs all of it, within bounds, and reports the first difference |
 //! | [`programs`] | compares the two programs |
@@ -23,6 +24,7 @@ pub mod limits;
 pub mod list_case;
 pub mod policies;
 pub mod programs;
+pub mod published;
 pub mod reduce;
 pub mod report;
 pub mod run;

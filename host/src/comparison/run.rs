@@ -1,24 +1,17 @@
 //! A run of the comparison: the kinds of cases in turn, within bounds, and the report of the first difference.
 
 use std::io::{self, Write};
-use std::path::PathBuf;
 use std::time::{Duration, Instant};
-use std::{env, fs};
 
 use super::policies::{self, Policy};
 use super::reduce::{reduced, reduced_text};
 use super::report::report;
-use super::texts::{Alphabet, every_text, published_text};
-use super::{limits, list_case, tables, text_case};
+use super::texts::{Alphabet, every_text};
+use super::{limits, list_case, published, tables, text_case};
 use crate::Random;
 use crate::calls::Calls;
 use crate::reference::book::LONGEST_FIRST_TEXT;
 use crate::reference::characters;
-
-/// The variable that names the file emoji-test.txt.
-pub const EMOJI_TEST_VARIABLE: &str = "EMOJI_TEST";
-/// Where that file is without the variable.
-const EMOJI_TEST: &str = "/usr/share/unicode/emoji/emoji-test.txt";
 
 /// The bounds of a run.
 #[derive(Debug, Clone, Copy, PartialEq, Eq)]
@@ -33,6 +26,8 @@ pub struct Options {
     pub length: usize,
     /// Whether texts around the limits are tried.
     pub limits: bool,
+    /// Whether the texts of Unicode's lists are tried, where these are installed.
+    pub published: bool,
 }
 
 impl Default for Options {
@@ -43,6 +38,7 @@ impl Default for Options {
             seed: 1,
             length: 4,
             limits: true,
+            published: true,
         }
     }
 }
@@ -103,7 +99,9 @@ impl<'a> Run<'a> {
     fn all(&mut self) -> Result<(), Stop> {
         writeln!(self.out, "seed {}", self.options.seed)?;
         self.tables()?;
-        self.published()?;
+        if self.options.published {
+            self.published()?;
+        }
         for length in 0..=self.options.length {
             self.every_text(length)?;
         }
@@ -178,26 +176,32 @@ impl<'a> Run<'a> {
         )
     }
 
-    /// The lines of Unicode's emoji-test.txt, as they are and without their selectors.
+    /// The texts of Unicode's lists in their forms, each under the default policy and, by turns, one of the others.
     fn published(&mut self) -> Result<(), Stop> {
-        let named = env::var_os(EMOJI_TEST_VARIABLE).filter(|name| !name.is_empty());
-        let path = named.map_or_else(|| PathBuf::from(EMOJI_TEST), PathBuf::from);
-        let Ok(file) = fs::read_to_string(&path) else {
-            let path = path.display();
-            let line =
-                format!("emoji-test.txt is not at {path} ({EMOJI_TEST_VARIABLE}): passed over");
-            return Ok(writeln!(self.out, "{line}")?);
-        };
-        let mut lines = 0;
-        for text in file.lines().filter_map(published_text) {
-            lines += 1;
-            for policy in &self.policies {
-                self.text("published", text.as_bytes(), policy)?;
-                let bare = text.replace('\u{FE0F}', "");
-                self.text("published", bare.as_bytes(), policy)?;
-            }
+        let folder = published::folder();
+        let (texts, missing) = published::texts(&folder);
+        for list in missing {
+            let (folder, variable) = (folder.display(), published::VARIABLE);
+            let line = format!("published   {list} is not in {folder} ({variable}): passed over");
+            writeln!(self.out, "{line}")?;
         }
-        self.told("published", lines, "lines of emoji-test.txt")
+        let mut cases = 0;
+        let mut before = "";
+        let mut others = self.policies[1..].iter().cycle();
+        for text in &texts {
+            for form in published::forms(text, before) {
+                for policy in self.policies.first().into_iter().chain(others.next()) {
+                    self.text("published", form.as_bytes(), policy)?;
+                    cases += 1;
+                }
+            }
+            before = text;
+        }
+        let what = format!(
+            "texts and policies, from {} texts of Unicode's lists",
+            texts.len()
+        );
+        self.told("published", cases, &what)
     }
 
     /// Every text of a length over one character of each kind. The longer ones have fewer policies.

@@ -4,7 +4,6 @@ use std::collections::BTreeMap;
 
 use crate::Random;
 use crate::reference::characters::{is_regional_indicator, properties};
-use crate::sequences::sequence;
 
 /// Characters that the grammar names, and one of no kind.
 const NAMED: [char; 7] = [
@@ -151,11 +150,4 @@ pub fn every_text<E>(
         digits[..place].fill(0);
         digits[place] += 1;
     }
-}
-
-/// The text of a line of emoji-test.txt such as `1F44B 1F3FB ; fully-qualified # ..`.
-#[must_use]
-pub fn published_text(line: &str) -> Option<String> {
-    let (points, _) = line.split('#').next()?.split_once(';')?;
-    sequence(points)
 }

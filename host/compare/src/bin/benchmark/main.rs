@@ -1,0 +1,133 @@
+//! Measures the linked library beside the crate evfmt, in one process and on the same texts.
+//!
+//! In `host/`, after `rt staticlib tilghorz` in the repository root:
+//!
+//! ```text
+//! cargo run --offline --release --package compare --bin benchmark                  # all tables, about a minute
+//! cargo run --offline --release --package compare --bin benchmark -- --rounds 31 ascii mixed-48
+//! cargo run --offline --release --package compare --bin benchmark -- --growth      # 64 KiB, 1 MiB and 16 MiB alone
+//! TILGHORZ_LIBRARY=FOLDER cargo run ..                                             # another libtilghorz.a
+//! ```
+//!
+//! For instruction counts, a call is repeated on one text without the crate:
+//!
+//! ```text
+//! valgrind --tool=callgrind --toggle-collect=tilghorz_format target/release/benchmark repeat format mixed 65536 10
+//! ```
+//!
+//! The answers on each text of 1 MiB are compared with the crate's before anything is measured. Times are those for
+//! which the thread had a processor.
+
+mod clock;
+mod inputs;
+mod tables;
+mod timing;
+mod words;
+mod work;
+
+use std::env;
+use std::process::ExitCode;
+
+use inputs::{INPUTS, Input};
+use work::Work;
+
+/// How the program is called.
+const USAGE: &str = "\
+usage: benchmark [--rounds N] [--growth] [INPUT ..]
+       benchmark repeat format|list|mend|scan INPUT BYTES TIMES
+  --rounds N  the rounds of each measurement (15)
+  --growth    only the cost at 64 KiB, 1 MiB and 16 MiB
+  repeat      one call of the library, so many times, and nothing else: for counts of instructions";
+
+/// What the program is asked to do.
+struct Command {
+    rounds: usize,
+    growth_alone: bool,
+    inputs: Vec<&'static Input>,
+}
+
+fn main() -> ExitCode {
+    let arguments: Vec<String> = env::args().skip(1).collect();
+    let words: Vec<&str> = arguments.iter().map(String::as_str).collect();
+    let done = match words[..] {
+        ["repeat", ref words @ ..] => repeat(words),
+        _ => parse(&words).and_then(|command| run(&command)),
+    };
+    match done {
+        Ok(()) => ExitCode::SUCCESS,
+        Err(fault) => {
+            eprintln!("benchmark: {fault}\n{USAGE}");
+            eprintln!("inputs:");
+            for input in &INPUTS {
+                eprintln!("  {:<11} {}", input.name, input.about);
+            }
+            ExitCode::from(2)
+        }
+    }
+}
+
+/// Reads the arguments of the tables.
+fn parse(words: &[&str]) -> Result<Command, String> {
+    let mut command = Command {
+        rounds: 15,
+        growth_alone: false,
+        inputs: Vec::new(),
+    };
+    let mut words = words.iter();
+    while let Some(&word) = words.next() {
+        match word {
+            "--rounds" => command.rounds = number(words.next().copied().unwrap_or(""))?,
+            "--growth" => command.growth_alone = true,
+            _ => command.inputs.push(input(word)?),
+        }
+    }
+    if command.rounds == 0 {
+        return Err("--rounds 0: nothing to measure".to_owned());
+    }
+    if command.inputs.is_empty() {
+        command.inputs = INPUTS.iter().collect();
+    }
+    Ok(command)
+}
+
+/// Prints the tables.
+fn run(command: &Command) -> Result<(), String> {
+    if !command.growth_alone {
+        tables::formatting(&command.inputs, command.rounds)?;
+        tables::listing(&command.inputs, command.rounds)?;
+    }
+    tables::growth(&command.inputs, command.rounds);
+    Ok(())
+}
+
+/// Repeats one call.
+fn repeat(words: &[&str]) -> Result<(), String> {
+    let &[call, name, bytes, times] = words else {
+        return Err("repeat: a call, an input, bytes and times are wanted".to_owned());
+    };
+    let input = input(name)?;
+    let text = input.make(number(bytes)?);
+    let (work, mut buffers) = Work::new(input, &text);
+    let mut items = work.item_table();
+    for _ in 0..number(times)? {
+        match call {
+            "format" => work.format(&mut buffers),
+            "list" => work.list(&mut buffers),
+            "mend" => work.mend(1, &mut buffers),
+            "scan" => work.scan(&mut items),
+            _ => return Err(format!("{call}: not a call")),
+        }
+    }
+    Ok(())
+}
+
+/// The number of an argument.
+fn number(word: &str) -> Result<usize, String> {
+    word.parse().map_err(|_| format!("{word:?}: not a number"))
+}
+
+/// The input of a name.
+fn input(name: &str) -> Result<&'static Input, String> {
+    let found = INPUTS.iter().find(|input| input.name == name);
+    found.ok_or_else(|| format!("{name}: not an input"))
+}

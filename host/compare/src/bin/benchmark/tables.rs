@@ -1,0 +1,145 @@
+//! The tables that are printed.
+
+use crate::inputs::Input;
+use crate::timing::{FEWEST, Times, interleaved};
+use crate::work::Work;
+
+/// The length of the texts that are compared.
+const LENGTH: usize = 1 << 20;
+/// The lengths at which the growth is shown, the last one being the longest text.
+const LENGTHS: [usize; 3] = [1 << 16, 1 << 20, 1 << 24];
+
+/// What stands above the table of formatting.
+const FORMATTING: &str = "\
+Formatting texts of 1 MiB, in MB/s (10^6 bytes a second): the median, and the best in brackets. The library writes into
+a buffer that is lent again and not cleared; the crate makes a String in each call, and takes a text that is tested.
+ratio: the crate's time to ours, by the medians and by the best. of from_utf8: our time to that of from_utf8; at most 3
+is wanted where there is no finding.";
+
+/// What stands above the table of listing.
+const LISTING: &str = "\
+Listing the findings into a lent table, beside the crate's scan and analysis, which keep nothing: a ratio of 3 is wanted
+on mixed and dense. Mending the first and the last finding: its time to that of a listing and a copy.";
+
+/// Formatting beside the crate's, the standard library's test of a text, and a copy.
+pub fn formatting(inputs: &[&Input], rounds: usize) -> Result<(), String> {
+    println!(
+        "{rounds} rounds in turns, or at least {FEWEST} where they take long; processor time."
+    );
+    println!("{FORMATTING}");
+    println!(
+        "{:<11} {:>8} {:>15} {:>15} {:>7} {:>7} {:>7} {:>15} {:>15} {:>13}",
+        "input",
+        "findings",
+        "crate",
+        "library",
+        "ratio",
+        "best",
+        "wanted",
+        "from_utf8",
+        "copy",
+        "of from_utf8"
+    );
+    for input in inputs {
+        let text = input.make(LENGTH);
+        let (work, mut buffers) = Work::new(input, &text);
+        work.compare(&mut buffers)?;
+        let [by_crate, ours, tested, copied] = interleaved(rounds, |number| match number {
+            0 => work.format_by_the_crate(),
+            1 => work.format(&mut buffers),
+            2 => work.test(),
+            _ => work.copy(&mut buffers),
+        });
+        let wanted = input
+            .wanted
+            .map_or(String::new(), |wanted| format!("{wanted:.1}"));
+        println!(
+            "{:<11} {:>8} {:>15} {:>15} {:>7.2} {:>7.2} {:>7} {:>15} {:>15} {:>13.2}",
+            input.name,
+            work.findings,
+            speed(text.len(), by_crate),
+            speed(text.len(), ours),
+            by_crate.median / ours.median,
+            by_crate.best / ours.best,
+            wanted,
+            speed(text.len(), tested),
+            speed(text.len(), copied),
+            ours.median / tested.median,
+        );
+    }
+    Ok(())
+}
+
+/// Listing beside the crate's scan and analysis; mending beside a listing and a copy.
+pub fn listing(inputs: &[&Input], rounds: usize) -> Result<(), String> {
+    println!("\n{LISTING}");
+    println!(
+        "{:<11} {:>8} {:>15} {:>15} {:>7} {:>7} {:>12} {:>12}",
+        "input", "findings", "crate", "library", "ratio", "best", "mend first", "mend last"
+    );
+    for input in inputs {
+        let text = input.make(LENGTH);
+        let (work, mut buffers) = Work::new(input, &text);
+        work.compare(&mut buffers)?;
+        let [by_crate, ours, copied, first, last] = interleaved(rounds, |number| match number {
+            0 => work.list_by_the_crate(),
+            1 => work.list(&mut buffers),
+            2 => work.copy(&mut buffers),
+            3 => work.mend(0, &mut buffers),
+            _ => work.mend(1, &mut buffers),
+        });
+        let mend = |times: Times| match work.can_be_mended() {
+            true => format!("{:.2}", times.median / (ours.median + copied.median)),
+            false => String::new(),
+        };
+        println!(
+            "{:<11} {:>8} {:>15} {:>15} {:>7.2} {:>7.2} {:>12} {:>12}",
+            input.name,
+            work.findings,
+            speed(text.len(), by_crate),
+            speed(text.len(), ours),
+            by_crate.median / ours.median,
+            by_crate.best / ours.best,
+            mend(first),
+            mend(last),
+        );
+    }
+    Ok(())
+}
+
+/// The cost of a byte at three lengths: it stays the same where the time grows as the length does.
+pub fn growth(inputs: &[&Input], rounds: usize) {
+    println!("\nNanoseconds per byte at 64 KiB, 1 MiB and 16 MiB, the best of the rounds.");
+    println!(
+        "{:<11} {:>26} {:>26} {:>26}",
+        "input", "format", "list", "mend last"
+    );
+    for input in inputs {
+        let mut costs = [const { String::new() }; 3];
+        for length in LENGTHS {
+            let text = input.make(length);
+            let (work, mut buffers) = Work::new(input, &text);
+            // A long text has fewer rounds.
+            let rounds = rounds.min(2 + (rounds << 20) / length);
+            let times: [Times; 3] = interleaved(rounds, |number| match number {
+                0 => work.format(&mut buffers),
+                1 => work.list(&mut buffers),
+                _ => work.mend(1, &mut buffers),
+            });
+            for (cost, times) in costs.iter_mut().zip(times) {
+                cost.push_str(&format!(" {:>8.3}", 1e9 * times.best / text.len() as f64));
+            }
+            if !work.can_be_mended() {
+                costs[2].clear();
+            }
+        }
+        let [format, list, mend] = costs;
+        println!("{:<11} {format:>26} {list:>26} {mend:>26}", input.name);
+    }
+}
+
+/// Bytes in a time as MB/s, and the best.
+fn speed(bytes: usize, times: Times) -> String {
+    let speed = |seconds: f64| bytes as f64 / seconds / 1e6;
+    format!("{:.0} ({:.0})", speed(times.median), speed(times.best))
+}

@@ -1,0 +1,5 @@
+//! The linked library behind safe functions, for the programs of this package.
+
+#![warn(missing_docs)]
+
+pub mod library;

@@ -1,0 +1,91 @@
+//! The bytes of an input at a place in memory.
+
+use crate::Random;
+
+/// What can stand around an input: nothing; what would go on with its last character; what would belong to its last
+/// item; a policy's unused bits; decisions.
+const AROUND: [&[u8]; 8] = [
+    b"",
+    b"\x80\xBF\x80",
+    b"\xEF\xB8\x8F",
+    b"\xEF\xB8\x8E\xE2\x83\xA3",
+    b"\xE2\x80\x8D\xE2\x9D\xA4",
+    b"1",
+    b"\xFF\xFF\xFF\xFF\xFF\xFF\xFF\xFF",
+    b"\x00\x01\x00\x02",
+];
+
+/// Where an input stands: so many bytes behind the start of its allocation, and before such bytes. With none of both it
+/// fills its allocation.
+#[derive(Debug, Clone, Copy, PartialEq, Eq, Default)]
+pub struct Spot {
+    /// The bytes before it. An allocation starts at a multiple of 8, so they are its alignment.
+    pub before: usize,
+    /// The number of what stands behind it, in the list of this module.
+    behind: usize,
+}
+
+impl Spot {
+    /// The whole of an allocation.
+    pub const EXACT: Self = Self::at_the_end(0);
+
+    /// At the end of an allocation, behind so many bytes.
+    #[must_use]
+    pub const fn at_the_end(before: usize) -> Self {
+        Self { before, behind: 0 }
+    }
+
+    /// A drawn spot, by a coin one at the end of the allocation.
+    pub const fn drawn(random: &mut Random) -> Self {
+        let before = random.below(17);
+        if random.coin() {
+            return Self::at_the_end(before);
+        }
+        let behind = 1 + random.below(AROUND.len() - 1);
+        Self { before, behind }
+    }
+
+    /// The number of bytes behind it.
+    #[must_use]
+    pub const fn after(self) -> usize {
+        AROUND[self.behind].len()
+    }
+}
+
+/// An input at its spot.
+pub struct Placed {
+    memory: Vec<u8>,
+    start: usize,
+    end: usize,
+}
+
+impl Placed {
+    /// Puts some bytes at a spot.
+    #[must_use]
+    pub fn new(bytes: &[u8], spot: Spot) -> Self {
+        let behind = AROUND[spot.behind];
+        let end = spot.before + bytes.len();
+        // Not a byte more than is asked for is allocated here.
+        let mut memory = Vec::with_capacity(end + behind.len());
+        memory.extend(AROUND[2].iter().cycle().take(spot.before));
+        memory.extend(bytes);
+        memory.extend(behind);
+        Self {
+            memory,
+            start: spot.before,
+            end,
+        }
+    }
+
+    /// The input.
+    #[must_use]
+    pub fn bytes(&self) -> &[u8] {
+        &self.memory[self.start..self.end]
+    }
+
+    /// Whether all is as it was made.
+    #[must_use]
+    pub fn is_as_made(&self, bytes: &[u8], spot: Spot) -> bool {
+        self.memory == Self::new(bytes, spot).memory
+    }
+}

@@ -1,0 +1,270 @@
+//! The command line.
+
+use std::ffi::OsString;
+use std::fmt::{self, Display, Formatter};
+
+use tilghorz::{Context, KeySet, Presentation};
+
+use crate::fix::Fix;
+use crate::format::{Format, Mode};
+use crate::help::Topic;
+use crate::policy::{Edit, Policy, PolicyFile};
+use crate::report::Report;
+use crate::show::Show;
+use crate::source::Source;
+use crate::words::{Word, Words, unknown};
+
+/// What the command is asked to do.
+#[derive(Debug, PartialEq, Eq)]
+pub enum Command {
+    /// Help.
+    Help(Topic),
+    /// The version.
+    Version,
+    /// `format`.
+    Format(Format),
+    /// `report`.
+    Report(Report),
+    /// `fix`.
+    Fix(Fix),
+    /// `show`.
+    Show(Show),
+    /// `policy`.
+    Policy(Policy),
+}
+
+/// What is wrong with a command line, and which help has more.
+#[derive(Debug, PartialEq, Eq)]
+pub struct Wrong {
+    topic: Option<String>,
+    message: String,
+}
+
+impl Display for Wrong {
+    fn fmt(&self, out: &mut Formatter<'_>) -> fmt::Result {
+        let message = &self.message;
+        match &self.topic {
+            None => write!(out, "{message}\ntry: tilghorz-host help"),
+            Some(topic) => write!(out, "{topic}: {message}\ntry: tilghorz-host help {topic}"),
+        }
+    }
+}
+
+/// Reads the words of a command line.
+pub fn parse(words: impl IntoIterator<Item = OsString>) -> Result<Command, Wrong> {
+    let mut words: Vec<OsString> = words.into_iter().collect();
+    let wrong = |message| Wrong {
+        topic: None,
+        message,
+    };
+    if words.is_empty() {
+        return Err(wrong("no command".to_owned()));
+    }
+    let name = words.remove(0).to_string_lossy().into_owned();
+    let is_help = |word: &OsString| word == "--help" || word == "-h";
+    let asks_for_help = words.iter().take_while(|word| *word != "--").any(is_help);
+    match (name.as_str(), Topic::of(&name)) {
+        ("help" | "--help" | "-h", _) => help(&words).map_err(wrong),
+        ("version" | "--version" | "-V", _) => Ok(Command::Version),
+        (_, Some(topic)) if asks_for_help => Ok(Command::Help(topic)),
+        (_, Some(topic)) => command(topic, Words::new(words)).map_err(|message| Wrong {
+            topic: Some(name),
+            message,
+        }),
+        (_, None) => Err(wrong(format!("{name}: not a command"))),
+    }
+}
+
+/// Help on a topic that may be named.
+fn help(words: &[OsString]) -> Result<Command, String> {
+    let Some(name) = words.first() else {
+        return Ok(Command::Help(Topic::All));
+    };
+    let name = name.to_string_lossy();
+    let topic = Topic::of(&name).ok_or(format!("{name}: not a command"))?;
+    Ok(Command::Help(topic))
+}
+
+/// Reads the words behind a command's name.
+fn command(topic: Topic, words: Words) -> Result<Command, String> {
+    match topic {
+        Topic::All => Ok(Command::Help(topic)),
+        Topic::Format => format(words).map(Command::Format),
+        Topic::Report => report(words).map(Command::Report),
+        Topic::Fix => fix(words).map(Command::Fix),
+        Topic::Show => show(words).map(Command::Show),
+        Topic::Policy => policy(words).map(Command::Policy),
+    }
+}
+
+/// The names and the policy of a command that takes texts. What its further options do is said by a function, which
+/// knows an option or does not.
+fn texts(
+    mut words: Words,
+    mut option: impl FnMut(&str, &mut Words) -> Result<bool, String>,
+) -> Result<(Vec<Source>, PolicyFile), String> {
+    let (mut names, mut policy) = (Vec::new(), PolicyFile::default());
+    while let Some(word) = words.next()? {
+        match word {
+            Word::Name(name) => names.push(Source::of(&name)),
+            Word::Option(name) if name == "--policy" => words.policy(&name, &mut policy)?,
+            Word::Option(name) if option(&name, &mut words)? => {}
+            Word::Option(name) => return unknown(&name),
+        }
+    }
+    Ok((names, policy))
+}
+
+/// Sets a flag if the option is its name.
+fn set(flag: &mut bool, name: &str, option: &str) -> bool {
+    *flag |= option == name;
+    option == name
+}
+
+fn format(words: Words) -> Result<Format, String> {
+    let (mut check, mut in_place) = (false, false);
+    let (names, policy) = texts(words, |option, _| {
+        Ok(set(&mut check, "--check", option) || set(&mut in_place, "--in-place", option))
+    })?;
+    let mode = match (check, in_place) {
+        (true, true) => return Err("--check and --in-place: one of them".to_owned()),
+        (true, false) => Mode::Check,
+        (false, true) => Mode::InPlace,
+        (false, false) => Mode::Write,
+    };
+    if in_place {
+        are_files(&names)?;
+    }
+    Ok(Format {
+        mode,
+        policy,
+        names,
+    })
+}
+
+/// Whether names can be changed in place.
+fn are_files(names: &[Source]) -> Result<(), String> {
+    if names.is_empty() || names.contains(&Source::Input) {
+        return Err("--in-place: standard input cannot be changed in place".to_owned());
+    }
+    Ok(())
+}
+
+fn report(words: Words) -> Result<Report, String> {
+    let (mut json, mut items) = (false, false);
+    let (names, policy) = texts(words, |option, _| {
+        Ok(set(&mut json, "--json", option) || set(&mut items, "--items", option))
+    })?;
+    Ok(Report {
+        json,
+        items,
+        policy,
+        names,
+    })
+}
+
+fn fix(words: Words) -> Result<Fix, String> {
+    let (mut at, mut decisions, mut in_place) = (None, Vec::new(), false);
+    let (mut names, policy) = texts(words, |option, words| {
+        match option {
+            "--at" => at = Some(offset(&words.text(option)?)?),
+            "--decide" => decide(words, &mut decisions)?,
+            _ => return Ok(set(&mut in_place, "--in-place", option)),
+        }
+        Ok(true)
+    })?;
+    if in_place {
+        are_files(&names)?;
+    }
+    if names.len() > 1 {
+        return Err("one text at a time".to_owned());
+    }
+    Ok(Fix {
+        at: at.ok_or("--at OFFSET is missing")?,
+        decisions,
+        in_place,
+        policy,
+        source: names.pop().unwrap_or(Source::Input),
+    })
+}
+
+/// An offset in decimal digits.
+fn offset(text: &str) -> Result<usize, String> {
+    text.parse()
+        .map_err(|_| format!("--at {text}: not an offset in bytes"))
+}
+
+/// The decisions behind `--decide`: one, and all further words that are decisions.
+fn decide(words: &mut Words, decisions: &mut Vec<Presentation>) -> Result<(), String> {
+    let decision = |word: &str| match word {
+        "text" => Some(Presentation::Text),
+        "emoji" => Some(Presentation::Emoji),
+        _ => None,
+    };
+    let first = words.text("--decide")?;
+    decisions.push(decision(&first).ok_or(format!("--decide {first}: neither text nor emoji"))?);
+    while let Some(further) = words.next_if_some(decision) {
+        decisions.push(further);
+    }
+    Ok(())
+}
+
+fn show(words: Words) -> Result<Show, String> {
+    let (names, policy) = texts(words, |_, _| Ok(false))?;
+    Ok(Show { policy, names })
+}
+
+fn policy(mut words: Words) -> Result<Policy, String> {
+    let action = words
+        .text("policy")
+        .map_err(|_| "print, compare or write?")?;
+    let (mut edits, mut files) = (Vec::new(), Vec::new());
+    while let Some(word) = words.next()? {
+        match word {
+            Word::Name(name) => files.push(PolicyFile(Some(name.into()))),
+            Word::Option(option) => match (action.as_str(), option.as_str()) {
+                ("write", "--add" | "--take") => edits.push(edit(&mut words, &option)?),
+                _ => return unknown(&option),
+            },
+        }
+    }
+    let most = if action == "compare" { 2 } else { 1 };
+    if files.len() > most {
+        return Err(format!("{action}: too many files"));
+    }
+    let mut files = files.into_iter();
+    let first = files.next();
+    match action.as_str() {
+        "print" => Ok(Policy::Print(first.unwrap_or_default())),
+        "compare" => {
+            let first = first.ok_or("compare: no file")?;
+            Ok(Policy::Compare(first, files.next().unwrap_or_default()))
+        }
+        "write" => Ok(Policy::Write(first.unwrap_or_default(), edits)),
+        _ => Err(format!("{action}: neither print, compare nor write")),
+    }
+}
+
+/// A member to add or to take.
+fn edit(words: &mut Words, option: &str) -> Result<Edit, String> {
+    let set = words.text(option)?;
+    let context = words.text(option)?;
+    let code = words.text(option)?;
+    let named = |name: &str| format!("{option} {set} {context} {code}: {name}");
+    let character = code.strip_prefix("U+").unwrap_or(&code);
+    let character = u32::from_str_radix(character, 16)
+        .ok()
+        .and_then(char::from_u32);
+    Ok(Edit {
+        is_added: option == "--add",
+        set: KeySet::ALL
+            .into_iter()
+            .find(|known| known.name() == set)
+            .ok_or_else(|| named("the set is neither prefer_bare nor bare_as_text"))?,
+        context: Context::ALL
+            .into_iter()
+            .find(|known| known.name() == context)
+            .ok_or_else(|| named("the context is neither ordinary nor keycap"))?,
+        character: character.ok_or_else(|| named("not a code point in hexadecimal digits"))?,
+    })
+}

@@ -1,0 +1,105 @@
+//! What a person sees: standard output, messages and the progress line on standard error, and the status at the end.
+
+use std::fmt::Display;
+use std::io::{self, BufWriter, IsTerminal, Stdout, Write};
+use std::time::{Duration, Instant};
+
+/// How the command ends. The greatest of several texts is the status of all.
+#[derive(Debug, Clone, Copy, PartialEq, Eq, PartialOrd, Ord)]
+pub enum Status {
+    /// All is well.
+    Good = 0,
+    /// A text would change, under `--check`; or two policies differ.
+    Different = 1,
+    /// A text was refused, a file could not be read or written, or the command line is wrong.
+    Fault = 2,
+}
+
+/// The two outputs.
+pub struct Console {
+    /// Standard output.
+    pub out: BufWriter<Stdout>,
+    /// When the progress line was last written, if it can be.
+    progress: Option<Instant>,
+    /// Whether the progress line stands there now.
+    is_shown: bool,
+}
+
+impl Console {
+    /// The console of this process.
+    pub fn new() -> Self {
+        let on_terminal = io::stderr().is_terminal();
+        Self {
+            out: BufWriter::with_capacity(1 << 16, io::stdout()),
+            progress: on_terminal.then(Instant::now),
+            is_shown: false,
+        }
+    }
+
+    /// Writes a text to standard output.
+    pub fn print(&mut self, text: &str) -> io::Result<Status> {
+        self.out.write_all(text.as_bytes())?;
+        Ok(Status::Good)
+    }
+
+    /// Whether what standard output gets may be coloured: it is a terminal that has colours, and nobody said no.
+    pub fn has_colours() -> bool {
+        let is_set = |name| std::env::var_os(name).is_some_and(|value| !value.is_empty());
+        let is_dumb = std::env::var_os("TERM").is_some_and(|value| value == "dumb");
+        io::stdout().is_terminal() && !is_set("NO_COLOR") && !is_dumb
+    }
+
+    /// Writes a message with the command's name to standard error.
+    pub fn complain(&mut self, message: &dyn Display) {
+        self.say(&format_args!("tilghorz-host: {message}"));
+    }
+
+    /// Writes a line to standard error, in one piece. Where that fails there is nowhere to say so.
+    pub fn say(&mut self, line: &dyn Display) {
+        self.clear();
+        let _ = io::stderr().write_all(format!("{line}\n").as_bytes());
+    }
+
+    /// Writes the progress line to a terminal, at most ten times a second.
+    pub fn progress(&mut self, line: &dyn Display) {
+        const PAUSE: Duration = Duration::from_millis(100);
+        if self.progress.is_some_and(|last| last.elapsed() >= PAUSE) {
+            let _ = io::stderr().write_all(format!("\r\x1B[K{line}").as_bytes());
+            self.progress = Some(Instant::now());
+            self.is_shown = true;
+        }
+    }
+
+    /// Writes a line to standard output while the progress line may be on the same terminal.
+    pub fn print_line(&mut self, line: &[u8]) -> io::Result<()> {
+        self.clear();
+        self.out.write_all(line)?;
+        self.out.write_all(b"\n")?;
+        if self.progress.is_some() {
+            self.out.flush()?;
+        }
+        Ok(())
+    }
+
+    /// Writes a line to standard error behind all that standard output has got.
+    pub fn say_last(&mut self, line: &dyn Display) -> io::Result<()> {
+        self.out.flush()?;
+        self.say(line);
+        Ok(())
+    }
+
+    /// Shows no progress where the results are shown too.
+    pub fn keep_progress_off_terminal(&mut self) {
+        if io::stdout().is_terminal() {
+            self.progress = None;
+        }
+    }
+
+    /// Takes the progress line away.
+    fn clear(&mut self) {
+        if self.is_shown {
+            let _ = io::stderr().write_all(b"\r\x1B[K");
+            self.is_shown = false;
+        }
+    }
+}

@@ -1,0 +1,131 @@
+//! The help texts.
+
+/// What help is about.
+#[derive(Debug, Clone, Copy, PartialEq, Eq)]
+pub enum Topic {
+    /// The command as a whole.
+    All,
+    /// `format`.
+    Format,
+    /// `report`.
+    Report,
+    /// `fix`.
+    Fix,
+    /// `show`.
+    Show,
+    /// `policy`.
+    Policy,
+}
+
+impl Topic {
+    /// The topic of a command's name.
+    pub fn of(name: &str) -> Option<Self> {
+        Some(match name {
+            "format" => Self::Format,
+            "report" => Self::Report,
+            "fix" => Self::Fix,
+            "show" => Self::Show,
+            "policy" => Self::Policy,
+            _ => return None,
+        })
+    }
+}
+
+/// What `--version` says.
+pub const VERSION: &str = concat!("tilghorz-host ", env!("CARGO_PKG_VERSION"), "\n");
+
+/// The help on a topic.
+pub fn text(topic: Topic) -> &'static str {
+    match topic {
+        Topic::All => ALL,
+        Topic::Format => FORMAT,
+        Topic::Report => REPORT,
+        Topic::Fix => FIX,
+        Topic::Show => SHOW,
+        Topic::Policy => POLICY,
+    }
+}
+
+const ALL: &str = "\
+Puts the emoji selectors U+FE0E and U+FE0F where a policy wants them, and touches nothing else.
+
+usage: tilghorz-host COMMAND [OPTIONS] [FILES]
+
+  format    write the formatted text, change files in place, or check them
+  report    list the findings: where a text would change, and why
+  fix       mend one finding
+  show      show the text with its selectors made visible and its findings marked
+  policy    print, compare or write policies
+  help      show this, or the help of a command: tilghorz-host help format
+  version   show the version
+
+A text is UTF-8 of at most 16,777,216 bytes. FILES are read as bytes; none, or -, is standard input. Of a folder every
+file is taken, with those of its folders, but for names that begin with a full stop, symbolic links and special files.
+
+Exit status: 0 done; 1 a text would change (format --check) or two policies differ (policy compare); 2 a text was
+refused, a file could not be read or written, or the command line is wrong.
+";
+
+const FORMAT: &str = "\
+usage: tilghorz-host format [--check | --in-place] [--policy FILE] [FILES]
+
+Formats texts. Without an option one text is written to standard output; on a refusal nothing is.
+
+  --check        write nothing but the names of the files that would change; status 1 if there is one
+  --in-place     change the files. The new text is written beside its file and renamed, so no file is ever half
+                 written. Permissions, owner and group are kept. A symbolic link that is named stays, and its file is
+                 changed; another hard link keeps the old text. Read-only files are left alone
+  --policy FILE  the policy: 192 bytes, as `tilghorz-host policy write` writes them; else the default one
+
+A refused file is named, with the offset where it is damaged, and the others go on. Of several files a summary is
+written to standard error.
+";
+
+const REPORT: &str = "\
+usage: tilghorz-host report [--json] [--items] [--policy FILE] [FILES]
+
+Writes a line for each finding: start, end and eight counts, and a line with the totals. The counts: unsanctioned,
+modifier-defective, additional-defective, tag-conflicting, tag-forced, tag-redundant, policy-redundant, decisions. The
+fifth and the eighth add a selector each, the others remove one each. For a refused text the line is `refused`, the
+number and any offset. Of several files each has a line with its name first.
+
+  --json         a JSON object for each text instead, one on each line, with the names of the counts. In a file's name,
+                 what is not UTF-8 is U+FFFD
+  --items        the items of the text instead: start, end, kind, and whether the tags are complete; with --json, beside
+                 the findings
+  --policy FILE  the policy, as in format
+";
+
+const FIX: &str = "\
+usage: tilghorz-host fix --at OFFSET [--decide text|emoji ..] [--in-place] [--policy FILE] [FILE]
+
+Mends the finding that starts at the byte offset, and writes the whole text to standard output.
+
+  --at OFFSET    a start that report has
+  --decide ..    a decision, text or emoji, for each that the finding counts, in text order
+  --in-place     change the file instead, as in format
+  --policy FILE  the policy, as in format
+";
+
+const SHOW: &str = "\
+usage: tilghorz-host show [--policy FILE] [FILES]
+
+Shows texts line by line. Selectors, links, tags and control characters are shown by their code points, as <FE0F>.
+Findings are marked under the line, each with its bytes, its counts and what format would write. On a terminal it is
+coloured, unless the variable NO_COLOR is set.
+
+  --policy FILE  the policy, as in format
+";
+
+const POLICY: &str = "\
+usage: tilghorz-host policy print [FILE]
+       tilghorz-host policy compare FILE [FILE]
+       tilghorz-host policy write [--add SET CONTEXT CODE] [--take SET CONTEXT CODE] .. [FILE]
+
+A policy is a file of 192 bytes. Without FILE, and as the second of compare, it is the default policy.
+
+  print      the members of the four sets, by their code points
+  compare    a line for each base and context with two rules; status 1 if there is one
+  write      the bytes, to standard output, with members added and taken. SET is prefer_bare or bare_as_text, CONTEXT
+             is ordinary or keycap, CODE is a code point, such as 2764
+";

@@ -1,0 +1,104 @@
+//! The little of JSON that a report needs.
+
+use std::fmt::{self, Display, Formatter, Write};
+
+use tilghorz::{Counts, Finding, Item, Refusal};
+
+use crate::report::kind_name;
+
+/// A text in quotes.
+pub struct Quoted<'a>(pub &'a str);
+
+impl Display for Quoted<'_> {
+    fn fmt(&self, out: &mut Formatter<'_>) -> fmt::Result {
+        out.write_char('"')?;
+        for character in self.0.chars() {
+            match character {
+                '"' | '\\' => write!(out, "\\{character}")?,
+                '\u{0}'..'\u{20}' | '\u{7F}' => write!(out, "\\u{:04X}", u32::from(character))?,
+                _ => out.write_char(character)?,
+            }
+        }
+        out.write_char('"')
+    }
+}
+
+/// A finding as an object.
+pub struct FindingObject<'a>(pub &'a Finding);
+
+impl Display for FindingObject<'_> {
+    fn fmt(&self, out: &mut Formatter<'_>) -> fmt::Result {
+        let Finding { start, end, counts } = self.0;
+        write!(
+            out,
+            "{{\"start\":{start},\"end\":{end},{}}}",
+            Members(counts)
+        )
+    }
+}
+
+/// Counts as an object.
+pub struct CountsObject<'a>(pub &'a Counts);
+
+impl Display for CountsObject<'_> {
+    fn fmt(&self, out: &mut Formatter<'_>) -> fmt::Result {
+        write!(out, "{{{}}}", Members(self.0))
+    }
+}
+
+/// Counts as members of an object.
+struct Members<'a>(&'a Counts);
+
+impl Display for Members<'_> {
+    fn fmt(&self, out: &mut Formatter<'_>) -> fmt::Result {
+        for (index, (name, count)) in self.0.named().enumerate() {
+            let comma = if index == 0 { "" } else { "," };
+            let name = name.replace('-', "_");
+            write!(out, "{comma}\"{name}\":{count}")?;
+        }
+        Ok(())
+    }
+}
+
+/// An item as an object.
+pub struct ItemObject<'a>(pub &'a Item);
+
+impl Display for ItemObject<'_> {
+    fn fmt(&self, out: &mut Formatter<'_>) -> fmt::Result {
+        let Item {
+            start,
+            end,
+            kind,
+            tags_complete,
+        } = self.0;
+        let kind = kind_name(*kind);
+        write!(
+            out,
+            "{{\"start\":{start},\"end\":{end},\"kind\":\"{kind}\",\"tags_complete\":{tags_complete}}}"
+        )
+    }
+}
+
+/// A refusal as an object.
+pub struct RefusalObject(pub Refusal);
+
+impl Display for RefusalObject {
+    fn fmt(&self, out: &mut Formatter<'_>) -> fmt::Result {
+        write!(out, "{{\"number\":{},", self.0.number())?;
+        if let Some(value) = self.0.value() {
+            write!(out, "\"value\":{value},")?;
+        }
+        write!(out, "\"message\":{}}}", Quoted(&self.0.to_string()))
+    }
+}
+
+#[cfg(test)]
+mod tests {
+    use super::*;
+
+    #[test]
+    fn texts_are_quoted() {
+        let quoted = Quoted("a\"b\\c\nd\u{7F}\u{2764}").to_string();
+        assert_eq!(quoted, "\"a\\\"b\\\\c\\u000Ad\\u007F\u{2764}\"");
+    }
+}

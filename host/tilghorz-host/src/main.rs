@@ -1,0 +1,67 @@
+//! The command `tilghorz-host`: formats, reports, fixes and shows the emoji selectors of texts.
+//!
+//! `tilghorz-host help` has the commands. Everything that matters is in the library `tilghorz`; here are the command
+//! line, files, folders and standard input, and what a person reads.
+
+#![forbid(unsafe_code)]
+#![warn(missing_docs)]
+
+mod arguments;
+mod console;
+mod fix;
+mod format;
+mod help;
+mod json;
+mod policy;
+mod replace;
+mod report;
+mod show;
+mod source;
+mod tally;
+mod visible;
+mod words;
+
+use std::env;
+use std::io::{self, ErrorKind, Write};
+use std::process::ExitCode;
+
+use arguments::Command;
+use console::{Console, Status};
+
+fn main() -> ExitCode {
+    let mut console = Console::new();
+    let status = match arguments::parse(env::args_os().skip(1)) {
+        Err(fault) => {
+            console.complain(&fault);
+            Status::Fault
+        }
+        Ok(command) => finish(run(&command, &mut console), &mut console),
+    };
+    ExitCode::from(status as u8)
+}
+
+/// Does what the command line asks. An error is one of standard output.
+fn run(command: &Command, console: &mut Console) -> io::Result<Status> {
+    match command {
+        Command::Help(topic) => console.print(help::text(*topic)),
+        Command::Version => console.print(help::VERSION),
+        Command::Format(format) => format.run(console),
+        Command::Report(report) => report.run(console),
+        Command::Fix(fix) => fix.run(console),
+        Command::Show(show) => show.run(console),
+        Command::Policy(policy) => policy.run(console),
+    }
+}
+
+/// Writes out what is left. A reader that has gone away is told nothing: there is nobody to tell.
+fn finish(status: io::Result<Status>, console: &mut Console) -> Status {
+    match status.and_then(|status| console.out.flush().map(|()| status)) {
+        Ok(status) => status,
+        Err(error) => {
+            if error.kind() != ErrorKind::BrokenPipe {
+                console.complain(&format_args!("standard output: {error}"));
+            }
+            Status::Fault
+        }
+    }
+}

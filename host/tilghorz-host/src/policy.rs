@@ -1,0 +1,153 @@
+//! `tilghorz-host policy`, and the policies that the other commands read.
+
+use std::fs::File;
+use std::io::{self, Read, Write};
+use std::path::PathBuf;
+
+use tilghorz::{Context, KeySet, variation_entries};
+
+use crate::console::{Console, Status};
+use crate::source::Source;
+
+/// The file of a policy; without one it is the default policy.
+#[derive(Debug, Default, PartialEq, Eq)]
+pub struct PolicyFile(pub Option<PathBuf>);
+
+/// The command.
+#[derive(Debug, PartialEq, Eq)]
+pub enum Policy {
+    /// Prints the members.
+    Print(PolicyFile),
+    /// Prints what differs.
+    Compare(PolicyFile, PolicyFile),
+    /// Writes the bytes, after these edits.
+    Write(PolicyFile, Vec<Edit>),
+}
+
+/// A member that is added or taken.
+#[derive(Debug, PartialEq, Eq)]
+pub struct Edit {
+    /// Added, or else taken.
+    pub is_added: bool,
+    /// The key set.
+    pub set: KeySet,
+    /// The context.
+    pub context: Context,
+    /// The base.
+    pub character: char,
+}
+
+impl PolicyFile {
+    /// Reads the policy, or says why it is none.
+    pub fn read_or_complain(&self, console: &mut Console) -> Option<tilghorz::Policy> {
+        let Some(path) = &self.0 else {
+            return Some(tilghorz::Policy::default());
+        };
+        let source = Source::File(path.clone());
+        let most = tilghorz::sys::POLICY_BYTES as u64 + 1;
+        let mut bytes = Vec::new();
+        let read = File::open(path).and_then(|file| file.take(most).read_to_end(&mut bytes));
+        if let Err(error) = read {
+            console.complain(&format_args!("{source}: {error}"));
+            return None;
+        }
+        let policy = tilghorz::Policy::from_bytes(&bytes);
+        policy
+            .inspect_err(|refusal| source.complain(*refusal, &bytes, console))
+            .ok()
+    }
+}
+
+impl Policy {
+    /// Does it.
+    pub fn run(&self, console: &mut Console) -> io::Result<Status> {
+        match self {
+            Self::Print(file) => match file.read_or_complain(console) {
+                None => Ok(Status::Fault),
+                Some(policy) => print(&policy, &mut console.out),
+            },
+            Self::Compare(first, second) => {
+                let policies = (
+                    first.read_or_complain(console),
+                    second.read_or_complain(console),
+                );
+                let (Some(first), Some(second)) = policies else {
+                    return Ok(Status::Fault);
+                };
+                compare(&first, &second, &mut console.out)
+            }
+            Self::Write(file, edits) => {
+                let Some(mut policy) = file.read_or_complain(console) else {
+                    return Ok(Status::Fault);
+                };
+                for edit in edits {
+                    if let Err(fault) = edit.apply(&mut policy) {
+                        console.complain(&fault);
+                        return Ok(Status::Fault);
+                    }
+                }
+                console.out.write_all(policy.as_bytes())?;
+                Ok(Status::Good)
+            }
+        }
+    }
+}
+
+impl Edit {
+    /// Adds or takes the member.
+    fn apply(&self, policy: &mut tilghorz::Policy) -> Result<bool, tilghorz::NoEntry> {
+        if self.is_added {
+            policy.add(self.set, self.character, self.context)
+        } else {
+            policy.take(self.set, self.character, self.context)
+        }
+    }
+}
+
+/// Prints the four sets, each with its members.
+fn print(policy: &tilghorz::Policy, out: &mut impl Write) -> io::Result<Status> {
+    const COLUMNS: usize = 16;
+    for set in KeySet::ALL {
+        for context in Context::ALL {
+            let members: Vec<char> = policy.members(set, context).collect();
+            let (number, entries) = (members.len(), variation_entries().len());
+            writeln!(
+                out,
+                "{} {}: {number} of {entries}",
+                set.name(),
+                context.name()
+            )?;
+            for line in members.chunks(COLUMNS) {
+                for member in line {
+                    write!(out, " {:04X}", u32::from(*member))?;
+                }
+                writeln!(out)?;
+            }
+        }
+    }
+    Ok(Status::Good)
+}
+
+/// Prints the bases and contexts with two rules.
+fn compare(
+    first: &tilghorz::Policy,
+    second: &tilghorz::Policy,
+    out: &mut impl Write,
+) -> io::Result<Status> {
+    for &base in variation_entries() {
+        for context in Context::ALL {
+            let rules = [first, second].map(|policy| policy.singleton_rule(base, context));
+            if let [Some(one), Some(other)] = rules
+                && one != other
+            {
+                let context = context.name();
+                writeln!(out, "{:04X} {context}: {one:?}, {other:?}", u32::from(base))?;
+            }
+        }
+    }
+    Ok(if first == second {
+        Status::Good
+    } else {
+        Status::Different
+    })
+}

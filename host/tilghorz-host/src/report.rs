@@ -1,0 +1,184 @@
+//! `tilghorz-host report`.
+
+use std::fmt::Display;
+use std::io::{self, Write};
+
+use tilghorz::{Finding, Item, ItemKind, Policy, Refusal, Table};
+
+use crate::console::{Console, Status};
+use crate::json::{CountsObject, FindingObject, ItemObject, Quoted, RefusalObject};
+use crate::policy::PolicyFile;
+use crate::source::{Source, Sources, Text};
+use crate::tally::{self, Outcome};
+
+/// The command.
+#[derive(Debug, PartialEq, Eq)]
+pub struct Report {
+    /// Whether it is written in JSON.
+    pub json: bool,
+    /// Whether the items are asked for.
+    pub items: bool,
+    /// The policy.
+    pub policy: PolicyFile,
+    /// The texts.
+    pub names: Vec<Source>,
+}
+
+/// What was found in a text.
+struct Found {
+    findings: Table<Finding>,
+    /// The items, if they are asked for.
+    items: Option<Table<Item>>,
+}
+
+impl Report {
+    /// Reports on the texts.
+    pub fn run(&self, console: &mut Console) -> io::Result<Status> {
+        let Some(policy) = self.policy.read_or_complain(console) else {
+            return Ok(Status::Fault);
+        };
+        let sources = Sources::of(&self.names, console);
+        console.keep_progress_off_terminal();
+        let words = ["with findings", "without"];
+        let tally = tally::each(&sources, words, console, |source, text, console| {
+            self.one(source, text, &policy, sources.are_many, console)
+        })?;
+        Ok(tally.status(Status::Good))
+    }
+
+    /// Reports on a text.
+    fn one(
+        &self,
+        source: &Source,
+        text: &Text,
+        policy: &Policy,
+        are_many: bool,
+        console: &mut Console,
+    ) -> io::Result<Outcome> {
+        let found = self.find(&text.bytes, policy);
+        if let Err(refusal) = found {
+            source.complain(refusal, &text.bytes, console);
+        }
+        let out = &mut console.out;
+        if self.json {
+            write_json(source, text.bytes.len(), &found, out)?;
+        } else {
+            if are_many {
+                writeln!(out, "==> {source} <==")?;
+            }
+            write_lines(&found, out)?;
+        }
+        Ok(match found {
+            Err(_) => Outcome::Refused,
+            Ok(found) if found.findings.is_empty() => Outcome::Clean,
+            Ok(_) => Outcome::Found,
+        })
+    }
+
+    /// Lists what is asked for.
+    fn find(&self, text: &[u8], policy: &Policy) -> Result<Found, Refusal> {
+        Ok(Found {
+            findings: tilghorz::findings(text, policy)?,
+            items: self.items.then(|| tilghorz::items(text)).transpose()?,
+        })
+    }
+}
+
+/// The name of an item's kind.
+pub fn kind_name(kind: ItemKind) -> &'static str {
+    match kind {
+        ItemKind::Passthrough => "passthrough",
+        ItemKind::UnsanctionedSelectors => "unsanctioned-selectors",
+        ItemKind::LinksOnly => "links-only",
+        ItemKind::EmojiHeaded => "emoji-headed",
+    }
+}
+
+/// Writes document 01's lines: the findings and the totals, or the refusal. Items stand in their place.
+fn write_lines(found: &Result<Found, Refusal>, out: &mut impl Write) -> io::Result<()> {
+    match found {
+        Err(refusal) => {
+            let value = refusal
+                .value()
+                .map_or(String::new(), |value| format!(" {value}"));
+            writeln!(out, "refused {}{value}", refusal.number())
+        }
+        Ok(Found {
+            items: Some(items), ..
+        }) => items.iter().try_for_each(|item| {
+            let tags = if item.tags_complete {
+                "complete"
+            } else {
+                "incomplete"
+            };
+            writeln!(
+                out,
+                "{} {} {} {tags}",
+                item.start,
+                item.end,
+                kind_name(item.kind)
+            )
+        }),
+        Ok(Found {
+            findings,
+            items: None,
+        }) => {
+            for Finding { start, end, counts } in findings.iter() {
+                write!(out, "{start} {end}")?;
+                write_numbers(&counts.numbers(), out)?;
+            }
+            write!(out, "total")?;
+            write_numbers(&findings.totals().numbers(), out)
+        }
+    }
+}
+
+/// Writes numbers, each behind a blank, and ends the line.
+fn write_numbers(numbers: &[usize], out: &mut impl Write) -> io::Result<()> {
+    numbers
+        .iter()
+        .try_for_each(|number| write!(out, " {number}"))?;
+    writeln!(out)
+}
+
+/// Writes an object in a line.
+fn write_json(
+    source: &Source,
+    bytes: usize,
+    found: &Result<Found, Refusal>,
+    out: &mut impl Write,
+) -> io::Result<()> {
+    let name = String::from_utf8_lossy(source.name());
+    write!(out, "{{\"file\":{}", Quoted(&name))?;
+    match found {
+        Err(refusal) => write!(out, ",\"refused\":{}", RefusalObject(*refusal))?,
+        Ok(Found { findings, items }) => {
+            write!(out, ",\"bytes\":{bytes},\"findings\":")?;
+            write_array(
+                findings.iter(),
+                |finding| FindingObject(finding).to_string(),
+                out,
+            )?;
+            write!(out, ",\"totals\":{}", CountsObject(&findings.totals()))?;
+            if let Some(items) = items {
+                write!(out, ",\"items\":")?;
+                write_array(items.iter(), |item| ItemObject(item).to_string(), out)?;
+            }
+        }
+    }
+    writeln!(out, "}}")
+}
+
+/// Writes an array.
+fn write_array<T, D: Display>(
+    rows: impl Iterator<Item = T>,
+    object: impl Fn(&T) -> D,
+    out: &mut impl Write,
+) -> io::Result<()> {
+    write!(out, "[")?;
+    for (index, row) in rows.enumerate() {
+        let comma = if index == 0 { "" } else { "," };
+        write!(out, "{comma}{}", object(&row))?;
+    }
+    write!(out, "]")
+}

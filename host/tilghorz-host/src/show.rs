@@ -1,0 +1,247 @@
+//! `tilghorz-host show`.
+
+use std::io::{self, Write};
+
+use tilghorz::{Counts, Finding, Policy};
+
+use crate::console::{Console, Status};
+use crate::policy::PolicyFile;
+use crate::source::{Source, Sources, Text};
+use crate::tally::{self, Outcome};
+use crate::visible::{self, Shown};
+
+/// The command.
+#[derive(Debug, PartialEq, Eq)]
+pub struct Show {
+    /// The policy.
+    pub policy: PolicyFile,
+    /// The texts.
+    pub names: Vec<Source>,
+}
+
+/// What stands before and behind the parts of a line: colours, or nothing.
+struct Style {
+    /// Before a line's number.
+    faint: &'static str,
+    /// Before a character that is shown by its code point.
+    code_point: &'static str,
+    /// Before the marks of findings.
+    mark: &'static str,
+    /// Behind each.
+    plain: &'static str,
+}
+
+/// Colours.
+const COLOURED: Style = Style {
+    faint: "\x1B[2m",
+    code_point: "\x1B[36m",
+    mark: "\x1B[33m",
+    plain: "\x1B[0m",
+};
+
+/// No colours.
+const PLAIN: Style = Style {
+    faint: "",
+    code_point: "",
+    mark: "",
+    plain: "",
+};
+
+impl Show {
+    /// Shows the texts.
+    pub fn run(&self, console: &mut Console) -> io::Result<Status> {
+        let Some(policy) = self.policy.read_or_complain(console) else {
+            return Ok(Status::Fault);
+        };
+        let sources = Sources::of(&self.names, console);
+        console.keep_progress_off_terminal();
+        let style = if Console::has_colours() {
+            COLOURED
+        } else {
+            PLAIN
+        };
+        let words = ["with findings", "without"];
+        let tally = tally::each(&sources, words, console, |source, text, console| {
+            if sources.are_many {
+                writeln!(console.out, "==> {source} <==")?;
+            }
+            one(source, text, &policy, &style, console)
+        })?;
+        Ok(tally.status(Status::Good))
+    }
+}
+
+/// Shows a text.
+fn one(
+    source: &Source,
+    text: &Text,
+    policy: &Policy,
+    style: &Style,
+    console: &mut Console,
+) -> io::Result<Outcome> {
+    let findings = match tilghorz::findings(&text.bytes, policy) {
+        Ok(findings) => findings,
+        Err(refusal) => {
+            source.complain(refusal, &text.bytes, console);
+            return Ok(Outcome::Refused);
+        }
+    };
+    let shown = String::from_utf8_lossy(&text.bytes);
+    let mut rest = findings.iter().peekable();
+    let mut start = 0;
+    for (index, line) in shown.split_inclusive('\n').enumerate() {
+        let end = start + line.len();
+        let mut in_line = Vec::new();
+        while let Some(finding) = rest.next_if(|finding| finding.start < end) {
+            in_line.push(finding);
+        }
+        let line = line.strip_suffix('\n').unwrap_or(line);
+        write_line(index + 1, line, start, &in_line, style, &mut console.out)?;
+        for finding in in_line {
+            write_finding(&finding, &text.bytes, policy, style, &mut console.out)?;
+        }
+        start = end;
+    }
+    Ok(if findings.is_empty() {
+        Outcome::Clean
+    } else {
+        Outcome::Found
+    })
+}
+
+/// Writes a line that starts at an offset, and the marks of its findings under it.
+fn write_line(
+    number: usize,
+    line: &str,
+    start: usize,
+    findings: &[Finding],
+    style: &Style,
+    out: &mut impl Write,
+) -> io::Result<()> {
+    let (mut shown, mut marks, mut column) = (String::new(), String::new(), 0);
+    let mut rest = findings;
+    for (index, character) in line.char_indices() {
+        let mark = mark_at(start + index, &mut rest);
+        let mut piece = String::new();
+        let Shown {
+            columns,
+            by_code_point,
+        } = visible::push(character, column, &mut piece);
+        if by_code_point {
+            shown.extend([style.code_point, &piece, style.plain]);
+        } else {
+            shown.push_str(&piece);
+        }
+        let further = if mark == '^' { '~' } else { mark };
+        marks.extend((0..columns).map(|column| if column == 0 { mark } else { further }));
+        column += columns;
+    }
+    let Style {
+        faint, mark, plain, ..
+    } = style;
+    writeln!(out, "{faint}{number:>6} |{plain} {shown}")?;
+    if !findings.is_empty() {
+        writeln!(
+            out,
+            "{faint}       |{plain} {mark}{}{plain}",
+            marks.trim_end()
+        )?;
+    }
+    Ok(())
+}
+
+/// The mark of a byte: `^` where a finding starts, `~` inside one. Findings that end before it are taken off the front.
+fn mark_at(offset: usize, findings: &mut &[Finding]) -> char {
+    while let Some((first, rest)) = findings.split_first()
+        && first.end <= offset
+    {
+        *findings = rest;
+    }
+    match findings.first() {
+        Some(finding) if finding.start == offset => '^',
+        Some(finding) if finding.start < offset => '~',
+        _ => ' ',
+    }
+}
+
+/// Writes what was found, and what formatting makes of it. The bytes of a finding are an item of their own, so
+/// formatting them alone gives its replacement.
+fn write_finding(
+    finding: &Finding,
+    text: &[u8],
+    policy: &Policy,
+    style: &Style,
+    out: &mut impl Write,
+) -> io::Result<()> {
+    let Finding { start, end, counts } = finding;
+    let Style { faint, plain, .. } = style;
+    write!(
+        out,
+        "{faint}       |{plain} bytes {start} to {end}: {}",
+        in_words(counts)
+    )?;
+    let replacement = text
+        .get(finding.span())
+        .and_then(|bytes| tilghorz::format(bytes, policy).ok());
+    if let Some(replacement) = replacement {
+        let replacement = String::from_utf8_lossy(&replacement);
+        let replacement = visible::text(&replacement);
+        let becomes = if replacement.is_empty() {
+            "nothing"
+        } else {
+            &replacement
+        };
+        write!(out, "; becomes {becomes}")?;
+    }
+    writeln!(out)
+}
+
+/// The counts that are not 0, in words.
+fn in_words(counts: &Counts) -> String {
+    let words = counts.named().filter(|(_, count)| *count > 0);
+    let words = words.map(|(name, count)| match (name, count) {
+        ("decisions", 1) => "1 decision".to_owned(),
+        _ => format!("{count} {name}"),
+    });
+    words.collect::<Vec<_>>().join(", ")
+}
+
+#[cfg(test)]
+mod tests {
+    use super::*;
+
+    /// A text of one line as it is shown.
+    fn shown(text: &str, style: &Style) -> String {
+        let policy = Policy::default();
+        let findings = tilghorz::findings(text.as_bytes(), &policy).expect("a text");
+        let findings: Vec<Finding> = findings.iter().collect();
+        let mut out = Vec::new();
+        write_line(1, text, 0, &findings, style, &mut out).expect("written");
+        for finding in &findings {
+            write_finding(finding, text.as_bytes(), &policy, style, &mut out).expect("written");
+        }
+        String::from_utf8(out).expect("a text")
+    }
+
+    #[test]
+    fn findings_are_marked_under_the_line() {
+        let expected = "     1 | 1<FE0E> \u{2764}\u{A9}.
+       | ^~~~~~~ ^^
+       | bytes 0 to 4: 1 policy-redundant; becomes 1
+       | bytes 5 to 8: 1 decision; becomes \u{2764}<FE0E>
+       | bytes 8 to 10: 1 decision; becomes \u{A9}<FE0E>
+";
+        assert_eq!(shown("1\u{FE0E} \u{2764}\u{A9}.", &PLAIN), expected);
+    }
+
+    #[test]
+    fn colours_stand_around_code_points_and_marks() {
+        let text = shown("a\u{FE0F}", &COLOURED);
+        assert!(text.contains("a\x1B[36m<FE0F>\x1B[0m\n"), "{text:?}");
+        assert!(text.contains(" \x1B[33m ^~~~~~\x1B[0m\n"), "{text:?}");
+        assert!(
+            text.contains("1 unsanctioned; becomes nothing\n"),
+            "{text:?}"
+        );
+    }
+}

@@ -1,0 +1,201 @@
+//! Help, wrong command lines, readers that go away, and bytes of all kinds.
+
+mod support;
+
+use std::process::{Command, Stdio};
+
+use support::{COMMAND, Folder};
+
+#[test]
+fn help_and_version_go_to_standard_output() {
+    let folder = Folder::new("help");
+    for (arguments, beginning) in [
+        (&["help"][..], "Puts the emoji selectors"),
+        (&["--help"], "Puts the emoji selectors"),
+        (&["help", "format"], "usage: tilghorz-host format "),
+        (
+            &["report", "--json", "--help"],
+            "usage: tilghorz-host report ",
+        ),
+        (&["fix", "-h"], "usage: tilghorz-host fix "),
+        (&["help", "show"], "usage: tilghorz-host show "),
+        (&["help", "policy"], "usage: tilghorz-host policy "),
+        (&["--version"], "tilghorz-host 0."),
+    ] {
+        let ran = folder.run(arguments);
+        assert_eq!((ran.status, ran.err.as_str()), (0, ""));
+        assert!(ran.text().starts_with(beginning), "{}", ran.text());
+        assert!(ran.text().lines().all(|line| line.len() <= 120));
+    }
+}
+
+#[test]
+fn wrong_command_lines_are_told_on_standard_error() {
+    let folder = Folder::new("wrong");
+    for (arguments, message) in [
+        (&[][..], "no command"),
+        (&["fromat"], "fromat: not a command"),
+        (&["help", "fromat"], "fromat: not a command"),
+        (&["format", "--chek"], "format: --chek: not an option"),
+        (
+            &["format", "--check=yes"],
+            "format: --check: takes no value",
+        ),
+        (&["format", "--policy"], "format: --policy: no value"),
+        (
+            &["format", "--policy", "a", "--policy", "b"],
+            "format: --policy: given twice",
+        ),
+        (
+            &["format", "--check", "--in-place", "a"],
+            "format: --check and --in-place: one of them",
+        ),
+        (
+            &["format", "--in-place"],
+            "format: --in-place: standard input cannot be changed in place",
+        ),
+        (
+            &["format", "--in-place", "-"],
+            "format: --in-place: standard input cannot be changed in place",
+        ),
+        (
+            &["format", "a", "b"],
+            "format: several texts go with --in-place or --check",
+        ),
+        (&["report", "--at", "1"], "report: --at: not an option"),
+        (&["fix"], "fix: --at OFFSET is missing"),
+        (&["fix", "--at", "x"], "fix: --at x: not an offset in bytes"),
+        (
+            &["fix", "--at", "99999999999999999999"],
+            "fix: --at 99999999999999999999: not an offset",
+        ),
+        (
+            &["fix", "--at", "1", "--decide", "blue"],
+            "fix: --decide blue: neither text nor emoji",
+        ),
+        (&["fix", "--at", "1", "a", "b"], "fix: one text at a time"),
+        (&["policy"], "policy: print, compare or write?"),
+        (
+            &["policy", "show"],
+            "policy: show: neither print, compare nor write",
+        ),
+        (
+            &["policy", "print", "a", "b"],
+            "policy: print: too many files",
+        ),
+        (&["policy", "compare"], "policy: compare: no file"),
+        (
+            &["policy", "print", "--add", "prefer_bare", "ordinary", "31"],
+            "policy: --add: not an option",
+        ),
+        (
+            &["policy", "write", "--add", "all", "ordinary", "31"],
+            "the set is neither",
+        ),
+        (
+            &["policy", "write", "--add", "prefer_bare", "all", "31"],
+            "the context is neither",
+        ),
+        (
+            &["policy", "write", "--add", "prefer_bare", "ordinary", "x"],
+            "not a code point",
+        ),
+        (
+            &["policy", "write", "--add", "prefer_bare", "ordinary", "61"],
+            "U+0061 has no variation sequence",
+        ),
+        (&["format", "missing"], "missing: No such file"),
+        (&["format", "--", "--check"], "--check: No such file"),
+    ] {
+        let ran = folder.run(arguments);
+        assert_eq!((ran.status, ran.text()), (2, ""), "{arguments:?}");
+        let beginning = format!("tilghorz-host: {message}");
+        assert!(
+            ran.err.starts_with(&beginning) || ran.err.contains(message),
+            "{}",
+            ran.err
+        );
+    }
+}
+
+/// A reader that goes away is no reason for a message.
+#[test]
+fn a_closed_pipe_is_quiet() {
+    let folder = Folder::new("pipe");
+    folder.write("many", "\u{A9}\n".repeat(100_000));
+    for command in ["format", "report", "show"] {
+        let mut command = Command::new(COMMAND)
+            .args([command, "many"])
+            .current_dir(folder.path(""))
+            .stdin(Stdio::null())
+            .stdout(Stdio::piped())
+            .stderr(Stdio::piped())
+            .spawn()
+            .expect("a process");
+        drop(command.stdout.take());
+        let output = command.wait_with_output().expect("an end");
+        assert_eq!((output.status.code(), output.stderr.len()), (Some(2), 0));
+    }
+}
+
+/// Bytes of all kinds, in pieces that mean something here.
+fn drawn(seed: &mut u64) -> Vec<u8> {
+    const PIECES: [&[u8]; 12] = [
+        b"a",
+        b"\n",
+        b"1",
+        b"\t\x1B[2J",
+        b"\xEF\xB8\x8E",
+        b"\xEF\xB8\x8F",
+        b"\xE2\x80\x8D",
+        b"\xE2\x83\xA3",
+        b"\xE2\x9D\xA4",
+        b"\xF0\x9F\x8F\xBB",
+        b"\xF3\xA0\x81\xA1",
+        b"\xF0\x9F\x87\xA6",
+    ];
+    let mut next = |below: usize| {
+        *seed = seed
+            .wrapping_mul(6_364_136_223_846_793_005)
+            .wrapping_add(1_442_695_040_888_963_407);
+        (*seed >> 33) as usize % below
+    };
+    let mut bytes: Vec<u8> = (0..next(30))
+        .flat_map(|_| PIECES[next(PIECES.len())].to_vec())
+        .collect();
+    if next(4) == 0 && !bytes.is_empty() {
+        let at = next(bytes.len());
+        bytes[at] = next(256) as u8;
+    }
+    bytes
+}
+
+#[test]
+fn no_input_ends_in_a_panic() {
+    let folder = Folder::new("panic");
+    let mut seed = 1;
+    for number in 0..60 {
+        let bytes = drawn(&mut seed);
+        let at = number.to_string();
+        for arguments in [
+            &["format"][..],
+            &["format", "--check"],
+            &["report", "--json", "--items"],
+            &["show"],
+            &["fix", "--at", &at, "--decide", "text"],
+        ] {
+            let ran = folder.run_with(arguments, &bytes);
+            assert!((0..=2).contains(&ran.status), "{arguments:?} {bytes:X?}");
+            assert!(
+                !ran.err.contains("panicked"),
+                "{arguments:?} {bytes:X?} {}",
+                ran.err
+            );
+            assert_eq!(
+                ran.status == 2,
+                !ran.err.is_empty(),
+                "{arguments:?} {bytes:X?}"
+            );
+        }
+    }
+}

@@ -1,0 +1,212 @@
+//! Each command on a message, a damaged text and an empty one.
+
+mod support;
+
+use std::fs;
+use std::path::Path;
+
+use support::{FORMATTED, Folder, MESSAGE};
+
+/// A text with a character cut off in its second line.
+const DAMAGED: &[u8] = b"one\ntwo \xE2\x9D";
+
+#[test]
+fn format_writes_the_text() {
+    let folder = Folder::new("format");
+    folder.write("message", MESSAGE);
+    let file = folder.run(&["format", "message"]);
+    let input = folder.run_with(&["format"], MESSAGE.as_bytes());
+    let dash = folder.run_with(&["format", "-"], MESSAGE.as_bytes());
+    for ran in [file, input, dash] {
+        assert_eq!(
+            (ran.status, ran.text(), ran.err.as_str()),
+            (0, FORMATTED, "")
+        );
+    }
+    assert_eq!(folder.read("message"), MESSAGE.as_bytes());
+    let empty = folder.run(&["format"]);
+    assert_eq!(
+        (empty.status, empty.text(), empty.err.as_str()),
+        (0, "", "")
+    );
+}
+
+#[test]
+fn a_refused_text_is_named_with_its_offset() {
+    let folder = Folder::new("refused");
+    folder.write("damaged", DAMAGED);
+    let message = "damaged: refused 3: not well-formed UTF-8 at byte 8, in line 2\n";
+    for (command, out) in [("format", ""), ("show", ""), ("report", "refused 3 8\n")] {
+        let ran = folder.run(&[command, "damaged"]);
+        assert_eq!((ran.status, ran.text()), (2, out));
+        assert_eq!(ran.err, format!("tilghorz-host: {message}"));
+    }
+    let ran = folder.run_with(&["format", "--check"], DAMAGED);
+    assert_eq!((ran.status, ran.text()), (2, ""));
+    assert!(
+        ran.err
+            .starts_with("tilghorz-host: standard input: refused 3: "),
+        "{}",
+        ran.err
+    );
+}
+
+#[test]
+fn check_tells_by_its_status() {
+    let folder = Folder::new("check");
+    let changed = folder.run_with(&["format", "--check"], MESSAGE.as_bytes());
+    assert_eq!((changed.status, changed.text()), (1, "-\n"));
+    let unchanged = folder.run_with(&["format", "--check"], FORMATTED.as_bytes());
+    assert_eq!((unchanged.status, unchanged.text()), (0, ""));
+}
+
+#[test]
+fn report_has_the_lines_of_document_01() {
+    let folder = Folder::new("report");
+    let ran = folder.run_with(&["report"], MESSAGE.as_bytes());
+    let lines = "0 4 0 0 0 0 0 0 1 0\n5 8 0 0 0 0 0 0 0 1\ntotal 0 0 0 0 0 0 1 1\n";
+    assert_eq!((ran.status, ran.text(), ran.err.as_str()), (0, lines, ""));
+    let ran = folder.run_with(&["report", "--items"], MESSAGE.as_bytes());
+    let lines = "0 4 emoji-headed complete\n4 5 passthrough complete\n5 8 emoji-headed complete\n";
+    assert_eq!((ran.status, ran.text()), (0, lines));
+}
+
+#[test]
+fn report_names_the_counts_in_json() {
+    let folder = Folder::new("json");
+    folder.write("a\"b", "a\u{FE0F}");
+    folder.write("damaged", DAMAGED);
+    let ran = folder.run(&["report", "--json", "--items", "a\"b", "damaged"]);
+    let counts = |unsanctioned| {
+        format!(
+            "\"unsanctioned\":{unsanctioned},\"modifier_defective\":0,\"additional_defective\":0,\
+             \"tag_conflicting\":0,\"tag_forced\":0,\"tag_redundant\":0,\"policy_redundant\":0,\"decisions\":0"
+        )
+    };
+    let expected = format!(
+        "{{\"file\":\"a\\\"b\",\"bytes\":4,\"findings\":[{{\"start\":1,\"end\":4,{}}}],\"totals\":{{{}}},\"items\":[\
+         {{\"start\":0,\"end\":1,\"kind\":\"passthrough\",\"tags_complete\":true}},\
+         {{\"start\":1,\"end\":4,\"kind\":\"unsanctioned-selectors\",\"tags_complete\":true}}]}}\n\
+         {{\"file\":\"damaged\",\"refused\":{{\"number\":3,\"value\":8,\
+         \"message\":\"not well-formed UTF-8 at byte 8\"}}}}\n",
+        counts(1),
+        counts(1)
+    );
+    assert_eq!((ran.status, ran.text()), (2, expected.as_str()));
+}
+
+#[test]
+fn fix_mends_one_finding() {
+    let folder = Folder::new("fix");
+    folder.write("message", MESSAGE);
+    let fixed = |arguments: &[&str]| folder.run(&[&["fix", "message", "--at"], arguments].concat());
+    let ran = fixed(&["0"]);
+    assert_eq!((ran.status, ran.text()), (0, "1 \u{2764}"));
+    let ran = fixed(&["5", "--decide", "emoji"]);
+    assert_eq!((ran.status, ran.text()), (0, "1\u{FE0E} \u{2764}\u{FE0F}"));
+    let ran = fixed(&["5"]);
+    assert_eq!((ran.status, ran.text()), (2, ""));
+    assert!(
+        ran.err
+            .contains("message: refused 5: the finding needs exactly 1 decision\n"),
+        "{}",
+        ran.err
+    );
+    let ran = fixed(&["5", "--decide", "text", "emoji"]);
+    assert_eq!((ran.status, ran.text()), (2, ""));
+    let ran = fixed(&["4"]);
+    assert!(
+        ran.err
+            .contains("message: refused 4: no finding starts at this offset\n"),
+        "{}",
+        ran.err
+    );
+    let ran = fixed(&["0", "--in-place"]);
+    assert_eq!((ran.status, ran.text(), ran.err.as_str()), (0, "", ""));
+    assert_eq!(folder.read("message"), "1 \u{2764}".as_bytes());
+}
+
+#[test]
+fn show_makes_selectors_visible() {
+    let folder = Folder::new("show");
+    let ran = folder.run_with(&["show"], "Hi\n1\u{FE0E} \u{2764}\n".as_bytes());
+    let expected = "     1 | Hi
+     2 | 1<FE0E> \u{2764}
+       | ^~~~~~~ ^
+       | bytes 3 to 7: 1 policy-redundant; becomes 1
+       | bytes 8 to 11: 1 decision; becomes \u{2764}<FE0E>
+";
+    assert_eq!(
+        (ran.status, ran.text(), ran.err.as_str()),
+        (0, expected, "")
+    );
+    let empty = folder.run(&["show"]);
+    assert_eq!((empty.status, empty.text()), (0, ""));
+}
+
+#[test]
+fn policies_are_written_printed_compared_and_used() {
+    let folder = Folder::new("policy");
+    let default = folder.run(&["policy", "write"]);
+    assert_eq!((default.status, default.out.len()), (0, 192));
+    folder.write("default", &default.out);
+    let ran = folder.run(&["policy", "compare", "default"]);
+    assert_eq!((ran.status, ran.text()), (0, ""));
+    let edits = [
+        "--take",
+        "bare_as_text",
+        "ordinary",
+        "2764",
+        "--add",
+        "prefer_bare",
+        "keycap",
+        "U+31",
+    ];
+    let own = folder.run(&[&["policy", "write"], &edits[..], &["default"]].concat());
+    folder.write("own", &own.out);
+    let ran = folder.run(&["policy", "compare", "default", "own"]);
+    let lines = "0031 keycap: BareToText, TextToBare\n2764 ordinary: BareToText, BareToEmoji\n";
+    assert_eq!((ran.status, ran.text()), (1, lines));
+    let ran = folder.run(&["policy", "print", "own"]);
+    let mut lines = ran.text().lines();
+    assert!(lines.any(|line| line.starts_with("prefer_bare keycap: 1 of ")));
+    assert_eq!(lines.next(), Some(" 0031"));
+    let ran = folder.run_with(&["format", "--policy", "own"], MESSAGE.as_bytes());
+    assert_eq!((ran.status, ran.text()), (0, "1 \u{2764}\u{FE0F}"));
+    folder.write("short", &own.out[1..]);
+    let ran = folder.run_with(&["format", "--policy=short"], MESSAGE.as_bytes());
+    assert_eq!((ran.status, ran.text()), (2, ""));
+    assert!(
+        ran.err
+            .contains("short: refused 2: these bytes are not a policy"),
+        "{}",
+        ran.err
+    );
+}
+
+/// `tests/programs` has what the proved programs write. Where they refuse, `format` writes nothing here.
+#[test]
+fn the_stored_runs_of_the_proved_programs_are_met() {
+    let stored = Path::new(env!("CARGO_MANIFEST_DIR")).join("../../tests/programs");
+    let folder = Folder::new("stored");
+    for name in [
+        "copyright_signs",
+        "damaged",
+        "empty",
+        "reads_refused",
+        "thread",
+        "unchanged",
+    ] {
+        let read = |extension| {
+            fs::read(stored.join(name).with_extension(extension)).expect("a stored run")
+        };
+        let ran = folder.run_with(&["report"], &read("in"));
+        assert!(ran.out == read("report"), "{name}");
+        let ran = folder.run_with(&["format"], &read("in"));
+        if ran.status == 0 {
+            assert!(ran.out == read("format"), "{name}");
+        } else {
+            assert_eq!((ran.status, name, ran.out.len()), (2, "damaged", 0));
+        }
+    }
+}

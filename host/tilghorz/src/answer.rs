@@ -1,0 +1,53 @@
+//! The word that a C function answers: `include/tilghorz.h`, and crates/tilghorz/specs/AnswerWord.antt.
+
+use crate::Refusal;
+
+/// The number of an answer that wrote its result.
+const DONE: u64 = 0;
+/// The number of an answer with nothing to do.
+const NOTHING: u64 = 255;
+/// Where the number begins; below it is the value.
+const NUMBER_SHIFT: u32 = 56;
+
+/// What a word says: the value of a call that is done, nothing where there was nothing to do, or the refusal.
+///
+/// A word with any other number is not the proved library's: then another library was linked, and there is no going on.
+pub fn read(word: u64) -> Result<Option<usize>, Refusal> {
+    let (number, value) = (word >> NUMBER_SHIFT, word & ((1 << NUMBER_SHIFT) - 1));
+    let value = value as usize;
+    match number {
+        DONE => Ok(Some(value)),
+        NOTHING => Ok(None),
+        _ => match Refusal::of_row(number, value) {
+            Some(refusal) => Err(refusal),
+            None => {
+                panic!("the linked library answers {word:#018X}, which tilghorz.h does not have")
+            }
+        },
+    }
+}
+
+/// The value of a call that always has something to do.
+pub fn read_done(word: u64) -> Result<usize, Refusal> {
+    read(word).map(Option::unwrap_or_default)
+}
+
+#[cfg(test)]
+mod tests {
+    use super::*;
+
+    #[test]
+    fn a_word_is_read_by_its_number_and_value() {
+        assert_eq!(read(7), Ok(Some(7)));
+        assert_eq!(read(0xFF00_0000_0000_0000), Ok(None));
+        assert_eq!(read(0x0100_0000_0000_0000), Err(Refusal::TextTooLong));
+        let refusal = Refusal::OutputTooShort { wanted: 67_108_864 };
+        assert_eq!(read(0x0800_0000_0400_0000), Err(refusal));
+    }
+
+    #[test]
+    #[should_panic(expected = "the linked library answers 0x0900000000000001")]
+    fn another_word_stops() {
+        let _ = read(0x0900_0000_0000_0001);
+    }
+}

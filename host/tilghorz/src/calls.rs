@@ -1,0 +1,171 @@
+//! Formatting, listing and mending: document 01, "Replacement and text".
+
+use std::borrow::Cow;
+
+use crate::table::sealed::Read;
+use crate::{Finding, Item, LONGEST_TEXT, Policy, Refusal, Row, Table};
+use crate::{answer, sys};
+
+/// The rows that a table has room for at first.
+const FIRST_ROWS: usize = 64;
+
+/// What formatting did.
+#[derive(Debug, Clone, Copy, PartialEq, Eq, Hash)]
+pub enum Formatted {
+    /// The text needs no change, and nothing was written.
+    Unchanged,
+    /// The formatted text is at the front of the output.
+    Changed {
+        /// Its length.
+        len: usize,
+    },
+}
+
+/// How a base is shown: what a decision chooses.
+#[derive(Debug, Clone, Copy, PartialEq, Eq, Hash)]
+pub enum Presentation {
+    /// As text: FE0E, decision 0.
+    Text,
+    /// As emoji: FE0F, decision 1.
+    Emoji,
+}
+
+impl Presentation {
+    /// The byte of the decision, as it crosses.
+    #[must_use]
+    pub const fn decision(self) -> u8 {
+        match self {
+            Self::Text => 0,
+            Self::Emoji => 1,
+        }
+    }
+}
+
+/// The formatted text: the text itself where it needs no change.
+///
+/// # Errors
+/// Refusals 1 and 3.
+pub fn format<'a>(text: &'a [u8], policy: &Policy) -> Result<Cow<'a, [u8]>, Refusal> {
+    let (formatted, out) = with_room(room_for(text), 1, |out| format_into(text, policy, out))?;
+    Ok(match formatted {
+        Formatted::Unchanged => Cow::Borrowed(text),
+        Formatted::Changed { len } => Cow::Owned(front(out, len)),
+    })
+}
+
+/// Formats into the caller's buffer. Four times the text's length is always enough room. What is behind the formatted
+/// text stays as it was.
+///
+/// # Errors
+/// Refusals 1, 3 and 8; the buffer is then as it was.
+pub fn format_into(text: &[u8], policy: &Policy, out: &mut [u8]) -> Result<Formatted, Refusal> {
+    let done = answer::read(sys::format(text, policy.as_bytes(), out))?;
+    Ok(done.map_or(Formatted::Unchanged, |len| Formatted::Changed { len }))
+}
+
+/// The filed text (document 01's term): the message's own bytes, or the front of the buffer that [`format_into`] wrote
+/// to. It is all of the buffer where the length passes it.
+#[must_use]
+pub fn filed<'a>(message: &'a [u8], buffer: &'a [u8], formatted: Formatted) -> &'a [u8] {
+    match formatted {
+        Formatted::Unchanged => message,
+        Formatted::Changed { len } => buffer.get(..len).unwrap_or(buffer),
+    }
+}
+
+/// The findings, in text order.
+///
+/// # Errors
+/// Refusals 1 and 3.
+pub fn findings(text: &[u8], policy: &Policy) -> Result<Table<Finding>, Refusal> {
+    table(|table| sys::list(text, policy.as_bytes(), table))
+}
+
+/// The items, in text order.
+///
+/// # Errors
+/// Refusals 1 and 3.
+pub fn items(text: &[u8]) -> Result<Table<Item>, Refusal> {
+    table(|table| sys::scan(text, table))
+}
+
+/// The whole text with the finding that starts at the offset mended. A finding takes as many decisions as its counts
+/// say.
+///
+/// # Errors
+/// Refusals 1, 3, 4 and 5.
+pub fn mend(
+    text: &[u8],
+    policy: &Policy,
+    offset: usize,
+    decisions: &[Presentation],
+) -> Result<Vec<u8>, Refusal> {
+    let decisions: Vec<u8> = decisions
+        .iter()
+        .map(|decision| decision.decision())
+        .collect();
+    let mended = with_room(room_for(text), 1, |out| {
+        mend_into(text, policy, offset, &decisions, out)
+    });
+    mended.map(|(len, out)| front(out, len))
+}
+
+/// Mends into the caller's buffer, with decisions as bytes, 0 text and 1 emoji, and gives the length of the mended
+/// text. What is behind it stays as it was.
+///
+/// # Errors
+/// Refusals 1, 3, 4, 5, 6 and 8; the buffer is then as it was.
+pub fn mend_into(
+    text: &[u8],
+    policy: &Policy,
+    offset: usize,
+    decisions: &[u8],
+    out: &mut [u8],
+) -> Result<usize, Refusal> {
+    answer::read_done(sys::mend(
+        text,
+        policy.as_bytes(),
+        offset as u64,
+        decisions,
+        out,
+    ))
+}
+
+/// Room for the result on a text: "at most 4 times the input". The system gives memory when it is first written to, so
+/// room that is not used costs little.
+fn room_for(text: &[u8]) -> usize {
+    4 * text.len().min(LONGEST_TEXT)
+}
+
+/// The front of a buffer.
+fn front(mut buffer: Vec<u8>, len: usize) -> Vec<u8> {
+    buffer.truncate(len);
+    buffer.shrink_to_fit();
+    buffer
+}
+
+/// A table with as much room as its rows need.
+fn table<R: Row>(call: impl Fn(&mut [u8]) -> u64) -> Result<Table<R>, Refusal> {
+    let place = <R as Read>::BYTES;
+    let call = |table: &mut [u8]| answer::read_done(call(table));
+    let (rows, bytes) = with_room(FIRST_ROWS * place, place, call)?;
+    Ok(Table::new(bytes, rows))
+}
+
+/// Makes a call with a buffer of so many bytes, and once more with the room wanted where it is too short. The room
+/// wanted is told in places of so many bytes.
+fn with_room<T>(
+    room: usize,
+    place: usize,
+    call: impl Fn(&mut [u8]) -> Result<T, Refusal>,
+) -> Result<(T, Vec<u8>), Refusal> {
+    let mut buffer = vec![0; room];
+    let answer = call(&mut buffer);
+    let (Err(Refusal::OutputTooShort { wanted: places }) | Err(Refusal::TableTooShort { places })) =
+        answer
+    else {
+        return answer.map(|answer| (answer, buffer));
+    };
+    buffer = vec![0; places * place];
+    call(&mut buffer).map(|answer| (answer, buffer))
+}

@@ -1,0 +1,136 @@
+//! Findings: document 01, "Counts and finding".
+
+use std::ops::{AddAssign, Range};
+
+use crate::sys;
+use crate::table::{self, Row, Table, sealed::Read};
+
+/// A finding: an item of the text with a count that is not 0.
+#[derive(Debug, Clone, PartialEq, Eq)]
+pub struct Finding {
+    /// The offset of its first byte.
+    pub start: usize,
+    /// The offset behind its last byte.
+    pub end: usize,
+    /// What was found.
+    pub counts: Counts,
+}
+
+impl Finding {
+    /// Its bytes in the text.
+    #[must_use]
+    pub const fn span(&self) -> Range<usize> {
+        self.start..self.end
+    }
+}
+
+/// The eight counts, in document 01's order. `tag_forced` and `decisions` add a selector each, the other six remove one
+/// each.
+#[derive(Debug, Clone, Copy, Default, PartialEq, Eq)]
+pub struct Counts {
+    /// Selectors where none may stand.
+    pub unsanctioned: usize,
+    /// FE0F between a modifier base and its modifier.
+    pub modifier_defective: usize,
+    /// FE0F between another base and a modifier.
+    pub additional_defective: usize,
+    /// FE0E before tags.
+    pub tag_conflicting: usize,
+    /// FE0F that is missing before tags.
+    pub tag_forced: usize,
+    /// FE0F before tags where the base is emoji by default.
+    pub tag_redundant: usize,
+    /// A selector that says what the bare base means under the policy.
+    pub policy_redundant: usize,
+    /// Bare bases that need a selector under the policy.
+    pub decisions: usize,
+}
+
+impl Counts {
+    /// The names of the counts, as document 01 has them.
+    pub const NAMES: [&str; 8] = [
+        "unsanctioned",
+        "modifier-defective",
+        "additional-defective",
+        "tag-conflicting",
+        "tag-forced",
+        "tag-redundant",
+        "policy-redundant",
+        "decisions",
+    ];
+
+    /// The counts in document 01's order.
+    #[must_use]
+    pub const fn numbers(&self) -> [usize; 8] {
+        [
+            self.unsanctioned,
+            self.modifier_defective,
+            self.additional_defective,
+            self.tag_conflicting,
+            self.tag_forced,
+            self.tag_redundant,
+            self.policy_redundant,
+            self.decisions,
+        ]
+    }
+
+    /// Each count with its name.
+    pub fn named(&self) -> impl Iterator<Item = (&'static str, usize)> + use<> {
+        Self::NAMES.into_iter().zip(self.numbers())
+    }
+}
+
+impl AddAssign for Counts {
+    fn add_assign(&mut self, other: Self) {
+        self.unsanctioned += other.unsanctioned;
+        self.modifier_defective += other.modifier_defective;
+        self.additional_defective += other.additional_defective;
+        self.tag_conflicting += other.tag_conflicting;
+        self.tag_forced += other.tag_forced;
+        self.tag_redundant += other.tag_redundant;
+        self.policy_redundant += other.policy_redundant;
+        self.decisions += other.decisions;
+    }
+}
+
+impl Row for Finding {}
+
+impl Read for Finding {
+    const BYTES: usize = sys::FINDING_BYTES;
+
+    fn read(bytes: &[u8]) -> Self {
+        let [
+            start,
+            end,
+            unsanctioned,
+            modifier_defective,
+            additional_defective,
+            tag_conflicting,
+            tag_forced,
+            tag_redundant,
+            policy_redundant,
+            decisions,
+        ] = table::numbers(bytes);
+        let counts = Counts {
+            unsanctioned,
+            modifier_defective,
+            additional_defective,
+            tag_conflicting,
+            tag_forced,
+            tag_redundant,
+            policy_redundant,
+            decisions,
+        };
+        Self { start, end, counts }
+    }
+}
+
+impl Table<Finding> {
+    /// The sums of the counts over the findings.
+    #[must_use]
+    pub fn totals(&self) -> Counts {
+        let mut totals = Counts::default();
+        self.iter().for_each(|finding| totals += finding.counts);
+        totals
+    }
+}

@@ -1,0 +1,55 @@
+//! Items: document 01, "Item".
+
+use crate::sys;
+use crate::table::{self, Row, sealed::Read};
+
+/// An item. The items of a text tile it, and none is empty.
+#[derive(Debug, Clone, PartialEq, Eq)]
+pub struct Item {
+    /// The offset of its first byte.
+    pub start: usize,
+    /// The offset behind its last byte.
+    pub end: usize,
+    /// What it is.
+    pub kind: ItemKind,
+    /// Whether every tag modification in it has E007F as its last tag.
+    pub tags_complete: bool,
+}
+
+/// What an item is.
+#[derive(Debug, Clone, Copy, PartialEq, Eq, Hash)]
+pub enum ItemKind {
+    /// Text without selectors, 200D and emoji.
+    Passthrough,
+    /// A run of selectors that belong to nothing.
+    UnsanctionedSelectors,
+    /// A run of links (200D) that join nothing.
+    LinksOnly,
+    /// An emoji with what belongs to it.
+    EmojiHeaded,
+}
+
+impl Row for Item {}
+
+impl Read for Item {
+    const BYTES: usize = sys::ITEM_BYTES;
+
+    fn read(bytes: &[u8]) -> Self {
+        let [start, end, kind, tags_complete] = table::numbers(bytes);
+        let kind = match kind {
+            0 => ItemKind::Passthrough,
+            1 => ItemKind::UnsanctionedSelectors,
+            2 => ItemKind::LinksOnly,
+            3 => ItemKind::EmojiHeaded,
+            other => panic!(
+                "the linked library answers an item of kind {other}, which tilghorz.h does not have"
+            ),
+        };
+        Self {
+            start,
+            end,
+            kind,
+            tags_complete: tags_complete == 1,
+        }
+    }
+}

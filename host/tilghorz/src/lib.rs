@@ -1,0 +1,52 @@
+//! Formats the emoji selectors FE0E and FE0F of a text under a policy, and touches nothing else.
+//!
+//! The work is done by a proved library behind C functions; this crate is the way to it from Rust. A text is bytes:
+//! that they are well-formed UTF-8 is tested by the library, which says where they are not. Every function gives its
+//! result or a [`Refusal`], for all texts, policies, offsets, decisions and buffers.
+//!
+//! ```
+//! use tilghorz::{Policy, Refusal};
+//!
+//! let policy = Policy::default();
+//! let text = "1\u{FE0E} \u{2764}".as_bytes();
+//! assert_eq!(&*tilghorz::format(text, &policy)?, "1 \u{2764}\u{FE0E}".as_bytes());
+//!
+//! let findings = tilghorz::findings(text, &policy)?;
+//! let first = findings.get(0).expect("a finding");
+//! assert_eq!((first.start, first.end, first.counts.policy_redundant), (0, 4, 1));
+//! assert_eq!(&*tilghorz::mend(text, &policy, 0, &[])?, "1 \u{2764}".as_bytes());
+//!
+//! let damaged = tilghorz::format(b"good\xFF", &policy);
+//! assert_eq!(damaged, Err(Refusal::NotWellFormed { valid_up_to: 4 }));
+//! # Ok::<(), Refusal>(())
+//! ```
+//!
+//! - [`format()`], [`mend`], [`findings`] and [`items`] allocate what they return; [`format_into`] and [`mend_into`]
+//!   write to the caller's buffer, and [`filed`] says which bytes to keep then.
+//! - [`Policy`] is the default one, one from bytes, or one with members added and taken.
+//! - [`sys`] has the C functions as they cross. It is the only module with unsafe code.
+//!
+//! "Document 01" in comments is the specification, "The selector formatter: records from byte to sealed text".
+
+#![deny(unsafe_code)]
+#![warn(missing_docs)]
+
+mod answer;
+mod calls;
+mod finding;
+mod item;
+mod policy;
+mod refusal;
+pub mod sys;
+mod table;
+
+pub use calls::{Formatted, Presentation};
+pub use calls::{filed, findings, format, format_into, items, mend, mend_into};
+pub use finding::{Counts, Finding};
+pub use item::{Item, ItemKind};
+pub use policy::{Context, KeySet, NoEntry, Policy, SingletonRule, variation_entries};
+pub use refusal::Refusal;
+pub use table::{Row, Table};
+
+/// The length of the longest text that is not refused: [`Refusal::TextTooLong`].
+pub const LONGEST_TEXT: usize = 16_777_216;

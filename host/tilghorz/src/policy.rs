@@ -1,0 +1,224 @@
+//! Policies: document 01, "Key set and policy".
+
+use std::error::Error;
+use std::fmt::{self, Debug, Display, Formatter};
+use std::sync::LazyLock;
+
+use crate::{Refusal, answer, sys};
+
+/// The bytes of a character set: a policy is four.
+const SET_BYTES: usize = sys::POLICY_BYTES / 4;
+
+/// A policy: two key sets, each an ordinary and a keycap set of characters.
+///
+/// ```
+/// use tilghorz::{Context, KeySet, Policy};
+///
+/// let heart = "\u{2764}".as_bytes();
+/// let mut policy = Policy::default();
+/// assert_eq!(&*tilghorz::format(heart, &policy)?, "\u{2764}\u{FE0E}".as_bytes());
+/// policy.take(KeySet::BareAsText, '\u{2764}', Context::Ordinary).expect("an entry");
+/// assert_eq!(&*tilghorz::format(heart, &policy)?, "\u{2764}\u{FE0F}".as_bytes());
+/// # Ok::<(), tilghorz::Refusal>(())
+/// ```
+#[derive(Clone, PartialEq, Eq, Hash)]
+pub struct Policy {
+    bytes: [u8; sys::POLICY_BYTES],
+}
+
+/// One of the two key sets of a policy.
+#[derive(Debug, Clone, Copy, PartialEq, Eq, Hash)]
+pub enum KeySet {
+    /// The bases that are best written bare.
+    PreferBare,
+    /// The bases that are text when they are bare.
+    BareAsText,
+}
+
+/// Where a base stands.
+#[derive(Debug, Clone, Copy, PartialEq, Eq, Hash)]
+pub enum Context {
+    /// Not before 20E3.
+    Ordinary,
+    /// Before 20E3, as the base of a keycap.
+    Keycap,
+}
+
+/// What a policy says of a base.
+#[derive(Debug, Clone, Copy, PartialEq, Eq, Hash)]
+pub enum SingletonRule {
+    /// Neither key set holds it: a bare base gets FE0F by default.
+    BareToEmoji,
+    /// Only `bare_as_text` holds it: a bare base gets FE0E by default.
+    BareToText,
+    /// Only `prefer_bare` holds it: FE0F goes.
+    EmojiToBare,
+    /// Both hold it: FE0E goes.
+    TextToBare,
+}
+
+/// A character that is no variation entry, so that no key set can hold it.
+#[derive(Debug, Clone, Copy, PartialEq, Eq, Hash)]
+pub struct NoEntry(pub char);
+
+impl KeySet {
+    /// Both, in the order of a policy's bytes.
+    pub const ALL: [Self; 2] = [Self::PreferBare, Self::BareAsText];
+
+    /// Its name in document 01.
+    #[must_use]
+    pub const fn name(self) -> &'static str {
+        match self {
+            Self::PreferBare => "prefer_bare",
+            Self::BareAsText => "bare_as_text",
+        }
+    }
+}
+
+impl Context {
+    /// Both, in the order of a key set's bytes.
+    pub const ALL: [Self; 2] = [Self::Ordinary, Self::Keycap];
+
+    /// Its name in document 01.
+    #[must_use]
+    pub const fn name(self) -> &'static str {
+        match self {
+            Self::Ordinary => "ordinary",
+            Self::Keycap => "keycap",
+        }
+    }
+}
+
+impl Default for Policy {
+    /// The default policy, as the library has it.
+    fn default() -> Self {
+        let mut bytes = [0; sys::POLICY_BYTES];
+        let written = answer::read_done(sys::default_policy(&mut bytes));
+        assert_eq!(
+            written,
+            Ok(bytes.len()),
+            "the linked library has another length of a policy"
+        );
+        Self { bytes }
+    }
+}
+
+impl Policy {
+    /// The policy of its bytes: 24 words of 8 bytes, lowest byte first. The library itself tests them, with an empty
+    /// text.
+    ///
+    /// # Errors
+    /// Refusal 2.
+    pub fn from_bytes(bytes: &[u8]) -> Result<Self, Refusal> {
+        answer::read(sys::format(&[], bytes, &mut []))?;
+        let bytes = bytes.try_into().map_err(|_| Refusal::NotAPolicy)?;
+        Ok(Self { bytes })
+    }
+
+    /// Its bytes, as they cross.
+    #[must_use]
+    pub const fn as_bytes(&self) -> &[u8; sys::POLICY_BYTES] {
+        &self.bytes
+    }
+
+    /// Whether a key set holds a base in a context. It holds no character that is no variation entry.
+    #[must_use]
+    pub fn contains(&self, set: KeySet, character: char, context: Context) -> bool {
+        place(set, character, context).is_ok_and(|(byte, bit)| self.bytes[byte] & bit != 0)
+    }
+
+    /// Adds a base to a key set. True if it was not in it.
+    ///
+    /// # Errors
+    /// If the character is no variation entry.
+    pub fn add(&mut self, set: KeySet, character: char, context: Context) -> Result<bool, NoEntry> {
+        let (byte, bit) = place(set, character, context)?;
+        let is_new = self.bytes[byte] & bit == 0;
+        self.bytes[byte] |= bit;
+        Ok(is_new)
+    }
+
+    /// Takes a base out of a key set. True if it was in it.
+    ///
+    /// # Errors
+    /// If the character is no variation entry.
+    pub fn take(
+        &mut self,
+        set: KeySet,
+        character: char,
+        context: Context,
+    ) -> Result<bool, NoEntry> {
+        let (byte, bit) = place(set, character, context)?;
+        let was_in = self.bytes[byte] & bit != 0;
+        self.bytes[byte] &= !bit;
+        Ok(was_in)
+    }
+
+    /// The bases that a key set holds in a context, in ascending order.
+    pub fn members(&self, set: KeySet, context: Context) -> impl Iterator<Item = char> + '_ {
+        let entries = variation_entries().iter().copied();
+        entries.filter(move |entry| self.contains(set, *entry, context))
+    }
+
+    /// What the policy says of a base. Nothing of a character that is no variation entry.
+    #[must_use]
+    pub fn singleton_rule(&self, character: char, context: Context) -> Option<SingletonRule> {
+        variation_entries().binary_search(&character).ok()?;
+        let holds = |set| self.contains(set, character, context);
+        Some(
+            match (holds(KeySet::PreferBare), holds(KeySet::BareAsText)) {
+                (false, false) => SingletonRule::BareToEmoji,
+                (false, true) => SingletonRule::BareToText,
+                (true, false) => SingletonRule::EmojiToBare,
+                (true, true) => SingletonRule::TextToBare,
+            },
+        )
+    }
+}
+
+impl Debug for Policy {
+    fn fmt(&self, out: &mut Formatter<'_>) -> fmt::Result {
+        let mut out = out.debug_struct("Policy");
+        for set in KeySet::ALL {
+            let members =
+                Context::ALL.map(|context| self.members(set, context).collect::<String>());
+            out.field(set.name(), &members);
+        }
+        out.finish()
+    }
+}
+
+impl Display for NoEntry {
+    fn fmt(&self, out: &mut Formatter<'_>) -> fmt::Result {
+        let code_point = u32::from(self.0);
+        write!(
+            out,
+            "U+{code_point:04X} has no variation sequence, so a policy cannot speak of it"
+        )
+    }
+}
+
+impl Error for NoEntry {}
+
+/// The variation entries, in ascending order, as the library has them.
+#[must_use]
+pub fn variation_entries() -> &'static [char] {
+    static ENTRIES: LazyLock<Vec<char>> = LazyLock::new(|| {
+        let entry = |index| answer::read(sys::variation_entry(index)).ok().flatten();
+        let code_points = (0..).map_while(entry);
+        let character = |code_point| u32::try_from(code_point).ok().and_then(char::from_u32);
+        code_points.filter_map(character).collect()
+    });
+    &ENTRIES
+}
+
+/// The byte of a key, and its bit. "Entry i at bit i mod 64 of word i/64", and a word has its lowest byte first; so it
+/// is at bit i mod 8 of byte i/8. The four character sets stand in the order of the two `ALL`.
+fn place(set: KeySet, character: char, context: Context) -> Result<(usize, u8), NoEntry> {
+    let entry = variation_entries()
+        .binary_search(&character)
+        .map_err(|_| NoEntry(character))?;
+    let before =
+        2 * usize::from(set == KeySet::BareAsText) + usize::from(context == Context::Keycap);
+    Ok((before * SET_BYTES + entry / 8, 1 << (entry % 8)))
+}

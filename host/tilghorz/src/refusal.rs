@@ -1,0 +1,154 @@
+//! The refusals: document 01, "Turned back".
+
+use std::error::Error;
+use std::fmt::{self, Display, Formatter};
+
+use crate::sys::POLICY_BYTES;
+
+/// Why a call was turned back. It then wrote to no buffer.
+///
+/// The tests come in the order of the numbers, each only in calls that take the thing.
+#[derive(Debug, Clone, Copy, PartialEq, Eq, Hash)]
+pub enum Refusal {
+    /// 1: the text is over 16,777,216 bytes.
+    TextTooLong,
+    /// 2: the bytes are not a policy: not 192, or with an unused bit set.
+    NotAPolicy,
+    /// 3: the text is not well-formed UTF-8.
+    NotWellFormed {
+        /// The length of the longest well-formed beginning: the offset of the damage.
+        valid_up_to: usize,
+    },
+    /// 4: no finding starts at the offset.
+    NoFinding,
+    /// 5: too few decisions, or too many.
+    WrongNumberOfDecisions {
+        /// How many the finding needs.
+        wanted: usize,
+    },
+    /// 6: a decision byte is above 1.
+    BadDecision {
+        /// The index of the first such byte.
+        index: usize,
+    },
+    /// 7: the table is too short.
+    TableTooShort {
+        /// The places that it needs.
+        places: usize,
+    },
+    /// 8: the output is too short.
+    OutputTooShort {
+        /// The length that it needs.
+        wanted: usize,
+    },
+}
+
+impl Refusal {
+    /// The refusal of a number and a value, as they cross.
+    pub(crate) const fn of_row(number: u64, value: usize) -> Option<Self> {
+        Some(match number {
+            1 => Self::TextTooLong,
+            2 => Self::NotAPolicy,
+            3 => Self::NotWellFormed { valid_up_to: value },
+            4 => Self::NoFinding,
+            5 => Self::WrongNumberOfDecisions { wanted: value },
+            6 => Self::BadDecision { index: value },
+            7 => Self::TableTooShort { places: value },
+            8 => Self::OutputTooShort { wanted: value },
+            _ => return None,
+        })
+    }
+
+    /// Its number in document 01's table.
+    #[must_use]
+    pub const fn number(self) -> u8 {
+        match self {
+            Self::TextTooLong => 1,
+            Self::NotAPolicy => 2,
+            Self::NotWellFormed { .. } => 3,
+            Self::NoFinding => 4,
+            Self::WrongNumberOfDecisions { .. } => 5,
+            Self::BadDecision { .. } => 6,
+            Self::TableTooShort { .. } => 7,
+            Self::OutputTooShort { .. } => 8,
+        }
+    }
+
+    /// What is returned beside the number, where the table has something.
+    #[must_use]
+    pub const fn value(self) -> Option<usize> {
+        match self {
+            Self::TextTooLong | Self::NotAPolicy | Self::NoFinding => None,
+            Self::NotWellFormed { valid_up_to } => Some(valid_up_to),
+            Self::WrongNumberOfDecisions { wanted } | Self::OutputTooShort { wanted } => {
+                Some(wanted)
+            }
+            Self::BadDecision { index } => Some(index),
+            Self::TableTooShort { places } => Some(places),
+        }
+    }
+}
+
+impl Display for Refusal {
+    fn fmt(&self, out: &mut Formatter<'_>) -> fmt::Result {
+        match self {
+            Self::TextTooLong => write!(out, "the text is longer than 16,777,216 bytes"),
+            Self::NotAPolicy => write!(
+                out,
+                "these bytes are not a policy: not {POLICY_BYTES}, or with a bit set that has no meaning"
+            ),
+            Self::NotWellFormed { valid_up_to } => {
+                write!(out, "not well-formed UTF-8 at byte {valid_up_to}")
+            }
+            Self::NoFinding => write!(out, "no finding starts at this offset"),
+            Self::WrongNumberOfDecisions { wanted: 1 } => {
+                write!(out, "the finding needs exactly 1 decision")
+            }
+            Self::WrongNumberOfDecisions { wanted } => {
+                write!(out, "the finding needs exactly {wanted} decisions")
+            }
+            Self::BadDecision { index } => {
+                write!(
+                    out,
+                    "the decision at index {index} is neither 0 (text) nor 1 (emoji)"
+                )
+            }
+            Self::TableTooShort { places } => {
+                write!(out, "the table is too short: {places} places are needed")
+            }
+            Self::OutputTooShort { wanted } => {
+                write!(out, "the output is too short: {wanted} bytes are needed")
+            }
+        }
+    }
+}
+
+impl Error for Refusal {}
+
+#[cfg(test)]
+mod tests {
+    use super::*;
+
+    #[test]
+    fn number_and_value_tell_the_refusal() {
+        for number in 0..=u8::MAX {
+            let Some(refusal) = Refusal::of_row(number.into(), 5) else {
+                assert!(!(1..=8).contains(&number));
+                continue;
+            };
+            assert_eq!(refusal.number(), number);
+            assert_eq!(refusal.value().is_some(), ![1, 2, 4].contains(&number));
+            assert!(refusal.value().is_none_or(|value| value == 5));
+        }
+    }
+
+    #[test]
+    fn messages_are_sentences_for_a_person() {
+        let refusal = Refusal::NotWellFormed { valid_up_to: 17 };
+        assert_eq!(refusal.to_string(), "not well-formed UTF-8 at byte 17");
+        let refusal = Refusal::WrongNumberOfDecisions { wanted: 1 };
+        assert_eq!(refusal.to_string(), "the finding needs exactly 1 decision");
+        let refusal = Refusal::WrongNumberOfDecisions { wanted: 0 };
+        assert_eq!(refusal.to_string(), "the finding needs exactly 0 decisions");
+    }
+}

@@ -1,0 +1,122 @@
+//! The C functions as they cross, behind safe functions on slices. All that is unsafe in this package is here.
+//!
+//! What makes each call sound: a slice passes as its own pointer and length, so the library may read all of it and,
+//! if it is borrowed mutably, write all of it; a mutable slice overlaps no other; no pointer of a slice is null. The
+//! library keeps no pointer. `host/tests/header.rs` holds these declarations to `include/tilghorz.h` and to the source
+//! in `crates/tilghorz/src`, which has the contracts.
+//!
+//! Each function answers the word that the header describes. The functions of the crate root read it.
+
+#![allow(unsafe_code)]
+
+/// The bytes of a policy.
+pub const POLICY_BYTES: usize = 192;
+/// The bytes of a finding in a table.
+pub const FINDING_BYTES: usize = 80;
+/// The bytes of an item in a table.
+pub const ITEM_BYTES: usize = 32;
+
+unsafe extern "C" {
+    fn tilghorz_format(
+        text: *const u8,
+        text_len: usize,
+        policy: *const u8,
+        policy_len: usize,
+        out: *mut u8,
+        out_len: usize,
+    ) -> u64;
+    fn tilghorz_list(
+        text: *const u8,
+        text_len: usize,
+        policy: *const u8,
+        policy_len: usize,
+        table: *mut u8,
+        table_len: usize,
+    ) -> u64;
+    fn tilghorz_mend(
+        text: *const u8,
+        text_len: usize,
+        policy: *const u8,
+        policy_len: usize,
+        offset: u64,
+        decisions: *const u8,
+        decisions_len: usize,
+        out: *mut u8,
+        out_len: usize,
+    ) -> u64;
+    fn tilghorz_scan(text: *const u8, text_len: usize, table: *mut u8, table_len: usize) -> u64;
+    fn tilghorz_default_policy(out: *mut u8, out_len: usize) -> u64;
+    fn tilghorz_variation_entry(index: u64) -> u64;
+}
+
+/// `tilghorz_format`: formats a text under a policy.
+#[must_use]
+pub fn format(text: &[u8], policy: &[u8], out: &mut [u8]) -> u64 {
+    // SAFETY: as the head of this file says.
+    unsafe {
+        tilghorz_format(
+            text.as_ptr(),
+            text.len(),
+            policy.as_ptr(),
+            policy.len(),
+            out.as_mut_ptr(),
+            out.len(),
+        )
+    }
+}
+
+/// `tilghorz_list`: lists the findings.
+#[must_use]
+pub fn list(text: &[u8], policy: &[u8], table: &mut [u8]) -> u64 {
+    // SAFETY: as the head of this file says.
+    unsafe {
+        tilghorz_list(
+            text.as_ptr(),
+            text.len(),
+            policy.as_ptr(),
+            policy.len(),
+            table.as_mut_ptr(),
+            table.len(),
+        )
+    }
+}
+
+/// `tilghorz_mend`: writes the text with one finding mended.
+#[must_use]
+pub fn mend(text: &[u8], policy: &[u8], offset: u64, decisions: &[u8], out: &mut [u8]) -> u64 {
+    // SAFETY: as the head of this file says.
+    unsafe {
+        tilghorz_mend(
+            text.as_ptr(),
+            text.len(),
+            policy.as_ptr(),
+            policy.len(),
+            offset,
+            decisions.as_ptr(),
+            decisions.len(),
+            out.as_mut_ptr(),
+            out.len(),
+        )
+    }
+}
+
+/// `tilghorz_scan`: lists the items.
+#[must_use]
+pub fn scan(text: &[u8], table: &mut [u8]) -> u64 {
+    // SAFETY: as the head of this file says.
+    unsafe { tilghorz_scan(text.as_ptr(), text.len(), table.as_mut_ptr(), table.len()) }
+}
+
+/// `tilghorz_default_policy`: writes the default policy.
+#[must_use]
+pub fn default_policy(out: &mut [u8]) -> u64 {
+    // SAFETY: as the head of this file says.
+    unsafe { tilghorz_default_policy(out.as_mut_ptr(), out.len()) }
+}
+
+/// `tilghorz_variation_entry`: the code point of a variation entry.
+#[must_use]
+pub fn variation_entry(index: u64) -> u64 {
+    // SAFETY: the function takes a number.
+    unsafe { tilghorz_variation_entry(index) }
+}

@@ -1,0 +1,297 @@
+//! The safe functions give what document 01 says, and what the proved programs wrote.
+
+use std::borrow::Cow;
+use std::fs;
+use std::path::Path;
+
+use tilghorz::{
+    Counts, Finding, Formatted, Item, ItemKind, LONGEST_TEXT, Policy, Presentation, Refusal,
+};
+
+/// The greatest number of bytes that a program reads.
+const LONGEST_MESSAGE: usize = 12_288;
+
+/// What becomes of a text under the default policy.
+fn formatted(text: &str) -> Cow<'_, str> {
+    match tilghorz::format(text.as_bytes(), &Policy::default()).expect("a text") {
+        Cow::Borrowed(_) => Cow::Borrowed(text),
+        Cow::Owned(bytes) => Cow::Owned(String::from_utf8(bytes).expect("a text")),
+    }
+}
+
+/// The totals of a text under the default policy.
+fn totals(text: &str) -> Counts {
+    let findings = tilghorz::findings(text.as_bytes(), &Policy::default());
+    findings.expect("a text").totals()
+}
+
+/// Counts, by the names that are not 0.
+fn counts(named: &[&str]) -> [usize; 8] {
+    Counts::NAMES.map(|name| named.iter().filter(|other| **other == name).count())
+}
+
+/// Each text of document 01's list with a formatted text, and its counts.
+#[test]
+fn the_worked_texts_come_out() {
+    for (text, expected, named) in [
+        ("", "", &[][..]),
+        ("1\u{FE0E}", "1", &["policy-redundant"]),
+        ("1\u{20E3}", "1\u{FE0E}\u{20E3}", &["decisions"]),
+        ("\u{231A}\u{FE0F}", "\u{231A}", &["policy-redundant"]),
+        (
+            "\u{231A}\u{FE0E}\u{FE0F}",
+            "\u{231A}\u{FE0E}",
+            &["unsanctioned"],
+        ),
+        (
+            "\u{231A}\u{FE0F}\u{FE0E}",
+            "\u{231A}",
+            &["policy-redundant", "unsanctioned"],
+        ),
+        (
+            "\u{261D}\u{FE0F}\u{1F3FB}",
+            "\u{261D}\u{1F3FB}",
+            &["modifier-defective"],
+        ),
+        (
+            "\u{261D}\u{FE0E}\u{1F3FB}",
+            "\u{261D}\u{FE0E}\u{1F3FB}",
+            &[],
+        ),
+        (
+            "\u{2764}\u{FE0F}\u{1F3FB}",
+            "\u{2764}\u{1F3FB}",
+            &["additional-defective"],
+        ),
+        (
+            "\u{2764}\u{FE0E}\u{E0061}",
+            "\u{2764}\u{FE0F}\u{E0061}",
+            &["tag-conflicting", "tag-forced"],
+        ),
+        (
+            "\u{1F1E6}\u{FE0F}\u{1F1E7}",
+            "\u{1F1E6}\u{1F1E7}",
+            &["unsanctioned"],
+        ),
+        ("a\u{FE0F}", "a", &["unsanctioned"]),
+        ("\u{20E3}", "\u{20E3}", &[]),
+    ] {
+        assert_eq!(formatted(text), expected);
+        assert_eq!(
+            matches!(formatted(text), Cow::Borrowed(_)),
+            named.is_empty()
+        );
+        assert_eq!(totals(text).numbers(), counts(named), "{text:?}");
+    }
+}
+
+#[test]
+fn items_tile_the_text() {
+    let text = "a\u{231A}\u{200D}\u{200D}\u{231A}\u{E0061}b\u{FE0F}";
+    let items: Vec<Item> = tilghorz::items(text.as_bytes())
+        .expect("a text")
+        .iter()
+        .collect();
+    let item = |start, end, kind, tags_complete| Item {
+        start,
+        end,
+        kind,
+        tags_complete,
+    };
+    let expected = [
+        item(0, 1, ItemKind::Passthrough, true),
+        item(1, 10, ItemKind::EmojiHeaded, true),
+        item(10, 17, ItemKind::EmojiHeaded, false),
+        item(17, 18, ItemKind::Passthrough, true),
+        item(18, 21, ItemKind::UnsanctionedSelectors, true),
+    ];
+    assert_eq!(items, expected);
+}
+
+#[test]
+fn mending_takes_the_decisions() {
+    let policy = Policy::default();
+    let text = "1\u{FE0E} \u{2764}".as_bytes();
+    let mended =
+        |offset, decisions: &[Presentation]| tilghorz::mend(text, &policy, offset, decisions);
+    let text_of = |text: &str| Ok(text.as_bytes().to_vec());
+    assert_eq!(mended(0, &[]), text_of("1 \u{2764}"));
+    assert_eq!(
+        mended(5, &[Presentation::Text]),
+        text_of("1\u{FE0E} \u{2764}\u{FE0E}")
+    );
+    assert_eq!(
+        mended(5, &[Presentation::Emoji]),
+        text_of("1\u{FE0E} \u{2764}\u{FE0F}")
+    );
+    assert_eq!(
+        mended(5, &[]),
+        Err(Refusal::WrongNumberOfDecisions { wanted: 1 })
+    );
+    assert_eq!(
+        mended(0, &[Presentation::Text]),
+        Err(Refusal::WrongNumberOfDecisions { wanted: 0 })
+    );
+    assert_eq!(mended(1, &[]), Err(Refusal::NoFinding));
+    assert_eq!(mended(usize::MAX, &[]), Err(Refusal::NoFinding));
+}
+
+#[test]
+fn refusals_leave_the_callers_buffer() {
+    let policy = Policy::default();
+    let text = "\u{2764}".as_bytes();
+    let mut out = [0xA5; 5];
+    let too_short = Err(Refusal::OutputTooShort { wanted: 6 });
+    assert_eq!(tilghorz::format_into(text, &policy, &mut out), too_short);
+    let too_short = Err(Refusal::OutputTooShort { wanted: 6 });
+    assert_eq!(
+        tilghorz::mend_into(text, &policy, 0, &[1], &mut out),
+        too_short
+    );
+    let bad = Err(Refusal::BadDecision { index: 0 });
+    assert_eq!(tilghorz::mend_into(text, &policy, 0, &[2], &mut out), bad);
+    let damaged = Err(Refusal::NotWellFormed { valid_up_to: 3 });
+    assert_eq!(
+        tilghorz::format_into(b"\xE2\x9D\xA4\xE2\x9D", &policy, &mut out),
+        damaged
+    );
+    assert_eq!(out, [0xA5; 5]);
+    let mut out = [0xA5; 8];
+    assert_eq!(tilghorz::mend_into(text, &policy, 0, &[1], &mut out), Ok(6));
+    assert_eq!(out, [0xE2, 0x9D, 0xA4, 0xEF, 0xB8, 0x8F, 0xA5, 0xA5]);
+    assert_eq!(
+        tilghorz::format_into(b"a", &policy, &mut []),
+        Ok(Formatted::Unchanged)
+    );
+}
+
+#[test]
+fn the_limit_of_a_text_is_16_777_216_bytes() {
+    let policy = Policy::default();
+    let text = vec![b'a'; LONGEST_TEXT + 1];
+    assert_eq!(tilghorz::format(&text, &policy), Err(Refusal::TextTooLong));
+    assert_eq!(
+        tilghorz::findings(&text, &policy).err(),
+        Some(Refusal::TextTooLong)
+    );
+    assert_eq!(tilghorz::items(&text).err(), Some(Refusal::TextTooLong));
+    assert_eq!(
+        tilghorz::mend(&text, &policy, 0, &[]),
+        Err(Refusal::TextTooLong)
+    );
+    let whole = tilghorz::format(&text[1..], &policy).expect("a text");
+    assert!(matches!(whole, Cow::Borrowed(_)));
+}
+
+/// The room that a table gets at first is not enough for these.
+#[test]
+fn results_of_any_length_find_room() {
+    let policy = Policy::default();
+    let text = "\u{A9}".repeat(100_000);
+    let findings = tilghorz::findings(text.as_bytes(), &policy).expect("a text");
+    assert_eq!(findings.len(), 100_000);
+    let last = Finding {
+        start: 199_998,
+        end: 200_000,
+        counts: Counts {
+            decisions: 1,
+            ..Counts::default()
+        },
+    };
+    assert_eq!(findings.get(99_999), Some(last));
+    assert_eq!(findings.totals().decisions, 100_000);
+    assert_eq!(formatted(&text), "\u{A9}\u{FE0E}".repeat(100_000));
+    assert_eq!(
+        tilghorz::items(text.as_bytes()).expect("a text").len(),
+        100_000
+    );
+}
+
+#[test]
+fn the_filed_text_is_the_message_or_the_front_of_the_buffer() {
+    let (message, buffer) = (&b"message"[..], &b"buffer"[..]);
+    let filed = |formatted| tilghorz::filed(message, buffer, formatted);
+    assert_eq!(filed(Formatted::Unchanged), message);
+    for len in 0..=buffer.len() {
+        assert_eq!(filed(Formatted::Changed { len }), &buffer[..len]);
+    }
+    for len in [7, usize::MAX] {
+        assert_eq!(filed(Formatted::Changed { len }), buffer);
+    }
+}
+
+/// The program `format` writes what the proved `filed_text` gives, the program `report` writes the findings, and
+/// `tests/programs` has their stored runs.
+#[test]
+fn the_stored_runs_of_the_proved_programs_are_met() {
+    let policy = Policy::default();
+    let folder = Path::new(env!("CARGO_MANIFEST_DIR")).join("../../tests/programs");
+    let mut runs = 0;
+    for entry in fs::read_dir(folder).expect("the stored runs") {
+        let path = entry.expect("a stored run").path();
+        if path.extension().is_none_or(|extension| extension != "in") {
+            continue;
+        }
+        runs += 1;
+        let stored = |extension| fs::read(path.with_extension(extension)).expect("a stored run");
+        let message = stored("in");
+        if message.len() > LONGEST_MESSAGE {
+            continue;
+        }
+        let mut buffer = vec![0; 4 * message.len()];
+        let filed = match tilghorz::format_into(&message, &policy, &mut buffer) {
+            Ok(formatted) => tilghorz::filed(&message, &buffer, formatted).to_vec(),
+            Err(refusal) => refusal_line(refusal),
+        };
+        assert!(filed == stored("format"), "{}", path.display());
+        assert!(
+            report(&message, &policy) == stored("report"),
+            "{}",
+            path.display()
+        );
+    }
+    assert!(runs > 5, "{runs} stored runs");
+}
+
+/// The bytes of a finding are an item of their own.
+#[test]
+fn formatting_each_finding_alone_formats_the_text() {
+    let policy = Policy::default();
+    let path = Path::new(env!("CARGO_MANIFEST_DIR")).join("../../tests/programs/thread.in");
+    let text = fs::read(path).expect("a stored run");
+    let (mut pieces, mut end) = (Vec::<u8>::new(), 0);
+    for finding in tilghorz::findings(&text, &policy).expect("a text").iter() {
+        pieces.extend(&text[end..finding.start]);
+        pieces.extend(&*tilghorz::format(&text[finding.span()], &policy).expect("a text"));
+        end = finding.end;
+    }
+    pieces.extend(&text[end..]);
+    assert!(pieces == *tilghorz::format(&text, &policy).expect("a text"));
+}
+
+/// The program's lines on a message.
+fn report(message: &[u8], policy: &Policy) -> Vec<u8> {
+    let findings = match tilghorz::findings(message, policy) {
+        Ok(findings) => findings,
+        Err(refusal) => return refusal_line(refusal),
+    };
+    let line = |numbers: &[usize]| {
+        let numbers: Vec<String> = numbers.iter().map(usize::to_string).collect();
+        numbers.join(" ")
+    };
+    let row = |finding: Finding| {
+        let span = [finding.start, finding.end];
+        line(&[&span[..], &finding.counts.numbers()].concat()) + "\n"
+    };
+    let totals = format!("total {}\n", line(&findings.totals().numbers()));
+    let lines: Vec<String> = findings.iter().map(row).chain([totals]).collect();
+    lines.concat().into_bytes()
+}
+
+/// The program's line on a refusal.
+fn refusal_line(refusal: Refusal) -> Vec<u8> {
+    let value = refusal
+        .value()
+        .map_or(String::new(), |value| format!(" {value}"));
+    format!("refused {}{value}\n", refusal.number()).into_bytes()
+}
