@@ -21,6 +21,10 @@ impl Repository {
             ("crates/vectors/data/policy.txt", b""),
             ("crates/format/stdin", example),
             ("crates/report/stdin", example),
+            (
+                "crates/findings_table/stdin",
+                "1\u{FE0E} \u{2764}\nab\n".as_bytes(),
+            ),
             ("tests/programs/damaged.in", b"ab\xFF"),
         ] {
             repository.write(path, bytes);
@@ -59,6 +63,10 @@ fn what_is_made_is_as_it_should_be() {
     assert_eq!(repository.faults(), [""; 0]);
     let report = "0 4 0 0 0 0 0 0 1 0\n5 8 0 0 0 0 0 0 0 1\ntotal 0 0 0 0 0 0 1 1\n";
     assert_eq!(repository.read("crates/report/stdout"), report.as_bytes());
+    assert_eq!(
+        repository.read("crates/findings_table/stdout"),
+        b"2 lines, 2 findings, 0 refused, 0 different\n"
+    );
     assert_eq!(
         repository.read("tests/programs/damaged.format"),
         b"refused 3 2\n"
