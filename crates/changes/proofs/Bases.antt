@@ -20,6 +20,7 @@ use Rattle.unicode.specs.declared.presentation.Presentation.{Presentation}
 use Rattle.unicode.specs.declared.presentation.Presentation.the-variants.{Emoji, Text}
 use Rattle.unicode.proofs.Claims.{no-index-no-entry, selectors-are-presentations, variation-entries-are-emoji}
 use Rattle.policy.specs.declared.Policy.{Policy}
+use Rattle.policy.proofs.Unused.{same-truth}
 use Rattle.scanner.specs.Runs.{behindSelectors, selectorsAt}
 use Rattle.scanner.specs.Spans.{size, width}
 use Rattle.scanner.specs.declared.char_class.Class.{Class}
@@ -72,15 +73,10 @@ unfolding runWith
 few-are NoSelector = omega arith
 few-are (Selector q) = omega arith
 
-same-tests : (a b : Bool) → (a ≡ true → b ≡ true) → (b ≡ true → a ≡ true) → a ≡ b
-same-tests true b f g = sym (f refl)
-same-tests false true f g = g refl
-same-tests false false f g = refl
-
 -- Nothing is counted exactly where the selector that stays is all there was.
 pub no-change : (p : Policy) (c : ℕ) (k : Class) (s : List Presentation) (a : FromSelector) → runWith a 1 ≡ chosen (outcome p c k s .slot) []
     → (eqb (selectorNumber (firstOf s)) (selectorNumber a) && leb (3 * length s) 3) ≡ eqb (total (outcome p c k s .counts)) 0
-no-change p c k s a h = same-tests _ _ quiet loud
+no-change p c k s a h = same-truth _ _ quiet loud
   where
     quiet : (eqb (selectorNumber (firstOf s)) (selectorNumber a) && leb (3 * length s) 3) ≡ true → eqb (total (outcome p c k s .counts)) 0 ≡ true
     quiet t =

@@ -16,14 +16,11 @@ use Rattle.unicode.specs.Unicode.{hasVariationSequence, isEmojiDefault, isEmoji
 use Rattle.unicode.specs.UnicodeData.{variationEntries}
 use Rattle.unicode.specs.declared.VariationSequenceIndex.the-variants.{At}
 use Rattle.unicode.specs.declared.presentation.FromSelector.{FromSelector}
-use Rattle.unicode.specs.declared.presentation.FromSelector.the-variants.{NoSelector, Selector}
 use Rattle.unicode.specs.declared.presentation.Presentation.{Presentation}
-use Rattle.unicode.specs.declared.presentation.Presentation.the-variants.{Emoji, Text}
 use Rattle.unicode.proofs.Ascent.{isAt, member-index}
 use Rattle.policy.specs.Policy.{entryRule, singletonRule}
 use Rattle.policy.specs.declared.Policy.{Policy}
 use Rattle.policy.specs.declared.SingletonRule.{SingletonRule}
-use Rattle.policy.specs.declared.SingletonRule.the-variants.{BareToEmoji, BareToText, EmojiToBare, TextToBare}
 use Rattle.policy.proofs.ByEntry.{rule-by-entry}
 use Rattle.scanner.specs.Classes.{classOf}
 use Rattle.scanner.specs.declared.char_class.Class.{Class}
@@ -33,42 +30,14 @@ use Rattle.scanner.proofs.char_class.Class.{the-type as the-class}
 use Rattle.analysis.specs.Analysis.{chosen, following}
 use Rattle.analysis.specs.CellView.{classInFront}
 use Rattle.analysis.specs.Cells.{Cell, cells, leading, split}
-use Rattle.analysis.specs.Rules.{byFirst, firstOf, isBareSide, outcome, rule2, rule3, rule4, rule5, rule6, runWith, textFirst, withoutSelector}
+use Rattle.analysis.specs.Rules.{firstOf, outcome, rule4, rule5, rule6, runWith}
 use Rattle.analysis.specs.declared.singleton.Outcome.{Outcome}
 use Rattle.analysis.proofs.Cells.{CharIs, a-selector, char-is, no-selector, split-char, split-selector}
 use Rattle.analysis.proofs.CellsAt.{behind-at, split-behind}
 use Rattle.analysis.proofs.NumberRules.{by-numbers}
 use Rattle.analysis.proofs.Rules.{outcome-entry, rule23}
-use Rattle.changes.specs.Changes.{SameRules, keptByModifier, keptByPolicy, keptByTags, outcomeFrom}
+use Rattle.changes.specs.Changes.{SameRules, outcomeFrom}
 use Rattle.changes.proofs.RuleClasses.{rules-before, same-outcome}
-
--- ---- rule by rule
-
-pub kept-modifier : (b : Bool) (a : FromSelector) (n : ℕ) → runWith (keptByModifier a) 1 ≡ chosen (rule23 b (runWith a n) .slot) []
-unfolding keptByModifier rule2 rule3 byFirst textFirst runWith
-kept-modifier b NoSelector n = refl
-kept-modifier b (Selector Text) n = refl
-kept-modifier b (Selector Emoji) n = refl
-
-pub kept-tags : (d : Bool) (a : FromSelector) (n : ℕ) → runWith (keptByTags d) 1 ≡ chosen (cond d (rule4 (runWith a n)) (rule5 (runWith a n)) .slot) []
-unfolding keptByTags rule4 rule5 byFirst runWith
-kept-tags true NoSelector n = refl
-kept-tags true (Selector q) n = refl
-kept-tags false NoSelector n = refl
-kept-tags false (Selector q) n = refl
-
-pub kept-policy : (r : SingletonRule) (a : FromSelector) (n : ℕ) → runWith (keptByPolicy r a) 1 ≡ chosen (rule6 r (runWith a n) .slot) []
-unfolding keptByPolicy rule6 withoutSelector isBareSide runWith
-kept-policy TextToBare NoSelector n = refl
-kept-policy TextToBare (Selector Text) n = refl
-kept-policy TextToBare (Selector Emoji) n = refl
-kept-policy EmojiToBare NoSelector n = refl
-kept-policy EmojiToBare (Selector Text) n = refl
-kept-policy EmojiToBare (Selector Emoji) n = refl
-kept-policy BareToText NoSelector n = refl
-kept-policy BareToText (Selector q) n = refl
-kept-policy BareToEmoji NoSelector n = refl
-kept-policy BareToEmoji (Selector q) n = refl
 
 -- ---- the rule that holds
 
@@ -80,26 +49,26 @@ module _ (p : Policy) (c i : ℕ) (e : variationSequenceIndex c ≡ At i) (a r :
   by-rule : (k : Class) (n : ℕ) (o : Outcome) → outcome p c k (runWith a n) ≡ o → runWith r 1 ≡ chosen (o .slot) [] → runWith r 1 ≡ chosen (outcome p c k (runWith a n) .slot) []
   by-rule k n o f h = h ∙ ap (λ (x : Outcome). chosen (x .slot) []) (sym f)
 
-  pub before-modifier-kept : (k : Class) → k ≡ modifier → r ≡ keptByModifier a → (n : ℕ) → runWith r 1 ≡ chosen (outcome p c k (runWith a n) .slot) []
+  pub before-modifier-kept : (k : Class) → k ≡ modifier → ((b : Bool) (n : ℕ) → runWith r 1 ≡ chosen (rule23 b (runWith a n) .slot) []) → (n : ℕ) → runWith r 1 ≡ chosen (outcome p c k (runWith a n) .slot) []
   before-modifier-kept k f h n =
       by-rule k n (rule23 (isEmojiModifierBase c) (runWith a n)) (ap (λ (x : Class). outcome p c x (runWith a n)) f ∙ outcome-entry p c modifier (runWith a n) (has-entry c i e))
-      (ap (λ (x : FromSelector). runWith x 1) h ∙ kept-modifier (isEmojiModifierBase c) a n)
+      (h (isEmojiModifierBase c) n)
 
-  pub before-tags-kept : (k : Class) (d : Bool) → k ≡ tag → d ≡ isEmojiDefault c → r ≡ keptByTags d → (n : ℕ) → runWith r 1 ≡ chosen (outcome p c k (runWith a n) .slot) []
+  pub before-tags-kept : (k : Class) (d : Bool) → k ≡ tag → d ≡ isEmojiDefault c → ((s : List Presentation) → runWith r 1 ≡ chosen (cond d (rule4 s) (rule5 s) .slot) []) → (n : ℕ) → runWith r 1 ≡ chosen (outcome p c k (runWith a n) .slot) []
   before-tags-kept k d f g h n =
       by-rule k n (cond (isEmojiDefault c) (rule4 (runWith a n)) (rule5 (runWith a n))) (ap (λ (x : Class). outcome p c x (runWith a n)) f ∙ outcome-entry p c tag (runWith a n) (has-entry c i e))
-      (ap (λ (x : FromSelector). runWith x 1) (h ∙ ap keptByTags g) ∙ kept-tags (isEmojiDefault c) a n)
+      (h (runWith a n) ∙ ap (λ (x : Bool). chosen (cond x (rule4 (runWith a n)) (rule5 (runWith a n)) .slot) []) g)
 
-  policy-kept : (k : Class) (b : Bool) → ((n : ℕ) → outcome p c k (runWith a n) ≡ rule6 (singletonRule p c b) (runWith a n)) → (s : SingletonRule) → s ≡ entryRule p i b → r ≡ keptByPolicy s a
+  policy-kept : (k : Class) (b : Bool) → ((n : ℕ) → outcome p c k (runWith a n) ≡ rule6 (singletonRule p c b) (runWith a n)) → (s : SingletonRule) → s ≡ entryRule p i b → ((n : ℕ) → runWith r 1 ≡ chosen (rule6 s (runWith a n) .slot) [])
       → (n : ℕ) → runWith r 1 ≡ chosen (outcome p c k (runWith a n) .slot) []
   policy-kept k b o s g h n =
       by-rule k n (rule6 (singletonRule p c b) (runWith a n)) (o n)
-      (ap (λ (x : FromSelector). runWith x 1) (h ∙ ap (λ (x : SingletonRule). keptByPolicy x a) (g ∙ sym (rule-by-entry p c i b e))) ∙ kept-policy (singletonRule p c b) a n)
+      (h n ∙ ap (λ (x : SingletonRule). chosen (rule6 x (runWith a n) .slot) []) (g ∙ sym (rule-by-entry p c i b e)))
 
-  pub before-keycap-kept : (k : Class) (s : SingletonRule) → k ≡ keycap → s ≡ entryRule p i true → r ≡ keptByPolicy s a → (n : ℕ) → runWith r 1 ≡ chosen (outcome p c k (runWith a n) .slot) []
+  pub before-keycap-kept : (k : Class) (s : SingletonRule) → k ≡ keycap → s ≡ entryRule p i true → ((n : ℕ) → runWith r 1 ≡ chosen (rule6 s (runWith a n) .slot) []) → (n : ℕ) → runWith r 1 ≡ chosen (outcome p c k (runWith a n) .slot) []
   before-keycap-kept k s f = policy-kept k true (λ n. ap (λ (x : Class). outcome p c x (runWith a n)) f ∙ outcome-entry p c keycap (runWith a n) (has-entry c i e)) s
 
-  pub before-other-kept : (k : Class) (s : SingletonRule) → OneOf (0 ∷ 1 ∷ 2 ∷ 4 ∷ 7 ∷ []) (tagOf the-class k) → s ≡ entryRule p i false → r ≡ keptByPolicy s a
+  pub before-other-kept : (k : Class) (s : SingletonRule) → OneOf (0 ∷ 1 ∷ 2 ∷ 4 ∷ 7 ∷ []) (tagOf the-class k) → s ≡ entryRule p i false → ((n : ℕ) → runWith r 1 ≡ chosen (rule6 s (runWith a n) .slot) [])
       → (n : ℕ) → runWith r 1 ≡ chosen (outcome p c k (runWith a n) .slot) []
   before-other-kept k s o =
       policy-kept k false (λ n. class-arm (0 ∷ 1 ∷ 2 ∷ 4 ∷ 7 ∷ []) (λ (x : Class). outcome p c x (runWith a n) ≡ rule6 (singletonRule p c false) (runWith a n)) (

@@ -2,7 +2,7 @@
 -- formatted text and the totals are those of crate analysis, specs/CellView.antt, of the text from an offset on.
 use mathlib.Core.Path.{_≡_}
 use mathlib.Core.Logic.{_⊎_}
-use mathlib.Core.Bool.{Bool, true, false, not}
+use mathlib.Core.Bool.{true, false, not}
 use mathlib.Core.List.{List, [], _++_, map}
 use Prim.Native.Nat.{ℕ, _+_, _*_, _-_, _<_, _≤_}
 use lib.Dec.{eqb}
@@ -15,8 +15,7 @@ use Rattle.unicode.specs.declared.presentation.FromSelector.the-variants.{NoSel
 use Rattle.unicode.specs.declared.presentation.Presentation.the-variants.{Emoji, Text}
 use Rattle.policy.specs.Policy.{singletonRule}
 use Rattle.policy.specs.declared.Policy.{Policy}
-use Rattle.policy.specs.declared.SingletonRule.{SingletonRule}
-use Rattle.policy.specs.declared.SingletonRule.the-variants.{BareToEmoji, BareToText, EmojiToBare, TextToBare}
+use Rattle.policy.specs.declared.SingletonRule.the-variants.{EmojiToBare, TextToBare}
 use Rattle.scanner.specs.declared.char_class.Class.{Class}
 use Rattle.analysis.specs.Analysis.{chosen, following}
 use Rattle.analysis.specs.CellView.{formatCells, totalCells}
@@ -92,30 +91,6 @@ pub record SameRules (j k : Class) : Type 0 where
   pub modifier : byModifier j ≡ byModifier k
   pub tags : byTags j ≡ byTags k
   pub keycap : byKeycap j ≡ byKeycap k
-
--- What stays of selectors before a modifier, by the first of them (rules 2 and 3).
-unfoldable pub keptByModifier : FromSelector → FromSelector
-keptByModifier NoSelector = NoSelector
-keptByModifier (Selector Text) = Selector Text
-keptByModifier (Selector Emoji) = NoSelector
-
--- What stays of selectors before tags, by whether the base is emoji-default (rules 4 and 5).
-unfoldable pub keptByTags : Bool → FromSelector
-keptByTags true = NoSelector
-keptByTags false = Selector Emoji
-
--- What stays of selectors by what the policy says of the base (rule 6).
-unfoldable pub keptByPolicy : SingletonRule → FromSelector → FromSelector
-keptByPolicy TextToBare NoSelector = NoSelector
-keptByPolicy TextToBare (Selector Text) = NoSelector
-keptByPolicy TextToBare (Selector Emoji) = Selector Emoji
-keptByPolicy EmojiToBare NoSelector = NoSelector
-keptByPolicy EmojiToBare (Selector Text) = Selector Text
-keptByPolicy EmojiToBare (Selector Emoji) = NoSelector
-keptByPolicy BareToText NoSelector = Selector Text
-keptByPolicy BareToText (Selector q) = Selector q
-keptByPolicy BareToEmoji NoSelector = Selector Emoji
-keptByPolicy BareToEmoji (Selector q) = Selector q
 
 -- A selector, or none, by number.
 unfoldable pub selectorNumber : FromSelector → ℕ

@@ -1,21 +1,22 @@
 // What becomes of the selectors behind a base that has a variation entry (document 01, "Counts and finding", rules 2 to 6): the
 // selector that stays, and whether that is a change. `base_change` equals `BaseChange` of specs/Changes.antt.
 ghost use mathlib.Core.Path.{_≡_};
-ghost use mathlib.Core.Bool.{_&&_, not};
-ghost use mathlib.Core.List.{[]};
+ghost use mathlib.Core.Bool.{Bool, _&&_, cond, not};
+ghost use mathlib.Core.List.{List, []};
 ghost use Prim.Native.Nat.{ℕ, _+_, _*_};
 ghost use lib.Dec.{eqb, leb};
 ghost use lib.ListN.{drop, length};
 ghost use Rattle.utf8.specs.Rfc3629.{chars};
 ghost use Rattle.unicode.specs.Unicode.{variationSequenceIndex};
 ghost use Rattle.unicode.specs.declared.VariationSequenceIndex.the-variants.{At};
+ghost use Rattle.unicode.specs.declared.presentation.Presentation.{Presentation as PresentationValue};
 ghost use Rattle.policy.specs.PolicyBytes.{policyOf};
 ghost use Rattle.scanner.specs.Classes.{classOf};
 ghost use Rattle.analysis.specs.Analysis.{chosen};
 ghost use Rattle.analysis.specs.CellView.{classInFront};
 ghost use Rattle.analysis.specs.Cells.{leading};
-ghost use Rattle.analysis.specs.Rules.{firstOf, outcome, runWith};
-ghost use Rattle.changes.specs.Changes.{BaseChange, SameRules, keptByModifier, keptByPolicy, keptByTags, selectorNumber};
+ghost use Rattle.analysis.specs.Rules.{firstOf, outcome, rule2, rule3, rule4, rule5, rule6, runWith, textFirst};
+ghost use Rattle.changes.specs.Changes.{BaseChange, SameRules, selectorNumber};
 use crate::Change;
 use policy::SingletonRule;
 use scanner::char_class::Class;
@@ -85,7 +86,7 @@ fn rule_class_at(text: &[u8], at: usize) -> Class
 
 // Rule 6: what stays of the selectors by what the policy says of the base.
 fn by_policy(rule: SingletonRule, first: FromSelector) -> FromSelector
-    ensures { λ r. ⌜ r ≡ keptByPolicy rule first ⌝ }
+    ensures { λ r. ⌜ ((n : ℕ) → runWith r 1 ≡ chosen (rule6 rule (runWith first n) .slot) []) ⌝ }
 {
     match rule {
         SingletonRule::TextToBare => match first {
@@ -115,7 +116,7 @@ fn by_policy(rule: SingletonRule, first: FromSelector) -> FromSelector
 
 // Rules 2 and 3: what stays of the selectors before a modifier.
 fn before_modifier(first: FromSelector) -> FromSelector
-    ensures { λ r. ⌜ r ≡ keptByModifier first ⌝ }
+    ensures { λ r. ⌜ ((b : Bool) (n : ℕ) → runWith r 1 ≡ chosen (cond (textFirst (runWith first n)) (rule2 (runWith first n)) (rule3 b (runWith first n)) .slot) []) ⌝ }
 {
     match first {
         FromSelector::NoSelector => first,
@@ -128,7 +129,7 @@ fn before_modifier(first: FromSelector) -> FromSelector
 
 // Rules 4 and 5: what stays of the selectors before tags.
 fn before_tags(is_emoji_default: bool) -> FromSelector
-    ensures { λ r. ⌜ r ≡ keptByTags «is_emoji_default» ⌝ }
+    ensures { λ r. ⌜ ((s : List PresentationValue) → runWith r 1 ≡ chosen (cond «is_emoji_default» (rule4 s) (rule5 s) .slot) []) ⌝ }
 {
     if is_emoji_default {
         return FromSelector::NoSelector;

@@ -1,5 +1,5 @@
--- `changes::base_selectors::before_modifier` meets its contract: each arm is a line of the definition.
-use Rattle.changes.specs.Changes.{keptByModifier}
+-- `changes::base_selectors::before_modifier` meets its contract: each arm is what the rule leaves.
+use Rattle.analysis.specs.Rules.{byFirst, rule2, rule3, runWith, textFirst}
 use borrow.Author.Needs.{needs}
 use Rattle.changes.proofs.base_selectors.before_modifier.Statement.{statement}
 use Rattle.changes.proofs.base_selectors.before_modifier.Tie as tie
@@ -17,16 +17,16 @@ enum-told-3 : tie.Need-enum-told-3
 enum-told-3 c = search needs
 
 returns : tie.Need-returns
-unfolding keptByModifier
-returns c = cc
+unfolding rule2 rule3 byFirst textFirst runWith
+returns c = λ b n. cc
 
 returns-2 : tie.Need-returns-2
-unfolding keptByModifier
-returns-2 c = cc
+unfolding rule2 rule3 byFirst textFirst runWith
+returns-2 c = λ b n. cc
 
 returns-3 : tie.Need-returns-3
-unfolding keptByModifier
-returns-3 c = cc
+unfolding rule2 rule3 byFirst textFirst runWith
+returns-3 c = λ b n. cc
 
 pub before-modifier-spec : {M : Type 1} → statement M
 before-modifier-spec =

@@ -1,5 +1,5 @@
--- `changes::base_selectors::by_policy` meets its contract: each arm is a line of the definition.
-use Rattle.changes.specs.Changes.{keptByPolicy}
+-- `changes::base_selectors::by_policy` meets its contract: each arm is what the rule leaves.
+use Rattle.analysis.specs.Rules.{isBareSide, rule6, runWith, withoutSelector}
 use borrow.Author.Needs.{needs}
 use Rattle.changes.proofs.base_selectors.by_policy.Statement.{statement}
 use Rattle.changes.proofs.base_selectors.by_policy.Tie as tie
@@ -53,44 +53,44 @@ enum-told-14 : tie.Need-enum-told-14
 enum-told-14 c = search needs
 
 returns : tie.Need-returns
-unfolding keptByPolicy
-returns c = cc
+unfolding rule6 withoutSelector isBareSide runWith
+returns c = λ n. cc
 
 returns-2 : tie.Need-returns-2
-unfolding keptByPolicy
-returns-2 c = cc
+unfolding rule6 withoutSelector isBareSide runWith
+returns-2 c = λ n. cc
 
 returns-3 : tie.Need-returns-3
-unfolding keptByPolicy
-returns-3 c = cc
+unfolding rule6 withoutSelector isBareSide runWith
+returns-3 c = λ n. cc
 
 returns-4 : tie.Need-returns-4
-unfolding keptByPolicy
-returns-4 c = cc
+unfolding rule6 withoutSelector isBareSide runWith
+returns-4 c = λ n. cc
 
 returns-5 : tie.Need-returns-5
-unfolding keptByPolicy
-returns-5 c = cc
+unfolding rule6 withoutSelector isBareSide runWith
+returns-5 c = λ n. cc
 
 returns-6 : tie.Need-returns-6
-unfolding keptByPolicy
-returns-6 c = cc
+unfolding rule6 withoutSelector isBareSide runWith
+returns-6 c = λ n. cc
 
 returns-7 : tie.Need-returns-7
-unfolding keptByPolicy
-returns-7 c = cc
+unfolding rule6 withoutSelector isBareSide runWith
+returns-7 c = λ n. cc
 
 returns-8 : tie.Need-returns-8
-unfolding keptByPolicy
-returns-8 c = cc
+unfolding rule6 withoutSelector isBareSide runWith
+returns-8 c = λ n. cc
 
 returns-9 : tie.Need-returns-9
-unfolding keptByPolicy
-returns-9 c = cc
+unfolding rule6 withoutSelector isBareSide runWith
+returns-9 c = λ n. cc
 
 returns-10 : tie.Need-returns-10
-unfolding keptByPolicy
-returns-10 c = cc
+unfolding rule6 withoutSelector isBareSide runWith
+returns-10 c = λ n. cc
 
 pub by-policy-spec : {M : Type 1} → statement M
 by-policy-spec =
