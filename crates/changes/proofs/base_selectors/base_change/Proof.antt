@@ -1,3 +1,4 @@
+-- `changes::base_selectors::base_change` meets its contract: what was read, put together (`Bases`, base-read).
 use Rattle.changes.proofs.Bases.{base-read}
 use Rattle.policy.specs.PolicyBytes.{policyOf}
 use borrow.Author.Needs.{needs}

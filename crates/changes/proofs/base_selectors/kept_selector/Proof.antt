@@ -1,3 +1,4 @@
+-- `changes::base_selectors::kept_selector` meets its contract: the rule that holds, by the class.
 use Rattle.changes.proofs.Kept.{before-keycap-kept, before-modifier-kept, before-other-kept, before-tags-kept}
 use Rattle.policy.specs.PolicyBytes.{policyOf}
 use borrow.Author.Needs.{needs}

@@ -1,3 +1,4 @@
+-- `changes::base_selectors::rule_class_at` meets its contract: the class of the character there, or of none.
 use Rattle.changes.proofs.Kept.{class-in-front}
 use borrow.Author.Needs.{needs}
 use Rattle.changes.proofs.base_selectors.rule_class_at.Statement.{statement}

@@ -1,3 +1,4 @@
+-- `changes::plain::is_plain_at` meets its contract: what the first bytes leave of the values (`PlainText`, plain-lead).
 use Rattle.changes.proofs.PlainText.{plain-lead}
 use Rattle.utf8.proofs.Places.{step}
 use borrow.Author.Tests.{eq-eqb, not-true}

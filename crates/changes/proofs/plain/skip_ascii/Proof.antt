@@ -1,3 +1,4 @@
+-- `changes::plain::skip_ascii` meets its contract: the run, with or without its last character (`AsciiText`).
 use Rattle.changes.proofs.AsciiText.{last-byte, run-but-last, run-room, run-to-end, run-with-last}
 use native.Mathlib.Omega.{arith}
 use borrow.Author.Needs.{needs}
