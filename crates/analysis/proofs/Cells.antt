@@ -1,56 +1,18 @@
 -- Characters and their cells: each gives the other back, and both have the same characters and the same number of selectors.
 use mathlib.Core.Path.{_≡_, refl, ap, sym, _∙_, subst}
-use mathlib.Core.Bool.{Bool, true, false, cond, _||_}
+use mathlib.Core.Bool.{true, false, cond}
 use mathlib.Core.List.{List, [], _∷_, _++_, map, append-nil}
-use mathlib.Core.Logic.{⊎-elim}
 use Prim.Native.Nat.{ℕ, suc, _+_}
 use native.Mathlib.Omega.{arith}
-use lib.Dec.{eqb}
 use lib.ListN.{length}
-use borrow.Author.Tests.{eqb-true}
-use Rattle.base.proofs.Tests.{either-true}
-use Rattle.unicode.specs.Presentation.{asSelector, fromSelector, isSelector}
+use Rattle.unicode.specs.Presentation.{asSelector, isSelector}
 use Rattle.unicode.specs.declared.presentation.FromSelector.{FromSelector}
-use Rattle.unicode.specs.declared.presentation.FromSelector.the-variants.{NoSelector, Selector}
 use Rattle.unicode.specs.declared.presentation.Presentation.{Presentation}
-use Rattle.unicode.specs.declared.presentation.Presentation.the-variants.{Emoji, Text}
 use Rattle.scanner.specs.Classes.{strip}
 use Rattle.scanner.specs.Grammar.{S, no-selectors, selector-and}
+use Rattle.scanner.proofs.SelectorChars.{CharIs, a-selector, char-is, from-other, from-selector, no-selector, selector-is}
 use Rattle.scanner.proofs.Walk.{strip-char, strip-selector}
 use Rattle.analysis.specs.Cells.{Cell, addChar, cells, leading, selectorCount, split, unsplit}
-
--- ---- a character is a selector or not
-
-pub data CharIs (c : ℕ) : Type 0 where
-  a-selector : (q : Presentation) → c ≡ asSelector q → CharIs c
-  no-selector : isSelector c ≡ false → CharIs c
-
-pub char-is : (c : ℕ) → CharIs c
-unfolding isSelector asSelector
-char-is c = go (isSelector c) refl
-  where
-    go : (b : Bool) → isSelector c ≡ b → CharIs c
-    go true e = ⊎-elim (λ t. a-selector Text (eqb-true c 0xFE0E t)) (λ t. a-selector Emoji (eqb-true c 0xFE0F t)) (either-true (eqb c 0xFE0E) (eqb c 0xFE0F) e)
-    go false e = no-selector e
-
-pub selector-is : (q : Presentation) → isSelector (asSelector q) ≡ true
-unfolding isSelector asSelector
-selector-is Text = refl
-selector-is Emoji = refl
-
-pub from-selector : (q : Presentation) → fromSelector (asSelector q) ≡ Selector q
-unfolding fromSelector asSelector
-from-selector Text = refl
-from-selector Emoji = refl
-
-from-other : (c : ℕ) → isSelector c ≡ false → fromSelector c ≡ NoSelector
-unfolding isSelector fromSelector
-from-other c e = go (eqb c 0xFE0E) (eqb c 0xFE0F) e
-  where
-    go : (a b : Bool) → (a || b) ≡ false → cond a (Selector Text) (cond b (Selector Emoji) NoSelector) ≡ NoSelector
-    go true b e = cc
-    go false true e = cc
-    go false false e = refl
 
 -- ---- one character more
 
@@ -61,6 +23,16 @@ split-selector q t = ap (λ (f : FromSelector). addChar (asSelector q) f (split 
 pub split-char : (c : ℕ) (t : List ℕ) → isSelector c ≡ false → split (c ∷ t) ≡ ([], record { char = c; after = leading t } ∷ cells t)
 unfolding split addChar
 split-char c t e = ap (λ (f : FromSelector). addChar c f (split t)) (from-other c e)
+
+-- The first character is no selector where none leads.
+pub front-char : (c : ℕ) (t : List ℕ) → leading (c ∷ t) ≡ [] → isSelector c ≡ false
+front-char c t e = go (char-is c)
+  where
+    go : CharIs c → isSelector c ≡ false
+    go (no-selector f) = f
+    go (a-selector q f) =
+        let l : q ∷ leading t ≡ [] = sym (ap (λ (x : ℕ). leading (x ∷ t)) f ∙ ap (λ (a : List Presentation × List Cell). a .0) (split-selector q t)) ∙ e in
+        absurd (omega (arith, ap length l))
 
 -- Induction over characters: selectors, and the others.
 module _ (P : List ℕ → Type 0) (end : P []) (sel : (q : Presentation) (t : List ℕ) → P t → P (asSelector q ∷ t)) (char : (c : ℕ) (t : List ℕ) → isSelector c ≡ false → P t → P (c ∷ t)) where

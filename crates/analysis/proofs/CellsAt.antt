@@ -23,13 +23,14 @@ use Rattle.scanner.proofs.ClassTests.{forSelector, selector-test}
 use Rattle.scanner.proofs.Peek.{Seen, seen-arm}
 use Rattle.scanner.proofs.Rescan.{size-append}
 use Rattle.scanner.proofs.Runs.{behind-false, behind-true, run-behind, run-false, run-true}
-use Rattle.scanner.proofs.SelectorRun.{selectors-size}
+use Rattle.scanner.proofs.SelectorChars.{from-selector, selector-is}
+use Rattle.scanner.proofs.SelectorRun.{first-is as first-in-run, selectors-size}
 use Rattle.scanner.proofs.char_class.Class.{the-type as the-class}
 use Rattle.analysis.specs.Analysis.{following}
 use Rattle.analysis.specs.CellView.{classInFront}
 use Rattle.analysis.specs.Cells.{Cell, cells, leading, split, unsplit}
 use Rattle.analysis.specs.Rules.{Outcome, firstOf, outcome, runWith}
-use Rattle.analysis.proofs.Cells.{by-chars, clean-cells, from-selector, selector-is, split-char, split-selector, split-unsplit, split-whole}
+use Rattle.analysis.proofs.Cells.{by-chars, clean-cells, split-char, split-selector, split-unsplit, split-whole}
 use Rattle.analysis.proofs.NumberRules.{by-numbers}
 
 -- ---- the selectors at the front and what stands behind them
@@ -63,6 +64,10 @@ first-is t = ap firstSelector (selectors-are t) ∙ go (leading t)
     go [] = refl
     go (q ∷ s) = from-selector q
 
+-- What the first character asks for as a selector is the first of the leading ones.
+pub first-leads : (t : List ℕ) → firstSelector t ≡ firstOf (leading t)
+first-leads t = first-in-run t ∙ first-is t
+
 following-is : (t : List ℕ) → following (cells t) ≡ classInFront (behindSelectors t)
 unfolding following classInFront
 following-is t = go (cells t) ∙ ap classInFront (sym (behind-are t))
@@ -93,6 +98,10 @@ module _ (text : List ℕ) (at : ℕ) where
       let t = chars (drop at text) in
       ap (λ (n : ℕ). chars (drop n text)) (sym selectors-end) ∙ chars-from text at (selectorsAt t) (behindSelectors t) (sym (run-behind isSelector t))
 
+  -- There none leads, and the cells are the same.
+  pub split-at : {end : ℕ} → end ≡ at + 3 * length (leading (chars (drop at text))) → split (chars (drop end text)) ≡ ([], cells (chars (drop at text)))
+  split-at e = ap (λ (n : ℕ). split (chars (drop n text))) e ∙ ap split behind-at ∙ split-behind (chars (drop at text))
+
   -- They end within the text.
   pub selectors-room : at ≤ length text → at + 3 * length (leading (chars (drop at text))) ≤ length text
   selectors-room h =
@@ -102,15 +111,28 @@ module _ (text : List ℕ) (at : ℕ) where
       let b = ap (size width) (run-behind isSelector t) in
       omega (arith, a, b, size-chars s, validUpTo-le s, length-drop at text, selectors-end)
 
+  -- The run as the code reads it.
+  module _ (r : PresentationSelectors) (e : r ≡ selectorRun text at) where
+    pub read-end : r .end ≡ at + 3 * length (leading (chars (drop at text)))
+    unfolding selectorRun
+    read-end = ap (λ (x : PresentationSelectors). x .end) e ∙ selectors-end
+
+    pub read-count : r .count ≡ length (leading (chars (drop at text)))
+    unfolding selectorRun
+    read-count = ap (λ (x : PresentationSelectors). x .count) e ∙ count-is (chars (drop at text))
+
+    read-first : r .first ≡ firstOf (leading (chars (drop at text)))
+    unfolding selectorRun
+    read-first = ap (λ (x : PresentationSelectors). x .first) e ∙ first-is (chars (drop at text))
+
   -- The cell as the code reads it: the run of selectors, the class behind it, and what the rules say.
   pub cell-read : (p : Policy) (c : ℕ) (r : PresentationSelectors) (k : Class) (o : Outcome) → r ≡ selectorRun text at
       → k ≡ classInFront (chars (drop (r .end) text)) → o ≡ outcome p c k (runWith (r .first) (r .count))
       → (o ≡ outcome p c (following (cells (chars (drop at text)))) (leading (chars (drop at text)))) × (r .end ≡ at + 3 * length (leading (chars (drop at text))))
-  unfolding selectorRun
   cell-read p c r k o hr hk ho =
       let t = chars (drop at text) in
-      let e : r .end ≡ at + 3 * length (leading t) = ap (λ (x : PresentationSelectors). x .end) hr ∙ selectors-end in
-      let f : r .first ≡ firstOf (leading t) = ap (λ (x : PresentationSelectors). x .first) hr ∙ first-is t in
-      let n : r .count ≡ length (leading t) = ap (λ (x : PresentationSelectors). x .count) hr ∙ count-is t in
+      let e = read-end r hr in
+      let f = read-first r hr in
+      let n = read-count r hr in
       let g : k ≡ following (cells t) = hk ∙ ap (λ (m : ℕ). classInFront (chars (drop m text))) e ∙ ap classInFront behind-at ∙ sym (following-is t) in
       (ho ∙ (λ i. outcome p c (g i) (runWith (f i) (n i))) ∙ sym (by-numbers p c (following (cells t)) (leading t)), e)

@@ -21,15 +21,15 @@ use Rattle.scanner.specs.declared.consume.RunKind.the-variants.{Selectors}
 use Rattle.scanner.proofs.ClassTests.{run-selectors}
 use Rattle.scanner.proofs.Peek.{Seen, Unseen}
 use Rattle.scanner.proofs.Runs.{run-true}
+use Rattle.scanner.proofs.SelectorChars.{CharIs, a-selector, char-is, no-selector, width-selector}
 use Rattle.analysis.specs.Analysis.{following, upToLink}
 use Rattle.analysis.specs.Cells.{Cell, cells, leading, split, unsplit}
 use Rattle.analysis.specs.ChoicesAt.{addChoiceAt, bytesOf, cellsFrom, cellsStart, choiceAt, choicesFrom, firstChoice, frontUnit}
 use Rattle.analysis.specs.Rules.{Outcome, Slot, bare, decided, fixed, outcome}
 use Rattle.analysis.specs.declared.choice.ChoiceStep.the-variants.{Choice, End}
 use Rattle.analysis.specs.declared.choice.ReplacementChoice.{ReplacementChoice}
-use Rattle.analysis.proofs.Cells.{CharIs, a-selector, by-chars, char-is, no-selector, split-char, split-selector}
-use Rattle.analysis.proofs.CellsAt.{behind-at, selectors-end, split-behind}
-use Rattle.analysis.proofs.Lengths.{width-selector}
+use Rattle.analysis.proofs.Cells.{by-chars, split-char, split-selector}
+use Rattle.analysis.proofs.CellsAt.{selectors-end, split-at}
 use Rattle.analysis.proofs.singleton.Slot.{the-type as the-slot}
 
 -- The bytes of selectors, and of what stands behind them.
@@ -80,7 +80,7 @@ link-end raw at =
 module _ (raw : List ℕ) (at : ℕ) where
   -- Behind the leading selectors the same cells are read, and no selector before them.
   pub cells-behind : split (chars (drop (cellsStart raw at) raw)) ≡ ([], cellsFrom raw at)
-  cells-behind = ap split (behind-at raw at) ∙ split-behind (chars (drop at raw))
+  cells-behind = split-at raw at refl
 
   cells-none : Unseen raw at → split (chars (drop at raw)) ≡ ([], [])
   unfolding split

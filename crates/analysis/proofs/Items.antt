@@ -1,9 +1,9 @@
 -- The replacement of an item, by its kind: no count, the same other characters, selectors as counted, the item itself exactly
 -- where there is no finding, and again one item of that kind.
 use mathlib.Core.Path.{_≡_, refl, ap, sym, _∙_, subst}
-use mathlib.Core.Bool.{false, not}
+use mathlib.Core.Bool.{true, false, not, true≢false}
 use mathlib.Core.List.{List, [], _∷_, _++_, map, append-nil, List·Memᴰ, List·Memᴰ·cases-cons, List·Memᴰ·not-nil}
-use mathlib.Core.Logic.{_↔_, inl, inr, ⊎-elim}
+use mathlib.Core.Logic.{_↔_, _≢_, inl, inr, ⊎-elim}
 use Prim.Native.Nat.{ℕ, _+_}
 use native.Mathlib.Omega.{arith}
 use lib.Dec.{eqb}
@@ -174,6 +174,10 @@ module _ (p : Policy) where
   pub passthrough-no-finding : (x : Item) → x .kind ≡ Passthrough → isFinding p x ≡ false
   unfolding countsOf
   passthrough-no-finding x e = empty-no-finding x (counts-at x Passthrough e)
+
+  -- A finding is of another kind.
+  pub finding-no-passthrough : (x : Item) → isFinding p x ≡ true → x .kind ≢ Passthrough
+  finding-no-passthrough x f e = true≢false (sym f ∙ passthrough-no-finding x e)
 
   pub replacement-no-count : (x : Item) (ds : List Presentation) → nonCanonicality p (item (x .kind) (replacement p x ds)) ≡ empty
   unfolding nonCanonicality replacement

@@ -93,6 +93,13 @@ module _ (p : Policy) where
   total-item {k} {t} n (emoji-headed v j l) = total-structured (inr refl) (emoji-headed v j l)
   total-item {k} {t} n (passthrough h s) = absurd (n refl)
 
+-- And so are those of its bytes.
+pub item-totals : (p : Policy) (text : List ℕ) (at : ℕ) {x : Item} {xs : List Item} → items (chars (drop at text)) ≡ x ∷ xs → x .kind ≢ Passthrough
+    → {end : ℕ} → end ≡ at + size width (x .chars) → totalCells p (chars (take (end - at) (drop at text))) ≡ nonCanonicality p x
+unfolding nonCanonicality
+item-totals p text at {x} {xs} e o f =
+    ap (λ (m : ℕ). totalCells p (chars (take (m - at) (drop at text)))) f ∙ ap (totalCells p) (item-chars text at x xs e) ∙ total-item p o (item-derived text at x xs e)
+
 -- ---- what the scan's answer at an offset says
 
 pub record ItemAt (text : List ℕ) (at : ℕ) (i : ScanItem) : Type 0 where
@@ -140,11 +147,7 @@ module _ (p : Policy) (text : List ℕ) (at : ℕ) where
     -- Any other item goes by the totals of its bytes.
     module _ (o : i .kind ≢ Passthrough) (n : NonCanonicality) (e : n ≡ totalCells p (chars (take (i .end - at) (drop at text)))) where
       counts-are : n ≡ nonCanonicality p (h .item)
-      unfolding nonCanonicality
-      counts-are =
-          let x = h .item in
-          e ∙ ap (λ (m : ℕ). totalCells p (chars (take (m - at) (drop at text)))) (h .end-is) ∙ ap (totalCells p) (item-chars text at x (h .behind) (h .items-are))
-          ∙ total-item p (λ f. o (h .kind-is ∙ f)) (item-derived text at x (h .behind) (h .items-are))
+      counts-are = e ∙ item-totals p text at (h .items-are) (λ f. o (h .kind-is ∙ f)) (h .end-is)
 
       pub analysis-canonical : eqb (total n) 0 ≡ true → Canonical (i .end) ≡ analysisAt p text at
       unfolding answer

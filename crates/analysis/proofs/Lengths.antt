@@ -7,30 +7,19 @@ use native.Mathlib.Omega.{arith}
 use lib.ListN.{length}
 use Rattle.unicode.specs.Presentation.{asSelector}
 use Rattle.unicode.specs.declared.presentation.Presentation.{Presentation}
-use Rattle.unicode.specs.declared.presentation.Presentation.the-variants.{Emoji, Text}
-use Rattle.utf8.specs.Rfc3629.{encode}
 use Rattle.policy.specs.declared.Policy.{Policy}
 use Rattle.scanner.specs.Classes.{strip}
 use Rattle.scanner.specs.Grammar.{Derives, emoji-headed, links-only, passthrough, selector-run}
 use Rattle.scanner.specs.Spans.{size, width}
 use Rattle.scanner.specs.declared.ScanKind.{ScanKind}
 use Rattle.scanner.proofs.Bytes.{width-some}
+use Rattle.scanner.proofs.SelectorChars.{selector-is, width-selector}
 use Rattle.scanner.proofs.Walk.{strip-char, strip-selector}
 use Rattle.analysis.specs.Analysis.{chosen, countsOf, remaining, outcomeAt, render, renew, replacementOf}
 use Rattle.analysis.specs.Cells.{Cell, cells, selectorCount}
 use Rattle.analysis.specs.Counts.{adding, removing}
 use Rattle.analysis.specs.Rules.{Slot, bare, decided, fixed}
-use Rattle.analysis.proofs.Cells.{
-  by-chars,
-  charsOf,
-  clean-cells,
-  count-char,
-  count-selector,
-  count-unsplit,
-  heldIn,
-  selector-is,
-  strip-split,
-}
+use Rattle.analysis.proofs.Cells.{by-chars, charsOf, clean-cells, count-char, count-selector, count-unsplit, heldIn, strip-split}
 use Rattle.analysis.proofs.Items.{balance-of, strip-of}
 use Rattle.analysis.proofs.Replacement.{clean-renew, strip-render}
 
@@ -42,11 +31,6 @@ length-parts =
     by-chars (λ t. length t ≡ length (strip t) + selectorCount t) refl
     (λ q t h. omega (arith, count-selector (asSelector q) t (selector-is q), ap length (strip-selector (asSelector q) t (selector-is q))))
     (λ c t e h. omega (arith, count-char c t e, ap length (strip-char c t e)))
-
-pub width-selector : (q : Presentation) → width (asSelector q) ≡ 3
-unfolding width encode asSelector
-width-selector Text = refl
-width-selector Emoji = refl
 
 pub bytes-parts : (t : List ℕ) → size width t ≡ size width (strip t) + 3 * selectorCount t
 unfolding strip selectorCount

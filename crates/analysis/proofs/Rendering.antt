@@ -10,13 +10,13 @@ use lib.ListN.{drop, drop-of-length-le, getD, length}
 use lib.Seq.{drop-cons, drop-drop}
 use Rattle.base.specs.Output.{PutAt}
 use Rattle.base.specs.Refusals.{textLimit}
-use Rattle.base.proofs.Tests.{both-true}
-use Rattle.utf8.specs.Rfc3629.{allScalar, chars, encode, encodeAll, isScalar}
+use Rattle.utf8.specs.Rfc3629.{chars, encode, encodeAll, isScalar}
 use Rattle.utf8.specs.Write.{afterWriteChar, writeChar}
 use Rattle.utf8.specs.declared.WriteChar.{WriteChar}
 use Rattle.utf8.specs.declared.WriteChar.the-variants.{NotScalar, TooShort, Written}
 use Rattle.utf8.proofs.Answers.{afterWriteChar-sets, written}
-use Rattle.utf8.proofs.Texts.{chars-allScalar, encodeAll-append, validUpTo-le}
+use Rattle.utf8.proofs.Places.{Step, Stop}
+use Rattle.utf8.proofs.Texts.{encodeAll-append, validUpTo-le}
 use Rattle.unicode.specs.Presentation.{asSelector, isSelector}
 use Rattle.unicode.specs.declared.presentation.FromSelector.{FromSelector}
 use Rattle.unicode.specs.declared.presentation.FromSelector.the-variants.{NoSelector, Selector}
@@ -24,29 +24,20 @@ use Rattle.unicode.specs.declared.presentation.Presentation.{Presentation}
 use Rattle.unicode.specs.declared.presentation.Presentation.the-variants.{Emoji, Text}
 use Rattle.policy.specs.declared.Policy.{Policy}
 use Rattle.scanner.specs.Spans.{size, width}
-use Rattle.scanner.specs.declared.char_class.Class.{Class}
 use Rattle.scanner.proofs.Bytes.{size-chars, size-width}
-use Rattle.scanner.proofs.Peek.{Seen, Unseen}
 use Rattle.analysis.specs.Analysis.{chosen, decide, following, laterDecisions, remaining, render, renew}
 use Rattle.analysis.specs.CellView.{formatCells}
 use Rattle.analysis.specs.Cells.{Cell, cells, leading, split}
 use Rattle.analysis.specs.Counts.{capped}
 use Rattle.analysis.specs.Decisions.{cellBytes, decisionsUsed, meaning}
 use Rattle.analysis.specs.Rules.{Outcome, Slot, bare, decided, fixed, outcome, runWith}
-use Rattle.analysis.proofs.Cells.{clean-cells, count-unsplit}
-use Rattle.analysis.proofs.CellsAt.{behind-at, split-behind}
+use Rattle.analysis.proofs.Cells.{clean-cells, count-unsplit, front-char}
+use Rattle.analysis.proofs.CellsAt.{split-at}
 use Rattle.analysis.proofs.Lengths.{bytes-parts, render-bytes}
 use Rattle.analysis.proofs.Replacement.{clean-renew, render-cons, renew-balances, renewed, strip-render}
 use Rattle.analysis.proofs.Sums.{capped-held}
-use Rattle.analysis.proofs.Units.{cells-selector}
 
 -- ---- one character
-
--- A character of a text is a scalar value.
-pub seen-scalar : {text : List ℕ} {at v : ℕ} {k : Class} {next : ℕ} → Seen text at v k next → isScalar v ≡ true
-unfolding allScalar
-seen-scalar {text} {at} {v} {next = next} h =
-    both-true (isScalar v) (allScalar (chars (drop next text))) (ap allScalar (sym (h .chars-on)) ∙ chars-allScalar (drop at text)) .0
 
 -- With room for a scalar value, its bytes are put.
 module _ (v : ℕ) (o : List ℕ) (at : ℕ) (s : isScalar v ≡ true) (h : at + length (encode v) ≤ length o) (a : WriteChar) (e : a ≡ writeChar v o at) where
@@ -112,34 +103,30 @@ leftAt p text ds at i = encodeAll (render p (cells (chars (drop at text))) (map 
 
 module _ (p : Policy) (text ds : List ℕ) (at i : ℕ) where
   -- Nothing where no character stands.
-  pub left-none : Unseen text at → leftAt p text ds at i ≡ []
+  pub left-none : Stop text at → leftAt p text ds at i ≡ []
   unfolding split render renew encodeAll
   left-none h = ap (λ (t : List ℕ). encodeAll (render p (cells t) (map meaning (drop i ds)))) (h .chars-none)
 
-  module _ {v : ℕ} {k : Class} {next : ℕ} (h : Seen text at v k next) where
-    left-as : leftAt p text ds at i ≡ encodeAll (render p (cells (v ∷ chars (drop next text))) (map meaning (drop i ds)))
-    left-as = ap (λ (t : List ℕ). encodeAll (render p (cells t) (map meaning (drop i ds)))) (h .chars-on)
+  -- The selectors that lead are passed.
+  pub left-leading : {end : ℕ} → end ≡ at + 3 * length (leading (chars (drop at text))) → leftAt p text ds at i ≡ leftAt p text ds end i
+  left-leading e = ap (λ (a : List Presentation × List Cell). encodeAll (render p (a .1) (map meaning (drop i ds)))) (sym (split-at text at e))
 
-    -- A selector that leads is passed.
-    pub left-selector : isSelector v ≡ true → leftAt p text ds at i ≡ leftAt p text ds next i
-    left-selector e = left-as ∙ ap (λ (xs : List Cell). encodeAll (render p xs (map meaning (drop i ds)))) (cells-selector v (chars (drop next text)) e .0)
-
-    -- Of a cell its character and what its slot holds, then what is left behind the cell.
-    pub left-cell : isSelector v ≡ false → (o : Outcome) (end : ℕ)
-        → o ≡ outcome p v (following (cells (chars (drop next text)))) (leading (chars (drop next text)))
-        → end ≡ next + 3 * length (leading (chars (drop next text)))
-        → leftAt p text ds at i ≡ cellBytes v (o .slot) (map meaning (drop i ds)) ++ leftAt p text ds end (i + decisionsUsed (o .slot))
-    unfolding renewed encodeAll
-    left-cell e o end f g =
-        let t = chars (drop next text) in
-        let ms = map meaning (drop i ds) in
-        let same : cells (chars (drop end text)) ≡ cells t =
-        ap (λ (n : ℕ). cells (chars (drop n text))) g ∙ ap cells (behind-at text next) ∙ ap (λ (a : List Presentation × List Cell). a .1) (split-behind t) in
-        left-as ∙ ap encodeAll (render-cons p v t ms e)
-        ∙ ap (λ (x : Outcome). encode v ++ encodeAll (map asSelector (chosen (x .slot) ms) ++ render p (cells t) (remaining (x .slot) ms))) (sym f)
-        ∙ ap (λ (l : List ℕ). encode v ++ l) (encodeAll-append (map asSelector (chosen (o .slot) ms)) (render p (cells t) (remaining (o .slot) ms)))
-        ∙ ap₂ (λ (xs : List Cell) (l : List Presentation). encode v ++ (encodeAll (map asSelector (chosen (o .slot) ms)) ++ encodeAll (render p xs l))) (sym same) (remaining-drop (o .slot) ds i)
-        ∙ sym (append-assoc (encode v) (encodeAll (map asSelector (chosen (o .slot) ms))) (leftAt p text ds end (i + decisionsUsed (o .slot))))
+  -- Of a cell its character and what its slot holds, then what is left behind the cell.
+  pub left-cell : {v w : ℕ} → Step text at v w → leading (chars (drop at text)) ≡ [] → (o : Outcome) (end : ℕ)
+      → o ≡ outcome p v (following (cells (chars (drop (at + w) text)))) (leading (chars (drop (at + w) text)))
+      → end ≡ at + w + 3 * length (leading (chars (drop (at + w) text)))
+      → leftAt p text ds at i ≡ cellBytes v (o .slot) (map meaning (drop i ds)) ++ leftAt p text ds end (i + decisionsUsed (o .slot))
+  unfolding renewed encodeAll
+  left-cell {v} {w} h l o end f g =
+      let t = chars (drop (at + w) text) in
+      let ms = map meaning (drop i ds) in
+      let e : isSelector v ≡ false = front-char v t (ap leading (sym (h .chars-on)) ∙ l) in
+      let same : cells (chars (drop end text)) ≡ cells t = ap (λ (a : List Presentation × List Cell). a .1) (split-at text (at + w) g) in
+      ap (λ (x : List ℕ). encodeAll (render p (cells x) ms)) (h .chars-on) ∙ ap encodeAll (render-cons p v t ms e)
+      ∙ ap (λ (x : Outcome). encode v ++ encodeAll (map asSelector (chosen (x .slot) ms) ++ render p (cells t) (remaining (x .slot) ms))) (sym f)
+      ∙ ap (λ (x : List ℕ). encode v ++ x) (encodeAll-append (map asSelector (chosen (o .slot) ms)) (render p (cells t) (remaining (o .slot) ms)))
+      ∙ ap₂ (λ (xs : List Cell) (x : List Presentation). encode v ++ (encodeAll (map asSelector (chosen (o .slot) ms)) ++ encodeAll (render p xs x))) (sym same) (remaining-drop (o .slot) ds i)
+      ∙ sym (append-assoc (encode v) (encodeAll (map asSelector (chosen (o .slot) ms))) (leftAt p text ds end (i + decisionsUsed (o .slot))))
 
 -- ---- its length
 

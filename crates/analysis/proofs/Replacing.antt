@@ -11,7 +11,7 @@ use borrow.Author.Tests.{le-leb, lt-leb}
 use types.Run.{OneOf, miss}
 use denote.Enum.Declared.{tagOf}
 use Rattle.base.specs.Output.{PutAt, bufferOf}
-use Rattle.base.specs.Refusals.{After, checked, kept, orElse, textLimit, written}
+use Rattle.base.specs.Refusals.{After, checked, kept, orElse, textLimit}
 use Rattle.base.specs.declared.Check.{Check}
 use Rattle.base.specs.declared.Check.the-variants as Check
 use Rattle.base.specs.declared.Refusal.{Refusal}
@@ -29,14 +29,14 @@ use Rattle.analysis.proofs.ItemAnalysis.{the-type as the-analysis}
 use Rattle.analysis.specs.Analysis.{isFinding, nonCanonicality, render, renew, replacement, replacementOf}
 use Rattle.analysis.specs.Cells.{Cell, cells}
 use Rattle.analysis.specs.Decisions.{decisionsRefusal, judge, meaning, withinLimit, writeOut}
-use Rattle.analysis.specs.ItemAt.{analysisAt, analysisOf, findingFrom, firstFinding, lengthAt, replaceAt, replaceByDefault, replacementBytes, writeFound}
+use Rattle.analysis.specs.ItemAt.{analysisAt, analysisOf, findingFrom, firstFinding, replaceAt, replaceByDefault, replacementBytes, writeFound}
 use Rattle.analysis.specs.declared.ItemAnalysis.{ItemAnalysis}
 use Rattle.analysis.specs.declared.ItemAnalysis.the-variants.{Canonical, NonCanonical}
 use Rattle.analysis.specs.declared.types.Finding.{Finding}
 use Rattle.analysis.specs.declared.types.NonCanonicality.{NonCanonicality}
 use Rattle.analysis.specs.declared.types.MendAnswer.{MendAnswer}
 use Rattle.analysis.specs.declared.types.MendAnswer.the-variants.{Mended, Refused}
-use Rattle.analysis.proofs.Items.{passthrough-no-finding}
+use Rattle.analysis.proofs.Items.{finding-no-passthrough}
 use Rattle.analysis.proofs.ItemsAt.{item-chars, item-derived, item-within}
 use Rattle.analysis.proofs.Units.{split-S}
 
@@ -50,12 +50,12 @@ module _ (result out : List ℕ) (len : ℕ) (e : len ≡ length result) where
       ap (λ (n : ℕ). kept (Refused (OutputTooShort n)) out) e ∙ simp t
 
   -- There is room, and the result stands at the front.
+  pub out-written : (after : List ℕ) → len ≤ length out → after ≡ result ++ drop (length result) out → record { answer = Mended len; buffer = after } ≡ writeOut result out
+  out-written after h b = let t = le-leb (length result) (length out) (omega arith) in (λ i. record { answer = Mended (e i); buffer = b i }) ∙ simp t
+
   pub out-put : (after : List ℕ) (r : ℕ) → len ≤ length out → PutAt out 0 result after r → record { answer = Mended len; buffer = after } ≡ writeOut result out
   unfolding bufferOf
-  out-put after r h p =
-      let t = le-leb (length result) (length out) (omega arith) in
-      let b : after ≡ result ++ drop (length result) out = wrote e h p .buffer ∙ simp t in
-      (λ i. record { answer = Mended (e i); buffer = b i }) ∙ simp t
+  out-put after r h p = let t = le-leb (length result) (length out) (omega arith) in out-written after h (wrote e h p .buffer ∙ simp t)
 
 -- ---- the limit
 
@@ -74,6 +74,10 @@ part text at end = take (end - at) (drop at text)
 
 pub part-within : (text : List ℕ) (at end : ℕ) → length (part text at end) ≤ length text
 part-within text at end = omega (arith, length-take (end - at) (drop at text), length-drop at text)
+
+-- A part of a text within the limit is written.
+pub part-written : (text out : List ℕ) (at end : ℕ) → length text ≤ textLimit → {a next : After MendAnswer ℕ} → a ≡ withinLimit (part text at end) out next → a ≡ next
+part-written text out at end l e = e ∙ sym (not-too-long (part text at end) out _ (omega (arith, part-within text at end)))
 
 pub record FoundAt (p : Policy) (text : List ℕ) (at : ℕ) (f : Finding) : Type 0 where
   pub item : Item
@@ -133,6 +137,15 @@ module _ (p : Policy) (text : List ℕ) (at : ℕ) where
   rendered n (emoji-headed v j l) ds = refl
   rendered n (passthrough h s) ds = absurd (n refl)
 
+  -- The cells of an item's bytes, written out, are its replacement.
+  pub item-written : {x : Item} {xs : List Item} → items (chars (drop at text)) ≡ x ∷ xs → x .kind ≢ Passthrough → {end : ℕ} → end ≡ at + size width (x .chars)
+      → (ds : List Presentation) → encodeAll (render p (cells (chars (part text at end))) ds) ≡ encodeAll (replacement p x ds)
+  unfolding replacement
+  item-written {x} {xs} e o f ds =
+      ap (λ (n : ℕ). encodeAll (render p (cells (chars (part text at n))) ds)) f
+      ∙ ap (λ (t : List ℕ). encodeAll (render p (cells t) ds)) (item-chars text at x xs e)
+      ∙ ap encodeAll (rendered o (item-derived text at x xs e) ds)
+
   module _ {f : Finding} (h : FoundAt p text at f) where
     pub found-from : at ≤ f .end
     found-from = omega (arith, h .end-is)
@@ -144,14 +157,8 @@ module _ (p : Policy) (text : List ℕ) (at : ℕ) where
     unfolding firstFinding
     finding-is = ap (firstFinding p) (h .items-are) ∙ ap (λ (b : Bool). cond b (some (h .item)) none) (h .found)
 
-    written-out : (ds : List Presentation) → cellsWritten p text at f ds ≡ replacementBytes p (findingFrom p text at) ds
-    unfolding replacement replacementBytes
-    written-out ds =
-        let x = h .item in
-        ap (λ (n : ℕ). encodeAll (render p (cells (chars (part text at n))) ds)) (h .end-is)
-        ∙ ap (λ (t : List ℕ). encodeAll (render p (cells t) ds)) (item-chars text at x (h .behind) (h .items-are))
-        ∙ ap encodeAll (rendered (λ e. true≢false (sym (h .found) ∙ passthrough-no-finding p x e)) (item-derived text at x (h .behind) (h .items-are)) ds)
-        ∙ ap (λ (o : Option Item). replacementBytes p o ds) (sym finding-is)
+    written-out : (ds : List Presentation) → cellsWritten p text at f ds ≡ encodeAll (replacement p (h .item) ds)
+    written-out ds = item-written (h .items-are) (finding-no-passthrough p (h .item) (h .found)) (h .end-is) ds
 
 -- ---- the call with decisions
 
@@ -181,12 +188,13 @@ module _ (p : Policy) (text : List ℕ) (at : ℕ) (decisions out : List ℕ) wh
     module _ {f : Finding} (h : FoundAt p text at f) where
       judged-found : (o : Option Refusal) → testOf f decisions ≡ o
           → orElse o (λ (r : Refusal). kept (Refused r) out) (writeOut (cellsWritten p text at f (map meaning decisions)) out) ≡ replaceAt p text at decisions out
-      unfolding judge
+      unfolding judge replacementBytes
       judged-found o e =
-          let b = replacementBytes p (findingFrom p text at) (map meaning decisions) in
-          ap (λ (y : List ℕ). orElse o (λ (r : Refusal). kept (Refused r) out) (writeOut y out)) (written-out p text at h (map meaning decisions))
+          let ds = map meaning decisions in
+          let b = encodeAll (replacement p (h .item) ds) in
+          ap (λ (y : List ℕ). orElse o (λ (r : Refusal). kept (Refused r) out) (writeOut y out)) (written-out p text at h ds)
           ∙ ap (λ (q : Option Refusal). orElse q (λ (r : Refusal). kept (Refused r) out) (writeOut b out)) (sym e ∙ ap (λ (n : NonCanonicality). decisionsRefusal (n .«presentation_decisions») decisions) (h .counts-are))
-          ∙ ap (λ (y : Option Item). judge p y decisions b out) (sym (finding-is p text at h)) ∙ judged
+          ∙ ap (λ (y : Option Item). judge p y decisions (replacementBytes p y ds) out) (sym (finding-is p text at h)) ∙ judged
 
       pub replace-refused : (r : Refusal) (k : Check) → k ≡ checked (testOf f decisions) → k ≡ Check.Refused r
           → kept (Refused r) out ≡ replaceAt p text at decisions out
@@ -209,35 +217,7 @@ module _ (p : Policy) (text : List ℕ) (at : ℕ) (out : List ℕ) where
 
   pub default-written : length text ≤ textLimit → {f : Finding} → FoundAt p text at f → (a : After MendAnswer ℕ)
       → a ≡ writeOut (cellsWritten p text at f []) out → a ≡ replaceByDefault p text at out
-  unfolding replaceByDefault replacementBytes writeFound
+  unfolding replaceByDefault writeFound
   default-written l {f} h a w =
-      w ∙ ap (λ (r : List ℕ). writeOut r out) (written-out p text at h [] ∙ ap (λ (o : Option Item). replacementBytes p o []) (finding-is p text at h))
+      w ∙ ap (λ (r : List ℕ). writeOut r out) (written-out p text at h [])
       ∙ ap (λ (o : Option Item). writeFound p o out) (sym (finding-is p text at h)) ∙ not-too-long text out _ l
-
--- ---- the length
-
-module _ (p : Policy) (text : List ℕ) (at : ℕ) (decisions : List ℕ) where
-  pub length-long : textLimit < length text → Refused TextTooLong ≡ lengthAt p text at decisions
-  unfolding lengthAt
-  length-long l = ap (λ (a : After MendAnswer ℕ). a .answer) (replace-long p text at decisions _ l)
-
-  module _ (l : length text ≤ textLimit) where
-    pub length-none : findingFrom p text at ≡ none → Refused NoFinding ≡ lengthAt p text at decisions
-    unfolding lengthAt
-    length-none e = ap (λ (a : After MendAnswer ℕ). a .answer) (replace-none p text at decisions _ l e)
-
-    module _ {f : Finding} (h : FoundAt p text at f) where
-      pub length-refused : (r : Refusal) (k : Check) → k ≡ checked (testOf f decisions) → k ≡ Check.Refused r
-          → Refused r ≡ lengthAt p text at decisions
-      unfolding lengthAt
-      length-refused r k c e = ap (λ (a : After MendAnswer ℕ). a .answer) (replace-refused p text at decisions _ l h r k c e)
-
-      pub length-measured : (k : Check) (len : ℕ) → k ≡ checked (testOf f decisions) → k ≡ Check.Passed
-          → len ≡ length (cellsWritten p text at f (map meaning decisions)) → Mended len ≡ lengthAt p text at decisions
-      unfolding lengthAt
-      length-measured k len c e m =
-          let r = cellsWritten p text at f (map meaning decisions) in
-          let b = replacementBytes p (findingFrom p text at) (map meaning decisions) in
-          let t = le-leb (length r) (length b) (omega (arith, ap length (written-out p text at h (map meaning decisions)))) in
-          ap Mended m ∙ ap (λ (x : Bool). cond x (written (Mended (length r)) r b) (kept (Refused (OutputTooShort (length r))) b) .answer) (sym t)
-          ∙ ap (λ (a : After MendAnswer ℕ). a .answer) (replace-written p text at decisions b l h k (writeOut r b) c e refl)

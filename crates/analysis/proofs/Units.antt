@@ -29,6 +29,7 @@ use Rattle.scanner.proofs.Classes.{
 }
 use Rattle.scanner.proofs.Modifications.{ModRun, run-end, run-keycap, run-modifier, run-selector, run-tag}
 use Rattle.scanner.proofs.Runs.{Stops, at-char, at-end}
+use Rattle.scanner.proofs.SelectorChars.{CharIs, a-selector, char-is, no-selector}
 use Rattle.analysis.specs.Analysis.{
   Choice,
   addChoice,
@@ -47,7 +48,7 @@ use Rattle.analysis.specs.Counts.{_⊕_, unsanctioned}
 use Rattle.analysis.specs.Rules.{Outcome, byKeycap, byModifier, byTags, outcome, rule1}
 use Rattle.analysis.specs.declared.types.NonCanonicality.{NonCanonicality}
 use Rattle.analysis.proofs.Counts.{empty-plus, plus-assoc}
-use Rattle.analysis.proofs.Cells.{CharIs, a-selector, char-is, charsOf, heldIn, no-selector, split-append, split-char, split-selector}
+use Rattle.analysis.proofs.Cells.{charsOf, heldIn, split-append, split-char, split-selector}
 use Rattle.analysis.proofs.Rules.{outcome-no-entry, outcome-unmodified}
 
 -- ---- cells of characters

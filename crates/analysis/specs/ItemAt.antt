@@ -1,5 +1,5 @@
--- The item of a text at a byte offset under a policy: its analysis, its replacement's length and the call that writes the
--- replacement (document 01, "Counts and finding": `analyze_scan_item`; "Replacement and text": `canonical_replacement_with_decisions`).
+-- The item of a text at a byte offset under a policy: its analysis and the call that writes the replacement (document 01, "Counts and
+-- finding": `analyze_scan_item`; "Replacement and text": `canonical_replacement_with_decisions`).
 use mathlib.Core.Bool.{cond}
 use mathlib.Core.List.{List, [], _∷_, map}
 use mathlib.Core.Option.{Option, none, some}
@@ -50,10 +50,6 @@ module _ (p : Policy) where
   replaceAt text at decisions out =
       let x = findingFrom text at in
       withinLimit text out (judge p x decisions (replacementBytes x (map meaning decisions)) out)
-
-  -- What that call answers with room enough: the length of the replacement under decisions, or the refusal.
-  unfoldable pub lengthAt : List ℕ → ℕ → List ℕ → MendAnswer
-  lengthAt text at decisions = replaceAt text at decisions (replacementBytes (findingFrom text at) (map meaning decisions)) .answer
 
   -- The finding, if there is one, written with every decision at its default.
   unfoldable pub writeFound : Option Item → List ℕ → After MendAnswer ℕ

@@ -7,6 +7,7 @@ pub mod Components
 pub mod Decisions
 pub mod CellView
 pub mod ItemAt
+pub mod Findings
 pub mod ChoicesAt
 pub mod Worked
 pub mod Theorems

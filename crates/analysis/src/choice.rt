@@ -7,7 +7,7 @@ ghost use Rattle.analysis.specs.Analysis.{upToLink};
 ghost use Rattle.analysis.specs.ChoicesAt.{bytesOf, cellsFrom, cellsStart, choiceAt, frontUnit, replaceUnit};
 use crate::measure::CellOutcome;
 use crate::measure::cell_outcome;
-use crate::render::write_out;
+use crate::render::write_cells;
 use crate::singleton::Slot;
 use crate::types::MendAnswer;
 use base::Refusal;
@@ -127,7 +127,7 @@ pub fn choice_replacement(
     }
     let end = unit_end(raw, at);
     match decision {
-        Presentation::Text => write_out(&raw[at..end], policy, b"\x00", out),
-        Presentation::Emoji => write_out(&raw[at..end], policy, b"\x01", out),
+        Presentation::Text => write_cells(&raw[at..end], policy, b"\x00", out),
+        Presentation::Emoji => write_cells(&raw[at..end], policy, b"\x01", out),
     }
 }

@@ -21,10 +21,8 @@ use scanner::char_class::Class;
 use scanner::char_class::Peeked;
 use scanner::char_class::peek;
 use scanner::selectors::PresentationSelectors;
+use scanner::selectors::SELECTOR_BYTES;
 use scanner::selectors::consume_presentation_selectors;
-
-// Each selector has three bytes.
-const SELECTOR_BYTES: usize = 3;
 
 // What the rules say of a cell, and the offset of its end.
 pub struct CellOutcome {
@@ -84,31 +82,25 @@ pub fn measure_cells(text: &[u8], policy: Policy) -> Measure
     ensures counts { λ r. ⌜ r .counts ≡ totalCells policy (chars (now (text .entry))) ⌝ }
     ensures len { λ r. ⌜ r .len ≡ capped (size width (formatCells policy (chars (now (text .entry))))) ⌝ }
 {
-    let mut counts = NonCanonicality::empty();
+    let PresentationSelectors {
+        first: _,
+        second: _,
+        count,
+        end: start,
+    } = consume_presentation_selectors(text, 0);
+    let mut counts = NonCanonicality::unsanctioned(count);
     let mut len = 0;
-    let mut at = 0;
+    let mut at = start;
     loop {
-        match peek(text, at) {
-            Peeked::Char {
-                value,
-                class,
-                end: next,
-            } => match class {
-                Class::Selector => {
-                    counts = counts.add(NonCanonicality::unsanctioned(1));
-                    at = next;
-                }
-                _ => {
-                    let CellOutcome { outcome, end } = cell_outcome(text, next, value, policy);
-                    let slot = outcome.slot;
-                    counts = counts.add(outcome.counts);
-                    len = add_count(len, next - at + slot_len(slot));
-                    at = end;
-                }
-            },
-            Peeked::NoChar => {
-                return Measure { counts, len };
-            }
+        let packed = utf8::decode(text, at);
+        if packed == 0 {
+            return Measure { counts, len };
         }
+        let width = (packed % 8) as usize;
+        let CellOutcome { outcome, end } = cell_outcome(text, at + width, packed / 8, policy);
+        let slot = outcome.slot;
+        counts = counts.add(outcome.counts);
+        len = add_count(len, width + slot_len(slot));
+        at = end;
     }
 }

@@ -7,13 +7,12 @@ ghost use mathlib.Core.List.{map};
 ghost use Prim.Native.Nat.{_+_, _≤_};
 ghost use lib.ListN.{drop, length};
 ghost use Rattle.base.specs.Output.{PutAt};
-ghost use Rattle.base.specs.Refusals.{textLimit};
 ghost use Rattle.utf8.specs.Rfc3629.{chars, encode, encodeAll, isScalar};
 ghost use Rattle.unicode.specs.Presentation.{asSelector};
 ghost use Rattle.analysis.specs.Analysis.{chosen, decide, render};
 ghost use Rattle.analysis.specs.Cells.{cells};
-ghost use Rattle.analysis.specs.Decisions.{cellBytes, decisionsUsed, meaning, writeOut};
-ghost use Rattle.analysis.specs.ItemAt.{lengthAt, replaceAt, replaceByDefault};
+ghost use Rattle.analysis.specs.Decisions.{cellBytes, decisionsUsed, meaning, withinLimit, writeOut};
+ghost use Rattle.analysis.specs.ItemAt.{replaceAt, replaceByDefault};
 ghost use Rattle.analysis.specs.Rules.{runWith};
 use crate::ItemAnalysis;
 use crate::analyze_scan_item;
@@ -29,9 +28,8 @@ use base::Check;
 use base::Refusal;
 use base::TEXT_LIMIT;
 use policy::Policy;
-use scanner::char_class::Class;
-use scanner::char_class::Peeked;
-use scanner::char_class::peek;
+use scanner::selectors::PresentationSelectors;
+use scanner::selectors::consume_presentation_selectors;
 use unicode::presentation::FromSelector;
 use unicode::presentation::Presentation;
 use utf8::WriteChar;
@@ -109,39 +107,37 @@ fn put_cells(text: &[u8], policy: Policy, decisions: &[u8], out: &mut [u8]) -> u
     requires { ⌜ length (encodeAll (render policy (cells (chars (now text))) (map meaning (now decisions)))) ≤ length (now out) ⌝ }
     ensures { λ r. ⌜ PutAt (now (out .entry)) 0 (encodeAll (render policy (cells (chars (now (text .entry)))) (map meaning (now (decisions .entry))))) (now (out .exit)) r ⌝ }
 {
-    let mut at = 0;
+    let PresentationSelectors {
+        first: _,
+        second: _,
+        count: _,
+        end: start,
+    } = consume_presentation_selectors(text, 0);
+    let mut at = start;
     let mut to = 0;
     let mut used = 0;
     loop {
-        match peek(text, at) {
-            Peeked::Char {
-                value,
-                class,
-                end: next,
-            } => match class {
-                Class::Selector => {
-                    at = next;
-                }
-                _ => {
-                    let CellOutcome { outcome, end } = cell_outcome(text, next, value, policy);
-                    let slot = outcome.slot;
-                    to = put_cell(out, to, value, slot, decisions, used);
-                    used += decisions_used(slot);
-                    at = end;
-                }
-            },
-            Peeked::NoChar => {
-                return to;
-            }
+        let packed = utf8::decode(text, at);
+        if packed == 0 {
+            return to;
         }
+        let width = (packed % 8) as usize;
+        let ch = packed / 8;
+        let CellOutcome { outcome, end } = cell_outcome(text, at + width, ch, policy);
+        let slot = outcome.slot;
+        to = put_cell(out, to, ch, slot, decisions, used);
+        used += decisions_used(slot);
+        at = end;
     }
 }
 
-// Writes the cells of a slice at the front of the output, if there is room.
-pub(crate) fn write_out(raw: &[u8], policy: Policy, decisions: &[u8], out: &mut [u8]) -> MendAnswer
-    requires { ⌜ length (now raw) ≤ textLimit ⌝ }
-    ensures { λ r. ⌜ record { answer = r; buffer = now (out .exit) } ≡ writeOut (encodeAll (render policy (cells (chars (now (raw .entry)))) (map meaning (now (decisions .entry))))) (now (out .entry)) ⌝ }
+// Writes the cells of a slice at the front of the output, if there is room: for a caller that has the bytes of an item.
+pub fn write_cells(raw: &[u8], policy: Policy, decisions: &[u8], out: &mut [u8]) -> MendAnswer
+    ensures { λ r. ⌜ record { answer = r; buffer = now (out .exit) } ≡ withinLimit (now (raw .entry)) (now (out .entry)) (writeOut (encodeAll (render policy (cells (chars (now (raw .entry)))) (map meaning (now (decisions .entry))))) (now (out .entry))) ⌝ }
 {
+    if TEXT_LIMIT < raw.len() {
+        return MendAnswer::Refused(Refusal::TextTooLong);
+    }
     let Measure { counts: _, len } = measure_cells(raw, policy);
     if out.len() < len {
         return MendAnswer::Refused(Refusal::OutputTooShort { wanted: len });
@@ -173,7 +169,7 @@ pub fn canonical_replacement_with_decisions(
     } = finding;
     match check_decisions(decisions, counts.presentation_decisions) {
         Check::Refused(refusal) => MendAnswer::Refused(refusal),
-        Check::Passed => write_out(&text[at..end], policy, decisions, out),
+        Check::Passed => write_cells(&text[at..end], policy, decisions, out),
     }
 }
 
@@ -193,29 +189,5 @@ pub fn default_canonical_replacement(
         return MendAnswer::Refused(Refusal::NoFinding);
     };
     let end = finding.end;
-    write_out(&text[at..end], policy, b"", out)
-}
-
-// The length of the replacement of the finding at an offset under decisions.
-pub fn replacement_len(text: &[u8], at: usize, policy: Policy, decisions: &[u8]) -> MendAnswer
-    ensures { λ r. ⌜ r ≡ lengthAt policy (now (text .entry)) at (now (decisions .entry)) ⌝ }
-{
-    if TEXT_LIMIT < text.len() {
-        return MendAnswer::Refused(Refusal::TextTooLong);
-    }
-    let ItemAnalysis::NonCanonical(finding) = analyze_scan_item(text, at, policy) else {
-        return MendAnswer::Refused(Refusal::NoFinding);
-    };
-    let Finding {
-        start: _,
-        end,
-        counts,
-    } = finding;
-    match check_decisions(decisions, counts.presentation_decisions) {
-        Check::Refused(refusal) => MendAnswer::Refused(refusal),
-        Check::Passed => {
-            let Measure { counts: _, len } = measure_cells(&text[at..end], policy);
-            MendAnswer::Mended { len }
-        }
-    }
+    write_cells(&text[at..end], policy, b"", out)
 }

@@ -5,6 +5,7 @@
 ghost use mathlib.Core.Path.{_≡_};
 ghost use mathlib.Core.Bool.{cond};
 ghost use Prim.Native.Nat.{_-_};
+ghost use Rattle.unicode.specs.Unicode.{isEmojiModifierBase};
 ghost use Rattle.analysis.specs.Rules.{isBareSide, outcome, rule1, rule2, rule3, rule4, rule5, rule6, runWith, textFirst, withoutSelector};
 use crate::types::NonCanonicality;
 use policy::Policy;
@@ -48,8 +49,8 @@ fn without_entry(first: FromSelector, count: usize) -> Outcome
 }
 
 // Rules 2 and 3: the first modification is a modifier.
-fn before_modifier(first: FromSelector, count: usize, is_modifier_base: bool) -> Outcome
-    ensures { λ r. ⌜ r ≡ cond (textFirst (runWith first count)) (rule2 (runWith first count)) (rule3 «is_modifier_base» (runWith first count)) ⌝ }
+fn before_modifier(first: FromSelector, count: usize, base: u32) -> Outcome
+    ensures { λ r. ⌜ r ≡ cond (textFirst (runWith first count)) (rule2 (runWith first count)) (rule3 (isEmojiModifierBase base) (runWith first count)) ⌝ }
 {
     let mut counts = NonCanonicality::unsanctioned(rest_of(count));
     match first {
@@ -63,7 +64,7 @@ fn before_modifier(first: FromSelector, count: usize, is_modifier_base: bool) ->
                 slot: Slot::Fixed(Presentation::Text),
             },
             Presentation::Emoji => {
-                if is_modifier_base {
+                if unicode::is_emoji_modifier_base(base) {
                     counts.modifier_defective_selectors = 1;
                 } else {
                     counts.additional_defective_selectors = 1;
@@ -224,7 +225,7 @@ pub fn analyze_singleton_base_selectors(
         return without_entry(first, count);
     }
     match next {
-        Class::Modifier => before_modifier(first, count, unicode::is_emoji_modifier_base(base)),
+        Class::Modifier => before_modifier(first, count, base),
         Class::Tag => before_tags(first, count, unicode::is_emoji_default(base)),
         Class::Keycap => by_policy(first, count, policy.singleton_rule(base, true)),
         _ => by_policy(first, count, policy.singleton_rule(base, false)),

@@ -1,12 +1,15 @@
 -- One bit of a word, taken lowest first.
-use mathlib.Core.Path.{_≡_, sym, ap, _∙_}
-use mathlib.Core.Bool.{false}
-use Prim.Native.Nat.{ℕ, suc, _/_, _%_, _^_}
-use native.Mathlib.Nat.{zero-div}
+use mathlib.Core.Path.{_≡_, refl, sym, ap, _∙_}
+use mathlib.Core.Bool.{true, false}
+use Prim.Native.Nat.{ℕ, zero, suc, _+_, _*_, _/_, _%_, _^_, _<_, _≤_}
+use native.Mathlib.Nat.{le-of-suc-le-suc, min-eq-left, mul-assoc, not-suc-le-zero, pow-suc, zero-div}
 use native.Mathlib.Numerals.{one-add}
 use native.Mathlib.Omega.{arith}
+use lib.Bits.{bitAnd, and-shr, and-step}
+use lib.Count.{trailingZeros, under}
 use lib.Dec.{eqb}
 use lib.Pow.{shr-shr}
+use borrow.Author.Tests.{eqb-true}
 use Rattle.base.specs.Bits.{one}
 
 -- the lowest bit, and the others: those of the half
@@ -21,3 +24,46 @@ next-bit k w = ap (λ (n : ℕ). eqb (n % 2) 1) (sym (shr-shr w 1 k ∙ ap (λ (
 pub zero-one : (k : ℕ) → one k 0 ≡ false
 unfolding one
 zero-one k = ap (λ (n : ℕ). eqb (n % 2) 1) (zero-div (2 ^ k))
+
+doubled : (m n : ℕ) → n * 2 ^ suc m ≡ n * 2 ^ m * 2
+doubled m n = ap (λ (x : ℕ). n * x) (pow-suc 2 m) ∙ sym (mul-assoc n (2 ^ m) 2)
+
+-- a bit below m is not changed by what stands from bit m on
+pub low-bits : (m k b n : ℕ) → k < m → one k (b + n * 2 ^ m) ≡ one k b
+low-bits zero k b n h = absurd (not-suc-le-zero h)
+low-bits (suc m) zero b n h =
+    let e : (b + n * 2 ^ suc m) % 2 ≡ b % 2 = omega (arith, doubled m n) in
+    low-bit (b + n * 2 ^ suc m) ∙ ap (λ (x : ℕ). eqb x 1) e ∙ sym (low-bit b)
+low-bits (suc m) (suc k) b n h =
+    let e : (b + n * 2 ^ suc m) / 2 ≡ b / 2 + n * 2 ^ m = omega (arith, doubled m n) in
+    next-bit k (b + n * 2 ^ suc m) ∙ ap (one k) e ∙ low-bits m k (b / 2) n (le-of-suc-le-suc h) ∙ sym (next-bit k b)
+
+-- a bit from m on is a bit of what is left after m bits
+pub shifted-bit : (m k w : ℕ) → one (m + k) w ≡ one k (w / 2 ^ m)
+unfolding one
+shifted-bit m k w = ap (λ (x : ℕ). eqb (x % 2) 1) (sym (shr-shr w m k))
+
+-- where a mask has a one, AND leaves the bit
+pub and-bit : (k a b : ℕ) → one k b ≡ true → one k (bitAnd a b) ≡ one k a
+unfolding one
+and-bit k a b h =
+    let x = a / 2 ^ k in
+    let y = b / 2 ^ k in
+    let odd : y % 2 ≡ 1 = eqb-true (y % 2) 1 h in
+    let le : x % 2 ≤ y % 2 = omega arith in
+    let e : bitAnd x y % 2 ≡ x % 2 = omega (arith, and-step x y, min-eq-left le) in
+    ap (λ (n : ℕ). eqb (n % 2) 1) (and-shr a b k) ∙ ap (λ (n : ℕ). eqb n 1) e
+
+-- the bits below the lowest one are zero
+even-below : (d t i : ℕ) → i < under d t → (d ≡ 0) × (i < suc t)
+even-below zero t i h = (refl, h)
+even-below (suc d) t i h = absurd (not-suc-le-zero h)
+
+pub trailing-bit : (k n i : ℕ) → i < trailingZeros k n → one i n ≡ false
+unfolding trailingZeros
+trailing-bit zero n i h = absurd (not-suc-le-zero h)
+trailing-bit (suc k) n zero h =
+    low-bit n ∙ ap (λ (x : ℕ). eqb x 1) (even-below (n % 2) (trailingZeros k (n / 2)) zero h .0)
+trailing-bit (suc k) n (suc i) h =
+    next-bit i n
+    ∙ trailing-bit k (n / 2) i (le-of-suc-le-suc (even-below (n % 2) (trailingZeros k (n / 2)) (suc i) h .1))

@@ -3,6 +3,7 @@ pub mod Tests
 pub mod Writer
 pub mod Words
 pub mod Bits
+pub mod ByteBits
 pub mod Output
 pub mod Rows
 pub mod Claims

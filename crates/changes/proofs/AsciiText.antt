@@ -1,28 +1,39 @@
 -- ASCII stays where the policy keeps the ASCII bases bare: of each run all but the last character, and that one too if it has no
 -- variation entry or nothing stands behind it.
 use mathlib.Core.Path.{_≡_, refl, ap, sym, _∙_, subst}
-use mathlib.Core.Logic.{_⊎_, ⊎-elim}
-use mathlib.Core.Bool.{Bool, true, false}
+use mathlib.Core.Logic.{_⊎_, inl, inr, ⊎-elim}
+use mathlib.Core.Bool.{Bool, true, false, true≢false}
+use mathlib.Core.Option.{none}
 use mathlib.Core.List.{List, [], _∷_}
 use Prim.Native.Nat.{ℕ, zero, suc, _+_, _-_, _<_, _≤_}
 use native.Mathlib.Omega.{arith}
 use lib.ListN.{List·getD-eq-default, drop, getD, length}
-use borrow.Author.Tests.{ne-eqb}
-use Rattle.base.proofs.Tests.{le-or-lt}
+use lib.Dec.{leb}
+use borrow.Author.Tests.{leb-true, ne-eqb}
+use Rattle.base.proofs.Tests.{le-or-lt, within-in}
 use Rattle.utf8.specs.Ascii.{AsciiRun}
 use Rattle.utf8.specs.Rfc3629.{chars}
 use Rattle.utf8.proofs.AsciiRuns.{readChar-ascii-at}
 use Rattle.utf8.proofs.Folds.{chars-end}
 use Rattle.utf8.proofs.Fronts.{readChar-past-end}
-use Rattle.utf8.proofs.Places.{Step, step}
+use Rattle.utf8.proofs.Places.{Step, step as read}
 use Rattle.unicode.specs.Presentation.{isSelector}
-use Rattle.unicode.specs.Unicode.{hasVariationSequence}
+use Rattle.unicode.specs.Unicode.{hasVariationSequence, isEmojiModifier, isRi, isTag}
+use Rattle.unicode.specs.UnicodeData.{emojiModifiers, riRanges}
+use Rattle.unicode.proofs.Between.{every, every-member, every-range, everyRange}
 use Rattle.unicode.specs.declared.presentation.Presentation.{Presentation}
 use Rattle.policy.specs.Policy.{singletonRule}
 use Rattle.policy.specs.declared.Policy.{Policy}
 use Rattle.policy.specs.declared.SingletonRule.{SingletonRule}
 use Rattle.policy.specs.declared.SingletonRule.the-variants.{EmojiToBare, TextToBare}
-use Rattle.scanner.specs.declared.char_class.Class.the-variants.{Other as other}
+use Rattle.scanner.specs.Classes.{classOf}
+use Rattle.scanner.specs.Items.{Item, begin, cut, items, kindOf, step}
+use Rattle.scanner.specs.Spans.{size, width}
+use Rattle.scanner.specs.declared.char_class.Class.{Class}
+use Rattle.scanner.specs.declared.char_class.Class.the-variants.{Emoji as emoji, Other as other}
+use Rattle.scanner.specs.declared.place.Place.the-variants.{Unit as unit}
+use Rattle.scanner.proofs.Classes.{HasClass, hasClass, is-emoji, is-keycap, is-link, is-modifier, is-other, is-ri, is-selector, is-tag}
+use Rattle.scanner.proofs.Tiling.{cut-none}
 use Rattle.analysis.specs.Analysis.{chosen, following}
 use Rattle.analysis.specs.Cells.{Cell, cells, leading, split}
 use Rattle.analysis.specs.Counts.{total}
@@ -31,9 +42,11 @@ use Rattle.analysis.specs.declared.singleton.Outcome.{Outcome}
 use Rattle.analysis.proofs.Cells.{split-char}
 use Rattle.analysis.proofs.Rules.{outcome-entry}
 use Rattle.changes.specs.Changes.{AsciiBare, SameRules, Stays, outcomeFrom}
+use Rattle.changes.specs.Findings.{Passes, Skips}
+use Rattle.changes.proofs.Passing.{passes-plain, quiet-item, skips-here, skips-on, skips-other, step-width}
 use Rattle.changes.proofs.PlainText.{stays-plain}
 use Rattle.changes.proofs.RuleClasses.{rules-before, same-outcome}
-use Rattle.changes.proofs.Staying.{stays-char, stays-here, stays-on}
+use Rattle.changes.proofs.Staying.{stays-char}
 
 ascii-no-selector : (c : ℕ) → c ≤ 0x7F → isSelector c ≡ false
 unfolding isSelector
@@ -43,10 +56,32 @@ ascii-no-selector c h = simp (ne-eqb c 0xFE0E (λ e. omega arith), ne-eqb c 0xFE
 pub record Harmless (t : List ℕ) : Type 0 where
   pub leads-none : leading t ≡ []
   pub rules : SameRules other (following (cells t))
+  -- An item of one base ends before them.
+  pub ends : (cut unit t) .0 ≡ []
 
 harmless-end : Harmless []
-unfolding split following
-harmless-end = record { leads-none = refl; rules = record { modifier = refl; tags = refl; keycap = refl } }
+unfolding split following cut
+harmless-end = record { leads-none = refl; rules = record { modifier = refl; tags = refl; keycap = refl }; ends = refl }
+
+-- An ASCII character is of the class emoji or other.
+ascii-class : (c : ℕ) → c ≤ 0x7F → (classOf c ≡ emoji) ⊎ (classOf c ≡ other)
+unfolding isTag isRi everyRange riRanges isEmojiModifier every emojiModifiers
+ascii-class c h = go (hasClass c)
+  where
+    go : {k : Class} → HasClass c k → (k ≡ emoji) ⊎ (k ≡ other)
+    go (is-selector s) = absurd (true≢false (sym s ∙ ascii-no-selector c h))
+    go (is-link e) = absurd (omega arith)
+    go (is-keycap e) = absurd (omega arith)
+    go (is-tag t) = let i = within-in 0xE0020 0xE007F c t in absurd (omega arith)
+    go (is-ri r) =
+        absurd (every-range (λ (a e : ℕ). leb 0x80 a) (λ d. d ≤ 0x7F → ⊥) (λ a e d w t l. let i = within-in a e d w in omega (arith, leb-true 0x80 a t)) riRanges refl c r h)
+    go (is-modifier m) = absurd (omega (arith, leb-true 0x80 c (every-member (λ x. leb 0x80 x) emojiModifiers refl c m)))
+    go (is-emoji e r m) = inl refl
+    go (is-other o k t) = inr refl
+
+unit-none : (k : Class) → (k ≡ emoji) ⊎ (k ≡ other) → step unit k ≡ none
+unfolding step
+unit-none k h = ⊎-elim (λ e. ap (step unit) e) (λ e. ap (step unit) e) h
 
 harmless-ascii : (c : ℕ) (t : List ℕ) → c ≤ 0x7F → Harmless (c ∷ t)
 unfolding following
@@ -55,13 +90,14 @@ harmless-ascii c t h =
     record {
       leads-none = ap (λ (a : List Presentation × List Cell). a .0) s;
       rules = subst (λ (a : List Presentation × List Cell). SameRules other (following (a .1))) (sym s) (rules-before c (omega arith));
+      ends = ap (λ (a : List ℕ × List Item). a .0) (cut-none unit c t (unit-none (classOf c) (ascii-class c h)));
     }
 
 -- What stands at a place whose byte is ASCII, or behind the end.
 harmless-at : (text : List ℕ) (k : ℕ) → getD text k 0 ≤ 0x7F → Harmless (chars (drop k text))
 harmless-at text k h =
     ⊎-elim (λ l. subst Harmless (sym (chars-end (drop k text) (readChar-past-end text k l))) harmless-end)
-    (λ l. subst Harmless (sym (step text k (getD text k 0) 1 (readChar-ascii-at text k l h) .chars-on)) (harmless-ascii (getD text k 0) (chars (drop (k + 1) text)) h))
+    (λ l. subst Harmless (sym (read text k (getD text k 0) 1 (readChar-ascii-at text k l h) .chars-on)) (harmless-ascii (getD text k 0) (chars (drop (k + 1) text)) h))
     (le-or-lt (length text) k)
 
 -- A base that the policy keeps bare stays before it.
@@ -83,23 +119,40 @@ module _ {p : Policy} (b : AsciiBare p) {text : List ℕ} where
           stays-char p h (ascii-no-selector v l) (ap (λ (x : Outcome). chosen (x .slot) []) o ∙ n .0)
           (ap (λ (x : Outcome). total (x .counts)) o ∙ n .1 ∙ sym (ap length (s .leads-none)))
 
-  pub ascii-stays : (n i : ℕ) → i + n ≤ length text → ((k : ℕ) → i ≤ k → k ≤ i + n → getD text k 0 ≤ 0x7F) → Stays p text i (i + n)
-  ascii-stays zero i l f = let z : i ≡ i + 0 = omega arith in subst (Stays p text i) z (stays-here i)
-  ascii-stays (suc n) i l f =
-      let e : i + 1 + n ≡ i + suc n = omega arith in
-      let s = step text i (getD text i 0) 1 (readChar-ascii-at text i (omega arith) (f i (omega arith) (omega arith))) in
-      subst (Stays p text i) e
-      (stays-on (stays-ascii s (f i (omega arith) (omega arith)) (harmless-at text (i + 1) (f (i + 1) (omega arith) (omega arith))))
-      (ascii-stays n (i + 1) (omega arith) (λ k a c. f k (omega arith) (omega arith))))
+  -- Behind it no other finding follows than before it.
+  passes-ascii : {at v : ℕ} → Step text at v 1 → v ≤ 0x7F → Harmless (chars (drop (at + 1) text)) → Passes p text at (at + 1)
+  unfolding items begin
+  passes-ascii {at} {v} h l s = ⊎-elim key (λ e. passes-plain p h (ap begin e)) (ascii-class v l)
+    where
+      t : List ℕ
+      t = chars (drop (at + 1) text)
 
-  -- One more character that has no entry, whatever stands behind it.
-  pub ascii-stays-last : (n i : ℕ) → i + suc n ≤ length text → ((k : ℕ) → i ≤ k → k ≤ i + n → getD text k 0 ≤ 0x7F)
-      → hasVariationSequence (getD text (i + n) 0) ≡ false → Stays p text i (i + suc n)
-  ascii-stays-last n i l f e =
+      key : classOf v ≡ emoji → Passes p text at (at + 1)
+      key e =
+          let f : items (chars (drop at text)) ≡ record { kind = kindOf (begin (classOf v)); chars = v ∷ (cut (begin (classOf v)) t) .0 } ∷ (cut (begin (classOf v)) t) .1 = ap items (h .chars-on) in
+          let z : (cut (begin (classOf v)) t) .0 ≡ [] = ap (λ (k : Class). (cut (begin k) t) .0) e ∙ s .ends in
+          quiet-item p text at (at + 1) f (omega (arith, step-width h, ap (size width) z)) (stays-ascii h l s .counted)
+
+  skips-ascii : {at v : ℕ} → Step text at v 1 → v ≤ 0x7F → Harmless (chars (drop (at + 1) text)) → Skips p text at (at + 1)
+  skips-ascii h l s = (stays-ascii h l s, passes-ascii h l s)
+
+  pub ascii-skips : (n i : ℕ) → i + n ≤ length text → ((k : ℕ) → i ≤ k → k ≤ i + n → getD text k 0 ≤ 0x7F) → Skips p text i (i + n)
+  ascii-skips zero i l f = let z : i ≡ i + 0 = omega arith in subst (Skips p text i) z (skips-here i)
+  ascii-skips (suc n) i l f =
+      let e : i + 1 + n ≡ i + suc n = omega arith in
+      let s = read text i (getD text i 0) 1 (readChar-ascii-at text i (omega arith) (f i (omega arith) (omega arith))) in
+      subst (Skips p text i) e
+      (skips-on (skips-ascii s (f i (omega arith) (omega arith)) (harmless-at text (i + 1) (f (i + 1) (omega arith) (omega arith))))
+      (ascii-skips n (i + 1) (omega arith) (λ k a c. f k (omega arith) (omega arith))))
+
+  -- One more character of the class other, whatever stands behind it.
+  pub ascii-skips-last : (n i : ℕ) → i + suc n ≤ length text → ((k : ℕ) → i ≤ k → k ≤ i + n → getD text k 0 ≤ 0x7F)
+      → classOf (getD text (i + n) 0) ≡ other → Skips p text i (i + suc n)
+  ascii-skips-last n i l f e =
       let z : i + n + 1 ≡ i + suc n = omega arith in
       let h = f (i + n) (omega arith) (omega arith) in
-      let s = step text (i + n) (getD text (i + n) 0) 1 (readChar-ascii-at text (i + n) (omega arith) h) in
-      subst (Stays p text i) z (stays-on (ascii-stays n i (omega arith) f) (stays-plain p s (record { no-entry = e; no-selector = ascii-no-selector (getD text (i + n) 0) h })))
+      let s = read text (i + n) (getD text (i + n) 0) 1 (readChar-ascii-at text (i + n) (omega arith) h) in
+      subst (Skips p text i) z (skips-on (ascii-skips n i (omega arith) f) (skips-other p s e))
 
 -- ---- a run as the code finds it: one character that is ASCII, and the run behind it
 
@@ -115,25 +168,25 @@ module _ {text : List ℕ} {from end : ℕ} (q : (from < length text) × (getD t
 
 module _ {p : Policy} (b : AsciiBare p) {text : List ℕ} {from end : ℕ} (q : (from < length text) × (getD text from 0 ≤ 0x7F)) (r : AsciiRun text (from + 1) end) where
   -- All of it where the text ends, ..
-  pub run-to-end : end ≡ length text → Stays p text from end
+  pub run-to-end : end ≡ length text → Skips p text from end
   run-to-end e =
       let h = r .from-le in
       let z : from + (end - from) ≡ end = omega arith in
       let past : (k : ℕ) → end ≤ k → getD text k 0 ≤ 0x7F = λ k l. omega (arith, List·getD-eq-default text 0 {n = k} (omega arith)) in
-      subst (Stays p text from) z (ascii-stays b (end - from) from (omega (arith, run-room q r)) (λ k i j. ⊎-elim (λ l. past k l) (λ l. run-byte q r k i l) (le-or-lt end k)))
+      subst (Skips p text from) z (ascii-skips b (end - from) from (omega (arith, run-room q r)) (λ k i j. ⊎-elim (λ l. past k l) (λ l. run-byte q r k i l) (le-or-lt end k)))
 
   -- .. all but its last character, whatever stands behind it, ..
-  pub run-but-last : Stays p text from (end - 1)
+  pub run-but-last : Skips p text from (end - 1)
   run-but-last =
       let h = r .from-le in
       let z : from + (end - 1 - from) ≡ end - 1 = omega arith in
-      subst (Stays p text from) z (ascii-stays b (end - 1 - from) from (omega (arith, run-room q r)) (λ k i j. run-byte q r k i (omega arith)))
+      subst (Skips p text from) z (ascii-skips b (end - 1 - from) from (omega (arith, run-room q r)) (λ k i j. run-byte q r k i (omega arith)))
 
-  -- .. and that one too if it has no variation entry.
-  pub run-with-last : hasVariationSequence (getD text (end - 1) 0) ≡ false → Stays p text from end
+  -- .. and that one too if it is of the class other.
+  pub run-with-last : classOf (getD text (end - 1) 0) ≡ other → Skips p text from end
   run-with-last e =
       let h = r .from-le in
       let z : from + suc (end - 1 - from) ≡ end = omega arith in
       let l : from + (end - 1 - from) ≡ end - 1 = omega arith in
-      subst (Stays p text from) z
-      (ascii-stays-last b (end - 1 - from) from (omega (arith, run-room q r)) (λ k i j. run-byte q r k i (omega arith)) (ap (λ (n : ℕ). hasVariationSequence (getD text n 0)) l ∙ e))
+      subst (Skips p text from) z
+      (ascii-skips-last b (end - 1 - from) from (omega (arith, run-room q r)) (λ k i j. run-byte q r k i (omega arith)) (ap (λ (n : ℕ). classOf (getD text n 0)) l ∙ e))

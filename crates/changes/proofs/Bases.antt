@@ -11,14 +11,14 @@ use Rattle.base.proofs.Tests.{and-both, both-true}
 use Rattle.utf8.specs.Rfc3629.{chars, encode, encodeAll, validUpTo}
 use Rattle.utf8.proofs.Places.{Step}
 use Rattle.unicode.specs.Presentation.{asSelector, fromSelector, isSelector}
-use Rattle.unicode.specs.Theorems.{NoIndexNoEntry, SelectorsArePresentations, VariationEntriesAreEmoji}
+use Rattle.unicode.specs.Theorems.{NoIndexNoEntry, VariationEntriesAreEmoji}
 use Rattle.unicode.specs.Unicode.{variationSequenceIndex}
 use Rattle.unicode.specs.declared.VariationSequenceIndex.the-variants.{At, NoEntry}
 use Rattle.unicode.specs.declared.presentation.FromSelector.{FromSelector}
 use Rattle.unicode.specs.declared.presentation.FromSelector.the-variants.{NoSelector, Selector}
 use Rattle.unicode.specs.declared.presentation.Presentation.{Presentation}
 use Rattle.unicode.specs.declared.presentation.Presentation.the-variants.{Emoji, Text}
-use Rattle.unicode.proofs.Claims.{no-index-no-entry, selectors-are-presentations, variation-entries-are-emoji}
+use Rattle.unicode.proofs.Claims.{no-index-no-entry, variation-entries-are-emoji}
 use Rattle.policy.specs.declared.Policy.{Policy}
 use Rattle.policy.proofs.Unused.{same-truth}
 use Rattle.scanner.specs.Runs.{behindSelectors, selectorsAt}
@@ -28,13 +28,14 @@ use Rattle.scanner.proofs.Bytes.{size-chars, take-chars}
 use Rattle.scanner.proofs.Classes.{emoji-no-selector}
 use Rattle.scanner.proofs.Rescan.{size-append}
 use Rattle.scanner.proofs.Runs.{run-behind}
+use Rattle.scanner.proofs.SelectorChars.{other-value}
 use Rattle.analysis.specs.Analysis.{chosen, countCells, following, render}
 use Rattle.analysis.specs.CellView.{classInFront, formatCells, totalCells}
 use Rattle.analysis.specs.Cells.{Cell, cells, leading, unsplit}
 use Rattle.analysis.specs.Counts.{_⊕_, empty, total, unsanctioned}
 use Rattle.analysis.specs.Rules.{firstOf, outcome, runWith}
 use Rattle.analysis.specs.declared.singleton.Outcome.{Outcome}
-use Rattle.analysis.proofs.Cells.{CharIs, a-selector, char-is, from-selector, no-selector, split-selector, split-whole}
+use Rattle.analysis.proofs.Cells.{split-selector, split-whole}
 use Rattle.analysis.proofs.CellsAt.{behind-at, selectors-end, selectors-room, split-behind}
 use Rattle.analysis.proofs.RuleLaws.{keeps, settles}
 use Rattle.changes.specs.Changes.{BaseChange, ChangeAt, Changes, Plain, SameRules, Stays, formattedFrom, outcomeFrom, selectorNumber, totalFrom}
@@ -219,12 +220,12 @@ module _ (p : Policy) {text : List ℕ} {at v w : ℕ} (h : Step text at v w) (e
 
 -- ---- a selector
 
-pub change-at-selector : (p : Policy) {text : List ℕ} {at w : ℕ} (q : Presentation) → Step text at (asSelector q) w
-    → ChangeAt p text at (record { kept = at; selector = NoSelector; end = at + w; more = true })
+-- It goes, and the selectors behind it go with it.
+pub change-at-selector : (p : Policy) {text : List ℕ} {at w : ℕ} (q : Presentation) → Step text at (asSelector q) w → (end : ℕ) → end ≡ End text (at + w)
+    → ChangeAt p text at (record { kept = at; selector = NoSelector; end = end; more = true })
 unfolding formatCells totalCells runWith encodeAll
-change-at-selector p {text} {at} {w} q h =
-    let t = chars (drop (at + w) text) in
-    let s = split-selector q t in
+change-at-selector p {text} {at} {w} q h end e =
+    let s = split-selector q (chars (drop (at + w) text)) in
     let z : at - at ≡ 0 = omega arith in
     let n : totalFrom p text at ≡ suc (totalFrom p text (at + w)) =
     ap (λ (l : List ℕ). total (totalCells p l)) (h .chars-on) ∙ ap (λ (a : List Presentation × List Cell). total (unsanctioned (length (a .0)) ⊕ countCells p (a .1))) s ∙ omega arith in (
@@ -232,12 +233,13 @@ change-at-selector p {text} {at} {w} q h =
         on = omega arith;
         behind = omega arith;
         moves = omega (arith, h .some);
-        inside = λ _. h .room;
+        inside = λ _. omega (arith, selectors-room text (at + w) (h .room));
         formatted =
             ap (λ (l : List ℕ). encodeAll (formatCells p l)) (h .chars-on) ∙ ap (λ (a : List Presentation × List Cell). encodeAll (render p (a .1) [])) s
-            ∙ ap (λ (n : ℕ). take n (drop at text) ++ formattedFrom p text (at + w)) (sym z);
-        counted = omega (arith, n);
-        valid = omega (arith, h .validUpTo-on);
+            ∙ selectors-formatted text (at + w) p ∙ ap (formattedFrom p text) (sym e)
+            ∙ ap (λ (n : ℕ). take n (drop at text) ++ formattedFrom p text end) (sym z);
+        counted = omega (arith, n, selectors-total text (at + w) p, ap (totalFrom p text) e);
+        valid = omega (arith, h .validUpTo-on, selectors-valid text (at + w), ap (λ (n : ℕ). validUpTo (drop n text)) e);
       },
       λ f. absurd (true≢false f),
     )
@@ -248,14 +250,6 @@ pub entry-no-selector : (c i : ℕ) → variationSequenceIndex c ≡ At i → is
 unfolding VariationEntriesAreEmoji
 entry-no-selector c i e = emoji-no-selector c (variation-entries-are-emoji c (has-entry c i e))
 
-pub selector-value : (c : ℕ) (q : Presentation) → fromSelector c ≡ Selector q → c ≡ asSelector q
-unfolding SelectorsArePresentations
-selector-value = selectors-are-presentations .1
-
 pub plain-char : (c : ℕ) → variationSequenceIndex c ≡ NoEntry → fromSelector c ≡ NoSelector → Plain c
 unfolding NoIndexNoEntry
-plain-char c e f = record { no-entry = no-index-no-entry c .0 e; no-selector = go (char-is c) }
-  where
-    go : CharIs c → isSelector c ≡ false
-    go (no-selector n) = n
-    go (a-selector q n) = let z : Selector q ≡ NoSelector = sym (ap fromSelector n ∙ from-selector q) ∙ f in let n : _≡_ {A = ℕ} 0 1 = cc in absurd (omega arith)
+plain-char c e f = record { no-entry = no-index-no-entry c .0 e; no-selector = other-value c f }

@@ -1,6 +1,6 @@
 -- What stays of the selectors behind a base is what the rules leave, by the first selector and the class of what follows them.
 use mathlib.Core.Path.{_≡_, refl, ap, sym, _∙_, subst}
-use mathlib.Core.Bool.{Bool, true, false, cond}
+use mathlib.Core.Bool.{Bool, true, cond}
 use mathlib.Core.List.{List, [], _∷_}
 use Prim.Native.Nat.{ℕ, zero, suc, _+_, _*_, _/_}
 use native.Mathlib.Omega.{arith}
@@ -8,10 +8,7 @@ use types.Run.{OneOf}
 use denote.Enum.Declared.{tagOf}
 use lib.ListN.{drop, length}
 use Rattle.utf8.specs.Rfc3629.{chars, packed, readChar}
-use Rattle.utf8.specs.declared.ReadChar.{ReadChar}
-use Rattle.utf8.specs.declared.ReadChar.the-variants.{Char, End, IllFormed}
-use Rattle.utf8.proofs.Packed.{packed-reads}
-use Rattle.utf8.proofs.Places.{Stop, step, stop-end, stop-ill-formed}
+use Rattle.utf8.proofs.Packed.{packed-step, packed-stop}
 use Rattle.unicode.specs.Unicode.{hasVariationSequence, isEmojiDefault, isEmojiModifierBase, variationSequenceIndex}
 use Rattle.unicode.specs.UnicodeData.{variationEntries}
 use Rattle.unicode.specs.declared.VariationSequenceIndex.the-variants.{At}
@@ -30,10 +27,10 @@ use Rattle.scanner.proofs.char_class.Class.{the-type as the-class}
 use Rattle.analysis.specs.Analysis.{chosen, following}
 use Rattle.analysis.specs.CellView.{classInFront}
 use Rattle.analysis.specs.Cells.{Cell, cells, leading, split}
-use Rattle.analysis.specs.Rules.{firstOf, outcome, rule4, rule5, rule6, runWith}
+use Rattle.analysis.specs.Rules.{byKeycap, firstOf, outcome, rule4, rule5, rule6, runWith}
 use Rattle.analysis.specs.declared.singleton.Outcome.{Outcome}
-use Rattle.analysis.proofs.Cells.{CharIs, a-selector, char-is, no-selector, split-char, split-selector}
-use Rattle.analysis.proofs.CellsAt.{behind-at, split-behind}
+use Rattle.analysis.proofs.Cells.{front-char, split-char}
+use Rattle.analysis.proofs.CellsAt.{split-at}
 use Rattle.analysis.proofs.NumberRules.{by-numbers}
 use Rattle.analysis.proofs.Rules.{outcome-entry, rule23}
 use Rattle.changes.specs.Changes.{SameRules, outcomeFrom}
@@ -65,22 +62,20 @@ module _ (p : Policy) (c i : ℕ) (e : variationSequenceIndex c ≡ At i) (a r :
       by-rule k n (rule6 (singletonRule p c b) (runWith a n)) (o n)
       (h n ∙ ap (λ (x : SingletonRule). chosen (rule6 x (runWith a n) .slot) []) (g ∙ sym (rule-by-entry p c i b e)))
 
-  pub before-keycap-kept : (k : Class) (s : SingletonRule) → k ≡ keycap → s ≡ entryRule p i true → ((n : ℕ) → runWith r 1 ≡ chosen (rule6 s (runWith a n) .slot) []) → (n : ℕ) → runWith r 1 ≡ chosen (outcome p c k (runWith a n) .slot) []
-  before-keycap-kept k s f = policy-kept k true (λ n. ap (λ (x : Class). outcome p c x (runWith a n)) f ∙ outcome-entry p c keycap (runWith a n) (has-entry c i e)) s
-
-  pub before-other-kept : (k : Class) (s : SingletonRule) → OneOf (0 ∷ 1 ∷ 2 ∷ 4 ∷ 7 ∷ []) (tagOf the-class k) → s ≡ entryRule p i false → ((n : ℕ) → runWith r 1 ≡ chosen (rule6 s (runWith a n) .slot) [])
-      → (n : ℕ) → runWith r 1 ≡ chosen (outcome p c k (runWith a n) .slot) []
-  before-other-kept k s o =
-      policy-kept k false (λ n. class-arm (0 ∷ 1 ∷ 2 ∷ 4 ∷ 7 ∷ []) (λ (x : Class). outcome p c x (runWith a n) ≡ rule6 (singletonRule p c false) (runWith a n)) (
+  pub before-other-kept : (k : Class) (b : Bool) (s : SingletonRule) → OneOf (0 ∷ 1 ∷ 2 ∷ 4 ∷ 5 ∷ 7 ∷ []) (tagOf the-class k) → b ≡ byKeycap k → s ≡ entryRule p i b
+      → ((n : ℕ) → runWith r 1 ≡ chosen (rule6 s (runWith a n) .slot) []) → (n : ℕ) → runWith r 1 ≡ chosen (outcome p c k (runWith a n) .slot) []
+  unfolding byKeycap
+  before-other-kept k b s o d =
+      policy-kept k b (λ n. class-arm (0 ∷ 1 ∷ 2 ∷ 4 ∷ 5 ∷ 7 ∷ []) (λ (x : Class). outcome p c x (runWith a n) ≡ rule6 (singletonRule p c (byKeycap x)) (runWith a n)) (
         outcome-entry p c selector (runWith a n) (has-entry c i e),
         outcome-entry p c link (runWith a n) (has-entry c i e),
         outcome-entry p c ri (runWith a n) (has-entry c i e),
         tt,
         outcome-entry p c emoji (runWith a n) (has-entry c i e),
-        tt,
+        outcome-entry p c keycap (runWith a n) (has-entry c i e),
         tt,
         outcome-entry p c other (runWith a n) (has-entry c i e),
-      ) k o) s
+      ) k o ∙ ap (λ (x : Bool). rule6 (singletonRule p c x) (runWith a n)) (sym d)) s
 
 -- ---- the class of what follows
 
@@ -90,35 +85,19 @@ same-then a b = record { modifier = a .modifier ∙ b .modifier; tags = a .tags 
 same-back : {i j : Class} → SameRules i j → SameRules j i
 same-back a = record { modifier = sym (a .modifier); tags = sym (a .tags); keycap = sym (a .keycap) }
 
--- The packed number 0 says that no character begins, or none is left.
-pub packed-stop : (s : List ℕ) (at n : ℕ) → n ≡ packed (readChar (drop at s)) → n ≡ 0 → Stop s at
-unfolding packed
-packed-stop s at n e h = go (readChar (drop at s)) refl e
-  where
-    go : (r : ReadChar) → readChar (drop at s) ≡ r → n ≡ packed r → Stop s at
-    go (Char v u) p q = absurd (omega (arith, step s at v u p .some))
-    go IllFormed p q = stop-ill-formed s at p
-    go End p q = stop-end s at p
-
 -- The packed number of the character at an offset is 0 where none stands, and 0 is to the rules as any other character.
 pub class-in-front : (text : List ℕ) (at n : ℕ) (k : Class) → n ≡ packed (readChar (drop at text)) → SameRules k (classOf (n / 8)) → SameRules k (classInFront (chars (drop at text)))
 unfolding classInFront
 class-in-front text at zero k e h =
     subst (λ (t : List ℕ). SameRules k (classInFront t)) (sym (packed-stop text at zero e refl .chars-none)) (same-then h (same-back (rules-before 0 (omega arith))))
 class-in-front text at (suc n) k e h =
-    let s = step text at (suc n / 8) _ (packed-reads (drop at text) (suc n) e (omega arith)) in
+    let s = packed-step text at (suc n) e (λ z. omega arith) in
     subst (λ (t : List ℕ). SameRules k (classInFront t)) (sym (s .chars-on)) h
 
 front-class : (u : List ℕ) → leading u ≡ [] → classInFront u ≡ following (cells u)
 unfolding classInFront following split
 front-class [] e = refl
-front-class (c ∷ u) e = go (char-is c)
-  where
-    go : CharIs c → classInFront (c ∷ u) ≡ following (cells (c ∷ u))
-    go (no-selector f) = sym (ap (λ (a : List Presentation × List Cell). following (a .1)) (split-char c u f))
-    go (a-selector q f) =
-        let l : q ∷ leading u ≡ [] = sym (ap (λ (x : ℕ). leading (x ∷ u)) f ∙ ap (λ (a : List Presentation × List Cell). a .0) (split-selector q u)) ∙ e in
-        absurd (omega (arith, ap length l))
+front-class (c ∷ u) e = sym (ap (λ (a : List Presentation × List Cell). following (a .1)) (split-char c u (front-char c u e)))
 
 -- ---- all together
 
@@ -126,10 +105,9 @@ module _ (p : Policy) (text : List ℕ) (base at : ℕ) where
   abbrev T : List ℕ
   T = chars (drop at text)
 
-  follows : (end : ℕ) → end ≡ at + 3 * length (leading T) → classInFront (chars (drop end text)) ≡ following (cells T)
+  pub follows : (end : ℕ) → end ≡ at + 3 * length (leading T) → classInFront (chars (drop end text)) ≡ following (cells T)
   follows end e =
-      let b = ap (λ (n : ℕ). chars (drop n text)) e ∙ behind-at text at in
-      let s = ap split b ∙ split-behind T in
+      let s = split-at text at e in
       front-class (chars (drop end text)) (ap (λ (a : List Presentation × List Cell). a .0) s) ∙ ap (λ (a : List Presentation × List Cell). following (a .1)) s
 
   pub outcome-read : (first : FromSelector) (end : ℕ) (k : Class) → first ≡ firstOf (leading T) → end ≡ at + 3 * length (leading T) → SameRules k (classInFront (chars (drop end text)))

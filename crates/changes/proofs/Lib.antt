@@ -1,8 +1,10 @@
 -- Laws of changes, in the order in which each needs the others.
+pub mod CellsOfItems
 pub mod RuleClasses
-pub mod Selectors
 pub mod Staying
 pub mod PlainText
+pub mod Passing
 pub mod AsciiText
 pub mod Kept
 pub mod Bases
+pub mod Walking

@@ -1,23 +1,27 @@
 -- Characters that stay whatever stands behind them: which they are by their first bytes, and ASCII.
 use mathlib.Core.Path.{_≡_, refl, ap, sym, _∙_}
 use mathlib.Core.Logic.{⊎-elim}
-use mathlib.Core.Bool.{Bool, true, false, _||_}
+use mathlib.Core.Bool.{Bool, true, false, _&&_, _||_}
 use mathlib.Core.List.{List, [], _∷_, _++_}
 use Prim.Native.Nat.{ℕ, _+_, _/_, _<_, _≤_}
 use native.Mathlib.Omega.{arith}
 use lib.Dec.{eqb, leb}
 use lib.ListN.{drop, getD}
-use borrow.Author.Tests.{eqb-true, leb-true, ne-eqb}
+use borrow.Author.Tests.{eqb-true, leb-true, lt-leb, ne-eqb}
 use Rattle.base.specs.Ranges.{within}
-use Rattle.base.proofs.Tests.{either-true, le-or-lt, within-in}
+use Rattle.base.proofs.Tests.{both-true, either-true, le-or-lt, within-in}
 use Rattle.utf8.specs.Rfc3629.{chars, encode}
 use Rattle.utf8.proofs.Encoding.{encode-1, encode-2, encode-3, encode-4}
 use Rattle.utf8.proofs.Places.{Step}
 use Rattle.unicode.specs.Presentation.{isSelector}
-use Rattle.unicode.specs.Unicode.{hasVariationSequence}
-use Rattle.unicode.specs.UnicodeData.{variationEntries}
-use Rattle.unicode.proofs.Between.{every, every-member}
+use Rattle.unicode.specs.Unicode.{hasVariationSequence, isEmoji, isTag}
+use Rattle.unicode.specs.UnicodeData.{emojiRanges}
+use Rattle.unicode.proofs.Between.{every-range, everyRange}
 use Rattle.policy.specs.declared.Policy.{Policy}
+use Rattle.scanner.specs.Classes.{classOf}
+use Rattle.scanner.specs.declared.char_class.Class.the-variants.{Emoji as emoji, Other as other}
+use Rattle.scanner.proofs.ClassTests.{forSelector, selector-test}
+use Rattle.scanner.proofs.Classes.{class-is, entry-class, is-other}
 use Rattle.analysis.specs.Analysis.{following}
 use Rattle.analysis.specs.Cells.{cells, leading}
 use Rattle.analysis.specs.Rules.{rule1}
@@ -25,69 +29,94 @@ use Rattle.analysis.proofs.Rules.{outcome-no-entry}
 use Rattle.changes.specs.Changes.{Plain, Stays, outcomeFrom}
 use Rattle.changes.proofs.Staying.{stays-char}
 
--- ---- where the variation entries are
+-- ---- where the emoji are
 
--- The ASCII bases, two of Latin-1, those from 2000 to 2FFF, in the blocks of 3030 and 3297, and behind EFFF.
-unfoldable entryPlace : ℕ → Bool
-entryPlace e = leb e 0xBF || (within 0x2000 0x2FFF e || (eqb (e / 64) 0xC0 || (eqb (e / 64) 0xCA || leb 0xF000 e)))
+-- Before F000 a character that is neither emoji nor 200D nor 20E3 is of the class other.
+other-if : (c : ℕ) → c < 0xF000 → (c ≡ 0x200D → ⊥) → (c ≡ 0x20E3 → ⊥) → isEmoji c ≡ false → classOf c ≡ other
+unfolding isSelector isTag
+other-if c high link keycap e =
+    class-is (is-other
+    (record { no-selector = simp (ne-eqb c 0xFE0E (λ e. omega arith), ne-eqb c 0xFE0F (λ e. omega arith)); no-link = ne-eqb c 0x200D link; no-emoji = e })
+    (ne-eqb c 0x20E3 keycap) (simp (lt-leb 0xE0020 c (omega arith))))
 
-plain-by : (c : ℕ) → 0xC0 ≤ c → (0x2000 ≤ c → c ≤ 0x2FFF → ⊥) → (c / 64 ≡ 0xC0 → ⊥) → (c / 64 ≡ 0xCA → ⊥) → c < 0xF000 → Plain c
-unfolding hasVariationSequence every variationEntries isSelector entryPlace
-plain-by c low two three four high = record {
-  no-entry = go (hasVariationSequence c) refl;
-  no-selector = simp (ne-eqb c 0xFE0E (λ e. omega arith), ne-eqb c 0xFE0F (λ e. omega arith));
-}
+-- A range of emoji lies among ASCII and Latin-1, from 2000 to 2FFF, in the blocks of 3030 and 3297, or behind EFFF.
+unfoldable emojiPlace : ℕ → ℕ → Bool
+emojiPlace a e = leb e 0xBF || ((leb 0x2000 a && leb e 0x2FFF) || ((leb 0x3000 a && leb e 0x303F) || ((leb 0x3280 a && leb e 0x32BF) || leb 0xF000 a)))
+
+other-by : (c : ℕ) → 0xC0 ≤ c → (0x2000 ≤ c → c ≤ 0x2FFF → ⊥) → (c / 64 ≡ 0xC0 → ⊥) → (c / 64 ≡ 0xCA → ⊥) → c < 0xF000 → classOf c ≡ other
+unfolding isEmoji everyRange emojiRanges emojiPlace
+other-by c low two three four high =
+    other-if c high (λ e. two (omega arith) (omega arith)) (λ e. two (omega arith) (omega arith)) (go (isEmoji c) refl)
   where
-    no : entryPlace c ≡ true → ⊥
-    no t =
-        ⊎-elim (λ a. omega (arith, leb-true c 0xBF a))
-        (λ a. ⊎-elim (λ b. let i = within-in 0x2000 0x2FFF c b in two (omega arith) (omega arith))
-        (λ b. ⊎-elim (λ d. three (eqb-true (c / 64) 0xC0 d))
-        (λ d. ⊎-elim (λ f. four (eqb-true (c / 64) 0xCA f)) (λ f. omega (arith, leb-true 0xF000 c f))
-        (either-true (eqb (c / 64) 0xCA) (leb 0xF000 c) d))
-        (either-true (eqb (c / 64) 0xC0) (eqb (c / 64) 0xCA || leb 0xF000 c) b))
-        (either-true (within 0x2000 0x2FFF c) (eqb (c / 64) 0xC0 || (eqb (c / 64) 0xCA || leb 0xF000 c)) a))
-        (either-true (leb c 0xBF) (within 0x2000 0x2FFF c || (eqb (c / 64) 0xC0 || (eqb (c / 64) 0xCA || leb 0xF000 c))) t)
+    no : (a e d : ℕ) → within a e d ≡ true → emojiPlace a e ≡ true → d ≡ c → ⊥
+    no a e d w t q =
+        let i = within-in a e d w in
+        ⊎-elim (λ f. omega (arith, leb-true e 0xBF f))
+        (λ f. ⊎-elim
+        (λ g. let b = both-true (leb 0x2000 a) (leb e 0x2FFF) g in two (omega (arith, leb-true 0x2000 a (b .0))) (omega (arith, leb-true e 0x2FFF (b .1))))
+        (λ g. ⊎-elim
+        (λ h. let b = both-true (leb 0x3000 a) (leb e 0x303F) h in three (omega (arith, leb-true 0x3000 a (b .0), leb-true e 0x303F (b .1))))
+        (λ h. ⊎-elim
+        (λ k. let b = both-true (leb 0x3280 a) (leb e 0x32BF) k in four (omega (arith, leb-true 0x3280 a (b .0), leb-true e 0x32BF (b .1))))
+        (λ k. omega (arith, leb-true 0xF000 a k))
+        (either-true (leb 0x3280 a && leb e 0x32BF) (leb 0xF000 a) h))
+        (either-true (leb 0x3000 a && leb e 0x303F) _ g))
+        (either-true (leb 0x2000 a && leb e 0x2FFF) _ f))
+        (either-true (leb e 0xBF) _ t)
 
-    go : (b : Bool) → hasVariationSequence c ≡ b → b ≡ false
-    go true m = absurd (no (every-member entryPlace variationEntries refl c m))
+    go : (b : Bool) → isEmoji c ≡ b → b ≡ false
+    go true m = absurd (every-range emojiPlace (λ d. d ≡ c → ⊥) no emojiRanges refl c m refl)
     go false m = refl
 
 -- Among ASCII only # * and the digits.
-unfoldable asciiPlace : ℕ → Bool
-asciiPlace e = eqb e 0x23 || (eqb e 0x2A || (within 0x30 0x39 e || leb 0x80 e))
+unfoldable asciiPlace : ℕ → ℕ → Bool
+asciiPlace a e = (eqb a 0x23 && eqb e 0x23) || ((eqb a 0x2A && eqb e 0x2A) || ((leb 0x30 a && leb e 0x39) || leb 0x80 a))
 
-pub no-ascii-entry : (c : ℕ) → c ≤ 0x7F → (c ≡ 0x23 → ⊥) → (c ≡ 0x2A → ⊥) → (0x30 ≤ c → c ≤ 0x39 → ⊥) → hasVariationSequence c ≡ false
-unfolding hasVariationSequence every variationEntries asciiPlace
-no-ascii-entry c ascii hash star digit = go (hasVariationSequence c) refl
+pub ascii-other : (c : ℕ) → c ≤ 0x7F → (c ≡ 0x23 → ⊥) → (c ≡ 0x2A → ⊥) → (0x30 ≤ c → c ≤ 0x39 → ⊥) → classOf c ≡ other
+unfolding isEmoji everyRange emojiRanges asciiPlace
+ascii-other c ascii hash star digit =
+    other-if c (omega arith) (λ e. omega arith) (λ e. omega arith) (go (isEmoji c) refl)
   where
-    no : asciiPlace c ≡ true → ⊥
-    no t =
-        ⊎-elim (λ a. hash (eqb-true c 0x23 a))
-        (λ a. ⊎-elim (λ b. star (eqb-true c 0x2A b))
-        (λ b. ⊎-elim (λ d. let i = within-in 0x30 0x39 c d in digit (omega arith) (omega arith)) (λ d. omega (arith, leb-true 0x80 c d))
-        (either-true (within 0x30 0x39 c) (leb 0x80 c) b))
-        (either-true (eqb c 0x2A) (within 0x30 0x39 c || leb 0x80 c) a))
-        (either-true (eqb c 0x23) (eqb c 0x2A || (within 0x30 0x39 c || leb 0x80 c)) t)
+    no : (a e d : ℕ) → within a e d ≡ true → asciiPlace a e ≡ true → d ≡ c → ⊥
+    no a e d w t q =
+        let i = within-in a e d w in
+        ⊎-elim
+        (λ f. let b = both-true (eqb a 0x23) (eqb e 0x23) f in hash (omega (arith, eqb-true a 0x23 (b .0), eqb-true e 0x23 (b .1))))
+        (λ f. ⊎-elim
+        (λ g. let b = both-true (eqb a 0x2A) (eqb e 0x2A) g in star (omega (arith, eqb-true a 0x2A (b .0), eqb-true e 0x2A (b .1))))
+        (λ g. ⊎-elim
+        (λ h. let b = both-true (leb 0x30 a) (leb e 0x39) h in digit (omega (arith, leb-true 0x30 a (b .0))) (omega (arith, leb-true e 0x39 (b .1))))
+        (λ h. omega (arith, leb-true 0x80 a h))
+        (either-true (leb 0x30 a && leb e 0x39) (leb 0x80 a) g))
+        (either-true (eqb a 0x2A && eqb e 0x2A) _ f))
+        (either-true (eqb a 0x23 && eqb e 0x23) _ t)
 
-    go : (b : Bool) → hasVariationSequence c ≡ b → b ≡ false
-    go true m = absurd (no (every-member asciiPlace variationEntries refl c m))
+    go : (b : Bool) → isEmoji c ≡ b → b ≡ false
+    go true m = absurd (every-range asciiPlace (λ d. d ≡ c → ⊥) no emojiRanges refl c m refl)
     go false m = refl
+
+-- A character of the class other has no entry and is no selector.
+pub other-plain : (c : ℕ) → classOf c ≡ other → Plain c
+other-plain c e = record { no-entry = entry (hasVariationSequence c) refl; no-selector = selector-test c ∙ ap forSelector e }
+  where
+    entry : (b : Bool) → hasVariationSequence c ≡ b → b ≡ false
+    entry true v = let z : emoji ≡ other = sym (entry-class c v) ∙ e in let n : _≡_ {A = ℕ} 0 1 = cc in absurd (omega arith)
+    entry false v = refl
 
 -- ---- by the first bytes
 
 -- A character whose first byte is from C3 to EE, not E2, and if it is E3, its second is neither 80 nor 8A.
 pub plain-lead : {text : List ℕ} {at v w : ℕ} → Step text at v w → (a : ℕ) → a ≡ getD (drop at text) 0 0
-    → 0xC3 ≤ a → a ≤ 0xEE → (a ≡ 0xE2 → ⊥) → (a ≡ 0xE3 → (getD (drop at text) 1 0 ≡ 0x80 → ⊥) × (getD (drop at text) 1 0 ≡ 0x8A → ⊥)) → Plain v
+    → 0xC3 ≤ a → a ≤ 0xEE → (a ≡ 0xE2 → ⊥) → (a ≡ 0xE3 → (getD (drop at text) 1 0 ≡ 0x80 → ⊥) × (getD (drop at text) 1 0 ≡ 0x8A → ⊥)) → classOf v ≡ other
 plain-lead {text} {at} {v} {w} h a e low high two three =
     ⊎-elim (λ l. absurd (let b = first (v ∷ []) (encode-1 v l) in omega arith))
     (λ l. ⊎-elim
-    (λ m. let b = first ((0xC0 + v / 64) ∷ _ ∷ []) (encode-2 v (omega arith) m) in plain-by v (omega arith) (λ i j. omega arith) (λ i. omega arith) (λ i. omega arith) (omega arith))
+    (λ m. let b = first ((0xC0 + v / 64) ∷ _ ∷ []) (encode-2 v (omega arith) m) in other-by v (omega arith) (λ i j. omega arith) (λ i. omega arith) (λ i. omega arith) (omega arith))
     (λ m. ⊎-elim
     (λ n.
     let b = first ((0xE0 + v / 4096) ∷ _ ∷ _ ∷ []) (encode-3 v (omega arith) n) in
     let d = second ((0xE0 + v / 4096) ∷ _ ∷ _ ∷ []) (encode-3 v (omega arith) n) in
-    plain-by v (omega arith) (λ i j. two (omega arith)) (λ i. three (omega arith) .0 (omega arith)) (λ i. three (omega arith) .1 (omega arith)) (omega arith))
+    other-by v (omega arith) (λ i j. two (omega arith)) (λ i. three (omega arith) .0 (omega arith)) (λ i. three (omega arith) .1 (omega arith)) (omega arith))
     (λ n. absurd (let b = first ((0xF0 + v / 262144) ∷ _ ∷ _ ∷ _ ∷ []) (encode-4 v (omega arith)) in omega arith))
     (le-or-lt v 0xFFFF))
     (le-or-lt v 0x7FF))

@@ -1,2 +1,3 @@
--- Where formatting changes a text.
+-- Where formatting changes a text, and where its next finding is.
 pub mod Changes
+pub mod Findings

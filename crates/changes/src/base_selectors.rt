@@ -3,9 +3,9 @@
 ghost use mathlib.Core.Path.{_≡_};
 ghost use mathlib.Core.Bool.{Bool, _&&_, cond, not};
 ghost use mathlib.Core.List.{List, []};
-ghost use Prim.Native.Nat.{ℕ, _+_, _*_};
+ghost use Prim.Native.Nat.{ℕ};
 ghost use lib.Dec.{eqb, leb};
-ghost use lib.ListN.{drop, length};
+ghost use lib.ListN.{drop};
 ghost use Rattle.utf8.specs.Rfc3629.{chars};
 ghost use Rattle.unicode.specs.Unicode.{variationSequenceIndex};
 ghost use Rattle.unicode.specs.declared.VariationSequenceIndex.the-variants.{At};
@@ -14,49 +14,17 @@ ghost use Rattle.policy.specs.PolicyBytes.{policyOf};
 ghost use Rattle.scanner.specs.Classes.{classOf};
 ghost use Rattle.analysis.specs.Analysis.{chosen};
 ghost use Rattle.analysis.specs.CellView.{classInFront};
-ghost use Rattle.analysis.specs.Cells.{leading};
-ghost use Rattle.analysis.specs.Rules.{firstOf, outcome, rule2, rule3, rule4, rule5, rule6, runWith, textFirst};
+ghost use Rattle.analysis.specs.Rules.{byKeycap, outcome, rule2, rule3, rule4, rule5, rule6, runWith, textFirst};
 ghost use Rattle.changes.specs.Changes.{BaseChange, SameRules, selectorNumber};
 use crate::Change;
 use policy::SingletonRule;
 use scanner::char_class::Class;
+use scanner::selectors::SELECTOR_BYTES;
+use scanner::selectors::selector_at;
+use scanner::selectors::selectors_end;
 use unicode::COMBINING_ENCLOSING_KEYCAP;
 use unicode::presentation::FromSelector;
 use unicode::presentation::Presentation;
-
-// Each selector has three bytes.
-const SELECTOR_BYTES: usize = 3;
-
-// The selector at an offset, by its three bytes: EF B8 8E and EF B8 8F.
-fn selector_at(text: &[u8], at: usize) -> FromSelector
-    ensures { λ r. ⌜ r ≡ firstOf (leading (chars (drop at (now (text .entry))))) ⌝ }
-{
-    if base::byte_at(text, at, 0) != 0xEF {
-        return FromSelector::NoSelector;
-    }
-    if base::byte_at(text, at, 1) != 0xB8 {
-        return FromSelector::NoSelector;
-    }
-    let last = base::byte_at(text, at, 2);
-    if last == 0x8E {
-        return FromSelector::Selector(Presentation::Text);
-    }
-    if last == 0x8F {
-        return FromSelector::Selector(Presentation::Emoji);
-    }
-    FromSelector::NoSelector
-}
-
-// The end of the selectors from an offset on.
-fn selectors_end(text: &[u8], from: usize) -> usize
-    ensures { λ r. ⌜ r ≡ from + 3 * length (leading (chars (drop from (now (text .entry))))) ⌝ }
-{
-    let mut at = from;
-    while let FromSelector::Selector(_) = selector_at(text, at) {
-        at += SELECTOR_BYTES;
-    }
-    at
-}
 
 // What a character behind a base is to the rules: a modifier, a tag, the keycap, or any other.
 fn rule_class(ch: u32) -> Class
@@ -137,8 +105,18 @@ fn before_tags(is_emoji_default: bool) -> FromSelector
     FromSelector::Selector(Presentation::Emoji)
 }
 
+// Whether a class is that of 20E3.
+fn is_keycap(class: Class) -> bool
+    ensures { λ r. ⌜ r ≡ byKeycap class ⌝ }
+{
+    match class {
+        Class::Keycap => true,
+        _ => false,
+    }
+}
+
 // What stays of the selectors behind a base, by the class of what follows them and the first of them.
-fn kept_selector(
+pub(crate) fn kept_selector(
     policy: &[u8],
     base: u32,
     index: usize,
@@ -151,8 +129,10 @@ fn kept_selector(
     match next {
         Class::Modifier => before_modifier(first),
         Class::Tag => before_tags(unicode::is_emoji_default(base)),
-        Class::Keycap => by_policy(policy::policy_bytes::rule_at(policy, index, true), first),
-        _ => by_policy(policy::policy_bytes::rule_at(policy, index, false), first),
+        _ => by_policy(
+            policy::policy_bytes::rule_at(policy, index, is_keycap(next)),
+            first,
+        ),
     }
 }
 
@@ -170,7 +150,7 @@ fn number_of(selector: FromSelector) -> u8
 }
 
 // Whether selectors of so many bytes, of which the first is known, are other ones than the selector that stays.
-fn is_change(first: FromSelector, bytes: usize, selector: FromSelector) -> bool
+pub(crate) fn is_change(first: FromSelector, bytes: usize, selector: FromSelector) -> bool
     ensures { λ r. ⌜ r ≡ not (eqb (selectorNumber first) (selectorNumber selector) && leb bytes 3) ⌝ }
 {
     if number_of(first) != number_of(selector) {

@@ -1,7 +1,8 @@
-// Where formatting changes a text: the next change from an offset on. Formatting asks for one change after the other, first to
-// measure and then to write, and copies what lies between them (document 01, "Replacement and text"; formatter.rs of the crate evfmt
-// builds each item instead). `next_change` equals `NextChange` of specs/Changes.antt for every text, policy and offset.
+// Where formatting changes a text: the next change from an offset on. Formatting asks for one change after the other and copies what
+// lies between them (document 01, "Replacement and text"; formatter.rs of the crate evfmt builds each item instead). `next_change`
+// equals `NextChange` of specs/Changes.antt for every text, policy and offset.
 mod base_selectors;
+pub mod findings;
 mod plain;
 
 ghost use mathlib.Core.Path.{_≡_};
@@ -12,6 +13,7 @@ ghost use Rattle.policy.specs.PolicyBytes.{policyOf};
 ghost use Rattle.changes.specs.Changes.{ChangeAt, NextChange};
 use base_selectors::base_change;
 use plain::skip_plain;
+use scanner::selectors::selectors_end;
 use unicode::VariationSequenceIndex;
 use unicode::presentation::FromSelector;
 use unicode::presentation::Presentation;
@@ -25,8 +27,8 @@ pub struct Change {
     pub more: bool,
 }
 
-// What becomes of the character at an offset, of so many bytes, and of the selectors behind it: a selector goes, a base with a
-// variation entry takes the selectors behind it with it, any other character stays.
+// What becomes of the character at an offset, of so many bytes, and of the selectors behind it: a selector goes with all behind it, a
+// base with a variation entry takes the selectors behind it with it, any other character stays.
 fn change_at(text: &[u8], policy: &[u8], at: usize, ch: u32, width: usize) -> Change
     requires { ⌜ readChar (drop at (now text)) ≡ Char ch width ⌝ }
     ensures { λ r. ⌜ ChangeAt (policyOf (now (policy .entry))) (now (text .entry)) at r ⌝ }
@@ -38,7 +40,7 @@ fn change_at(text: &[u8], policy: &[u8], at: usize, ch: u32, width: usize) -> Ch
             FromSelector::Selector(_) => Change {
                 kept: at,
                 selector: FromSelector::NoSelector,
-                end: next,
+                end: selectors_end(text, next),
                 more: true,
             },
             FromSelector::NoSelector => Change {

@@ -1,20 +1,22 @@
-// Plain text, which stays as it is and is passed over without looking at each character's tables: characters by their first byte,
-// and ASCII in runs where the policy keeps the ASCII bases bare. Nothing here tests what is well-formed: `utf8::char_len` does.
+// Plain text, which stays as it is, has no finding, and is passed over without looking at each character's tables: characters by
+// their first byte, and ASCII in runs where the policy keeps the ASCII bases bare. Nothing here tests what is well-formed: `utf8::char_len` does.
 ghost use mathlib.Core.Path.{_≡_};
 ghost use mathlib.Core.Bool.{true, false};
 ghost use Prim.Native.Nat.{ℕ, _<_, _≤_};
 ghost use lib.ListN.{drop, getD, length};
 ghost use Rattle.utf8.specs.Rfc3629.{readChar};
 ghost use Rattle.utf8.specs.declared.ReadChar.the-variants.{Char};
-ghost use Rattle.unicode.specs.Unicode.{hasVariationSequence};
 ghost use Rattle.policy.specs.declared.Policy.{Policy};
-ghost use Rattle.changes.specs.Changes.{AsciiBare, Plain, Stays};
+ghost use Rattle.scanner.specs.Classes.{classOf};
+ghost use Rattle.scanner.specs.declared.char_class.Class.the-variants.{Other as other};
+ghost use Rattle.changes.specs.Changes.{AsciiBare, Stays};
+ghost use Rattle.changes.specs.Findings.{Skips};
 
 // Whether the character at an offset is plain by its first byte: one of two bytes from C0 on, or one of three bytes that lies
 // neither among 2000 to 2FFF, nor in the blocks of 3030 and 3297, nor behind EFFF.
 fn is_plain_at(text: &[u8], at: usize) -> bool
     requires { ⌜ at < length (now text) ⌝ }
-    ensures { λ r. ⌜ (r ≡ true → (v w : ℕ) → readChar (drop at (now (text .entry))) ≡ Char v w → Plain v) ⌝ }
+    ensures { λ r. ⌜ (r ≡ true → (v w : ℕ) → readChar (drop at (now (text .entry))) ≡ Char v w → classOf v ≡ other) ⌝ }
 {
     let first = text[at];
     if first < 0xC3 {
@@ -37,8 +39,8 @@ fn is_plain_at(text: &[u8], at: usize) -> bool
 }
 
 // Past the characters that are plain by their first bytes.
-fn skip_letters(text: &[u8], from: usize) -> usize
-    ensures { λ r. ⌜ ((p : Policy) → Stays p (now (text .entry)) from r) ⌝ }
+pub(crate) fn skip_letters(text: &[u8], from: usize) -> usize
+    ensures { λ r. ⌜ ((p : Policy) → Skips p (now (text .entry)) from r) ⌝ }
 {
     let mut at = from;
     while at < text.len() {
@@ -56,7 +58,7 @@ fn skip_letters(text: &[u8], from: usize) -> usize
 
 // Whether an ASCII character is a base: # * and the digits.
 fn is_ascii_base(ch: u8) -> bool
-    ensures { λ r. ⌜ (r ≡ false → ch ≤ 0x7F → hasVariationSequence ch ≡ false) ⌝ }
+    ensures { λ r. ⌜ (r ≡ false → ch ≤ 0x7F → classOf ch ≡ other) ⌝ }
 {
     if ch < 0x23 {
         return false;
@@ -74,10 +76,10 @@ fn is_ascii_base(ch: u8) -> bool
 }
 
 // Past the ASCII characters from one on: a base that stands last before another character is left.
-fn skip_ascii(text: &[u8], from: usize) -> usize
+pub(crate) fn skip_ascii(text: &[u8], from: usize) -> usize
     requires { ⌜ (from < length (now text)) × (getD (now text) from 0 ≤ 0x7F) ⌝ }
     ensures place { λ r. ⌜ (from ≤ r) × (r ≤ length (now (text .entry))) ⌝ }
-    ensures stays { λ r. ⌜ ((p : Policy) → AsciiBare p → Stays p (now (text .entry)) from r) ⌝ }
+    ensures skips { λ r. ⌜ ((p : Policy) → AsciiBare p → Skips p (now (text .entry)) from r) ⌝ }
 {
     let end = utf8::ascii::ascii_end(text, from + 1);
     if end == text.len() {

@@ -19,7 +19,7 @@ use Rattle.analysis.specs.Cells.{selectorCount}
 use Rattle.analysis.specs.Counts.{adding, removing}
 use Rattle.formatter.specs.Book.{Entry, Mark, bookChars, entryChars, itemsOf, mended, untouched}
 use Rattle.formatter.specs.Demand3.{Each, and-each, mendedItems, no-more, onlyMended}
-use Rattle.formatter.specs.Findings.{totals}
+use Rattle.analysis.specs.Findings.{totals}
 use Rattle.formatter.proofs.Replacements.{balances, four-times, keeps-others}
 use Rattle.formatter.proofs.Mending.{Derived}
 

@@ -22,7 +22,8 @@ use Rattle.analysis.specs.Decisions.{writeOut}
 use Rattle.analysis.specs.declared.types.MendAnswer.{MendAnswer}
 use Rattle.analysis.specs.declared.types.MendAnswer.the-variants as Mend
 use Rattle.formatter.specs.Demand3.{Accepted}
-use Rattle.formatter.specs.Findings.{findings, totals}
+use Rattle.analysis.specs.Findings.{totals}
+use Rattle.formatter.specs.Findings.{findings}
 use Rattle.formatter.specs.Format.{format, formatted, sameBytes}
 use Rattle.formatter.specs.declared.FormatAnswer.{FormatAnswer}
 use Rattle.formatter.specs.declared.FormatAnswer.the-variants.{Changed, Refused, Unchanged}

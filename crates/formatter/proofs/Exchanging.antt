@@ -1,153 +1,90 @@
--- A mending call by its parts: what the length of the replacement tells of the tests, and the text that is put together.
-use mathlib.Core.Path.{_≡_, refl, ap, ap₂, sym, _∙_, subst}
-use mathlib.Core.Bool.{Bool, true, false, cond}
-use mathlib.Core.List.{List, _∷_, _++_, append-nil, map, List·Memᴰ, List·Memᴰ·head}
+-- A mending call by its parts: the text that is put together, and the tests of the decisions for the finding at the offset.
+use mathlib.Core.Path.{_≡_, ap, ap₂, sym, _∙_}
+use mathlib.Core.List.{List, _++_, append-nil, map}
 use mathlib.Core.Option.{Option, none, some}
 use Prim.Native.Nat.{ℕ, _+_, _*_, _-_, _≤_, _<_}
 use native.Mathlib.Omega.{arith}
-use lib.Dec.{leb}
 use lib.ListN.{drop, length, length-append, length-drop, take}
 use lib.Seq.{drop-length, length-sets, length-take-le, sets}
-use borrow.Author.Tests.{le-leb, lt-leb}
-use Rattle.base.specs.Refusals.{After, kept, orElse, textLimit, written}
+use borrow.Author.Tests.{le-leb}
+use Rattle.base.specs.Refusals.{After, kept, orElse, textLimit}
 use Rattle.base.specs.declared.Refusal.{Refusal}
-use Rattle.base.specs.declared.Refusal.the-variants.{NoFinding, OutputTooShort, TextTooLong}
+use Rattle.base.specs.declared.Refusal.the-variants.{NoFinding, OutputTooShort}
 use Rattle.utf8.specs.Rfc3629.{chars, encodeAll}
+use Rattle.utf8.proofs.Texts.{validUpTo-le}
 use Rattle.unicode.specs.declared.presentation.Presentation.{Presentation}
 use Rattle.policy.specs.PolicyBytes.{policyOf}
 use Rattle.policy.specs.declared.Policy.{Policy}
 use Rattle.scanner.specs.Items.{Item}
-use Rattle.scanner.specs.Spans.{scan}
-use Rattle.scanner.specs.declared.ScanStep.the-variants as Step
-use Rattle.scanner.proofs.Bytes.{size-width}
-use Rattle.scanner.proofs.Reading.{item-derives}
-use Rattle.analysis.specs.Analysis.{isFinding, replacement}
-use Rattle.analysis.specs.Decisions.{decisionsRefusal, judge, meaning, wanted, writeOut}
-use Rattle.analysis.specs.ItemAt.{findingFrom, firstFinding, lengthAt, replaceAt, replacementBytes}
+use Rattle.scanner.proofs.Bytes.{size-chars, size-width}
+use Rattle.analysis.specs.Analysis.{nonCanonicality, render, replacement}
+use Rattle.analysis.specs.CellView.{totalCells}
+use Rattle.analysis.specs.Cells.{cells}
+use Rattle.analysis.specs.Decisions.{decisionsRefusal, judge, meaning, withinLimit, writeOut}
 use Rattle.analysis.specs.declared.types.MendAnswer.{MendAnswer}
 use Rattle.analysis.specs.declared.types.MendAnswer.the-variants.{Mended, Refused}
+use Rattle.analysis.specs.declared.types.NonCanonicality.{NonCanonicality}
+use Rattle.analysis.specs.Findings.{findingsFrom}
+use Rattle.analysis.proofs.Items.{finding-no-passthrough}
+use Rattle.analysis.proofs.ItemsAt.{item-totals}
+use Rattle.analysis.proofs.Lengths.{render-bytes}
+use Rattle.analysis.proofs.Replacing.{item-written, out-short, out-written, part, part-within, part-written}
 use Rattle.formatter.specs.Demand3.{Accepted}
 use Rattle.formatter.specs.Findings.{findings}
-use Rattle.formatter.specs.Mend.{exchanged, findingAt, itemStarting, mend}
+use Rattle.formatter.specs.Mend.{Starts, cellsFrom, exchanged, findingAt, mend}
 use Rattle.formatter.proofs.Around.{between}
 use Rattle.formatter.proofs.Calls.{pass-intake}
-use Rattle.formatter.proofs.Replacements.{four-times}
-use Rattle.formatter.proofs.Starting.{StartsAt, none-at}
 
--- ---- the tests, with room for just the replacement
+-- ---- the text that is put together
 
-writes-itself : (b : List ℕ) → writeOut b b ≡ written (Mended (length b)) b b
-writes-itself b =
-    ap (λ (t : Bool). cond t (written (Mended (length b)) b b) (kept (Refused (OutputTooShort (length b))) b)) (le-leb (length b) (length b) (omega arith))
+-- A part's cells are written in at most four times the text's bytes.
+pub cells-few : (p : Policy) (text : List ℕ) (start end : ℕ) (ds : List Presentation) → length (cellsFrom p text start end ds) ≤ 4 * length text
+cells-few p text start end ds =
+    let raw = part text start end in
+    let t = chars raw in
+    omega (arith, render-bytes p t ds, size-width (render p (cells t) ds), size-chars raw, validUpTo-le raw, part-within text start end)
 
--- The tests 5 and 6 by their answer.
-abbrev byDecisions : Option Refusal → List ℕ → List ℕ → After MendAnswer ℕ
-byDecisions q result out = orElse q (λ (r : Refusal). kept (Refused r) out) (writeOut result out)
-
-decisions-refused : (q : Option Refusal) (b : List ℕ) {r : Refusal} → byDecisions q b b .answer ≡ Refused r → (result out : List ℕ) → byDecisions q result out ≡ kept (Refused r) out
-decisions-refused (some s) b {r} e result out = let z : s ≡ r = cc in ap (λ (r : Refusal). kept (Refused r) out) z
-decisions-refused none b {r} e result out =
-    let f : Mended (length b) ≡ Refused r = sym (ap (λ (w : After MendAnswer ℕ). w .answer) (writes-itself b)) ∙ e in
-    let z : _≡_ {A = ℕ} 0 1 = cc in
-    absurd (omega arith)
-
-decisions-mended : (q : Option Refusal) (b : List ℕ) {n : ℕ} → byDecisions q b b .answer ≡ Mended n
-    → (n ≡ length b) × ((result out : List ℕ) → byDecisions q result out ≡ writeOut result out)
-decisions-mended (some s) b e = let z : _≡_ {A = ℕ} 0 1 = cc in absurd (omega arith)
-decisions-mended none b {n} e =
-    let f : Mended (length b) ≡ Mended n = sym (ap (λ (w : After MendAnswer ℕ). w .answer) (writes-itself b)) ∙ e in
-    let z : n ≡ length b = cc in
-    (z, λ result out. refl)
-
-module _ (p : Policy) where
-  -- A refusal of the replacement is the refusal of any text to be written.
-  judge-refused : (o : Option Item) (ds b : List ℕ) {r : Refusal} → judge p o ds b b .answer ≡ Refused r → (result out : List ℕ) → judge p o ds result out ≡ kept (Refused r) out
-  unfolding judge
-  judge-refused none ds b {r} e result out = let z : NoFinding ≡ r = cc in ap (λ (r : Refusal). kept (Refused r) out) z
-  judge-refused (some x) ds b e result out = decisions-refused (decisionsRefusal (wanted p x) ds) b e result out
-
-  -- A replacement that is written leaves the test of the output.
-  judge-mended : (o : Option Item) (ds b : List ℕ) {n : ℕ} → judge p o ds b b .answer ≡ Mended n
-      → (n ≡ length b) × ((result out : List ℕ) → judge p o ds result out ≡ writeOut result out)
-  unfolding judge
-  judge-mended none ds b e = let z : _≡_ {A = ℕ} 0 1 = cc in absurd (omega arith)
-  judge-mended (some x) ds b e = decisions-mended (decisionsRefusal (wanted p x) ds) b e
-
-  -- And the item is a finding.
-  mended-first : (x : Item) (xs : List Item) (ds b : List ℕ) {n : ℕ} → judge p (firstFinding p (x ∷ xs)) ds b b .answer ≡ Mended n → firstFinding p (x ∷ xs) ≡ some x
-  unfolding judge firstFinding
-  mended-first x xs ds b {n} e = go (isFinding p x) e
-    where
-      go : (f : Bool) → judge p (cond f (some x) none) ds b b .answer ≡ Mended n → _≡_ {A = Option Item} (cond f (some x) none) (some x)
-      go true e = refl
-      go false e = let z : _≡_ {A = ℕ} 0 1 = cc in absurd (omega arith)
-
--- ---- the replacement
-
-module _ (p : Policy) (text : List ℕ) (at : ℕ) (decisions : List ℕ) (h : length text ≤ textLimit) where
-  abbrev X : Option Item
-  X = findingFrom p text at
-
+-- The text with the cells from start up to end written in their place, in n bytes.
+module _ (p : Policy) (text : List ℕ) (start : ℕ) (decisions : List ℕ) {end n : ℕ} (s : start ≤ end) (e : end ≤ length text)
+    (h : length text ≤ textLimit) (g : n ≡ length (cellsFrom p text start end (map meaning decisions))) (out : List ℕ) where
   abbrev B : List ℕ
-  B = replacementBytes p X (map meaning decisions)
+  B = cellsFrom p text start end (map meaning decisions)
 
-  replace-is : (out : List ℕ) → replaceAt p text at decisions out ≡ judge p X decisions B out
-  unfolding replaceAt
-  replace-is out = ap (λ (b : Bool). cond b (judge p X decisions B out) (kept (Refused TextTooLong) out)) (le-leb (length text) textLimit h)
+  abbrev R : List ℕ
+  R = take start text ++ B ++ drop end text
 
-  pub length-is : lengthAt p text at decisions ≡ judge p X decisions B B .answer
-  unfolding lengthAt
-  length-is = ap (λ (w : After MendAnswer ℕ). w .answer) (replace-is B)
+  start-length : length (take start text) ≡ start
+  start-length = length-take-le start text (omega arith)
 
-  module _ {n : ℕ} (g : lengthAt p text at decisions ≡ Mended n) where
-    judged : (n ≡ length B) × ((result out : List ℕ) → judge p X decisions result out ≡ writeOut result out)
-    judged = judge-mended p X decisions B (sym length-is ∙ g)
+  wanted-is : start + n + (length text - end) ≡ length R
+  wanted-is = omega (arith, start-length, length-append (take start text ++ B) (drop end text), length-append (take start text) B, length-drop end text)
 
-    -- In a part of its length the replacement is all that is left.
-    part-replaced : (part : List ℕ) → length part ≡ n → replaceAt p text at decisions part .buffer ≡ B
-    part-replaced part l =
-        let e = judged .0 in
-        let w = written (Mended (length B)) B part in
-        ap (λ (a : After MendAnswer ℕ). a .buffer)
-        (replace-is part ∙ judged .1 B part
-        ∙ ap (λ (t : Bool). cond t w (kept (Refused (OutputTooShort (length B))) part)) (le-leb (length B) (length part) (omega arith)))
-        ∙ ap (λ (k : ℕ). B ++ drop k part) (sym (l ∙ e)) ∙ ap (λ (l : List ℕ). B ++ l) (drop-length part) ∙ append-nil B
+  pub exchange-short : length out < start + n + (length text - end) → kept (Refused (OutputTooShort (start + n + (length text - end)))) out ≡ writeOut R out
+  exchange-short l = out-short R out _ wanted-is l
 
-    -- The text with the replacement in the place of the bytes up to end.
-    module _ {end : ℕ} (s : at ≤ end) (e : end ≤ length text) (out : List ℕ) where
-      abbrev R : List ℕ
-      R = take at text ++ B ++ drop end text
+  -- In a part of their length they are all that is left.
+  part-filled : (a : List ℕ) → length a ≡ n → writeOut B a .buffer ≡ B
+  part-filled a l =
+      let t = le-leb (length B) (length a) (omega arith) in
+      let b : B ++ drop (length B) a ≡ B = ap (λ (k : ℕ). B ++ drop k a) (sym (l ∙ g)) ∙ ap (λ (l : List ℕ). B ++ l) (drop-length a) ∙ append-nil B in
+      sym (simp t) ∙ b
 
-      start-length : length (take at text) ≡ at
-      start-length = length-take-le at text (omega arith)
-
-      wanted-is : length R ≡ at + n + (length text - end)
-      wanted-is =
-          omega (arith, judged .0, start-length, length-append (take at text ++ B) (drop end text), length-append (take at text) B, length-drop end text)
-
-      test-room : {t : Bool} → leb (length R) (length out) ≡ t → writeOut R out ≡ cond t (written (Mended (length R)) R out) (kept (Refused (OutputTooShort (length R))) out)
-      test-room f = ap (λ (t : Bool). cond t (written (Mended (length R)) R out) (kept (Refused (OutputTooShort (length R))) out)) f
-
-      pub exchange-short : length out < at + n + (length text - end) → kept (Refused (OutputTooShort (at + n + (length text - end)))) out ≡ writeOut R out
-      exchange-short l =
-          ap (λ (k : ℕ). kept (Refused (OutputTooShort k)) out) (sym wanted-is) ∙ sym (test-room (lt-leb (length R) (length out) (omega (arith, wanted-is))))
-
-      -- The bytes around it are put, and the replacement into the part between them.
-      pub exchange-written : at + n + (length text - end) ≤ length out → {k : ℕ} → k ≡ n
-          → {o : List ℕ} → o ≡ sets (sets out 0 (take at text)) (at + n) (drop end text)
-          → {w : MendAnswer} {b : List ℕ} → record { answer = w; buffer = b } ≡ replaceAt p text at decisions (take k (drop at o))
-          → record { answer = Mended (at + n + (length text - end)); buffer = take at o ++ (b ++ drop k (drop at o)) } ≡ writeOut R out
-      exchange-written l {k} f {o} e {w} {b} r =
-          let a = take at text in
-          let c = drop end text in
-          let whole : length o ≡ length out = ap length e ∙ length-sets (sets out 0 a) (at + n) c ∙ length-sets out 0 a in
-          let part : length (take k (drop at o)) ≡ n = length-take-le k (drop at o) (omega (arith, length-drop at o)) ∙ f in
-          let m : b ≡ B = ap (λ (a : After MendAnswer ℕ). a .buffer) r ∙ part-replaced (take k (drop at o)) part in
-          let z = between a B c out start-length (sym (judged .0)) (omega (arith, length-drop end text)) in
-          let v : take at o ++ (b ++ drop k (drop at o)) ≡ R ++ drop (length R) out =
-          ap₂ (λ (b : List ℕ) (k : ℕ). take at o ++ (b ++ drop k (drop at o))) m f ∙ ap (λ (o : List ℕ). take at o ++ (B ++ drop n (drop at o))) e ∙ z in
-          ap₂ (λ (m : ℕ) (b : List ℕ). record { answer = Mended m; buffer = b }) (sym wanted-is) v
-          ∙ sym (test-room (le-leb (length R) (length out) (omega (arith, wanted-is))))
+  -- The bytes around them are put, and they into the part between them.
+  pub exchange-written : start + n + (length text - end) ≤ length out → {k : ℕ} → k ≡ n
+      → {o : List ℕ} → o ≡ sets (sets out 0 (take start text)) (start + n) (drop end text)
+      → {w : MendAnswer} {b : List ℕ} → record { answer = w; buffer = b } ≡ withinLimit (part text start end) (take k (drop start o)) (writeOut B (take k (drop start o)))
+      → record { answer = Mended (start + n + (length text - end)); buffer = take start o ++ (b ++ drop k (drop start o)) } ≡ writeOut R out
+  exchange-written l {k} f {o} c {w} {b} r =
+      let a = take start text in
+      let d = drop end text in
+      let q = take k (drop start o) in
+      let whole : length o ≡ length out = ap length c ∙ length-sets (sets out 0 a) (start + n) d ∙ length-sets out 0 a in
+      let filled : length q ≡ n = length-take-le k (drop start o) (omega (arith, length-drop start o)) ∙ f in
+      let m : b ≡ B = ap (λ (a : After MendAnswer ℕ). a .buffer) (part-written text q start end h r) ∙ part-filled q filled in
+      let z = between a B d out start-length (sym g) (omega (arith, length-drop end text)) in
+      let v : take start o ++ (b ++ drop k (drop start o)) ≡ R ++ drop (length R) out =
+      ap₂ (λ (b : List ℕ) (k : ℕ). take start o ++ (b ++ drop k (drop start o))) m f ∙ ap (λ (o : List ℕ). take start o ++ (B ++ drop n (drop start o))) c ∙ z in
+      out-written R out _ wanted-is _ l v
 
 -- ---- the call
 
@@ -159,66 +96,32 @@ module _ (policy text : List ℕ) (acc : Accepted policy text) (offset : ℕ) (d
   ds = map meaning decisions
 
   -- The call behind the intake, by the finding at the offset.
-  mend-by : {x : Option Item} → findingAt offset (findings text policy) ≡ x
+  mend-by : {x : Option Item} → findingAt offset (findingsFrom P text 0) ≡ x
       → (out : List ℕ) → mend text policy offset decisions out ≡ judge P x decisions (exchanged text P offset ds x) out
-  unfolding mend
+  unfolding mend findings
   mend-by e out =
       let f : Option Item → After MendAnswer ℕ = λ x. judge P x decisions (exchanged text P offset ds x) out in
       ap (λ (o : Option Refusal). orElse o (λ (r : Refusal). kept (Refused r) out) (f (findingAt offset (findings text policy)))) (pass-intake policy text acc)
       ∙ ap f e
 
-  pub mend-nothing : Step.End ≡ itemStarting offset (scan text) → (out : List ℕ) → kept (Refused NoFinding) out ≡ mend text policy offset decisions out
-  unfolding judge findings
-  mend-nothing e out = sym (mend-by (none-at P text offset e) out)
+  pub mend-nothing : findingAt offset (findingsFrom P text 0) ≡ none → (out : List ℕ) → kept (Refused NoFinding) out ≡ mend text policy offset decisions out
+  unfolding judge
+  mend-nothing e out = sym (mend-by e out)
 
-  -- An item starts at the offset, and ends at end.
-  module _ {end : ℕ} (s : StartsAt P text offset end) where
-    abbrev Y : Option Item
-    Y = findingFrom P text offset
-
-    abbrev C : List ℕ
-    C = replacementBytes P Y ds
-
-    at-start : findingAt offset (findings text policy) ≡ Y
-    unfolding findings
-    at-start = s .finding
-
-    -- The replacement's refusal is the call's.
-    pub mend-refused : {r : Refusal} → lengthAt P text offset decisions ≡ Refused r → (out : List ℕ) → kept (Refused r) out ≡ mend text policy offset decisions out
-    mend-refused g out =
-        sym (mend-by at-start out ∙ judge-refused P Y decisions C (sym (length-is P text offset decisions (acc .short)) ∙ g) (exchanged text P offset ds Y) out)
-
-    -- The replacement has so many bytes.
-    module _ {n : ℕ} (g : lengthAt P text offset decisions ≡ Mended n) where
-      abbrev x : Item
-      x = s .item
-
-      answered : judge P Y decisions C C .answer ≡ Mended n
-      answered = sym (length-is P text offset decisions (acc .short)) ∙ g
-
-      is-x : Y ≡ some x
-      is-x =
-          let h = ap (firstFinding P) (s .items-there) in
-          h ∙ mended-first P x (s .behind) decisions C (subst (λ (o : Option Item). judge P o decisions C C .answer ≡ Mended n) h answered)
-
-      -- It is at most four times as long as the text.
-      pub mended-few : n ≤ 4 * length text
-      unfolding replacementBytes
-      mended-few =
-          let d = item-derives (chars (drop offset text)) x (subst (λ (l : List Item). List·Memᴰ x l) (sym (s .items-there)) (List·Memᴰ·head refl)) in
-          let r = replacement P x ds in
-          let e : C ≡ encodeAll r = ap (λ (o : Option Item). replacementBytes P o ds) is-x in
-          let a = s .ahead in
-          let b = s .ends in
-          omega (arith, judge-mended P Y decisions C answered .0, ap length e, size-width r, four-times P x ds d)
-
-      exchanged-is : exchanged text P offset ds Y ≡ take offset text ++ C ++ drop end text
-      unfolding replacementBytes
-      exchanged-is =
-          let k : offset + length (encodeAll (x .chars)) ≡ end = let b = s .ends in omega (arith, size-width (x .chars)) in
-          ap (exchanged text P offset ds) is-x ∙ ap (λ (k : ℕ). take offset text ++ encodeAll (replacement P x ds) ++ drop k text) k
-          ∙ ap (λ (o : Option Item). take offset text ++ replacementBytes P o ds ++ drop end text) (sym is-x)
-
-      pub mend-exchanged : (out : List ℕ) → writeOut (take offset text ++ C ++ drop end text) out ≡ mend text policy offset decisions out
-      mend-exchanged out =
-          sym (mend-by at-start out ∙ judge-mended P Y decisions C answered .1 (exchanged text P offset ds Y) out ∙ ap (λ (r : List ℕ). writeOut r out) exchanged-is)
+  -- A finding starts at the offset, and ends at end; its bytes have these counts, and the decisions are tested for them.
+  pub mend-tested : {end : ℕ} → Starts P text offset end → {q : Policy} → q ≡ P → {n : NonCanonicality} → n ≡ totalCells q (chars (part text offset end))
+      → {t : Option Refusal} → decisionsRefusal (n .«presentation_decisions») decisions ≡ t → (out : List ℕ) {a : After MendAnswer ℕ}
+      → a ≡ orElse t (λ (r : Refusal). kept (Refused r) out) (writeOut (take offset text ++ cellsFrom q text offset end ds ++ drop end text) out)
+      → a ≡ mend text policy offset decisions out
+  unfolding judge
+  mend-tested {end} s {q} r {n} c {t} d out e =
+      let h = s .finds in
+      let x = h .item in
+      let o = finding-no-passthrough P x (h .is-finding) in
+      let m : n ≡ nonCanonicality P x = c ∙ ap (λ (q : Policy). totalCells q (chars (part text offset end))) r ∙ item-totals P text offset (h .items-are) o (h .end-is) in
+      let w : cellsFrom q text offset end ds ≡ encodeAll (replacement P x ds) =
+      ap (λ (q : Policy). cellsFrom q text offset end ds) r ∙ item-written P text offset (h .items-are) o (h .end-is) ds in
+      let k : end ≡ offset + length (encodeAll (x .chars)) = omega (arith, h .end-is, size-width (x .chars)) in
+      e ∙ ap₂ (λ (b : List ℕ) (k : ℕ). orElse t (λ (r : Refusal). kept (Refused r) out) (writeOut (take offset text ++ b ++ drop k text) out)) w k
+      ∙ ap (λ (t : Option Refusal). orElse t (λ (r : Refusal). kept (Refused r) out) (writeOut (exchanged text P offset ds (some x)) out)) (sym d ∙ ap (λ (n : NonCanonicality). decisionsRefusal (n .«presentation_decisions») decisions) m)
+      ∙ sym (mend-by (s .found) out)

@@ -23,7 +23,8 @@ use Rattle.analysis.specs.declared.types.NonCanonicality.{NonCanonicality}
 use Rattle.analysis.proofs.Counts.{empty-plus}
 use Rattle.formatter.specs.Book.{Entry, bookChars, bookText, firstBook, itemsOf}
 use Rattle.formatter.specs.Demand3.{Accepted, FormattedClaim, allMended, mendedItems}
-use Rattle.formatter.specs.Findings.{findingRow, findings, textTotals, totals}
+use Rattle.analysis.specs.Findings.{totals}
+use Rattle.formatter.specs.Findings.{findingRow, findings, textTotals}
 use Rattle.formatter.specs.Format.{format, formatted, sameBytes}
 use Rattle.base.specs.Refusals.{After}
 use Rattle.formatter.specs.declared.FormatAnswer.{FormatAnswer}

@@ -22,6 +22,7 @@ pub mod Passing
 pub mod Surveying
 pub mod ByCells
 pub mod Steps
+pub mod NextFindings
 pub mod RowBytes
 pub mod Storing
 pub mod Starting

@@ -18,7 +18,8 @@ use Rattle.analysis.specs.Counts.{_⊕_, adding, removing}
 use Rattle.analysis.specs.declared.types.NonCanonicality.{NonCanonicality}
 use Rattle.formatter.specs.Book.{Mending, atFirst, atPlace, bookStep, bookText, firstBook, itemsOf, marked, mends, openings}
 use Rattle.formatter.specs.Demand3.{Accepted, Alike, FirstRefusal, ListClaim, acceptedCalls, book, given, isMended, mendedFrom, mendedItems, mendings, openRow, outcome, seen, text}
-use Rattle.formatter.specs.Findings.{findings, textTotals, totals}
+use Rattle.analysis.specs.Findings.{totals}
+use Rattle.formatter.specs.Findings.{findings, textTotals}
 use Rattle.formatter.specs.Format.{formatItems}
 use Rattle.formatter.specs.List.{list}
 use Rattle.formatter.specs.Mend.{Call, mendCall, outcomes, textAfter}

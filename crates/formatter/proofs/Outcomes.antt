@@ -3,7 +3,7 @@ use mathlib.Core.Path.{_≡_, refl, ap, sym, _∙_}
 use mathlib.Core.Bool.{Bool, true, false, cond, not}
 use mathlib.Core.Option.{Option, none, some}
 use mathlib.Core.List.{List, _++_, map}
-use Prim.Native.Nat.{ℕ}
+use Prim.Native.Nat.{ℕ, _≤_}
 use native.Mathlib.Omega.{arith}
 use lib.Dec.{eqb, leb}
 use lib.ListN.{drop, length, length-append, take}
@@ -12,13 +12,14 @@ use borrow.Author.Tests.{le-leb, lt-leb, ne-eqb}
 use Rattle.utf8.specs.Rfc3629.{validUpTo}
 use Rattle.utf8.proofs.Grammar.{whole-well-formed}
 use Rattle.policy.specs.PolicyBytes.{isPolicy, policyOf}
+use Rattle.formatter.specs.Demand3.{Accepted}
 use Rattle.formatter.specs.Filed.{filedText}
 use Rattle.formatter.specs.Findings.{findingRow, findings}
 use Rattle.formatter.specs.Format.{format, formatted, sameBytes}
 use Rattle.formatter.specs.List.{fillTable, list, listBytes, rowNumbers}
 use Rattle.analysis.specs.Decisions.{judge, meaning}
 use Rattle.formatter.specs.Mend.{exchanged, findingAt, mend}
-use Rattle.base.specs.Refusals.{After, kept, orElse}
+use Rattle.base.specs.Refusals.{After, kept, orElse, textLimit}
 use Rattle.formatter.specs.Intake.{intakeRefusal}
 use Rattle.formatter.specs.Theorems.{FiledIsFormatted, IntakeComesFirst, IntakeInOrder}
 use Rattle.formatter.specs.declared.FormatAnswer.{FormatAnswer}
@@ -30,6 +31,7 @@ use Rattle.base.specs.declared.Refusal.the-variants.{NotAPolicy, NotWellFormed,
 use Rattle.formatter.proofs.Calls.{pass-intake}
 use Rattle.formatter.proofs.Formatting.{format-is, formatTests, same-true}
 use Rattle.formatter.proofs.Listing.{listRows}
+use Rattle.formatter.proofs.Passing.{intake-is}
 
 pub in-order : IntakeInOrder
 unfolding IntakeInOrder intakeRefusal
@@ -55,6 +57,14 @@ comes-first text policy r e =
           let x = findingAt offset (findings text policy) in
           ap (λ (o : Option Refusal). orElse o (λ (f : Refusal). kept (Mend.Refused f) out) (judge p x ds (exchanged text p offset (map meaning ds) x) out)) e),
     )
+
+-- A text within the limit, and the policy fits: what the number of its well-formed bytes says.
+module _ (text policy : List ℕ) (short : length text ≤ textLimit) (fit : isPolicy policy ≡ true) {n : ℕ} (e : n ≡ validUpTo text) where
+  pub all-well-formed : n ≡ length text → Accepted policy text
+  all-well-formed l = record { short = short; is-policy = fit; well-formed = whole-well-formed text (sym e ∙ l) }
+
+  pub not-well-formed : (n ≡ length text → ⊥) → intakeRefusal text policy ≡ some (NotWellFormed n)
+  not-well-formed l = intake-is text policy (le-leb (length text) textLimit short) fit (ne-eqb _ _ (λ f. l (e ∙ f))) ∙ ap (λ (k : ℕ). some (NotWellFormed k)) (sym e)
 
 -- What is filed, by the answers of the tests.
 filed-tests : (same fits : Bool) (text r out : List ℕ) (len : ℕ) → (same ≡ true → r ≡ text)

@@ -1,52 +1,27 @@
 -- A walk over the items of a text: what the analysis and the cursor answer at an offset, and the findings and items from there on.
 use mathlib.Core.Path.{_≡_, refl, ap, sym, _∙_, subst}
 use mathlib.Core.Bool.{Bool, true, false, cond}
-use mathlib.Core.List.{List, [], _∷_, _++_, map}
+use mathlib.Core.List.{List, [], _∷_, map}
 use Prim.Native.Nat.{ℕ, _+_, _≤_, _<_}
-use native.Mathlib.Omega.{arith}
-use lib.ListN.{drop, length, length-drop}
+use lib.ListN.{drop, length}
 use Rattle.utf8.specs.Rfc3629.{chars}
-use Rattle.utf8.proofs.Texts.{validUpTo-le}
 use Rattle.policy.specs.declared.Policy.{Policy}
-use Rattle.scanner.specs.Items.{Item, items, join}
+use Rattle.scanner.specs.Items.{Item, items}
 use Rattle.scanner.specs.Spans.{Found, firstOf, found, scanAt, scanFrom, size, spans, width}
 use Rattle.scanner.specs.Tags.{tagsComplete}
 use Rattle.scanner.specs.declared.ScanItem.{ScanItem}
 use Rattle.scanner.specs.declared.ScanStep.{ScanStep}
 use Rattle.scanner.specs.declared.ScanStep.the-variants as Step
-use Rattle.scanner.proofs.Bytes.{chars-from, size-chars, width-some}
-use Rattle.scanner.proofs.Rescan.{size-append}
-use Rattle.scanner.proofs.Tiling.{Filled, and-item, filled, items-tail, tiling}
 use Rattle.analysis.specs.Analysis.{isFinding, nonCanonicality}
 use Rattle.analysis.specs.ItemAt.{analysisAt, analysisOf}
 use Rattle.analysis.specs.declared.ItemAnalysis.{ItemAnalysis}
 use Rattle.analysis.specs.declared.ItemAnalysis.the-variants.{Canonical, End, NonCanonical}
 use Rattle.analysis.specs.declared.types.Finding.{Finding}
-use Rattle.formatter.specs.Findings.{findingRow, findingsFrom}
+use Rattle.analysis.specs.Findings.{findingsFrom}
+use Rattle.formatter.specs.Findings.{findingRow}
+use Rattle.changes.proofs.Passing.{ItemAt, item-at}
 
 -- ---- the item at an offset
-
--- The item at an offset, up to its end, and the items behind it.
-pub record ItemAt (text : List ℕ) (at : ℕ) (x : Item) (xs : List Item) : Type 0 where
-  pub some : at < at + size width (x .chars)
-  pub room : at + size width (x .chars) ≤ length text
-  pub bytes : chars (drop at text) ≡ x .chars ++ join xs
-  pub behind : items (chars (drop (at + size width (x .chars)) text)) ≡ xs
-
-pub filled-some : {x : Item} {xs : List Item} → Filled (x ∷ xs) → 1 ≤ size width (x .chars)
-filled-some (and-item c s l h) = let k = width-some c in omega (arith, ap (size width) l)
-
-pub item-at : (text : List ℕ) (at : ℕ) {x : Item} {xs : List Item} → items (chars (drop at text)) ≡ x ∷ xs → ItemAt text at x xs
-item-at text at {x} {xs} e =
-    let t = chars (drop at text) in
-    let c : t ≡ x .chars ++ join xs = sym (tiling t) ∙ ap join e in
-    let s = filled-some (subst (λ (l : List Item). Filled l) e (filled t)) in
-    record {
-      some = omega arith;
-      room = omega (arith, size-chars (drop at text), validUpTo-le (drop at text), length-drop at text, ap (size width) c, size-append width (x .chars) (join xs));
-      bytes = c;
-      behind = ap items (chars-from text at (x .chars) (join xs) c) ∙ items-tail t x xs e;
-    }
 
 -- The span of an item at an offset.
 abbrev pub spanAt : ℕ → Item → ScanItem

@@ -1,14 +1,15 @@
 -- Going through a text from change to change: what is measured and written, with what is left, is the whole.
 use mathlib.Core.Path.{_≡_, refl, ap, ap₂, sym, _∙_}
-use mathlib.Core.Bool.{Bool, true, false, not, true≢false}
+use mathlib.Core.Bool.{Bool, true, false}
 use mathlib.Core.List.{List, [], _∷_, _++_}
 use Prim.Native.Nat.{ℕ, _+_, _*_, _-_, _<_, _≤_}
 use native.Mathlib.Omega.{arith}
 use lib.Dec.{eqb}
 use lib.ListN.{drop, length, length-append, length-drop, set, take}
-use lib.Seq.{length-take-le, sets}
+use lib.Seq.{length-take-le, sets, take-all}
 use borrow.Author.Tests.{eq-eqb, ne-eqb}
 use Rattle.base.specs.Output.{PutAt}
+use Rattle.base.proofs.Writer.{Writing, put, room}
 use Rattle.utf8.specs.Rfc3629.{chars, encode, encodeAll, validUpTo}
 use Rattle.utf8.proofs.Texts.{validUpTo-le}
 use Rattle.policy.specs.declared.Policy.{Policy}
@@ -37,7 +38,7 @@ module _ (p : Policy) (text : List ℕ) where
       omega (arith, size-width (formatCells p t), render-bytes p t [], size-chars (drop at text), validUpTo-le (drop at text))
 
   -- At the end nothing is left.
-  none-left : (at : ℕ) → chars (drop at text) ≡ [] → formattedFrom p text at ≡ []
+  pub none-left : (at : ℕ) → chars (drop at text) ≡ [] → formattedFrom p text at ≡ []
   unfolding formatCells split render renew encodeAll
   none-left at e = ap (λ (t : List ℕ). encodeAll (formatCells p t)) e
 
@@ -74,74 +75,94 @@ module _ (p : Policy) (text : List ℕ) where
             valid = s .valid;
           }
 
-  -- The bytes that a change brings.
+  kept-length : {from : ℕ} {c : Change} → Passed from c → length (take (c .kept - from) (drop from text)) ≡ c .kept - from
+  kept-length {from} {c} h = length-take-le (c .kept - from) (drop from text) (omega (arith, length-drop from text, h .on, h .behind, h .inside))
+
+  -- A change brings the end nearer, ..
+  pub passed-less : {from : ℕ} {c : Change} → from ≤ length text → NextChange p text from c → c .more ≡ true → length text - c .end < length text - from
+  passed-less l h m = omega (arith, h .0 m .moves, passed l h .inside)
+
+  -- .. and these bytes.
   pub passed-length : {from : ℕ} {c : Change} → Passed from c
       → length (formattedFrom p text from) ≡ (c .kept - from) + length (selectorBytes (c .selector)) + length (formattedFrom p text (c .end))
   passed-length {from} {c} h =
       let a = length-append (take (c .kept - from) (drop from text)) (selectorBytes (c .selector) ++ formattedFrom p text (c .end)) in
       let b = length-append (selectorBytes (c .selector)) (formattedFrom p text (c .end)) in
-      let l = length-take-le (c .kept - from) (drop from text) (omega (arith, length-drop from text, h .on, h .behind, h .inside)) in
-      omega (arith, ap length (h .formatted), a, b, l)
+      omega (arith, ap length (h .formatted), a, b, kept-length h)
 
   -- ---- measuring
 
-  pub record Surveying (at len : ℕ) (changed : Bool) : Type 0 where
+  pub record Surveying (at len : ℕ) : Type 0 where
     pub inside : at ≤ length text
     pub measured : length (formattedFrom p text 0) ≡ len + length (formattedFrom p text at)
     pub valid : validUpTo text ≡ at + validUpTo (drop at text)
-    pub some-counted : changed ≡ true → 1 ≤ totalFrom p text 0
-    pub none-yet : changed ≡ false → at ≡ 0
 
-  pub survey-begin : Surveying 0 0 false
-  survey-begin = record { inside = omega arith; measured = omega arith; valid = omega arith; some-counted = λ e. absurd (true≢false (sym e)); none-yet = λ _. refl }
+  pub survey-begin : Surveying 0 0
+  survey-begin = record { inside = omega arith; measured = omega arith; valid = omega arith }
 
-  module _ {at len : ℕ} {changed : Bool} (s : Surveying at len changed) {c : Change} (h : NextChange p text at c) where
-    pub survey-fits : len + ((c .kept - at) + length (selectorBytes (c .selector))) ≤ 4 * length text
+  module _ {at len : ℕ} (s : Surveying at len) {c : Change} (h : NextChange p text at c) {n : ℕ} (e : n ≡ length (selectorBytes (c .selector))) where
+    pub survey-fits : len + ((c .kept - at) + n) ≤ 4 * length text
     survey-fits = omega (arith, s .measured, passed-length (passed (s .inside) h), four-times-at 0)
 
-    pub survey-on : c .more ≡ true → Surveying (c .end) (len + ((c .kept - at) + length (selectorBytes (c .selector)))) true
-    survey-on m =
+    pub survey-on : Surveying (c .end) (len + ((c .kept - at) + n))
+    survey-on =
         let x = passed (s .inside) h in
         record {
           inside = x .inside;
           measured = omega (arith, s .measured, passed-length x);
           valid = omega (arith, s .valid, x .valid, x .on, x .behind);
-          some-counted = λ _. counted changed refl;
-          none-yet = λ e. absurd (true≢false e);
         }
-      where
-        counted : (b : Bool) → changed ≡ b → 1 ≤ totalFrom p text 0
-        counted true e = s .some-counted e
-        counted false e =
-            let z = s .none-yet e in
-            omega (arith, h .0 m .counted, ap (totalFrom p text) z)
 
-    pub survey-less : c .more ≡ true → length text - c .end < length text - at
-    survey-less m = omega (arith, h .0 m .moves, passed (s .inside) h .inside)
+  -- The survey of the whole text.
+  module _ {at len : ℕ} (s : Surveying at len) (e : chars (drop at text) ≡ []) where
+    pub survey-valid : at ≡ validUpTo text
+    survey-valid =
+        let z : validUpTo (drop at text) ≡ 0 = sym (size-chars (drop at text)) ∙ ap (size width) e in
+        omega (arith, s .valid, z)
 
-    -- The survey of the whole text.
-    pub survey-valid : c .more ≡ false → c .end ≡ validUpTo text
-    survey-valid m =
-        let x = passed (s .inside) h in
-        let z : validUpTo (drop (c .end) text) ≡ 0 = sym (size-chars (drop (c .end) text)) ∙ ap (size width) (h .1 m .ends) in
-        omega (arith, s .valid, x .valid, x .on, x .behind, z)
+    pub survey-length : len ≡ length (formattedFrom p text 0)
+    survey-length = omega (arith, s .measured, ap length (none-left at e))
 
-    pub survey-changed : c .more ≡ false → changed ≡ not (eqb (totalFrom p text 0) 0)
-    survey-changed m = go changed refl
-      where
-        go : (b : Bool) → changed ≡ b → b ≡ not (eqb (totalFrom p text 0) 0)
-        go true e = ap not (sym (ne-eqb (totalFrom p text 0) 0 (λ z. omega (arith, s .some-counted e))))
-        go false e =
-            let z = s .none-yet e in
-            let x = h .1 m in
-            ap not (sym (eq-eqb (totalFrom p text 0) 0 (ap (totalFrom p text) (sym z) ∙ x .stays .counted ∙ none-counted (c .end) (x .ends))))
+  -- ---- the first change
 
-    pub survey-length : c .more ≡ false → len + ((c .kept - at) + length (selectorBytes (c .selector))) ≡ length (formattedFrom p text 0)
-    survey-length m = omega (arith, s .measured, passed-length (passed (s .inside) h), ap length (none-left (c .end) (h .1 m .ends)))
+  module _ {c : Change} (h : NextChange p text 0 c) where
+    pub first-inside : c .end ≤ length text
+    first-inside = passed (omega arith) h .inside
 
-  -- Nothing is left behind the last.
-  pub left-none : {from : ℕ} {c : Change} → NextChange p text from c → c .more ≡ false → formattedFrom p text (c .end) ≡ []
-  left-none {from} {c} h m = none-left (c .end) (h .1 m .ends)
+    -- What is well-formed from its end on tells how much of the text is.
+    pub first-valid : {n : ℕ} → n ≡ validUpTo (take (length text - c .end) (drop (c .end) text)) → c .end + n ≡ validUpTo text
+    first-valid e =
+        let s = survey-on survey-begin h refl in
+        omega (arith, e, s .valid, ap validUpTo (take-all (length text - c .end) (drop (c .end) text) (omega (arith, length-drop (c .end) text))))
+
+    pub first-end : c .more ≡ false → c .end ≡ validUpTo text
+    first-end m = survey-valid (survey-on survey-begin h refl) (h .1 m .ends)
+
+    -- Where there is a change, something is counted.
+    pub first-counted : c .more ≡ true → eqb (totalFrom p text 0) 0 ≡ false
+    first-counted m = ne-eqb (totalFrom p text 0) 0 (λ z. omega (arith, h .0 m .counted))
+
+    pub first-none : c .more ≡ false → eqb (totalFrom p text 0) 0 ≡ true
+    first-none m = eq-eqb (totalFrom p text 0) 0 (h .1 m .stays .counted ∙ none-counted (c .end) (h .1 m .ends))
+
+  -- ---- writing
+
+  -- From before a change to behind it.
+  module _ {o₀ o : List ℕ} {at to : ℕ} {c : Change} (w : Writing (formattedFrom p text 0) 0 o₀ (formattedFrom p text at) o to) (h : Passed at c) where
+    pub kept-room : to + (c .kept - at) ≤ length o
+    kept-room =
+        let t = take (c .kept - at) (drop at text) in
+        omega (arith, kept-length h, room _ _ _ _ t _ w (h .formatted))
+
+    module _ {o₁ : List ℕ} {to₁ : ℕ} (a : PutAt o to (take (c .kept - at) (drop at text)) o₁ to₁) where
+      kept-put : Writing (formattedFrom p text 0) 0 o₀ (selectorBytes (c .selector) ++ formattedFrom p text (c .end)) o₁ to₁
+      kept-put = put _ _ _ _ _ w a (h .formatted)
+
+      pub selector-room : to₁ + length (selectorBytes (c .selector)) ≤ length o₁
+      selector-room = room _ _ _ _ (selectorBytes (c .selector)) _ kept-put refl
+
+      pub change-put : {o₂ : List ℕ} {to₂ : ℕ} → PutAt o₁ to₁ (selectorBytes (c .selector)) o₂ to₂ → Writing (formattedFrom p text 0) 0 o₀ (formattedFrom p text (c .end)) o₂ to₂
+      change-put b = put _ _ _ _ _ kept-put b refl
 
 -- ---- the bytes of a selector
 

@@ -37,7 +37,8 @@ use Rattle.formatter.specs.Book.{
   place,
   untouched,
 }
-use Rattle.formatter.specs.Findings.{findings, textTotals, totals}
+use Rattle.analysis.specs.Findings.{totals}
+use Rattle.formatter.specs.Findings.{findings, textTotals}
 use Rattle.formatter.specs.Format.{format, formatted}
 use Rattle.formatter.specs.List.{list}
 use Rattle.analysis.specs.Decisions.{meaning}

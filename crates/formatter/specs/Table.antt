@@ -12,7 +12,8 @@ use Rattle.analysis.specs.declared.types.Finding.{Finding}
 use Rattle.base.specs.Refusals.{orElse}
 use Rattle.base.specs.declared.Refusal.{Refusal}
 use Rattle.base.specs.declared.Refusal.the-variants.{TableTooShort}
-use Rattle.formatter.specs.Findings.{findingRow, findings, findingsFrom}
+use Rattle.analysis.specs.Findings.{findingsFrom}
+use Rattle.formatter.specs.Findings.{findingRow, findings}
 use Rattle.formatter.specs.Intake.{intakeRefusal}
 use Rattle.formatter.specs.List.{list}
 use Rattle.formatter.specs.declared.ListAnswer.{ListAnswer}

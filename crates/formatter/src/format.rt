@@ -1,18 +1,17 @@
 // Formatting a text: `format_text` of formatter.rs of the crate evfmt; document 01, "Replacement and text", "Turned back".
-// The text is gone through from change to change (crate changes): once to measure it, and once more to write it where it is changed
-// and fits. `format_text` equals `format` of specs/Format.antt.
+// The text is gone through from change to change (crate changes) and written on the way; only for an output that may be too short it is
+// measured before. `format_text` equals `format` of specs/Format.antt.
 ghost use mathlib.Core.Path.{_≡_};
-ghost use mathlib.Core.Bool.{not};
+ghost use mathlib.Core.Bool.{true};
 ghost use mathlib.Core.List.{[], _∷_};
 ghost use Prim.Native.Nat.{_+_, _-_, _≤_};
-ghost use lib.Dec.{eqb};
 ghost use lib.ListN.{drop, length, take};
 ghost use Rattle.base.specs.Output.{PutAt};
 ghost use Rattle.base.specs.Refusals.{textLimit};
 ghost use Rattle.utf8.specs.Rfc3629.{validUpTo};
 ghost use Rattle.unicode.specs.declared.presentation.FromSelector.the-variants.{Selector};
-ghost use Rattle.policy.specs.PolicyBytes.{policyOf};
-ghost use Rattle.changes.specs.Changes.{formattedFrom, selectorBytes, totalFrom};
+ghost use Rattle.policy.specs.PolicyBytes.{isPolicy, policyOf};
+ghost use Rattle.changes.specs.Changes.{NextChange, formattedFrom, selectorBytes};
 ghost use Rattle.formatter.specs.Format.{format};
 use crate::FormatAnswer;
 use base::Refusal;
@@ -20,16 +19,17 @@ use base::TEXT_LIMIT;
 use changes::Change;
 use changes::next_change;
 use policy::policy_bytes::is_policy;
+use scanner::selectors::SELECTOR_BYTES;
 use unicode::presentation::FromSelector;
 use unicode::presentation::Presentation;
 
-// Each selector has three bytes.
-const SELECTOR_BYTES: usize = 3;
+// A formatted text has at most four times the bytes of the text.
+const MOST_TIMES: usize = 4;
 
-// What goes before writing: the length of the longest well-formed beginning, whether it changes, and its length when formatted.
+// What goes before writing into an output that may be too short: the length of the longest well-formed beginning, and its length when
+// formatted.
 struct Survey {
     valid_up_to: usize,
-    changed: bool,
     len: usize,
 }
 
@@ -43,33 +43,26 @@ fn selector_len(selector: FromSelector) -> usize
     }
 }
 
-// Measures a text within the limit.
-fn survey_text(text: &[u8], policy: &[u8]) -> Survey
-    requires { ⌜ length (now text) ≤ textLimit ⌝ }
+// Measures a text within the limit, from its first change on.
+fn survey_text(text: &[u8], policy: &[u8], first: Change) -> Survey
+    requires { ⌜ (length (now text) ≤ textLimit) × NextChange (policyOf (now policy)) (now text) 0 first ⌝ }
     ensures valid { λ r. ⌜ r .«valid_up_to» ≡ validUpTo (now (text .entry)) ⌝ }
-    ensures changed { λ r. ⌜ r .changed ≡ not (eqb (totalFrom (policyOf (now (policy .entry))) (now (text .entry)) 0) 0) ⌝ }
     ensures len { λ r. ⌜ r .len ≡ length (formattedFrom (policyOf (now (policy .entry))) (now (text .entry)) 0) ⌝ }
 {
     let mut at = 0;
     let mut len = 0;
-    let mut changed = false;
+    let mut change = first;
     loop {
-        let Change {
-            kept,
-            selector,
-            end,
-            more,
-        } = next_change(text, policy, at);
-        len += kept - at + selector_len(selector);
-        if !more {
+        let selector = change.selector;
+        len += change.kept - at + selector_len(selector);
+        at = change.end;
+        if !change.more {
             return Survey {
-                valid_up_to: end,
-                changed,
+                valid_up_to: at,
                 len,
             };
         }
-        changed = true;
-        at = end;
+        change = next_change(text, policy, at);
     }
 }
 
@@ -108,27 +101,40 @@ fn put_selector(out: &mut [u8], at: usize, selector: FromSelector) -> usize
     }
 }
 
-// Puts the formatted text, for which there is room.
-fn put_changes(text: &[u8], policy: &[u8], out: &mut [u8]) -> usize
-    requires { ⌜ length (formattedFrom (policyOf (now policy)) (now text) 0) ≤ length (now out) ⌝ }
+// Puts the formatted text, for which there is room, from its first change on.
+fn put_changes(text: &[u8], policy: &[u8], first: Change, out: &mut [u8]) -> usize
+    requires { ⌜ NextChange (policyOf (now policy)) (now text) 0 first × (length (formattedFrom (policyOf (now policy)) (now text) 0) ≤ length (now out)) ⌝ }
     ensures { λ r. ⌜ PutAt (now (out .entry)) 0 (formattedFrom (policyOf (now (policy .entry))) (now (text .entry)) 0) (now (out .exit)) r ⌝ }
 {
     let mut at = 0;
     let mut to = 0;
+    let mut change = first;
     loop {
-        let Change {
-            kept,
-            selector,
-            end,
-            more,
-        } = next_change(text, policy, at);
-        to = put_part(text, at, kept, out, to);
+        let selector = change.selector;
+        to = put_part(text, at, change.kept, out, to);
         to = put_selector(out, to, selector);
-        if !more {
+        if !change.more {
             return to;
         }
-        at = end;
+        at = change.end;
+        change = next_change(text, policy, at);
     }
+}
+
+// Formats a text that has a change, of which the first is known, into an output that may be too short: it is measured before.
+fn format_measured(text: &[u8], policy: &[u8], first: Change, out: &mut [u8]) -> FormatAnswer
+    requires { ⌜ (length (now text) ≤ textLimit) × (isPolicy (now policy) ≡ true) × NextChange (policyOf (now policy)) (now text) 0 first × (first .more ≡ true) ⌝ }
+    ensures { λ r. ⌜ record { answer = r; buffer = now (out .exit) } ≡ format (now (text .entry)) (now (policy .entry)) (now (out .entry)) ⌝ }
+{
+    let Survey { valid_up_to, len } = survey_text(text, policy, first);
+    if valid_up_to != text.len() {
+        return FormatAnswer::Refused(Refusal::NotWellFormed { valid_up_to });
+    }
+    if out.len() < len {
+        return FormatAnswer::Refused(Refusal::OutputTooShort { wanted: len });
+    }
+    put_changes(text, policy, first, out);
+    FormatAnswer::Changed { len }
 }
 
 // Writes the formatted text at the front of the output, if it is another text and fits.
@@ -141,20 +147,22 @@ pub fn format_text(text: &[u8], policy: &[u8], out: &mut [u8]) -> FormatAnswer
     if !is_policy(policy) {
         return FormatAnswer::Refused(Refusal::NotAPolicy);
     }
-    let Survey {
-        valid_up_to,
-        changed,
-        len,
-    } = survey_text(text, policy);
+    let first = next_change(text, policy, 0);
+    let end = first.end;
+    if !first.more {
+        if end != text.len() {
+            return FormatAnswer::Refused(Refusal::NotWellFormed { valid_up_to: end });
+        }
+        return FormatAnswer::Unchanged;
+    }
+    if out.len() / MOST_TIMES < text.len() {
+        return format_measured(text, policy, first, out);
+    }
+    let valid_up_to = end + utf8::valid_up_to(&text[end..]);
     if valid_up_to != text.len() {
         return FormatAnswer::Refused(Refusal::NotWellFormed { valid_up_to });
     }
-    if !changed {
-        return FormatAnswer::Unchanged;
+    FormatAnswer::Changed {
+        len: put_changes(text, policy, first, out),
     }
-    if out.len() < len {
-        return FormatAnswer::Refused(Refusal::OutputTooShort { wanted: len });
-    }
-    put_changes(text, policy, out);
-    FormatAnswer::Changed { len }
 }

@@ -1,50 +1,60 @@
 // Listing the findings of a text into a table lent by the caller (document 01, "Counts and finding", "Turned back"). A row is ten
-// numbers of 8 bytes, lowest first: start, end and the eight counts. The findings are counted, and written only where all fit.
+// numbers of 8 bytes, lowest first: start, end and the eight counts. The text is gone through from finding to finding (crate changes): once
+// to count them, and once more to write them where all fit.
 // `list_findings` equals `listBytes` of specs/List.antt.
 ghost use mathlib.Core.Path.{_≡_};
-ghost use mathlib.Core.List.{map};
+ghost use mathlib.Core.List.{_∷_, map};
 ghost use Prim.Native.Nat.{_+_, _*_, _≤_};
 ghost use lib.ListN.{length};
 ghost use Rattle.base.specs.Output.{PutAt};
 ghost use Rattle.base.specs.Words.{wordBytes};
-ghost use Rattle.policy.specs.PolicyBytes.{bytesOf};
-ghost use Rattle.formatter.specs.Findings.{findingRow, findingsFrom};
+ghost use Rattle.utf8.specs.Rfc3629.{validUpTo};
+ghost use Rattle.policy.specs.PolicyBytes.{bytesOf, policyOf};
+ghost use Rattle.analysis.specs.Findings.{findingsFrom};
+ghost use Rattle.formatter.specs.Findings.{findingRow};
+ghost use Rattle.changes.specs.Findings.{Finds};
 ghost use Rattle.formatter.specs.List.{fillTable, listBytes, rowNumbers, rowsBytes};
 use crate::ListAnswer;
-use crate::intake::intake;
-use analysis::ItemAnalysis;
-use analysis::analyze_scan_item;
+use analysis::measure::Measure;
+use analysis::measure::measure_cells;
 use analysis::types::Finding;
-use base::Check;
 use base::Refusal;
+use base::TEXT_LIMIT;
 use base::WORD_BYTES;
+use changes::findings::FindingSpan;
+use changes::findings::next_finding;
 use policy::Policy;
 use policy::ReadPolicy;
+use policy::policy_bytes::is_policy;
 
 // The numbers of a row, and its bytes.
 pub const ROW_NUMBERS: usize = 10;
 
 pub const ROW_BYTES: usize = ROW_NUMBERS * WORD_BYTES;
 
-// How many findings there are.
-pub(crate) fn count_findings(text: &[u8], policy: Policy) -> usize
-    ensures { λ r. ⌜ r ≡ length (findingsFrom policy (now (text .entry)) 0) ⌝ }
+// How many findings there are, and the length of the longest well-formed beginning.
+pub(crate) struct FindingCount {
+    pub(crate) findings: usize,
+    pub(crate) valid_up_to: usize,
+}
+
+// Counts the findings.
+pub(crate) fn count_findings(text: &[u8], policy: &[u8]) -> FindingCount
+    ensures findings { λ r. ⌜ r .findings ≡ length (findingsFrom (policyOf (now (policy .entry))) (now (text .entry)) 0) ⌝ }
+    ensures valid { λ r. ⌜ r .«valid_up_to» ≡ validUpTo (now (text .entry)) ⌝ }
 {
     let mut at = 0;
     let mut findings = 0;
     loop {
-        match analyze_scan_item(text, at, policy) {
-            ItemAnalysis::End => {
-                return findings;
-            }
-            ItemAnalysis::Canonical { end } => {
-                at = end;
-            }
-            ItemAnalysis::NonCanonical(finding) => {
-                findings += 1;
-                at = finding.end;
-            }
+        let FindingSpan { start, end, more } = next_finding(text, policy, at);
+        if !more {
+            return FindingCount {
+                findings,
+                valid_up_to: start,
+            };
         }
+        findings += 1;
+        at = end;
     }
 }
 
@@ -99,34 +109,42 @@ fn put_row(table: &mut [u8], start: usize, finding: Finding) -> usize
     put_numbers(table, start, &numbers)
 }
 
-// Puts the row of each finding, for which there is room.
-fn put_findings(text: &[u8], policy: Policy, table: &mut [u8]) -> usize
-    requires { ⌜ length (rowsBytes rowNumbers (map (findingRow policy) (findingsFrom policy (now text) 0))) ≤ length (now table) ⌝ }
-    ensures { λ r. ⌜ PutAt (now (table .entry)) 0 (rowsBytes rowNumbers (map (findingRow policy) (findingsFrom policy (now (text .entry)) 0))) (now (table .exit)) r ⌝ }
+// The row of the finding from start up to end.
+fn finding_row(text: &[u8], start: usize, end: usize, policy: Policy) -> Finding
+    requires { ⌜ Finds policy (now text) start end ⌝ }
+    ensures { λ r. ⌜ map (findingRow policy) (findingsFrom policy (now (text .entry)) start) ≡ r ∷ map (findingRow policy) (findingsFrom policy (now (text .entry)) end) ⌝ }
 {
+    let Measure { counts, len: _ } = measure_cells(&text[start..end], policy);
+    Finding { start, end, counts }
+}
+
+// Puts the row of each finding, for which there is room.
+fn put_findings(text: &[u8], policy: &[u8], table: &mut [u8]) -> usize
+    requires { ⌜ length (rowsBytes rowNumbers (map (findingRow (policyOf (now policy))) (findingsFrom (policyOf (now policy)) (now text) 0))) ≤ length (now table) ⌝ }
+    ensures { λ r. ⌜ PutAt (now (table .entry)) 0 (rowsBytes rowNumbers (map (findingRow (policyOf (now (policy .entry)))) (findingsFrom (policyOf (now (policy .entry))) (now (text .entry)) 0))) (now (table .exit)) r ⌝ }
+{
+    let ReadPolicy {
+        accepted: _,
+        policy: read,
+    } = policy::read_policy(policy);
     let mut at = 0;
     let mut to = 0;
     loop {
-        match analyze_scan_item(text, at, policy) {
-            ItemAnalysis::End => {
-                return to;
-            }
-            ItemAnalysis::Canonical { end } => {
-                at = end;
-            }
-            ItemAnalysis::NonCanonical(finding) => {
-                at = finding.end;
-                to = put_row(table, to, finding);
-            }
+        let FindingSpan { start, end, more } = next_finding(text, policy, at);
+        if !more {
+            return to;
         }
+        let finding = finding_row(text, start, end, read);
+        at = end;
+        to = put_row(table, to, finding);
     }
 }
 
-// Lists the findings, if the table has a place for each.
-fn fill_table(text: &[u8], policy: Policy, table: &mut [u8]) -> ListAnswer
-    ensures { λ r. ⌜ record { answer = r; buffer = now (table .exit) } ≡ fillTable rowNumbers 80 (map (findingRow policy) (findingsFrom policy (now (text .entry)) 0)) (now (table .entry)) ⌝ }
+// Lists the findings, of which there are so many, if the table has a place for each.
+fn fill_table(text: &[u8], policy: &[u8], findings: usize, table: &mut [u8]) -> ListAnswer
+    requires { ⌜ findings ≡ length (findingsFrom (policyOf (now policy)) (now text) 0) ⌝ }
+    ensures { λ r. ⌜ record { answer = r; buffer = now (table .exit) } ≡ fillTable rowNumbers 80 (map (findingRow (policyOf (now (policy .entry)))) (findingsFrom (policyOf (now (policy .entry))) (now (text .entry)) 0)) (now (table .entry)) ⌝ }
 {
-    let findings = count_findings(text, policy);
     if table.len() / ROW_BYTES < findings {
         return ListAnswer::Refused(Refusal::TableTooShort { findings });
     }
@@ -138,12 +156,18 @@ fn fill_table(text: &[u8], policy: Policy, table: &mut [u8]) -> ListAnswer
 pub fn list_findings(text: &[u8], policy: &[u8], table: &mut [u8]) -> ListAnswer
     ensures { λ r. ⌜ record { answer = r; buffer = now (table .exit) } ≡ listBytes (now (text .entry)) (now (policy .entry)) (now (table .entry)) ⌝ }
 {
-    if let Check::Refused(refusal) = intake(text, policy) {
-        return ListAnswer::Refused(refusal);
+    if TEXT_LIMIT < text.len() {
+        return ListAnswer::Refused(Refusal::TextTooLong);
     }
-    let ReadPolicy {
-        accepted: _,
-        policy: accepted_policy,
-    } = policy::read_policy(policy);
-    fill_table(text, accepted_policy, table)
+    if !is_policy(policy) {
+        return ListAnswer::Refused(Refusal::NotAPolicy);
+    }
+    let FindingCount {
+        findings,
+        valid_up_to,
+    } = count_findings(text, policy);
+    if valid_up_to != text.len() {
+        return ListAnswer::Refused(Refusal::NotWellFormed { valid_up_to });
+    }
+    fill_table(text, policy, findings, table)
 }

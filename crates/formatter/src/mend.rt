@@ -2,44 +2,46 @@
 // replacement in its place, once every test has passed. `mend` equals `mend` of specs/Mend.antt.
 ghost use mathlib.Core.Path.{_≡_};
 ghost use mathlib.Core.List.{_++_, map};
-ghost use Prim.Native.Nat.{_+_, _*_, _-_, _≤_};
+ghost use Prim.Native.Nat.{_+_, _-_, _≤_};
 ghost use lib.ListN.{drop, length, take};
 ghost use lib.Seq.{sets};
 ghost use Rattle.base.specs.Refusals.{textLimit};
-ghost use Rattle.scanner.specs.Spans.{scan};
+ghost use Rattle.policy.specs.PolicyBytes.{policyOf};
 ghost use Rattle.analysis.specs.Decisions.{meaning, writeOut};
-ghost use Rattle.analysis.specs.ItemAt.{findingFrom, lengthAt, replacementBytes};
-ghost use Rattle.analysis.specs.declared.types.MendAnswer.the-variants.{Mended};
-ghost use Rattle.formatter.specs.Mend.{itemStarting, mend};
+ghost use Rattle.formatter.specs.Mend.{FindingStarting, cellsFrom, mend};
 use crate::intake::intake;
-use analysis::render::canonical_replacement_with_decisions;
-use analysis::render::replacement_len;
+use analysis::decisions::check_decisions;
+use analysis::measure::Measure;
+use analysis::measure::measure_cells;
+use analysis::render::write_cells;
 use analysis::types::MendAnswer;
 use base::Check;
 use base::Refusal;
+use changes::findings::FindingSpan;
+use changes::findings::next_finding;
 use policy::Policy;
 use policy::ReadPolicy;
-use scanner::ScanStep;
 
-// The item of a text that starts at an offset; an item may start before it and reach over it.
-fn item_starting(text: &[u8], offset: usize) -> ScanStep
-    ensures { λ r. ⌜ r ≡ itemStarting offset (scan (now (text .entry))) ⌝ }
+// The finding of a text that starts at an offset; an item may start before it and reach over it.
+fn finding_starting(text: &[u8], policy: &[u8], offset: usize) -> FindingSpan
+    ensures { λ r. ⌜ FindingStarting (policyOf (now (policy .entry))) (now (text .entry)) offset r ⌝ }
 {
     let mut at = 0;
-    while at < offset {
-        match scanner::next_item(text, at) {
-            ScanStep::Item(item) => {
-                at = item.end;
-            }
-            ScanStep::End => {
-                return ScanStep::End;
-            }
+    loop {
+        let FindingSpan { start, end, more } = next_finding(text, policy, at);
+        if !more {
+            return FindingSpan { start, end, more };
         }
+        if offset <= start {
+            let there = start == offset;
+            return FindingSpan {
+                start,
+                end,
+                more: there,
+            };
+        }
+        at = end;
     }
-    if offset < at {
-        return ScanStep::End;
-    }
-    scanner::next_item(text, at)
 }
 
 // Puts the bytes before an item and those behind it, with room for so many bytes between them.
@@ -51,7 +53,7 @@ fn put_around(text: &[u8], start: usize, end: usize, len: usize, out: &mut [u8])
     base::write_bytes(out, start + len, &text[end..]);
 }
 
-// Writes the text with the replacement of the finding from start up to end, of so many bytes, in its place, if there is room.
+// Writes the text with the cells from start up to end, which are written in so many bytes, in their place, if there is room.
 fn exchange(
     text: &[u8],
     start: usize,
@@ -61,8 +63,8 @@ fn exchange(
     decisions: &[u8],
     out: &mut [u8],
 ) -> MendAnswer
-    requires { ⌜ (start ≤ end) × (end ≤ length (now text)) × (length (now text) ≤ textLimit) × (len ≤ 4 * textLimit) × (lengthAt policy (now text) start (now decisions) ≡ Mended len) ⌝ }
-    ensures { λ r. ⌜ record { answer = r; buffer = now (out .exit) } ≡ writeOut (take start (now (text .entry)) ++ replacementBytes policy (findingFrom policy (now (text .entry)) start) (map meaning (now (decisions .entry))) ++ drop end (now (text .entry))) (now (out .entry)) ⌝ }
+    requires { ⌜ (start ≤ end) × (end ≤ length (now text)) × (length (now text) ≤ textLimit) × (len ≡ length (cellsFrom policy (now text) start end (map meaning (now decisions)))) ⌝ }
+    ensures { λ r. ⌜ record { answer = r; buffer = now (out .exit) } ≡ writeOut (take start (now (text .entry)) ++ cellsFrom policy (now (text .entry)) start end (map meaning (now (decisions .entry))) ++ drop end (now (text .entry))) (now (out .entry)) ⌝ }
 {
     let stop = start + len;
     let wanted = stop + (text.len() - end);
@@ -70,7 +72,7 @@ fn exchange(
         return MendAnswer::Refused(Refusal::OutputTooShort { wanted });
     }
     put_around(text, start, end, len, out);
-    canonical_replacement_with_decisions(text, start, policy, decisions, &mut out[start..stop]);
+    write_cells(&text[start..end], policy, decisions, &mut out[start..stop]);
     MendAnswer::Mended { len: wanted }
 }
 
@@ -87,18 +89,21 @@ pub fn mend(
     if let Check::Refused(refusal) = intake(text, policy) {
         return MendAnswer::Refused(refusal);
     }
-    let ScanStep::Item(item) = item_starting(text, offset) else {
+    let FindingSpan {
+        start: _,
+        end,
+        more,
+    } = finding_starting(text, policy, offset);
+    if !more {
         return MendAnswer::Refused(Refusal::NoFinding);
-    };
-    let end = item.end;
+    }
     let ReadPolicy {
         accepted: _,
         policy: accepted_policy,
     } = policy::read_policy(policy);
-    match replacement_len(text, offset, accepted_policy, decisions) {
-        MendAnswer::Refused(refusal) => MendAnswer::Refused(refusal),
-        MendAnswer::Mended { len } => {
-            exchange(text, offset, end, len, accepted_policy, decisions, out)
-        }
+    let Measure { counts, len } = measure_cells(&text[offset..end], accepted_policy);
+    if let Check::Refused(refusal) = check_decisions(decisions, counts.presentation_decisions) {
+        return MendAnswer::Refused(refusal);
     }
+    exchange(text, offset, end, len, accepted_policy, decisions, out)
 }

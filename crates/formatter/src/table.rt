@@ -1,12 +1,13 @@
 // Listing the findings of a text into a table of structs (document 01, "Counts and finding": "The findings are listed in
 // text order into a table lent by the caller"). What is listed is decided beforehand (`plan_listing`), and each finding
-// comes by value (`next_finding`): `list_into_table` only stores them. It equals `list` of specs/List.antt, to which
+// comes by value (`first_finding`): `list_into_table` only stores them. It equals `list` of specs/List.antt, to which
 // `ListedAsBytes` ties the table of bytes.
 ghost use mathlib.Core.Path.{_≡_};
 ghost use Rattle.formatter.specs.List.{list};
 ghost use Rattle.formatter.specs.Table.{fewFindings, firstFinding, listingPlan, noFinding};
 use crate::ListAnswer;
 use crate::intake::intake;
+use crate::list::FindingCount;
 use crate::list::count_findings;
 use analysis::ItemAnalysis;
 use analysis::analyze_scan_item;
@@ -46,7 +47,7 @@ fn no_finding(at: usize) -> Finding
 }
 
 // The first finding from an offset on, or none there.
-fn next_finding(text: &[u8], start: usize, policy: Policy) -> Finding
+fn first_finding(text: &[u8], start: usize, policy: Policy) -> Finding
     ensures { λ r. ⌜ r ≡ firstFinding policy (now (text .entry)) start ⌝ }
 {
     let mut at = start;
@@ -81,7 +82,10 @@ fn plan_listing(text: &[u8], policy: &[u8], room: usize) -> ListingPlan
             answer,
         };
     }
-    let findings = count_findings(text, read);
+    let FindingCount {
+        findings,
+        valid_up_to: _,
+    } = count_findings(text, policy);
     if room < findings {
         let answer = ListAnswer::Refused(Refusal::TableTooShort { findings });
         return ListingPlan {
@@ -106,7 +110,7 @@ pub fn list_into_table(text: &[u8], policy: &[u8], table: &mut [Finding]) -> Lis
     let mut at = 0;
     let mut k = 0;
     while k < plan.places {
-        let finding = next_finding(text, at, plan.policy);
+        let finding = first_finding(text, at, plan.policy);
         table[k] = finding;
         at = finding.end;
         k += 1;

@@ -1,15 +1,16 @@
 -- What a policy says of a base by its entry, and of the ASCII keys, and where that stands in its bytes.
 use mathlib.Core.Path.{_≡_, refl, sym, ap, ap₂, _∙_}
 use mathlib.Core.Logic.{_⊎_, inl, inr, ⊎-elim}
-use mathlib.Core.Bool.{Bool, true, false, Bool·beq, cond, not, _||_}
+use mathlib.Core.Bool.{Bool, true, false, Bool·beq, cond, not, _&&_, _||_}
 use mathlib.Core.List.{List}
-use Prim.Native.Nat.{ℕ, _+_, _%_, _<_, _≤_}
+use Prim.Native.Nat.{ℕ, _+_, _*_, _%_, _<_, _≤_}
 use native.Mathlib.Omega.{arith}
 use lib.Dec.{eqb, ltb}
 use lib.ListN.{drop, getD, take}
-use borrow.Author.Tests.{le-ltb, lt-ltb}
+use borrow.Author.Tests.{eq-eqb, eqb-true, le-ltb, lt-ltb}
 use Rattle.base.specs.Words.{number}
-use Rattle.base.proofs.Tests.{le-or-lt}
+use Rattle.base.proofs.Tests.{and-both, both-true, le-or-lt}
+use Rattle.base.proofs.Words.{number-eight, number-four}
 use Rattle.unicode.specs.Unicode.{hasVariationSequence, variationSequenceIndex}
 use Rattle.unicode.specs.UnicodeData.{variationEntries}
 use Rattle.unicode.specs.declared.VariationSequenceIndex.{VariationSequenceIndex}
@@ -81,9 +82,24 @@ first-bits : (bs : List ℕ)
 unfolding allBelow member policyOf wordsFrom wordCount entryCount variationEntries
 first-bits bs = low-ones 12 (number (take 8 (drop 0 bs)))
 
-pub ascii-keys-word : (bs : List ℕ) → asciiKeysBare bs ≡ eqb (number (take 8 (drop 0 bs)) % 4096) 4095
+ascii-keys-word : (bs : List ℕ) → asciiKeysBare bs ≡ eqb (number (take 8 (drop 0 bs)) % 4096) 4095
 unfolding asciiKeysBare
 ascii-keys-word bs = ascii-below (ordinary (policyOf bs .«prefer_bare»)) ∙ first-bits bs
+
+-- .. which are those of its first byte and half of its second
+pub ascii-keys-bytes : (bs : List ℕ) (a b : ℕ) → a ≡ getD (drop 0 bs) 0 0 → b ≡ getD (drop 0 bs) 1 0 → a < 256
+    → asciiKeysBare bs ≡ (eqb a 0xFF && eqb (b % 16) 0xF)
+ascii-keys-bytes bs a b p q h =
+    let w = number (take 8 (drop 0 bs)) % 4096 in
+    let n : w ≡ a + 256 * (b % 16) = omega (arith, number-eight (drop 0 bs), number-four (drop 0 bs)) in
+    ascii-keys-word bs
+    ∙ same-truth (eqb w 4095) (eqb a 0xFF && eqb (b % 16) 0xF)
+    (λ t.
+    let e = eqb-true w 4095 t in
+    and-both (eqb a 0xFF) (eqb (b % 16) 0xF) (eq-eqb a 0xFF (omega arith)) (eq-eqb (b % 16) 0xF (omega arith)))
+    (λ t.
+    let s = both-true (eqb a 0xFF) (eqb (b % 16) 0xF) t in
+    eq-eqb w 4095 (omega (arith, eqb-true a 0xFF (s .0), eqb-true (b % 16) 0xF (s .1))))
 
 -- where the ASCII keys are bare, `prefer_bare` holds each ASCII base
 pub ascii-base-bare : (bs : List ℕ) → asciiKeysBare bs ≡ true → (c : ℕ) → c ≤ 0x7F → hasVariationSequence c ≡ true

@@ -21,9 +21,6 @@ const LAST_WORD: usize = SET_BYTES - WORD_BYTES;
 
 const SET_BITS: usize = 8 * SET_BYTES;
 
-// The ASCII keys # * 0 to 9 are the first twelve entries: the bits that are one where they all are in a set.
-const ASCII_KEYS: u64 = 0xFFF;
-
 // Whether the last word of a set has ones among the used bits only.
 fn last_is_used(last: u64) -> bool
     ensures { λ r. ⌜ r ≡ allBelow 64 (λ (k : ℕ). ltb (320 + k) 354 || not (one k last)) ⌝ }
@@ -89,9 +86,12 @@ pub fn rule_at(bytes: &[u8], index: usize, is_keycap: bool) -> SingletonRule
     crate::rule_of(prefers_bare, bare_is_text)
 }
 
-// Whether the ASCII keys are all in the ordinary set of `prefer_bare`.
+// Whether the ASCII keys are all in the ordinary set of `prefer_bare`: # * 0 to 9 are the first twelve entries.
 pub fn ascii_keys_bare(bytes: &[u8]) -> bool
     ensures { λ r. ⌜ r ≡ asciiKeysBare (now (bytes .entry)) ⌝ }
 {
-    base::read_word(bytes, 0) % (ASCII_KEYS + 1) == ASCII_KEYS
+    if base::byte_at(bytes, 0, 0) != 0xFF {
+        return false;
+    }
+    base::byte_at(bytes, 0, 1) % 16 == 0xF
 }

@@ -18,7 +18,8 @@ use Rattle.scanner.specs.Tags.{allComplete, tagModifications, tagRuns, tagsComp
 use Rattle.analysis.specs.Cells.{addChar, split}
 use Rattle.analysis.specs.Analysis.{countCells, countsOf, following, nonCanonicality, render, renew, replacement, replacementOf}
 use Rattle.analysis.specs.Rules.{byFirst, byKeycap, byModifier, byTags, isBareSide, outcome, rule1, rule2, rule3, rule4, rule5, rule6, textFirst, withoutSelector}
-use Rattle.formatter.specs.Findings.{findingRow, findings, totals}
+use Rattle.analysis.specs.Findings.{totals}
+use Rattle.formatter.specs.Findings.{findingRow, findings}
 use Rattle.formatter.specs.Intake.{intakeRefusal}
 use Rattle.formatter.specs.List.{countNumbers, rowNumbers}
 use Rattle.message_io.specs.Lines.{decimal, decimalBy, findingLine, line, parted, totalLine}

@@ -13,7 +13,8 @@ use Rattle.analysis.specs.Analysis.{isFinding}
 use Rattle.analysis.specs.ItemAt.{analysisAt}
 use Rattle.analysis.specs.declared.ItemAnalysis.the-variants.{Canonical, End, NonCanonical}
 use Rattle.analysis.specs.declared.types.Finding.{Finding}
-use Rattle.formatter.specs.Findings.{findingRow, findingsFrom}
+use Rattle.analysis.specs.Findings.{findingsFrom}
+use Rattle.formatter.specs.Findings.{findingRow}
 use Rattle.formatter.specs.List.{rowNumbers}
 use Rattle.formatter.proofs.Steps.{analysis-says}
 use Rattle.message_io.specs.Lines.{findingLine}

@@ -14,7 +14,8 @@ use Rattle.policy.specs.PolicyBytes.{policyBytes}
 use Rattle.analysis.specs.declared.types.Finding.{Finding}
 use Rattle.analysis.specs.declared.types.NonCanonicality.{NonCanonicality}
 use Rattle.scanner.specs.Spans.{Found}
-use Rattle.formatter.specs.Findings.{findingRow, findingsFrom, totals}
+use Rattle.analysis.specs.Findings.{findingsFrom, totals}
+use Rattle.formatter.specs.Findings.{findingRow}
 use Rattle.formatter.specs.Intake.{intakeRefusal}
 use Rattle.formatter.specs.List.{countNumbers, rowNumbers}
 use Rattle.message_io.specs.Lines.{findingLine, refusalLine, totalLine}

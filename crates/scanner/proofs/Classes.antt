@@ -1,7 +1,7 @@
 -- The class of a character says what it is in document 01's terms, and these decide the class: `hasClass` and `class-is`.
 use mathlib.Core.Path.{_≡_, refl, sym, _∙_, subst}
 use mathlib.Core.Bool.{Bool, true, false, cond, not, true≢false, false≢true}
-use Prim.Native.Nat.{ℕ}
+use Prim.Native.Nat.{ℕ, _<_}
 use native.Mathlib.Omega.{arith}
 use lib.Dec.{eqb}
 use borrow.Author.Tests.{eq-eqb, eqb-true, ne-eqb, not-true}
@@ -139,6 +139,21 @@ class-is {c} (is-emoji e r m) =
 class-is {c} (is-other p k t) =
     let e = p .no-emoji in
     simp (p .no-selector, p .no-link, k, t, contrary isRi true ri-emoji c e, contrary isEmojiModifier true modifier-emoji c e, e)
+
+-- A character that is neither emoji nor one of the others is of the class other.
+pub class-other : (c : ℕ) → isEmoji c ≡ false → (c ≡ 0xFE0E → ⊥) → (c ≡ 0xFE0F → ⊥) → (c ≡ 0x200D → ⊥) → (c ≡ 0x20E3 → ⊥) → isTag c ≡ false → classOf c ≡ other
+unfolding isSelector
+class-other c e s s′ l k t =
+    class-is (is-other (record { no-selector = simp (ne-eqb c 0xFE0E s, ne-eqb c 0xFE0F s′); no-link = ne-eqb c 0x200D l; no-emoji = e }) (ne-eqb c 0x20E3 k) t)
+
+-- So is one below 200D that is no emoji.
+pub class-low : (c : ℕ) → isEmoji c ≡ false → c < 0x200D → classOf c ≡ other
+unfolding isTag
+class-low c e h = class-other c e (λ p. omega arith) (λ p. omega arith) (λ p. omega arith) (λ p. omega arith) (no-tag (isTag c) refl)
+  where
+    no-tag : (b : Bool) → isTag c ≡ b → b ≡ false
+    no-tag true p = let w = within-in 0xE0020 0xE007F c p in absurd (omega arith)
+    no-tag false p = refl
 
 pub class-selector : (c : ℕ) → isSelector c ≡ true → classOf c ≡ selector
 class-selector c e = class-is (is-selector e)

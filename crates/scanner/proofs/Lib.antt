@@ -36,5 +36,7 @@ pub mod ModificationWalks
 pub mod CursorWalks
 pub mod UnitWalks
 pub mod ItemWalks
+pub mod SelectorChars
+pub mod SelectorBytes
 pub mod SelectorRun
 pub mod Claims

@@ -1,34 +1,24 @@
 -- The run of selectors by its bytes: three for each, the first at the offset and the second three bytes behind it.
 use mathlib.Core.Path.{_≡_, refl, ap, sym, _∙_}
 use mathlib.Core.Logic.{⊎-elim}
-use mathlib.Core.Bool.{Bool, true, false, _||_, true≢false}
+use mathlib.Core.Bool.{Bool, true, false}
 use mathlib.Core.List.{List, [], _∷_}
 use Prim.Native.Nat.{ℕ, _+_, _-_, _*_, _/_, _≤_, _<_}
 use native.Mathlib.Omega.{arith}
-use lib.Dec.{eqb}
 use lib.ListN.{length, drop}
-use borrow.Author.Tests.{eqb-true}
-use Rattle.base.proofs.Tests.{either-true, le-or-lt}
-use Rattle.utf8.specs.Rfc3629.{chars, encode}
-use Rattle.unicode.specs.Presentation.{fromSelector, isSelector}
+use Rattle.base.proofs.Tests.{le-or-lt}
+use Rattle.utf8.specs.Rfc3629.{chars}
+use Rattle.unicode.specs.Presentation.{isSelector}
 use Rattle.unicode.specs.declared.presentation.FromSelector.{FromSelector}
 use Rattle.unicode.specs.declared.presentation.FromSelector.the-variants.{NoSelector}
-use Rattle.scanner.specs.RunKinds.{runOf}
 use Rattle.scanner.specs.Runs.{run, selectorsAt}
 use Rattle.scanner.specs.SelectorRun.{firstSelector, secondSelector, selectorRun, selectorsFrom}
 use Rattle.scanner.specs.Spans.{size, width}
-use Rattle.scanner.specs.declared.consume.RunKind.the-variants.{Selectors}
 use Rattle.scanner.proofs.Bytes.{chars-from}
-use Rattle.scanner.proofs.ClassTests.{run-selectors}
 use Rattle.scanner.proofs.Runs.{Passes, all-pass, pass-and, run-false, run-passes, run-true}
+use Rattle.scanner.proofs.SelectorChars.{from-other, selector-width}
 
 -- ---- three bytes each
-
-selector-width : (c : ℕ) → isSelector c ≡ true → width c ≡ 3
-unfolding isSelector width encode
-selector-width c e =
-    ⊎-elim (λ p. ap (λ (x : ℕ). length (encode x)) (eqb-true c 0xFE0E p)) (λ p. ap (λ (x : ℕ). length (encode x)) (eqb-true c 0xFE0F p))
-    (either-true (eqb c 0xFE0E) (eqb c 0xFE0F) e)
 
 passes-size : {s : List ℕ} → Passes isSelector s → size width s ≡ 3 * length s
 passes-size all-pass = refl
@@ -39,15 +29,6 @@ selectors-size t = passes-size (run-passes isSelector t)
 
 -- ---- the first two
 
-no-selector : (c : ℕ) → isSelector c ≡ false → fromSelector c ≡ NoSelector
-unfolding isSelector fromSelector
-no-selector c e = go (eqb c 0xFE0E) (eqb c 0xFE0F) refl refl e
-  where
-    go : (a b : Bool) → eqb c 0xFE0E ≡ a → eqb c 0xFE0F ≡ b → (a || b) ≡ false → fromSelector c ≡ NoSelector
-    go true b p q f = absurd (true≢false f)
-    go false true p q f = absurd (true≢false f)
-    go false false p q f = simp (p, q)
-
 pub first-is : (t : List ℕ) → firstSelector t ≡ firstSelector (selectorsAt t)
 unfolding firstSelector run
 first-is [] = refl
@@ -55,7 +36,7 @@ first-is (c ∷ t) = go (isSelector c) refl
   where
     go : (b : Bool) → isSelector c ≡ b → firstSelector (c ∷ t) ≡ firstSelector (selectorsAt (c ∷ t))
     go true e = ap firstSelector (sym (run-true isSelector c t e))
-    go false e = no-selector c e ∙ ap firstSelector (sym (run-false isSelector c t e))
+    go false e = from-other c e ∙ ap firstSelector (sym (run-false isSelector c t e))
 
 pub second-is : (text : List ℕ) (at : ℕ) → 0 < length (selectorsAt (chars (drop at text)))
     → firstSelector (chars (drop (at + 3) text)) ≡ secondSelector (selectorsAt (chars (drop at text)))
@@ -75,9 +56,9 @@ second-is text at h = go (chars (drop at text)) refl h
 
 -- ---- the run as the code makes it
 
-module _ (text : List ℕ) (at end : ℕ) (e : end ≡ at + size width (runOf Selectors (chars (drop at text)))) where
+module _ (text : List ℕ) (at end : ℕ) (e : end ≡ at + size width (selectorsAt (chars (drop at text)))) where
   end-is : end ≡ at + 3 * length (selectorsAt (chars (drop at text)))
-  end-is = let t = chars (drop at text) in omega (arith, ap (size width) (run-selectors t), selectors-size t)
+  end-is = let t = chars (drop at text) in omega (arith, e, selectors-size t)
 
   pub no-selectors : end ≡ at → record { first = NoSelector; second = NoSelector; count = 0; end = end } ≡ selectorRun text at
   unfolding selectorRun firstSelector secondSelector

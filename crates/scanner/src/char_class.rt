@@ -1,16 +1,20 @@
 // What the scanner asks of a character: one of eight classes, from the tables of the crate unicode.
 // scanner.rs of the crate evfmt asks the same questions one by one; document 01, "Character".
-// `class_of` equals `classOf` of specs/Classes.antt, and `peek` equals `peekAt` of specs/Peek.antt for every slice and offset.
+// `class_of` and the class of `classify` equal `classOf` of specs/Classes.antt, and `peek` equals `peekAt` of specs/Peek.antt for every
+// slice and offset.
 ghost use mathlib.Core.Path.{_≡_};
+ghost use mathlib.Core.Bool.{false, true};
 ghost use lib.ListN.{drop};
 ghost use Rattle.utf8.specs.Rfc3629.{chars};
+ghost use Rattle.unicode.specs.Unicode.{isEmoji, variationSequenceIndex};
 ghost use Rattle.scanner.specs.Classes.{classOf};
 ghost use Rattle.scanner.specs.Peek.{peekAt};
 use unicode::COMBINING_ENCLOSING_KEYCAP;
 use unicode::EMOJI_PRESENTATION_SELECTOR;
+use unicode::EmojiData;
 use unicode::TEXT_PRESENTATION_SELECTOR;
+use unicode::VariationSequenceIndex;
 use unicode::ZWJ;
-use utf8::ReadChar;
 
 // What a character is to the scanner: a selector, a link, an RI, a modifier, another emoji, 20E3, a tag, or any other.
 pub enum Class {
@@ -24,6 +28,12 @@ pub enum Class {
     Other,
 }
 
+// The class of a character, and where it stands among the variation entries.
+pub struct Classified {
+    pub class: Class,
+    pub index: VariationSequenceIndex,
+}
+
 // The character at an offset, its class and the offset behind it; or that none begins there.
 pub enum Peeked {
     Char {
@@ -34,15 +44,12 @@ pub enum Peeked {
     NoChar,
 }
 
-// The class of a character.
-pub fn class_of(ch: u32) -> Class
-    ensures { λ r. ⌜ r ≡ classOf ch ⌝ }
+// The class of a character that is no emoji.
+fn class_of_plain(ch: u32) -> Class
+    ensures { λ r. ⌜ (isEmoji ch ≡ false → r ≡ classOf ch) ⌝ }
 {
-    if ch == TEXT_PRESENTATION_SELECTOR {
-        return Class::Selector;
-    }
-    if ch == EMOJI_PRESENTATION_SELECTOR {
-        return Class::Selector;
+    if ch < ZWJ {
+        return Class::Other;
     }
     if ch == ZWJ {
         return Class::Link;
@@ -50,32 +57,63 @@ pub fn class_of(ch: u32) -> Class
     if ch == COMBINING_ENCLOSING_KEYCAP {
         return Class::Keycap;
     }
+    if ch == TEXT_PRESENTATION_SELECTOR {
+        return Class::Selector;
+    }
+    if ch == EMOJI_PRESENTATION_SELECTOR {
+        return Class::Selector;
+    }
     if unicode::is_tag(ch) {
         return Class::Tag;
     }
+    Class::Other
+}
+
+// The class of an emoji.
+fn class_of_emoji(ch: u32) -> Class
+    ensures { λ r. ⌜ (isEmoji ch ≡ true → r ≡ classOf ch) ⌝ }
+{
     if unicode::is_ri(ch) {
         return Class::Ri;
     }
     if unicode::is_emoji_modifier(ch) {
         return Class::Modifier;
     }
-    if unicode::is_emoji(ch) {
-        return Class::Emoji;
-    }
-    Class::Other
+    Class::Emoji
+}
+
+// The class of a character, and where it stands among the variation entries.
+pub fn classify(ch: u32) -> Classified
+    ensures class { λ r. ⌜ r .class ≡ classOf ch ⌝ }
+    ensures index { λ r. ⌜ r .index ≡ variationSequenceIndex ch ⌝ }
+{
+    let EmojiData { is_emoji, index } = unicode::emoji_data(ch);
+    let class = if is_emoji {
+        class_of_emoji(ch)
+    } else {
+        class_of_plain(ch)
+    };
+    Classified { class, index }
+}
+
+// The class of a character.
+pub fn class_of(ch: u32) -> Class
+    ensures { λ r. ⌜ r ≡ classOf ch ⌝ }
+{
+    let Classified { class, index: _ } = classify(ch);
+    class
 }
 
 // What stands at an offset: no character begins past the end of the text or inside a character.
 pub fn peek(text: &[u8], at: usize) -> Peeked
     ensures { λ r. ⌜ r ≡ peekAt at (chars (drop at (now (text .entry)))) ⌝ }
 {
-    match utf8::read_char(text, at) {
-        ReadChar::Char { value, width } => {
-            let class = class_of(value);
-            let end = at + width;
-            Peeked::Char { value, class, end }
-        }
-        ReadChar::IllFormed => Peeked::NoChar,
-        ReadChar::End => Peeked::NoChar,
+    let packed = utf8::decode(text, at);
+    if packed == 0 {
+        return Peeked::NoChar;
     }
+    let value = packed / 8;
+    let class = class_of(value);
+    let end = at + (packed % 8) as usize;
+    Peeked::Char { value, class, end }
 }

@@ -1,19 +1,19 @@
 // The run of selectors at an offset: `consume_presentation_selectors` of scanner.rs of the crate evfmt, whose `Vec` is held
 // as its first two and its length (document 01, "Forms in the Rust that need another").
-// It equals `selectorRun` of specs/SelectorRun.antt for every slice and offset.
+// It equals `selectorRun` of specs/SelectorRun.antt for every slice and offset. Selectors are told by their bytes, EF B8 8E and
+// EF B8 8F, which costs fewer steps than decoding.
 ghost use mathlib.Core.Path.{_≡_};
+ghost use Prim.Native.Nat.{_+_};
 ghost use lib.ListN.{drop};
 ghost use Rattle.utf8.specs.Rfc3629.{chars};
+ghost use Rattle.scanner.specs.Runs.{selectorsAt};
 ghost use Rattle.scanner.specs.SelectorRun.{firstSelector, selectorRun};
-use crate::char_class::Peeked;
-use crate::char_class::peek;
-use crate::consume::RunKind;
-use crate::consume::run_end;
+ghost use Rattle.scanner.specs.Spans.{size, width};
 use unicode::presentation::FromSelector;
 use unicode::presentation::Presentation;
 
 // Each selector has three bytes.
-const SELECTOR_BYTES: usize = 3;
+pub const SELECTOR_BYTES: usize = 3;
 
 // A run of selectors: the first two, how many there are, and the offset of their end.
 pub struct PresentationSelectors {
@@ -24,24 +24,41 @@ pub struct PresentationSelectors {
 }
 
 // What the character at an offset asks for as a selector.
-fn selector_at(text: &[u8], at: usize) -> FromSelector
+pub fn selector_at(text: &[u8], at: usize) -> FromSelector
     ensures { λ r. ⌜ r ≡ firstSelector (chars (drop at (now (text .entry)))) ⌝ }
 {
-    match peek(text, at) {
-        Peeked::Char {
-            value,
-            class: _,
-            end: _,
-        } => Presentation::from_selector(value),
-        Peeked::NoChar => FromSelector::NoSelector,
+    if base::byte_at(text, at, 0) != 0xEF {
+        return FromSelector::NoSelector;
     }
+    if base::byte_at(text, at, 1) != 0xB8 {
+        return FromSelector::NoSelector;
+    }
+    let last = base::byte_at(text, at, 2);
+    if last == 0x8E {
+        return FromSelector::Selector(Presentation::Text);
+    }
+    if last == 0x8F {
+        return FromSelector::Selector(Presentation::Emoji);
+    }
+    FromSelector::NoSelector
+}
+
+// The end of the selectors from an offset on.
+pub fn selectors_end(text: &[u8], from: usize) -> usize
+    ensures { λ r. ⌜ r ≡ from + size width (selectorsAt (chars (drop from (now (text .entry))))) ⌝ }
+{
+    let mut at = from;
+    while let FromSelector::Selector(_) = selector_at(text, at) {
+        at += SELECTOR_BYTES;
+    }
+    at
 }
 
 // The selectors at an offset.
 pub fn consume_presentation_selectors(text: &[u8], at: usize) -> PresentationSelectors
     ensures { λ r. ⌜ r ≡ selectorRun (now (text .entry)) at ⌝ }
 {
-    let end = run_end(text, at, RunKind::Selectors);
+    let end = selectors_end(text, at);
     if end == at {
         return PresentationSelectors {
             first: FromSelector::NoSelector,

@@ -58,6 +58,12 @@ pub enum VariationEntry {
     NoEntry,
 }
 
+// What its block tells of a character: whether it is emoji, and where it stands among the variation entries.
+pub struct EmojiData {
+    pub is_emoji: bool,
+    pub index: VariationSequenceIndex,
+}
+
 // The place of a number in an ascending table.
 fn binary_search(table: &[u32], ch: u32) -> VariationSequenceIndex
     requires { ⌜ ascending (now table) ≡ true ⌝ }
@@ -222,6 +228,17 @@ pub fn is_emoji(ch: u32) -> bool
 {
     let block = blocks::block_of(ch / 64);
     base::has_bit(block.emoji, ch as usize)
+}
+
+// Whether a character has the property Emoji, and where it stands among the variation entries.
+pub fn emoji_data(ch: u32) -> EmojiData
+    ensures emoji { λ r. ⌜ r .«is_emoji» ≡ isEmoji ch ⌝ }
+    ensures index { λ r. ⌜ r .index ≡ variationSequenceIndex ch ⌝ }
+{
+    let block = blocks::block_of(ch / 64);
+    let is_emoji = base::has_bit(block.emoji, ch as usize);
+    let index = entry_in(block, ch);
+    EmojiData { is_emoji, index }
 }
 
 // Whether a character is a regional indicator.

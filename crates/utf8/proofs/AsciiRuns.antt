@@ -1,11 +1,10 @@
--- Runs of ASCII: the OR of bytes is no less than any of them, and each byte of a run is a character of its own.
+-- Runs of ASCII: how a run goes on, and each byte of a run is a character of its own.
 use mathlib.Core.Path.{_≡_, sym, ap, _∙_, subst}
 use mathlib.Core.Logic.{⊎-elim}
 use mathlib.Core.Bool.{true}
 use mathlib.Core.List.{List, _∷_}
 use Prim.Native.Nat.{ℕ, zero, suc, _+_, _-_, _≤_, _<_}
 use native.Mathlib.Omega.{arith}
-use lib.Bits.{bitOr, or-add-and, and-le-l, and-le-r}
 use lib.ListN.{getD, length, drop}
 use Rattle.utf8.specs.Rfc3629.{utf8-1, readChar, validUpTo}
 use Rattle.utf8.specs.declared.ReadChar.the-variants.{Char}
@@ -14,29 +13,15 @@ use Rattle.base.proofs.Tests.{le-or-lt, within-true}
 use Rattle.utf8.proofs.Fronts.{readFour-1, readFour-at}
 use Rattle.utf8.proofs.Places.{Step, step}
 
--- ---- the OR of bytes
+-- ---- a run and how it goes on
 
-pub or-left : (a b : ℕ) → a ≤ bitOr a b
-or-left a b = omega (arith, or-add-and a b, and-le-r a b)
-
-pub or-right : (a b : ℕ) → b ≤ bitOr a b
-or-right a b = omega (arith, or-add-and a b, and-le-l a b)
+pub run-none : (s : List ℕ) (from : ℕ) → AsciiRun s from from
+run-none s from = record { from-le = omega arith; inside = λ h. h; ascii = λ k l h. absurd (omega arith) }
 
 pub up-to-one : (s : List ℕ) (at : ℕ) → AllUpTo (getD s at 0) s at 1
 up-to-one s at = record {
   each = λ k l h. let e : k ≡ at = omega arith in omega (arith, ap (λ (n : ℕ). getD s n 0) e);
 }
-
-pub up-to-or : {x y : ℕ} {s : List ℕ} {at m n : ℕ} → AllUpTo x s at m → AllUpTo y s (at + m) n → AllUpTo (bitOr x y) s at (m + n)
-up-to-or {x} {y} {s} {at} {m} {n} p q = record {
-  each = λ k l h.
-      ⊎-elim (λ b. omega (arith, q .each k b (omega arith), or-right x y)) (λ b. omega (arith, p .each k l b, or-left x y)) (le-or-lt (at + m) k);
-}
-
--- ---- a run and how it goes on
-
-pub run-none : (s : List ℕ) (from : ℕ) → AsciiRun s from from
-run-none s from = record { from-le = omega arith; inside = λ h. h; ascii = λ k l h. absurd (omega arith) }
 
 pub run-on : {s : List ℕ} {from at : ℕ} (top n : ℕ) → AsciiRun s from at → AllUpTo top s at n → top ≤ 0x7F → at + n ≤ length s → AsciiRun s from (at + n)
 run-on {s} {from} {at} top n r u t h = record {

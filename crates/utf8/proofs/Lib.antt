@@ -10,6 +10,7 @@ pub mod Folds
 pub mod Texts
 pub mod Places
 pub mod Packed
+pub mod AsciiWords
 pub mod AsciiRuns
 pub mod Answers
 pub mod Grammar

@@ -75,3 +75,11 @@ packed-len t n e = go (readChar t) refl e
     go (Char v w) p q = let l = char-begins t v w p .few in let m : n % 8 ≡ w = omega arith in m ∙ ap charLen (sym p)
     go IllFormed p q = let m : n % 8 ≡ 0 = omega arith in m ∙ ap charLen (sym p)
     go End p q = let m : n % 8 ≡ 0 = omega arith in m ∙ ap charLen (sym p)
+
+-- The packed number 0 says that no character begins, or none is left.
+pub packed-stop : (s : List ℕ) (at n : ℕ) → n ≡ packed (readChar (drop at s)) → n ≡ 0 → Stop s at
+packed-stop s at n e h = stop-len s at (n % 8) (packed-len (drop at s) n e) (omega arith)
+
+-- Any other number is that of the character that stands there.
+pub packed-step : (s : List ℕ) (at n : ℕ) → n ≡ packed (readChar (drop at s)) → (n ≡ 0 → ⊥) → Step s at (n / 8) (n % 8)
+packed-step s at n e h = step s at (n / 8) (n % 8) (packed-reads (drop at s) n e (omega arith))

@@ -1,54 +1,41 @@
-// ASCII in blocks: the bytes up to 7F, each a character of its own (RFC 3629, section 4, UTF8-1), passed 16 at a time.
+// ASCII in words: the bytes up to 7F, each a character of its own (RFC 3629, section 4, UTF8-1), passed eight at a time.
 // Not in the Rust crate, which gets a `str`. `ascii_end` gives some end of a run of such bytes (`AsciiRun` of
 // specs/Ascii); that it is the longest run is not promised.
-ghost use Prim.Native.Nat.{_+_, _≤_};
-ghost use lib.ListN.{length};
+ghost use mathlib.Core.Path.{_≡_};
+ghost use Prim.Native.Nat.{_+_, _/_, _≤_};
+ghost use lib.Count.{trailingZeros};
 ghost use Rattle.utf8.specs.Ascii.{AllUpTo, AsciiRun};
+use base::WORD_BYTES;
 
-// The OR of four bytes and of sixteen: none of them is above it.
-fn or_4(s: &[u8], at: usize) -> u8
-    requires { ⌜ at + 4 ≤ length (now s) ⌝ }
-    ensures { λ r. ⌜ AllUpTo r (now (s .entry)) at 4 ⌝ }
+// The highest bit of each byte of a word, which is one where the byte is above 7F.
+const HIGH_BITS: u64 = 0x8080_8080_8080_8080;
+
+// How many bytes of a word, lowest first, are zero before one is not.
+fn zero_bytes(w: u64) -> usize
+    ensures { λ r. ⌜ (r ≡ trailingZeros 64 w / 8) × (r ≤ 8) ⌝ }
 {
-    s[at] | s[at + 1] | s[at + 2] | s[at + 3]
+    (u64::trailing_zeros(w) / 8) as usize
 }
 
-fn or_16(s: &[u8], at: usize) -> u8
-    requires { ⌜ at + 16 ≤ length (now s) ⌝ }
-    ensures { λ r. ⌜ AllUpTo r (now (s .entry)) at 16 ⌝ }
+// How many ASCII bytes stand behind the first few of the eight bytes from a place on.
+fn ascii_in_word(s: &[u8], at: usize, passed: usize) -> usize
+    requires { ⌜ passed ≤ 7 ⌝ }
+    ensures { λ r. ⌜ (AllUpTo 0x7F (now (s .entry)) (at + passed) r) × (passed + r ≤ 8) ⌝ }
 {
-    or_4(s, at) | or_4(s, at + 4) | or_4(s, at + 8) | or_4(s, at + 12)
+    let high = (base::read_word(s, at) & HIGH_BITS) >> (8 * passed);
+    let left = WORD_BYTES - passed;
+    let low = zero_bytes(high);
+    if left < low {
+        return left;
+    }
+    low
 }
 
-// The end of the blocks of sixteen ASCII bytes from a place on.
-fn blocks_end(s: &[u8], from: usize) -> usize
+// The end of a run of ASCII bytes from a place on, byte by byte.
+fn run_end(s: &[u8], from: usize) -> usize
     ensures { λ r. ⌜ AsciiRun (now (s .entry)) from r ⌝ }
 {
-    if s.len() < 16 {
-        return from;
-    }
-    let last = s.len() - 16;
     let mut at = from;
-    while at <= last {
-        if 0x7F < or_16(s, at) {
-            return at;
-        }
-        at += 16;
-    }
-    at
-}
-
-// The end of a run of ASCII bytes from a place on.
-pub fn ascii_end(s: &[u8], from: usize) -> usize
-    ensures { λ r. ⌜ AsciiRun (now (s .entry)) from r ⌝ }
-{
-    if s.len() <= from {
-        return from;
-    }
-    if 0x7F < s[from] {
-        return from;
-    }
-    let mut at = blocks_end(s, from);
     while at < s.len() {
         if 0x7F < s[at] {
             return at;
@@ -56,4 +43,27 @@ pub fn ascii_end(s: &[u8], from: usize) -> usize
         at += 1;
     }
     at
+}
+
+// The end of a run of ASCII bytes from a place on. The last word ends where the bytes end, so some of its bytes may
+// have been passed.
+pub fn ascii_end(s: &[u8], from: usize) -> usize
+    ensures { λ r. ⌜ AsciiRun (now (s .entry)) from r ⌝ }
+{
+    if s.len() < WORD_BYTES {
+        return run_end(s, from);
+    }
+    let last = s.len() - WORD_BYTES;
+    let mut at = from;
+    while at <= last {
+        let high = base::read_word(s, at) & HIGH_BITS;
+        if high != 0 {
+            return at + zero_bytes(high);
+        }
+        at += WORD_BYTES;
+    }
+    if s.len() <= at {
+        return at;
+    }
+    at + ascii_in_word(s, last, at - last)
 }

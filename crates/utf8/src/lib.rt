@@ -157,18 +157,20 @@ pub fn read_char(s: &[u8], at: usize) -> ReadChar
     ReadChar::Char { value, width }
 }
 
-// The length of the longest well-formed beginning. ASCII is passed in blocks.
+// The length of the longest well-formed beginning. Behind an ASCII character, ASCII is passed in words.
 pub fn valid_up_to(s: &[u8]) -> usize
     ensures { λ r. ⌜ r ≡ validUpTo (now (s .entry)) ⌝ }
 {
     let mut at: usize = 0;
     loop {
-        let next = ascii::ascii_end(s, at);
-        let width = char_len(s, next);
+        let width = (decode(s, at) % 8) as usize;
         if width == 0 {
-            return next;
+            return at;
         }
-        at = next + width;
+        at += width;
+        if width == 1 {
+            at = ascii::ascii_end(s, at);
+        }
     }
 }
 

@@ -1,10 +1,12 @@
 -- `changes::change_at` meets its contract: a base with its selectors, a selector, or a plain character.
 use Rattle.changes.proofs.PlainText.{stays-plain}
-use Rattle.changes.proofs.Bases.{change-at-base, change-at-selector, entry-no-selector, plain-char, selector-value}
+use Rattle.changes.proofs.Bases.{change-at-base, change-at-selector, entry-no-selector, plain-char}
 use Rattle.policy.specs.PolicyBytes.{policyOf}
+use Rattle.scanner.proofs.SelectorChars.{selector-value}
+use Rattle.analysis.proofs.CellsAt.{selectors-end}
 use Rattle.utf8.proofs.Places.{Step, step}
 use native.Mathlib.Omega.{arith}
-use Prim.Native.Nat.{ℕ}
+use Prim.Native.Nat.{ℕ, _+_}
 use mathlib.Core.Bool.{true≢false}
 use mathlib.Core.Path.{sym, _∙_, subst}
 use borrow.Author.Needs.{needs}
@@ -35,6 +37,9 @@ from-selector-requires c κs = search needs
 enum-told-2 : tie.Need-enum-told-2
 enum-told-2 c = search needs
 
+selectors-end-requires : tie.Need-selectors-end-requires
+selectors-end-requires c κs = search needs
+
 enum-told-3 : tie.Need-enum-told-3
 enum-told-3 c = search needs
 
@@ -46,10 +51,11 @@ returns c =
 
 returns-2 : tie.Need-returns-2
 returns-2 c =
-    let x = c .before .before .before .before .before .before .before .before .args in
-    let s = step (x .text .now) (x .at) (x .ch) (x .width) (c .before .before .before .before .before .before .before .before .pre) in
-    let q = c .enum-told2 .given .0 .0 in
-    change-at-selector (policyOf (x .policy .now)) q (subst (λ (v : ℕ). Step (x .text .now) (x .at) v (x .width)) (selector-value (x .ch) q (sym (c .before .before .from-selector .ensures) ∙ c .enum-told2 .given .1)) s)
+    let x = c .before .before .before .before .before .before .before .before .before .args in
+    let s = step (x .text .now) (x .at) (x .ch) (x .width) (c .before .before .before .before .before .before .before .before .before .pre) in
+    let q = c .before .enum-told2 .given .0 .0 in
+    let h = subst (λ (v : ℕ). Step (x .text .now) (x .at) v (x .width)) (selector-value (x .ch) q (sym (c .before .before .before .from-selector .ensures) ∙ c .before .enum-told2 .given .1)) s in
+    change-at-selector (policyOf (x .policy .now)) q h (c .selectors-end .result) (c .selectors-end .ensures ∙ selectors-end (x .text .now) (x .at + x .width))
 
 returns-3 : tie.Need-returns-3
 returns-3 c =
@@ -69,6 +75,7 @@ change-at-spec =
     enum-told
     from-selector-requires
     enum-told-2
+    selectors-end-requires
     enum-told-3
     returns
     returns-2

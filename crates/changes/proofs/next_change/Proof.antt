@@ -1,9 +1,7 @@
 -- `changes::next_change` meets its contract. The loop's invariant: all bytes up to `at` stay. The measure is the number of bytes left.
 use Rattle.changes.proofs.Staying.{stays-here, stays-on, stays-then}
-use Rattle.changes.proofs.Kept.{packed-stop}
 use Rattle.policy.proofs.ByEntry.{ascii-rule-bare}
-use Rattle.utf8.proofs.Packed.{packed-reads}
-use Rattle.utf8.proofs.Places.{step}
+use Rattle.utf8.proofs.Packed.{packed-reads, packed-step, packed-stop}
 use lib.ListN.{drop}
 use native.Mathlib.Omega.{arith}
 use mathlib.Core.Bool.{true, true≢false}
@@ -64,7 +62,7 @@ loop-less c =
     let s = stays-on (c .before .before .before .before .before .loop .inv) (c .before .before .before .before .skip-plain .ensures (policyOf (x .policy .now)) h) in
     let a = c .before .before .before .before .skip-plain .ensures (policyOf (x .policy .now)) h in
     let d = c .before .change-at .ensures .1 (c .if2 .left) in
-    let k = step (x .text .now) (c .before .before .before .before .skip-plain .result) _ _ (packed-reads (drop (c .before .before .before .before .skip-plain .result) (x .text .now)) (c .before .before .before .decode .result) (c .before .before .before .decode .ensures) (omega (arith, c .before .before .if1 .left))) in
+    let k = packed-step (x .text .now) (c .before .before .before .before .skip-plain .result) (c .before .before .before .decode .result) (c .before .before .before .decode .ensures) (c .before .before .if1 .left) in
     omega (arith, a .on, d .1, d .0 .inside (omega (arith, k .room)), k .room)
 
 loop-again : tie.Need-loop-again Inv-loop μ-loop

@@ -1,13 +1,13 @@
 -- `utf8::valid_up_to` meets its contract. The loop's invariant: `at`, with the longest well-formed beginning from there on, is `validUpTo` of the text.
 -- The measure is the number of bytes left.
 use mathlib.Core.Path.{_≡_}
-use Prim.Native.Nat.{_+_, _-_, _≤_}
+use Prim.Native.Nat.{_+_, _-_, _%_, _≤_}
 use native.Mathlib.Omega.{arith}
 use borrow.Author.Needs.{needs}
 use lib.ListN.{length, drop}
 use Rattle.utf8.specs.Rfc3629.{validUpTo}
 use Rattle.utf8.proofs.AsciiRuns.{validUpTo-past}
-use Rattle.utf8.proofs.Packed.{step-len, stop-len}
+use Rattle.utf8.proofs.Packed.{packed-len, step-len, stop-len}
 use Rattle.utf8.proofs.valid_up_to.Statement.{statement}
 use Rattle.utf8.proofs.valid_up_to.Tie as tie
 
@@ -20,46 +20,57 @@ abbrev μ-loop : tie.MeasureT-loop
 loop-holds : tie.Need-loop-holds Inv-loop μ-loop
 loop-holds c = omega arith
 
-ascii-end-requires : tie.Need-ascii-end-requires Inv-loop μ-loop
-ascii-end-requires c κs = search needs
+decode-requires : tie.Need-decode-requires Inv-loop μ-loop
+decode-requires c κs = search needs
 
-char-len-requires : tie.Need-char-len-requires Inv-loop μ-loop
-char-len-requires c κs = search needs
+cast-width : tie.Need-cast-width Inv-loop μ-loop
+cast-width c = search needs
 
 returns : tie.Need-returns Inv-loop μ-loop
 returns c =
-    let s = c .before .before .before .before .before .args .s .now in
-    let i = c .before .before .before .loop .inv in
-    let a = c .before .before .ascii-end in
-    let w = c .before .char-len in
-    let p = validUpTo-past (a .ensures) (i .0) (i .1) in
-    let k = stop-len s (a .result) (w .result) (w .ensures) (c .if1 .taken) in
+    let x = c .before .before in
+    let w = c .before .decode in
+    let k = stop-len (x .before .before .args .s .now) (x .loop .at) (w .result % 8) (packed-len _ (w .result) (w .ensures)) (c .if1 .taken) in
     omega arith
 
 add-at : tie.Need-add-at Inv-loop μ-loop
 add-at c =
-    let s = c .before .before .before .before .before .args .s .now in
-    let a = c .before .before .ascii-end in
-    let w = c .before .char-len in
-    let k = step-len s (a .result) (w .result) (w .ensures) (omega arith) .on in
+    let x = c .before .before in
+    let w = c .before .decode in
+    let k = step-len (x .before .before .args .s .now) (x .loop .at) (w .result % 8) (packed-len _ (w .result) (w .ensures)) (omega arith) .on in
     omega arith
+
+ascii-end-requires : tie.Need-ascii-end-requires Inv-loop μ-loop
+ascii-end-requires c κs = search needs
 
 loop-less : tie.Need-loop-less Inv-loop μ-loop
 loop-less c =
-    let s = c .before .before .before .before .before .args .s .now in
-    let a = c .before .before .ascii-end in
-    let w = c .before .char-len in
-    let k = step-len s (a .result) (w .result) (w .ensures) (omega arith) .on in
-    omega (arith, a .ensures .from-le)
+    let x = c .before .before .before .before in
+    let w = c .before .before .before .decode in
+    let k = step-len (x .before .before .args .s .now) (x .loop .at) (w .result % 8) (packed-len _ (w .result) (w .ensures)) (omega arith) .on in
+    omega (arith, c .ascii-end .ensures .from-le)
 
 loop-again : tie.Need-loop-again Inv-loop μ-loop
 loop-again c =
-    let s = c .before .before .before .before .before .args .s .now in
-    let i = c .before .before .before .loop .inv in
-    let a = c .before .before .ascii-end in
-    let w = c .before .char-len in
-    let p = validUpTo-past (a .ensures) (i .0) (i .1) in
-    let k = step-len s (a .result) (w .result) (w .ensures) (omega arith) .on in
+    let x = c .before .before .before .before in
+    let w = c .before .before .before .decode in
+    let k = step-len (x .before .before .args .s .now) (x .loop .at) (w .result % 8) (packed-len _ (w .result) (w .ensures)) (omega arith) .on in
+    let a = c .ascii-end .ensures in
+    let v = validUpTo-past {total = validUpTo (x .before .before .args .s .now)} a (k .room) (omega arith) in
+    omega (arith, a .inside (k .room))
+
+loop-less-2 : tie.Need-loop-less-2 Inv-loop μ-loop
+loop-less-2 c =
+    let x = c .before .before .before in
+    let w = c .before .before .decode in
+    let k = step-len (x .before .before .args .s .now) (x .loop .at) (w .result % 8) (packed-len _ (w .result) (w .ensures)) (omega arith) .on in
+    omega arith
+
+loop-again-2 : tie.Need-loop-again-2 Inv-loop μ-loop
+loop-again-2 c =
+    let x = c .before .before .before in
+    let w = c .before .before .decode in
+    let k = step-len (x .before .before .args .s .now) (x .loop .at) (w .result % 8) (packed-len _ (w .result) (w .ensures)) (omega arith) .on in
     omega arith
 
 pub valid-up-to-spec : {M : Type 1} → statement M
@@ -69,9 +80,12 @@ valid-up-to-spec =
     Inv-loop
     μ-loop
     loop-holds
-    ascii-end-requires
-    char-len-requires
+    decode-requires
+    cast-width
     returns
     add-at
+    ascii-end-requires
     loop-less
-    loop-again)
+    loop-again
+    loop-less-2
+    loop-again-2)

@@ -2,10 +2,8 @@
 -- handed on.
 use mathlib.Core.Path.{ap, sym, _∙_}
 use mathlib.Core.List.{List, [], _∷_}
-use Prim.Native.Nat.{_-_}
 use native.Mathlib.Omega.{arith}
 use borrow.Author.Needs.{needs}
-use lib.ListN.{drop, length-drop, length-take}
 use Rattle.utf8.specs.Rfc3629.{encodeAll}
 use Rattle.unicode.specs.declared.presentation.Presentation.{Presentation}
 use Rattle.unicode.specs.declared.presentation.Presentation.the-variants.{Emoji, Text}
@@ -14,6 +12,7 @@ use Rattle.analysis.specs.Cells.{Cell}
 use Rattle.analysis.specs.ChoicesAt.{replaceUnit}
 use Rattle.analysis.specs.Decisions.{writeOut}
 use Rattle.analysis.proofs.ChoiceUnits.{replace-long, replace-none, replace-unit, unit-cells, unit-room}
+use Rattle.analysis.proofs.Replacing.{part-written}
 use Rattle.analysis.proofs.choice.choice_replacement.Statement.{statement}
 use Rattle.analysis.proofs.choice.choice_replacement.Tie as tie
 
@@ -33,54 +32,46 @@ unit-end-requires c κs = search needs
 enum-told : tie.Need-enum-told
 enum-told c = search needs
 
-sub-write-out : tie.Need-sub-write-out
-sub-write-out c = search needs
+sub-write-cells : tie.Need-sub-write-cells
+sub-write-cells c = search needs
 
-part-write-out-start : tie.Need-part-write-out-start
-part-write-out-start c = search needs
+part-write-cells-start : tie.Need-part-write-cells-start
+part-write-cells-start c = search needs
 
-part-write-out-end : tie.Need-part-write-out-end
-part-write-out-end c =
+part-write-cells-end : tie.Need-part-write-cells-end
+part-write-cells-end c =
     let x = c .before .before .before .before .before .before .before .args in
     let u = c .before .before .unit-end in
     let h = c .before .before .before .if2 .left in
     unit-room (x .raw .now) (x .at) (u .result) (u .ensures) (omega arith)
 
-slice-aggregate-write-out : tie.Need-slice-aggregate-write-out
-slice-aggregate-write-out c = search needs
+slice-aggregate-write-cells : tie.Need-slice-aggregate-write-cells
+slice-aggregate-write-cells c = search needs
 
-write-out-requires : tie.Need-write-out-requires
-write-out-requires c κs =
-    let x = c .before .before .before .before .before .before .before .before .before .before .args in
-    let u = c .before .before .before .before .before .unit-end in
-    let h = c .before .before .before .before .before .before .before .if1 .left in
-    omega (arith, length-take (u .result - x .at) (drop (x .at) (x .raw .now)), length-drop (x .at) (x .raw .now))
+write-cells-requires : tie.Need-write-cells-requires
+write-cells-requires c κs = search needs
 
 enum-told-2 : tie.Need-enum-told-2
 enum-told-2 c = search needs
 
-sub-write-out-2 : tie.Need-sub-write-out-2
-sub-write-out-2 c = search needs
+sub-write-cells-2 : tie.Need-sub-write-cells-2
+sub-write-cells-2 c = search needs
 
-part-write-out-start-2 : tie.Need-part-write-out-start-2
-part-write-out-start-2 c = search needs
+part-write-cells-start-2 : tie.Need-part-write-cells-start-2
+part-write-cells-start-2 c = search needs
 
-part-write-out-end-2 : tie.Need-part-write-out-end-2
-part-write-out-end-2 c =
+part-write-cells-end-2 : tie.Need-part-write-cells-end-2
+part-write-cells-end-2 c =
     let x = c .before .before .before .before .before .before .before .args in
     let u = c .before .before .unit-end in
     let h = c .before .before .before .if2 .left in
     unit-room (x .raw .now) (x .at) (u .result) (u .ensures) (omega arith)
 
-slice-aggregate-write-out-2 : tie.Need-slice-aggregate-write-out-2
-slice-aggregate-write-out-2 c = search needs
+slice-aggregate-write-cells-2 : tie.Need-slice-aggregate-write-cells-2
+slice-aggregate-write-cells-2 c = search needs
 
-write-out-requires-2 : tie.Need-write-out-requires-2
-write-out-requires-2 c κs =
-    let x = c .before .before .before .before .before .before .before .before .before .before .args in
-    let u = c .before .before .before .before .before .unit-end in
-    let h = c .before .before .before .before .before .before .before .if1 .left in
-    omega (arith, length-take (u .result - x .at) (drop (x .at) (x .raw .now)), length-drop (x .at) (x .raw .now))
+write-cells-requires-2 : tie.Need-write-cells-requires-2
+write-cells-requires-2 c κs = search needs
 
 same-length : tie.Need-same-length
 same-length c = search needs
@@ -90,8 +81,9 @@ returns-3 c =
     let x = c .before .before .before .before .before .before .before .before .before .before .before .before .before .args in
     let u = c .before .before .before .before .before .before .before .before .unit-end in
     let e = unit-cells (x .raw .now) (x .at) (u .result) (u .ensures) in
-    replace-unit (x .policy) (x .raw .now) (x .at) Text (x .out .now) (c .before .before .before .before .before .before .before .before .before .before .if1 .left)
-    (c .before .before .write-out .ensures ∙ ap (λ (xs : List Cell). writeOut (encodeAll (render (x .policy) xs (Text ∷ []))) (x .out .now)) e)
+    let l = c .before .before .before .before .before .before .before .before .before .before .if1 .left in
+    replace-unit (x .policy) (x .raw .now) (x .at) Text (x .out .now) l
+    (part-written (x .raw .now) (x .out .now) (x .at) (u .result) l (c .before .before .write-cells .ensures) ∙ ap (λ (xs : List Cell). writeOut (encodeAll (render (x .policy) xs (Text ∷ []))) (x .out .now)) e)
     ∙ ap (λ (q : Presentation). replaceUnit (x .policy) (x .raw .now) (x .at) q (x .out .now)) (sym (c .before .before .before .before .before .before .enum-told .given .1))
 
 same-length-2 : tie.Need-same-length-2
@@ -102,8 +94,9 @@ returns-4 c =
     let x = c .before .before .before .before .before .before .before .before .before .before .before .before .before .args in
     let u = c .before .before .before .before .before .before .before .before .unit-end in
     let e = unit-cells (x .raw .now) (x .at) (u .result) (u .ensures) in
-    replace-unit (x .policy) (x .raw .now) (x .at) Emoji (x .out .now) (c .before .before .before .before .before .before .before .before .before .before .if1 .left)
-    (c .before .before .write-out2 .ensures ∙ ap (λ (xs : List Cell). writeOut (encodeAll (render (x .policy) xs (Emoji ∷ []))) (x .out .now)) e)
+    let l = c .before .before .before .before .before .before .before .before .before .before .if1 .left in
+    replace-unit (x .policy) (x .raw .now) (x .at) Emoji (x .out .now) l
+    (part-written (x .raw .now) (x .out .now) (x .at) (u .result) l (c .before .before .write-cells2 .ensures) ∙ ap (λ (xs : List Cell). writeOut (encodeAll (render (x .policy) xs (Emoji ∷ []))) (x .out .now)) e)
     ∙ ap (λ (q : Presentation). replaceUnit (x .policy) (x .raw .now) (x .at) q (x .out .now)) (sym (c .before .before .before .before .before .before .enum-told2 .given .1))
 
 pub choice-replacement-spec : {M : Type 1} → statement M
@@ -114,17 +107,17 @@ choice-replacement-spec =
     returns-2
     unit-end-requires
     enum-told
-    sub-write-out
-    part-write-out-start
-    part-write-out-end
-    slice-aggregate-write-out
-    write-out-requires
+    sub-write-cells
+    part-write-cells-start
+    part-write-cells-end
+    slice-aggregate-write-cells
+    write-cells-requires
     enum-told-2
-    sub-write-out-2
-    part-write-out-start-2
-    part-write-out-end-2
-    slice-aggregate-write-out-2
-    write-out-requires-2
+    sub-write-cells-2
+    part-write-cells-start-2
+    part-write-cells-end-2
+    slice-aggregate-write-cells-2
+    write-cells-requires-2
     same-length
     returns-3
     same-length-2

@@ -2,7 +2,7 @@
 use mathlib.Core.Path.{sym, _∙_}
 use native.Mathlib.Omega.{arith}
 use borrow.Author.Needs.{needs}
-use Rattle.analysis.proofs.Replacing.{found-at, found-from, found-within, none-found, part-within, replace-long, replace-none, replace-refused, replace-written}
+use Rattle.analysis.proofs.Replacing.{found-at, found-from, found-within, none-found, part-written, replace-long, replace-none, replace-refused, replace-written}
 use Rattle.analysis.proofs.render.canonical_replacement_with_decisions.Statement.{statement}
 use Rattle.analysis.proofs.render.canonical_replacement_with_decisions.Tie as tie
 
@@ -32,32 +32,29 @@ enum-known-refusal c = search needs
 enum-told : tie.Need-enum-told
 enum-told c = search needs
 
-sub-write-out : tie.Need-sub-write-out
-sub-write-out c =
+sub-write-cells : tie.Need-sub-write-cells
+sub-write-cells c =
     let x = c .before .before .before .before .before .before .before .before .before .before .before .before .args in
     let g = c .before .before .before .before .before .finding .given in
     let h = found-at (x .policy) (x .text .now) (x .at) (g .0 .0) (sym (c .before .before .before .before .before .before .before .analyze-scan-item .ensures) ∙ g .1) in
     found-from (x .policy) (x .text .now) (x .at) h
 
-part-write-out-start : tie.Need-part-write-out-start
-part-write-out-start c =
+part-write-cells-start : tie.Need-part-write-cells-start
+part-write-cells-start c =
     let x = c .before .before .before .before .before .before .before .before .before .before .before .before .args in
     let g = c .before .before .before .before .before .finding .given in
     let h = found-at (x .policy) (x .text .now) (x .at) (g .0 .0) (sym (c .before .before .before .before .before .before .before .analyze-scan-item .ensures) ∙ g .1) in
     omega (arith, found-from (x .policy) (x .text .now) (x .at) h)
 
-part-write-out-end : tie.Need-part-write-out-end
-part-write-out-end c =
+part-write-cells-end : tie.Need-part-write-cells-end
+part-write-cells-end c =
     let x = c .before .before .before .before .before .before .before .before .before .before .before .before .args in
     let g = c .before .before .before .before .before .finding .given in
     let h = found-at (x .policy) (x .text .now) (x .at) (g .0 .0) (sym (c .before .before .before .before .before .before .before .analyze-scan-item .ensures) ∙ g .1) in
     omega (arith, found-within (x .policy) (x .text .now) (x .at) h)
 
-write-out-requires : tie.Need-write-out-requires
-write-out-requires c κs =
-    let x = c .before .before .before .before .before .before .before .before .before .before .before .before .before .before .args in
-    let l = c .before .before .before .before .before .before .before .before .before .before .if1 .left in
-    omega (arith, part-within (x .text .now) (x .at) (c .before .before .before .before .before .before .before .finding .given .0 .0 .end))
+write-cells-requires : tie.Need-write-cells-requires
+write-cells-requires c κs = search needs
 
 returns-3 : tie.Need-returns-3
 returns-3 c =
@@ -76,7 +73,7 @@ returns-4 c =
     let g = c .before .before .before .before .before .before .before .before .before .before .finding .given in
     let h = found-at (x .policy) (x .text .now) (x .at) (g .0 .0) (sym (c .before .before .before .before .before .before .before .before .before .before .before .before .analyze-scan-item .ensures) ∙ g .1) in
     let k = c .before .before .before .before .before .before .before .check-decisions in
-    replace-written (x .policy) (x .text .now) (x .at) (x .decisions .now) (x .out .now) (c .before .before .before .before .before .before .before .before .before .before .before .before .before .if1 .left) h (k .result) _ (k .ensures) (c .before .before .before .before .before .enum-told .given .1) (c .before .before .write-out .ensures)
+    replace-written (x .policy) (x .text .now) (x .at) (x .decisions .now) (x .out .now) (c .before .before .before .before .before .before .before .before .before .before .before .before .before .if1 .left) h (k .result) _ (k .ensures) (c .before .before .before .before .before .enum-told .given .1) (part-written (x .text .now) (x .out .now) (x .at) (g .0 .0 .end) (c .before .before .before .before .before .before .before .before .before .before .before .before .before .if1 .left) (c .before .before .write-cells .ensures))
 
 pub canonical-replacement-with-decisions-spec : {M : Type 1} → statement M
 canonical-replacement-with-decisions-spec =
@@ -89,10 +86,10 @@ canonical-replacement-with-decisions-spec =
     check-decisions-requires
     enum-known-refusal
     enum-told
-    sub-write-out
-    part-write-out-start
-    part-write-out-end
-    write-out-requires
+    sub-write-cells
+    part-write-cells-start
+    part-write-cells-end
+    write-cells-requires
     returns-3
     same-length
     returns-4)

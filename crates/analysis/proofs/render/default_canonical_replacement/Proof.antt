@@ -2,7 +2,7 @@
 use mathlib.Core.Path.{sym, _∙_}
 use native.Mathlib.Omega.{arith}
 use borrow.Author.Needs.{needs}
-use Rattle.analysis.proofs.Replacing.{default-long, default-none, default-written, found-at, found-from, found-within, none-found, part-within}
+use Rattle.analysis.proofs.Replacing.{default-long, default-none, default-written, found-at, found-from, found-within, none-found, part-written}
 use Rattle.analysis.proofs.render.default_canonical_replacement.Statement.{statement}
 use Rattle.analysis.proofs.render.default_canonical_replacement.Tie as tie
 
@@ -23,35 +23,32 @@ returns-2 c =
     let a = c .before .analyze-scan-item in
     default-none (x .policy) (x .text .now) (x .at) (x .out .now) (c .before .before .if1 .left) (none-found (x .policy) (x .text .now) (x .at) (a .result) (c .match .keys2) (a .ensures))
 
-sub-write-out : tie.Need-sub-write-out
-sub-write-out c =
+sub-write-cells : tie.Need-sub-write-cells
+sub-write-cells c =
     let x = c .before .before .before .before .before .before .before .args in
     let g = c .before .finding .given in
     let h = found-at (x .policy) (x .text .now) (x .at) (g .0 .0) (sym (c .before .before .before .analyze-scan-item .ensures) ∙ g .1) in
     found-from (x .policy) (x .text .now) (x .at) h
 
-part-write-out-start : tie.Need-part-write-out-start
-part-write-out-start c =
+part-write-cells-start : tie.Need-part-write-cells-start
+part-write-cells-start c =
     let x = c .before .before .before .before .before .before .before .args in
     let g = c .before .finding .given in
     let h = found-at (x .policy) (x .text .now) (x .at) (g .0 .0) (sym (c .before .before .before .analyze-scan-item .ensures) ∙ g .1) in
     omega (arith, found-from (x .policy) (x .text .now) (x .at) h)
 
-part-write-out-end : tie.Need-part-write-out-end
-part-write-out-end c =
+part-write-cells-end : tie.Need-part-write-cells-end
+part-write-cells-end c =
     let x = c .before .before .before .before .before .before .before .args in
     let g = c .before .finding .given in
     let h = found-at (x .policy) (x .text .now) (x .at) (g .0 .0) (sym (c .before .before .before .analyze-scan-item .ensures) ∙ g .1) in
     omega (arith, found-within (x .policy) (x .text .now) (x .at) h)
 
-slice-aggregate-write-out : tie.Need-slice-aggregate-write-out
-slice-aggregate-write-out c = search needs
+slice-aggregate-write-cells : tie.Need-slice-aggregate-write-cells
+slice-aggregate-write-cells c = search needs
 
-write-out-requires : tie.Need-write-out-requires
-write-out-requires c κs =
-    let x = c .before .before .before .before .before .before .before .before .before .before .args in
-    let l = c .before .before .before .before .before .before .before .if1 .left in
-    omega (arith, part-within (x .text .now) (x .at) (c .before .before .before .before .finding .given .0 .0 .end))
+write-cells-requires : tie.Need-write-cells-requires
+write-cells-requires c κs = search needs
 
 same-length : tie.Need-same-length
 same-length c = search needs
@@ -61,7 +58,7 @@ returns-3 c =
     let x = c .before .before .before .before .before .before .before .before .before .before .before .before .before .args in
     let g = c .before .before .before .before .before .before .before .finding .given in
     let h = found-at (x .policy) (x .text .now) (x .at) (g .0 .0) (sym (c .before .before .before .before .before .before .before .before .before .analyze-scan-item .ensures) ∙ g .1) in
-    default-written (x .policy) (x .text .now) (x .at) (x .out .now) (c .before .before .before .before .before .before .before .before .before .before .if1 .left) h _ (c .before .before .write-out .ensures)
+    default-written (x .policy) (x .text .now) (x .at) (x .out .now) (c .before .before .before .before .before .before .before .before .before .before .if1 .left) h _ (part-written (x .text .now) (x .out .now) (x .at) (g .0 .0 .end) (c .before .before .before .before .before .before .before .before .before .before .if1 .left) (c .before .before .write-cells .ensures))
 
 pub default-canonical-replacement-spec : {M : Type 1} → statement M
 default-canonical-replacement-spec =
@@ -71,10 +68,10 @@ default-canonical-replacement-spec =
     analyze-scan-item-requires
     enum-known-finding
     returns-2
-    sub-write-out
-    part-write-out-start
-    part-write-out-end
-    slice-aggregate-write-out
-    write-out-requires
+    sub-write-cells
+    part-write-cells-start
+    part-write-cells-end
+    slice-aggregate-write-cells
+    write-cells-requires
     same-length
     returns-3)

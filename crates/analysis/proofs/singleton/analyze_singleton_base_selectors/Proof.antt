@@ -28,9 +28,6 @@ returns c =
 enum-told : tie.Need-enum-told
 enum-told c = search needs
 
-is-emoji-modifier-base-requires : tie.Need-is-emoji-modifier-base-requires
-is-emoji-modifier-base-requires c κs = search needs
-
 before-modifier-requires : tie.Need-before-modifier-requires
 before-modifier-requires c κs = search needs
 
@@ -60,9 +57,9 @@ by-policy-requires-2 c κs = search needs
 
 returns-2 : tie.Need-returns-2
 returns-2 c =
-    let x = c .before .before .before .before .before .before .args in
-    let v = c .before .before .before .before .before .has-variation-sequence in
-    simp (c .before-modifier .ensures, c .before .is-emoji-modifier-base .ensures, c .before .before .enum-told .given .1, outcome-entry (x .policy) (x .base) modifier (runWith (x .first) (x .count)) (sym (v .ensures) ∙ not-false (v .result) (c .before .before .before .before .if1 .left)))
+    let x = c .before .before .before .before .before .args in
+    let v = c .before .before .before .before .has-variation-sequence in
+    simp (c .before-modifier .ensures, c .before .enum-told .given .1, outcome-entry (x .policy) (x .base) modifier (runWith (x .first) (x .count)) (sym (v .ensures) ∙ not-false (v .result) (c .before .before .before .if1 .left)))
 
 returns-3 : tie.Need-returns-3
 returns-3 c =
@@ -104,7 +101,6 @@ analyze-singleton-base-selectors-spec =
     without-entry-requires
     returns
     enum-told
-    is-emoji-modifier-base-requires
     before-modifier-requires
     enum-told-2
     is-emoji-default-requires

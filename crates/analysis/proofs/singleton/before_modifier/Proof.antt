@@ -1,4 +1,5 @@
 -- `analysis::singleton::before_modifier` meets its contract: rules 2 and 3 by the number.
+use mathlib.Core.Path.{sym, _∙_}
 use Rattle.analysis.specs.Rules.{byFirst, rule3, runWith, textFirst}
 use Rattle.analysis.proofs.NumberRules.{emoji-23, text-23}
 use borrow.Author.Needs.{needs}
@@ -26,6 +27,9 @@ enum-told-2 c = search needs
 enum-told-3 : tie.Need-enum-told-3
 enum-told-3 c = search needs
 
+is-emoji-modifier-base-requires : tie.Need-is-emoji-modifier-base-requires
+is-emoji-modifier-base-requires c κs = search needs
+
 returns : tie.Need-returns
 unfolding textFirst rule3 byFirst runWith
 returns c = simp (c .before .enum-told .given .1, c .empty .ensures)
@@ -34,10 +38,10 @@ returns-2 : tie.Need-returns-2
 returns-2 c = simp (c .before .before .before .first .given .1, c .enum-told2 .given .1, c .before .before .before .before .before .unsanctioned .ensures, c .before .before .before .before .before .before .rest-of .ensures, text-23)
 
 returns-3 : tie.Need-returns-3
-returns-3 c = simp (c .before .before .before .before .first .given .1, c .before .enum-told3 .given .1, c .if1 .taken, c .before .before .before .before .before .before .unsanctioned .ensures, c .before .before .before .before .before .before .before .rest-of .ensures, emoji-23)
+returns-3 c = simp (c .before .before .before .before .before .first .given .1, c .before .before .enum-told3 .given .1, sym (c .before .is-emoji-modifier-base .ensures) ∙ c .if1 .taken, c .before .before .before .before .before .before .before .unsanctioned .ensures, c .before .before .before .before .before .before .before .before .rest-of .ensures, emoji-23)
 
 returns-4 : tie.Need-returns-4
-returns-4 c = simp (c .before .before .before .before .first .given .1, c .before .enum-told3 .given .1, c .if1 .left, c .before .before .before .before .before .before .unsanctioned .ensures, c .before .before .before .before .before .before .before .rest-of .ensures, emoji-23)
+returns-4 c = simp (c .before .before .before .before .before .first .given .1, c .before .before .enum-told3 .given .1, sym (c .before .is-emoji-modifier-base .ensures) ∙ c .if1 .left, c .before .before .before .before .before .before .before .unsanctioned .ensures, c .before .before .before .before .before .before .before .before .rest-of .ensures, emoji-23)
 
 pub before-modifier-spec : {M : Type 1} → statement M
 before-modifier-spec =
@@ -50,6 +54,7 @@ before-modifier-spec =
     enum-known-first
     enum-told-2
     enum-told-3
+    is-emoji-modifier-base-requires
     returns
     returns-2
     returns-3

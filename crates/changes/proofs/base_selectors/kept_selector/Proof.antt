@@ -1,5 +1,5 @@
 -- `changes::base_selectors::kept_selector` meets its contract: the rule that holds, by the class.
-use Rattle.changes.proofs.Kept.{before-keycap-kept, before-modifier-kept, before-other-kept, before-tags-kept}
+use Rattle.changes.proofs.Kept.{before-modifier-kept, before-other-kept, before-tags-kept}
 use Rattle.policy.specs.PolicyBytes.{policyOf}
 use borrow.Author.Needs.{needs}
 use Rattle.changes.proofs.base_selectors.kept_selector.Statement.{statement}
@@ -20,20 +20,14 @@ is-emoji-default-requires c κs = search needs
 before-tags-requires : tie.Need-before-tags-requires
 before-tags-requires c κs = search needs
 
-enum-told-3 : tie.Need-enum-told-3
-enum-told-3 c = search needs
+is-keycap-requires : tie.Need-is-keycap-requires
+is-keycap-requires c κs = search needs
 
 rule-at-requires : tie.Need-rule-at-requires
 rule-at-requires c κs = search needs
 
 by-policy-requires : tie.Need-by-policy-requires
 by-policy-requires c κs = search needs
-
-rule-at-requires-2 : tie.Need-rule-at-requires-2
-rule-at-requires-2 c κs = search needs
-
-by-policy-requires-2 : tie.Need-by-policy-requires-2
-by-policy-requires-2 c κs = search needs
 
 returns : tie.Need-returns
 returns c =
@@ -51,13 +45,7 @@ returns-3 : tie.Need-returns-3
 returns-3 c =
     let x = c .before .before .before .before .before .args in
     let i = c .before .before .before .before .before .pre in
-    before-keycap-kept (policyOf (x .policy .now)) (x .base) (x .index) i (x .first) (c .by-policy .result) (x .next) (c .before .rule-at .result) (c .before .before .enum-told3 .given .1) (c .before .rule-at .ensures) (c .by-policy .ensures)
-
-returns-4 : tie.Need-returns-4
-returns-4 c =
-    let x = c .before .before .before .before .args in
-    let i = c .before .before .before .before .pre in
-    before-other-kept (policyOf (x .policy .now)) (x .base) (x .index) i (x .first) (c .by-policy2 .result) (x .next) (c .before .rule-at2 .result) (c .before .before .match .keys4) (c .before .rule-at2 .ensures) (c .by-policy2 .ensures)
+    before-other-kept (policyOf (x .policy .now)) (x .base) (x .index) i (x .first) (c .by-policy .result) (x .next) (c .before .before .is-keycap .result) (c .before .rule-at .result) (c .before .before .before .match .keys3) (c .before .before .is-keycap .ensures) (c .before .rule-at .ensures) (c .by-policy .ensures)
 
 pub kept-selector-spec : {M : Type 1} → statement M
 kept-selector-spec =
@@ -68,12 +56,9 @@ kept-selector-spec =
     enum-told-2
     is-emoji-default-requires
     before-tags-requires
-    enum-told-3
+    is-keycap-requires
     rule-at-requires
     by-policy-requires
-    rule-at-requires-2
-    by-policy-requires-2
     returns
     returns-2
-    returns-3
-    returns-4)
+    returns-3)

@@ -1,4 +1,4 @@
--- `changes::plain::skip_letters` meets its contract. The loop's invariant: all bytes up to `at` stay. The measure is the number of
+-- `changes::plain::skip_letters` meets its contract. The loop's invariant: up to `at` stands plain text. The measure is the number of
 -- bytes left.
 use borrow.Author.Tests.{not-false}
 use Rattle.utf8.proofs.Places.{step}
@@ -8,20 +8,19 @@ use native.Mathlib.Omega.{arith}
 use borrow.Author.Needs.{needs}
 use lib.ListN.{drop, length}
 use Rattle.policy.specs.declared.Policy.{Policy}
-use Rattle.changes.specs.Changes.{Stays}
-use Rattle.changes.proofs.PlainText.{stays-plain}
-use Rattle.changes.proofs.Staying.{stays-here, stays-on}
+use Rattle.changes.specs.Findings.{Skips}
+use Rattle.changes.proofs.Passing.{skips-here, skips-on, skips-other}
 use Rattle.changes.proofs.plain.skip_letters.Statement.{statement}
 use Rattle.changes.proofs.plain.skip_letters.Tie as tie
 
 abbrev Inv-loop : tie.InvT-loop
-Inv-loop text from at₀ at = (p : Policy) → Stays p text from at
+Inv-loop text from at₀ at = (p : Policy) → Skips p text from at
 
 abbrev μ-loop : tie.MeasureT-loop
 μ-loop text from at₀ at = length text - at
 
 loop-holds : tie.Need-loop-holds Inv-loop μ-loop
-loop-holds c = λ p. stays-here _
+loop-holds c = λ p. skips-here _
 
 is-plain-at-requires : tie.Need-is-plain-at-requires Inv-loop μ-loop
 is-plain-at-requires c κs = search needs
@@ -58,7 +57,7 @@ loop-again c =
     let k = len-reads (drop (l .at) (x .text .now)) (c .before .char-len .result) (c .before .char-len .ensures) (omega (arith, c .if2 .left)) in
     let s = step (x .text .now) (l .at) (k .value) (c .before .char-len .result) (k .reads) in
     let q = c .before .before .before .is-plain-at .ensures (not-false (c .before .before .before .is-plain-at .result) (c .before .before .if1 .left)) (k .value) (c .before .char-len .result) (k .reads) in
-    λ p. stays-on (l .inv p) (stays-plain p s q)
+    λ p. skips-on (l .inv p) (skips-other p s q)
 
 returns-3 : tie.Need-returns-3 Inv-loop μ-loop
 returns-3 c = c .before .loop .inv

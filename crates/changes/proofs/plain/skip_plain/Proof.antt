@@ -25,7 +25,7 @@ skip-letters-requires : tie.Need-skip-letters-requires Inv-loop μ-loop
 skip-letters-requires c κs = search needs
 
 loop-holds : tie.Need-loop-holds Inv-loop μ-loop
-loop-holds c = λ p _. c .skip-letters .ensures p
+loop-holds c = λ p _. c .skip-letters .ensures p .0
 
 returns : tie.Need-returns Inv-loop μ-loop
 returns c = c .before .before .loop .inv
@@ -50,7 +50,7 @@ loop-less c =
     let l = c .before .before .before .before .before .before .before .loop in
     let a = c .before .before .skip-ascii .ensures in
     let s = c .skip-letters2 .ensures in
-    let q = s (policyOf []) in
+    let q = s (policyOf []) .0 in
     omega (arith, a .0 .0, a .0 .1, q .on, q .inside (omega (arith, a .0 .1)), c .before .if3 .left)
 
 loop-again : tie.Need-loop-again Inv-loop μ-loop
@@ -58,7 +58,7 @@ loop-again c =
     let l = c .before .before .before .before .before .before .before .loop in
     let a = c .before .before .skip-ascii .ensures in
     let s = c .skip-letters2 .ensures in
-    λ p h. stays-on (stays-on (l .inv p h) (a .1 p (h (not-false _ (c .before .before .before .before .before .if1 .left))))) (s p)
+    λ p h. stays-on (stays-on (l .inv p h) (a .1 p (h (not-false _ (c .before .before .before .before .before .if1 .left))) .0)) (s p .0)
 
 returns-4 : tie.Need-returns-4 Inv-loop μ-loop
 returns-4 c = c .before .loop .inv

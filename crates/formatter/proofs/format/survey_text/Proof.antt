@@ -1,36 +1,31 @@
--- `formatter::format::survey_text` meets its contract. The loop's invariant: what is measured, with what is left, is the whole. The
--- measure is the number of bytes left.
-use mathlib.Core.Path.{sym, subst}
-use mathlib.Core.Bool.{true}
-use Prim.Native.Nat.{ℕ, _+_, _-_}
+-- `formatter::format::survey_text` meets its contract. The loop's invariant: what is measured, with what is left, is the whole, and
+-- `change` is the next change from `at` on. The measure is the number of bytes left.
+use Prim.Native.Nat.{_-_}
 use native.Mathlib.Omega.{arith}
 use borrow.Author.Needs.{needs}
 use borrow.Author.Tests.{not-false, not-true}
 use lib.ListN.{length}
 use Rattle.policy.specs.PolicyBytes.{policyOf}
-use Rattle.formatter.proofs.Surveying.{Surveying, passed, survey-begin, survey-changed, survey-fits, survey-length, survey-less, survey-on, survey-valid}
+use Rattle.changes.specs.Changes.{NextChange}
+use Rattle.formatter.proofs.Surveying.{Surveying, passed, passed-less, survey-begin, survey-fits, survey-length, survey-on, survey-valid}
 use Rattle.formatter.proofs.format.survey_text.Statement.{statement}
 use Rattle.formatter.proofs.format.survey_text.Tie as tie
 
 abbrev Inv-loop : tie.InvT-loop
-Inv-loop text policy at₀ len₀ changed₀ at len changed = Surveying (policyOf policy) text at len changed
+Inv-loop text policy at₀ len₀ change₀ at len change = Surveying (policyOf policy) text at len × NextChange (policyOf policy) text at change
 
 abbrev μ-loop : tie.MeasureT-loop
-μ-loop text policy at₀ len₀ changed₀ at len changed = length text - at
+μ-loop text policy at₀ len₀ change₀ at len change = length text - at
 
 loop-holds : tie.Need-loop-holds Inv-loop μ-loop
-loop-holds c = survey-begin _ _
-
-next-change-requires : tie.Need-next-change-requires Inv-loop μ-loop
-next-change-requires c κs = search needs
+loop-holds c = (survey-begin _ _, c .before .before .pre .1)
 
 sub-len : tie.Need-sub-len Inv-loop μ-loop
 sub-len c =
     let x = c .before .before .before .before .args in
     let p = policyOf (x .policy .now) in
     let l = c .before .loop in
-    let h = c .next-change .ensures in
-    passed p (x .text .now) (l .inv .inside) h .on
+    passed p (x .text .now) (l .inv .0 .inside) (l .inv .1) .on
 
 selector-len-requires : tie.Need-selector-len-requires Inv-loop μ-loop
 selector-len-requires c κs = search needs
@@ -40,42 +35,40 @@ add-len c =
     let x = c .before .before .before .before .before .args in
     let p = policyOf (x .policy .now) in
     let l = c .before .before .loop in
-    let h = c .before .next-change .ensures in
-    omega (arith, survey-fits p (x .text .now) (l .inv) h, c .selector-len .ensures, c .before .before .before .before .before .pre)
+    omega (arith, survey-fits p (x .text .now) (l .inv .0) (l .inv .1) (c .selector-len .ensures), c .before .before .before .before .before .pre .0)
 
 add-len-2 : tie.Need-add-len-2 Inv-loop μ-loop
 add-len-2 c =
     let x = c .before .before .before .before .before .args in
     let p = policyOf (x .policy .now) in
     let l = c .before .before .loop in
-    let h = c .before .next-change .ensures in
-    omega (arith, survey-fits p (x .text .now) (l .inv) h, c .selector-len .ensures, c .before .before .before .before .before .pre)
+    omega (arith, survey-fits p (x .text .now) (l .inv .0) (l .inv .1) (c .selector-len .ensures), c .before .before .before .before .before .pre .0)
 
 returns : tie.Need-returns Inv-loop μ-loop
 returns c =
-    let x = c .before .before .before .before .before .before .args in
+    let x = c .before .before .before .before .before .before .before .args in
     let p = policyOf (x .policy .now) in
-    let l = c .before .before .before .loop in
-    let h = c .before .before .next-change .ensures in
-    let m = not-true _ (c .if1 .taken) in
-    (survey-valid p (x .text .now) (l .inv) h m, (survey-changed p (x .text .now) (l .inv) h m, omega (arith, survey-length p (x .text .now) (l .inv) h m, c .before .selector-len .ensures)))
+    let l = c .before .before .before .before .loop in
+    let s = survey-on p (x .text .now) (l .inv .0) (l .inv .1) (c .before .before .selector-len .ensures) in
+    let e = l .inv .1 .1 (not-true _ (c .if1 .taken)) .ends in
+    (survey-valid p (x .text .now) s e, survey-length p (x .text .now) s e)
+
+next-change-requires : tie.Need-next-change-requires Inv-loop μ-loop
+next-change-requires c κs = search needs
 
 loop-less : tie.Need-loop-less Inv-loop μ-loop
 loop-less c =
-    let x = c .before .before .before .before .before .before .args in
+    let x = c .before .before .before .before .before .before .before .before .args in
     let p = policyOf (x .policy .now) in
-    let l = c .before .before .before .loop in
-    let h = c .before .before .next-change .ensures in
-    survey-less p (x .text .now) (l .inv) h (not-false _ (c .if1 .left))
+    let l = c .before .before .before .before .before .loop in
+    passed-less p (x .text .now) (l .inv .0 .inside) (l .inv .1) (not-false _ (c .before .if1 .left))
 
 loop-again : tie.Need-loop-again Inv-loop μ-loop
 loop-again c =
-    let x = c .before .before .before .before .before .before .args in
+    let x = c .before .before .before .before .before .before .before .before .args in
     let p = policyOf (x .policy .now) in
-    let l = c .before .before .before .loop in
-    let h = c .before .before .next-change .ensures in
-    let r = c .before .before .next-change .result in
-    subst (λ (n : ℕ). Surveying p (x .text .now) (r .end) (l .len + ((r .kept - l .at) + n)) true) (sym (c .before .selector-len .ensures)) (survey-on p (x .text .now) (l .inv) h (not-false _ (c .if1 .left)))
+    let l = c .before .before .before .before .before .loop in
+    (survey-on p (x .text .now) (l .inv .0) (l .inv .1) (c .before .before .before .selector-len .ensures), c .next-change .ensures)
 
 pub survey-text-spec : {M : Type 1} → statement M
 survey-text-spec =
@@ -84,11 +77,11 @@ survey-text-spec =
     Inv-loop
     μ-loop
     loop-holds
-    next-change-requires
     sub-len
     selector-len-requires
     add-len
     add-len-2
     returns
+    next-change-requires
     loop-less
     loop-again)

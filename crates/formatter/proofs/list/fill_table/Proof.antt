@@ -3,30 +3,29 @@ use mathlib.Core.Path.{sym, _∙_}
 use native.Mathlib.Omega.{arith}
 use lib.ListN.{length-map}
 use borrow.Author.Needs.{needs}
-use Rattle.formatter.specs.Findings.{findingRow, findingsFrom}
+use Rattle.policy.specs.PolicyBytes.{policyOf}
+use Rattle.analysis.specs.Findings.{findingsFrom}
+use Rattle.formatter.specs.Findings.{findingRow}
 use Rattle.formatter.specs.List.{rowNumbers}
 use Rattle.formatter.proofs.RowBytes.{length-row, rows-refused, rows-room, rows-written}
 use Rattle.formatter.proofs.Steps.{rowsFrom}
 use Rattle.formatter.proofs.list.fill_table.Statement.{statement}
 use Rattle.formatter.proofs.list.fill_table.Tie as tie
 
-count-findings-requires : tie.Need-count-findings-requires
-count-findings-requires c κs = search needs
-
 returns : tie.Need-returns
 returns c =
     let x = c .before .before .before .before .args in
-    let p = x .policy in
+    let p = policyOf (x .policy .now) in
     let t = x .text .now in
-    let n = c .before .count-findings .ensures ∙ sym (length-map (findingsFrom p t 0) (findingRow p)) in
+    let n = c .before .before .before .before .pre ∙ sym (length-map (findingsFrom p t 0) (findingRow p)) in
     rows-refused rowNumbers 80 length-row (omega arith) (rowsFrom p t 0) (x .table .now) n (omega arith)
 
 put-findings-requires : tie.Need-put-findings-requires
 put-findings-requires c κs =
     let x = c .before .before .before .before .before .args in
-    let p = x .policy in
+    let p = policyOf (x .policy .now) in
     let t = x .text .now in
-    let n = c .before .before .count-findings .ensures ∙ sym (length-map (findingsFrom p t 0) (findingRow p)) in
+    let n = c .before .before .before .before .before .pre ∙ sym (length-map (findingsFrom p t 0) (findingRow p)) in
     rows-room rowNumbers 80 length-row (omega arith) (rowsFrom p t 0) (x .table .now) n (omega arith)
 
 same-length : tie.Need-same-length
@@ -35,12 +34,10 @@ same-length c = search needs
 returns-2 : tie.Need-returns-2
 returns-2 c =
     let x = c .before .before .before .before .before .before .before .before .args in
-    let p = x .policy in
+    let p = policyOf (x .policy .now) in
     let t = x .text .now in
-    let n = c .before .before .before .before .before .count-findings .ensures ∙ sym (length-map (findingsFrom p t 0) (findingRow p)) in
+    let n = c .before .before .before .before .before .before .before .before .pre ∙ sym (length-map (findingsFrom p t 0) (findingRow p)) in
     rows-written rowNumbers 80 length-row (omega arith) (rowsFrom p t 0) (x .table .now) n (omega arith) (c .before .before .put-findings .ensures)
 
 pub fill-table-spec : {M : Type 1} → statement M
-fill-table-spec =
-    tie.close
-    (tie.spec count-findings-requires returns put-findings-requires same-length returns-2)
+fill-table-spec = tie.close (tie.spec returns put-findings-requires same-length returns-2)

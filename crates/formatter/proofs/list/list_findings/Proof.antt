@@ -1,38 +1,51 @@
 -- `formatter::list::list_findings` meets its contract.
-use mathlib.Core.Path.{sym, ap, _∙_}
+use mathlib.Core.Path.{refl, sym, _∙_}
+use Prim.Native.Nat.{_≤_}
+use native.Mathlib.Omega.{arith}
+use lib.ListN.{length}
 use borrow.Author.Needs.{needs}
-use Rattle.policy.specs.declared.Policy.{Policy}
+use borrow.Author.Tests.{le-leb, lt-leb, not-false, not-true}
+use Rattle.base.specs.Refusals.{textLimit}
+use Rattle.base.specs.declared.Refusal.the-variants.{NotAPolicy, NotWellFormed, TextTooLong}
 use Rattle.formatter.specs.Findings.{findings}
-use Rattle.formatter.specs.Intake.{intakeRefusal}
-use Rattle.formatter.specs.List.{fillTable, rowNumbers}
 use Rattle.formatter.specs.Theorems.{IntakeComesFirst}
-use Rattle.formatter.proofs.Outcomes.{comes-first}
-use Rattle.formatter.proofs.Passing.{checked-passed, checked-refused, read-policy}
+use Rattle.formatter.proofs.Calls.{pass-intake}
+use Rattle.formatter.proofs.Outcomes.{all-well-formed, comes-first, not-well-formed}
+use Rattle.formatter.proofs.Passing.{intake-is}
 use Rattle.formatter.proofs.RowBytes.{list-passed}
-use Rattle.formatter.proofs.Steps.{rowsFrom}
 use Rattle.formatter.proofs.list.list_findings.Statement.{statement}
 use Rattle.formatter.proofs.list.list_findings.Tie as tie
-
-intake-requires : tie.Need-intake-requires
-intake-requires c κs = search needs
-
-enum-known-refusal : tie.Need-enum-known-refusal
-enum-known-refusal c = search needs
 
 returns : tie.Need-returns
 unfolding IntakeComesFirst
 returns c =
-    let x = c .before .before .before .before .before .before .before .args in
+    let x = c .before .before .before .before .args in
+    let t = x .text .now in
+    sym (comes-first t (x .policy .now) TextTooLong (intake-is t (x .policy .now) (lt-leb (length t) textLimit (c .if1 .taken)) refl refl) .2 (x .table .now))
+
+is-policy-requires : tie.Need-is-policy-requires
+is-policy-requires c κs = search needs
+
+returns-2 : tie.Need-returns-2
+unfolding IntakeComesFirst
+returns-2 c =
+    let x = c .before .before .before .before .before .before .args in
+    let t = x .text .now in
+    sym (comes-first t (x .policy .now) NotAPolicy (intake-is t (x .policy .now) (le-leb (length t) textLimit (omega (arith, c .before .before .if1 .left))) (sym (c .before .is-policy .ensures) ∙ not-true _ (c .if2 .taken)) refl) .2 (x .table .now))
+
+count-findings-requires : tie.Need-count-findings-requires
+count-findings-requires c κs = search needs
+
+returns-3 : tie.Need-returns-3
+unfolding IntakeComesFirst
+returns-3 c =
+    let x = c .before .before .before .before .before .before .before .before .args in
     let t = x .text .now in
     let p = x .policy .now in
-    let g = c .before .refusal .given in
-    sym (comes-first t p (g .0 .0) (checked-refused (intakeRefusal t p) (g .0 .0) (sym (c .before .before .before .intake .ensures) ∙ g .1)) .2 (x .table .now))
-
-enum-told : tie.Need-enum-told
-enum-told c = search needs
-
-read-policy-requires : tie.Need-read-policy-requires
-read-policy-requires c κs = search needs
+    let short : length t ≤ textLimit = omega (arith, c .before .before .before .before .if1 .left) in
+    let fit = sym (c .before .before .before .is-policy .ensures) ∙ not-false _ (c .before .before .if2 .left) in
+    let n = c .before .count-findings in
+    sym (comes-first t p (NotWellFormed (n .result .«valid_up_to»)) (not-well-formed t p short fit (n .ensures .1) (c .if3 .taken)) .2 (x .table .now))
 
 fill-table-requires : tie.Need-fill-table-requires
 fill-table-requires c κs = search needs
@@ -40,24 +53,26 @@ fill-table-requires c κs = search needs
 same-length : tie.Need-same-length
 same-length c = search needs
 
-returns-2 : tie.Need-returns-2
+returns-4 : tie.Need-returns-4
 unfolding findings
-returns-2 c =
+returns-4 c =
     let x = c .before .before .before .before .before .before .before .before .before .before .before .before .args in
     let t = x .text .now in
     let p = x .policy .now in
-    let e = checked-passed (intakeRefusal t p) (sym (c .before .before .before .before .before .before .before .before .intake .ensures) ∙ c .before .before .before .before .before .before .enum-told .given .1) in
-    c .before .before .fill-table .ensures ∙ ap (λ (q : Policy). fillTable rowNumbers 80 (rowsFrom q t 0) (x .table .now)) (read-policy p (c .before .before .before .before .before .read-policy .ensures)) ∙ list-passed t p (x .table .now) e
+    let short : length t ≤ textLimit = omega (arith, c .before .before .before .before .before .before .before .before .if1 .left) in
+    let fit = sym (c .before .before .before .before .before .before .before .is-policy .ensures) ∙ not-false _ (c .before .before .before .before .before .before .if2 .left) in
+    let n = c .before .before .before .before .before .count-findings .ensures in
+    c .before .before .fill-table .ensures ∙ list-passed t p (x .table .now) (pass-intake p t (all-well-formed t p short fit (n .1) (c .before .before .before .before .if3 .left)))
 
 pub list-findings-spec : {M : Type 1} → statement M
 list-findings-spec =
     tie.close
     (tie.spec
-    intake-requires
-    enum-known-refusal
     returns
-    enum-told
-    read-policy-requires
+    is-policy-requires
+    returns-2
+    count-findings-requires
+    returns-3
     fill-table-requires
     same-length
-    returns-2)
+    returns-4)

@@ -1,108 +1,98 @@
 -- `formatter::list::put_findings` meets its contract. The loop writes the rows of the findings from its place in the text on.
-use mathlib.Core.Path.{sym, ap, _∙_}
-use mathlib.Core.List.{List, map}
+use mathlib.Core.Path.{_≡_, ap, sym, subst}
+use mathlib.Core.List.{List, _∷_, map}
 use Prim.Native.Nat.{_-_, _≤_}
 use native.Mathlib.Omega.{arith}
 use borrow.Author.Needs.{needs}
+use borrow.Author.Tests.{not-false, not-true}
 use lib.ListN.{length}
-use Rattle.base.proofs.Writer.{Writing, begin, finish, pass, put, room}
-use Rattle.policy.specs.PolicyBytes.{bytesOf}
+use Rattle.base.proofs.Writer.{Writing, begin, finish, put, room}
+use Rattle.policy.specs.PolicyBytes.{bytesOf, policyOf}
+use Rattle.policy.specs.declared.Policy.{Policy}
 use Rattle.scanner.specs.Spans.{Found}
 use Rattle.formatter.specs.Findings.{findingRow}
+use Rattle.changes.specs.Findings.{Finds}
 use Rattle.formatter.specs.List.{rowNumbers, rowsBytes}
+use Rattle.formatter.proofs.NextFindings.{next-ahead, next-row, none-found}
+use Rattle.formatter.proofs.Passing.{read-policy}
 use Rattle.formatter.proofs.RowBytes.{length-row}
-use Rattle.formatter.proofs.Steps.{analysis-says, rowsFrom}
+use Rattle.formatter.proofs.Steps.{rowsFrom}
 use Rattle.formatter.proofs.list.put_findings.Statement.{statement}
 use Rattle.formatter.proofs.list.put_findings.Tie as tie
 
 abbrev Inv-loop : tie.InvT-loop
-Inv-loop text policy table₀ at₀ to₀ table at to =
-    (at ≤ length text) × Writing (rowsBytes rowNumbers (rowsFrom policy text 0)) 0 table₀ (rowsBytes rowNumbers (rowsFrom policy text at)) table to
+Inv-loop text policy table₀ read at₀ to₀ table at to =
+    (at ≤ length text)
+    × Writing (rowsBytes rowNumbers (rowsFrom (policyOf policy) text 0)) 0 table₀ (rowsBytes rowNumbers (rowsFrom (policyOf policy) text at)) table to
 
 abbrev μ-loop : tie.MeasureT-loop
-μ-loop text policy table₀ at₀ to₀ table at to = length text - at
+μ-loop text policy table₀ read at₀ to₀ table at to = length text - at
+
+read-policy-requires : tie.Need-read-policy-requires Inv-loop μ-loop
+read-policy-requires c κs = search needs
 
 loop-holds : tie.Need-loop-holds Inv-loop μ-loop
 loop-holds c =
-    let x = c .before .before .args in
-    (omega arith, begin (rowsBytes rowNumbers (rowsFrom (x .policy) (x .text .now) 0)) 0 (x .table .now) (omega (arith, c .before .before .pre)))
+    let x = c .before .before .before .before .before .args in
+    (omega arith, begin (rowsBytes rowNumbers (rowsFrom (policyOf (x .policy .now)) (x .text .now) 0)) 0 (x .table .now) (omega (arith, c .before .before .before .before .before .pre)))
 
-analyze-scan-item-requires : tie.Need-analyze-scan-item-requires Inv-loop μ-loop
-analyze-scan-item-requires c κs = search needs
-
-enum-told : tie.Need-enum-told Inv-loop μ-loop
-enum-told c = search needs
+next-finding-requires : tie.Need-next-finding-requires Inv-loop μ-loop
+next-finding-requires c κs = search needs
 
 same-length : tie.Need-same-length Inv-loop μ-loop
-same-length c = c .before .before .before .loop .inv .1 .same
+same-length c = c .before .before .loop .inv .1 .same
 
 returns : tie.Need-returns Inv-loop μ-loop
 unfolding rowsBytes
 returns c =
-    let x = c .before .before .before .before .before .before .args in
-    let p = x .policy in
+    let x = c .before .before .before .before .before .before .before .before .args in
+    let p = policyOf (x .policy .now) in
     let t = x .text .now in
-    let l = c .before .before .before .loop in
-    let s = analysis-says p t (l .at) (sym (c .enum-told .given .1) ∙ c .before .before .analyze-scan-item .ensures) in
-    finish (rowsBytes rowNumbers (rowsFrom p t 0)) 0 (x .table .now) (rowsBytes rowNumbers (rowsFrom p t (l .at))) (l .inv .1) (ap (λ (l : List Found). rowsBytes rowNumbers (map (findingRow p) l)) s)
+    let l = c .before .before .loop in
+    let n = c .before .next-finding .ensures in
+    finish (rowsBytes rowNumbers (rowsFrom p t 0)) 0 (x .table .now) (rowsBytes rowNumbers (rowsFrom p t (l .at))) (l .inv .1)
+    (ap (λ (l : List Found). rowsBytes rowNumbers (map (findingRow p) l)) (none-found (n .0) (n .2 (not-true _ (c .if1 .taken)) .0)))
 
-enum-known-end : tie.Need-enum-known-end Inv-loop μ-loop
-enum-known-end c = search needs
-
-loop-less : tie.Need-loop-less Inv-loop μ-loop
-loop-less c =
-    let x = c .before .before .before .before .before .before .before .args in
-    let l = c .before .before .before .before .loop in
-    let s = analysis-says (x .policy) (x .text .now) (l .at) (sym (c .before .end .given .1) ∙ c .before .before .before .analyze-scan-item .ensures) in
-    omega arith
-
-loop-again : tie.Need-loop-again Inv-loop μ-loop
-loop-again c =
-    let x = c .before .before .before .before .before .before .before .args in
-    let p = x .policy in
-    let t = x .text .now in
-    let l = c .before .before .before .before .loop in
-    let s = analysis-says p t (l .at) (sym (c .before .end .given .1) ∙ c .before .before .before .analyze-scan-item .ensures) in (
-      omega arith,
-      pass (rowsBytes rowNumbers (rowsFrom p t 0)) 0 (x .table .now) _ _ (l .inv .1) (ap (λ (l : List Found). rowsBytes rowNumbers (map (findingRow p) l)) (s .1)),
-    )
-
-enum-known-finding : tie.Need-enum-known-finding Inv-loop μ-loop
-enum-known-finding c = search needs
+finding-row-requires : tie.Need-finding-row-requires Inv-loop μ-loop
+finding-row-requires c κs =
+    let x = c .before .before .before .before .before .before .before .before .args in
+    let n = c .before .next-finding in
+    subst (λ (q : Policy). Finds q (x .text .now) (n .result .start) (n .result .end)) (sym (read-policy (x .policy .now) (c .before .before .before .before .read-policy .ensures)))
+    (n .ensures .1 (not-false _ (c .if1 .left)))
 
 put-row-requires : tie.Need-put-row-requires Inv-loop μ-loop
 unfolding rowsBytes
 put-row-requires c κs =
-    let x = c .before .before .before .before .before .before .before .before .args in
-    let p = x .policy in
+    let x = c .before .before .before .before .before .before .before .before .before .before .args in
+    let p = policyOf (x .policy .now) in
     let t = x .text .now in
-    let l = c .before .before .before .before .before .loop in
-    let f = c .before .before .finding .given in
-    let s = analysis-says p t (l .at) (sym (f .1) ∙ c .before .before .before .before .analyze-scan-item .ensures) in
-    let b = bytesOf (rowNumbers (f .0 .0)) in
+    let l = c .before .before .before .before .loop in
+    let n = c .before .before .before .next-finding in
+    let s = next-row (n .ensures .0) (subst (λ (q : Policy). rowsFrom q t (n .result .start) ≡ c .before .finding-row .result ∷ rowsFrom q t (n .result .end)) (read-policy (x .policy .now) (c .before .before .before .before .before .before .read-policy .ensures)) (c .before .finding-row .ensures)) in
+    let f = c .before .finding-row .result in
     let r =
-    room (rowsBytes rowNumbers (rowsFrom p t 0)) 0 (x .table .now) (rowsBytes rowNumbers (rowsFrom p t (l .at))) b (rowsBytes rowNumbers (rowsFrom p t (f .0 .0 .end))) (l .inv .1) (ap (rowsBytes rowNumbers) (s .1)) in
-    omega (arith, r, length-row (f .0 .0))
+    room (rowsBytes rowNumbers (rowsFrom p t 0)) 0 (x .table .now) (rowsBytes rowNumbers (rowsFrom p t (l .at))) (bytesOf (rowNumbers f)) (rowsBytes rowNumbers (rowsFrom p t (n .result .end))) (l .inv .1) (ap (rowsBytes rowNumbers) s) in
+    omega (arith, r, length-row f)
 
-loop-less-2 : tie.Need-loop-less-2 Inv-loop μ-loop
-loop-less-2 c =
-    let x = c .before .before .before .before .before .before .before .before .before .before .before .args in
-    let l = c .before .before .before .before .before .before .before .before .loop in
-    let s = analysis-says (x .policy) (x .text .now) (l .at) (sym (c .before .before .before .before .before .finding .given .1) ∙ c .before .before .before .before .before .before .before .analyze-scan-item .ensures) in
-    omega arith
+loop-less : tie.Need-loop-less Inv-loop μ-loop
+loop-less c =
+    let n = c .before .before .before .before .before .before .next-finding .ensures in
+    let h = next-ahead (n .0) (n .1 (not-false _ (c .before .before .before .before .before .if1 .left))) in
+    omega (arith, h .some, h .room)
 
-loop-again-2 : tie.Need-loop-again-2 Inv-loop μ-loop
+loop-again : tie.Need-loop-again Inv-loop μ-loop
 unfolding rowsBytes
-loop-again-2 c =
-    let x = c .before .before .before .before .before .before .before .before .before .before .before .args in
-    let p = x .policy in
+loop-again c =
+    let x = c .before .before .before .before .before .before .before .before .before .before .before .before .before .args in
+    let p = policyOf (x .policy .now) in
     let t = x .text .now in
-    let l = c .before .before .before .before .before .before .before .before .loop in
-    let f = c .before .before .before .before .before .finding .given in
-    let s = analysis-says p t (l .at) (sym (f .1) ∙ c .before .before .before .before .before .before .before .analyze-scan-item .ensures) in (
-      omega arith,
-      put (rowsBytes rowNumbers (rowsFrom p t 0)) 0 (x .table .now) (rowsBytes rowNumbers (rowsFrom p t (l .at))) (rowsBytes rowNumbers (rowsFrom p t (f .0 .0 .end))) (l .inv .1) (c .before .before .put-row .ensures)
-          (ap (rowsBytes rowNumbers) (s .1)),
+    let l = c .before .before .before .before .before .before .before .loop in
+    let n = c .before .before .before .before .before .before .next-finding in
+    let s = next-row (n .ensures .0) (subst (λ (q : Policy). rowsFrom q t (n .result .start) ≡ c .before .before .before .before .finding-row .result ∷ rowsFrom q t (n .result .end)) (read-policy (x .policy .now) (c .before .before .before .before .before .before .before .before .before .read-policy .ensures)) (c .before .before .before .before .finding-row .ensures)) in
+    let h = next-ahead (n .ensures .0) (n .ensures .1 (not-false _ (c .before .before .before .before .before .if1 .left))) in (
+      h .room,
+      put (rowsBytes rowNumbers (rowsFrom p t 0)) 0 (x .table .now) (rowsBytes rowNumbers (rowsFrom p t (l .at))) (rowsBytes rowNumbers (rowsFrom p t (n .result .end))) (l .inv .1) (c .before .before .put-row .ensures)
+          (ap (rowsBytes rowNumbers) s),
     )
 
 pub put-findings-spec : {M : Type 1} → statement M
@@ -111,15 +101,12 @@ put-findings-spec =
     (tie.spec
     Inv-loop
     μ-loop
+    read-policy-requires
     loop-holds
-    analyze-scan-item-requires
-    enum-told
+    next-finding-requires
     same-length
     returns
-    enum-known-end
-    loop-less
-    loop-again
-    enum-known-finding
+    finding-row-requires
     put-row-requires
-    loop-less-2
-    loop-again-2)
+    loop-less
+    loop-again)

@@ -1,5 +1,5 @@
 -- `formatter::table::list_into_table` meets its contract: a walk of its MIR, by hand, with a loop and two calls of
--- covered functions. A turn calls `next_finding`, opens the table's borrow, stores the finding at its place, and closes
+-- covered functions. A turn calls `first_finding`, opens the table's borrow, stores the finding at its place, and closes
 -- the borrow. The invariant: the table is owned with the first k findings stored, and the findings from the offset on
 -- are those behind them.
 use mathlib.Core.Path.{_≡_, refl, sym, ap, subst, _∙_}
@@ -73,10 +73,10 @@ use Rattle.formatter.proofs.table.plan_listing as plan-listing
 use Rattle.formatter.proofs.table.plan_listing.Symbol as plan-listing-def
 use Rattle.formatter.proofs.table.plan_listing.Symbol.{name as #plan-listing}
 use Rattle.formatter.proofs.table.plan_listing.Met as plan-listing-thm
-use Rattle.formatter.proofs.table.next_finding as next-finding
-use Rattle.formatter.proofs.table.next_finding.Symbol as next-finding-def
-use Rattle.formatter.proofs.table.next_finding.Symbol.{name as #next-finding}
-use Rattle.formatter.proofs.table.next_finding.Met as next-finding-thm
+use Rattle.formatter.proofs.table.first_finding as first-finding
+use Rattle.formatter.proofs.table.first_finding.Symbol as first-finding-def
+use Rattle.formatter.proofs.table.first_finding.Symbol.{name as #first-finding}
+use Rattle.formatter.proofs.table.first_finding.Met as first-finding-thm
 use Rattle.formatter.proofs.table.list_into_table.Key.{name as #list-into-table}
 use Rattle.formatter.proofs.table.list_into_table as listing
 use Rattle.formatter.proofs.table.list_into_table.Statement as stated
@@ -107,12 +107,12 @@ module _ {M : Type 1} (𝓤 : URA M) (H : Heap 𝓤) (A : Atoms 𝓤) (mem : Mem
   PlanListing = tripleOf 𝓤 H A plan-listing.signature (plan-listing.spec 𝓤 H A mem run)
 
   abbrev NextFinding : Contract 𝓤
-  NextFinding = tripleOf 𝓤 H A next-finding.signature (next-finding.spec 𝓤 H A mem run)
+  NextFinding = tripleOf 𝓤 H A first-finding.signature (first-finding.spec 𝓤 H A mem run)
 
 -- What is known of the two at the tables.
 record Known {M : Type 1} (𝓤 : URA M) (H : Heap 𝓤) (A : Atoms 𝓤) (mem : Memory → SProp 𝓤) (run : Routine → Fun 𝓤) (C : Calls 𝓤 H) : Type 1 where
   pub of-plan : Triple 𝓤 (C #plan-listing) (PlanListing 𝓤 H A mem run)
-  pub of-next : Triple 𝓤 (C #next-finding) (NextFinding 𝓤 H A mem run)
+  pub of-next : Triple 𝓤 (C #first-finding) (NextFinding 𝓤 H A mem run)
 
 -- Where the loop stands: k findings are stored, and the findings from the offset on are the rows behind those.
 record Going (p : Policy) (text : List ℕ) (n k at : ℕ) : Type 0 where
@@ -214,20 +214,20 @@ module _ {M : Type 1} (𝓤 : URA M) (H : Heap 𝓤) (A : Atoms 𝓤) (W : Given
     abbrev Z : ℕ → List Finding
     Z k = stored rows ys k
 
-    -- `next_finding`, from an offset on.
+    -- `first_finding`, from an offset on.
     abbrev passed-next : ℕ → List Val × (List Val × (List Val × Unit {0}))
     passed-next at = (tv ∷ [], (vint w64 at ∷ [], (cv ∷ [], tt)))
 
     abbrev to-next : ℕ → NextFinding 𝓤 H A mem run .Ghost
     to-next at = (((κ₀, tt), (q₀, tt), tt, (x, (at, (p, tt))), passed-next at), tt)
 
-    asked-next : (at : ℕ) → ent 𝓤 (onEntry 𝓤 H A next-finding.signature (κ₀, tt) (q₀, tt) (x, (at, (p, tt))) (passed-next at)) (NextFinding 𝓤 H A mem run .pre (to-next at))
+    asked-next : (at : ℕ) → ent 𝓤 (onEntry 𝓤 H A first-finding.signature (κ₀, tt) (q₀, tt) (x, (at, (p, tt))) (passed-next at)) (NextFinding 𝓤 H A mem run .pre (to-next at))
     asked-next at =
         qed W ((‵ (flft κ₀ q₀) ⊛ ‵ ftrue) ∷ ‵ (owns (ShrSlice (named 0) κ₀ u8 ∷ usize ∷ P.the-row ∷ []) (x, (at, (p, tt))) (passed-next at)) ∷ []) ∵
         join ! $ frame ! $ done !
 
-    said-next : (at : ℕ) (r : Finding) → ent 𝓤 (ensured 𝓤 H A next-finding.ended (next-finding.clauses 𝓤 H A mem run) (κ₀, tt) (x, (at, (p, tt))) tt r) (fact 𝓤 (r ≡ firstFinding p (x .now) at))
-    said-next at r = exE 𝓤 _ (λ ws. snd∗ 𝓤 (sem 𝓤 H A (lasts next-finding.ended (κ₀, tt) (x, (at, (p, tt))) ws)) (fact 𝓤 (r ≡ firstFinding p (x .now) at)))
+    said-next : (at : ℕ) (r : Finding) → ent 𝓤 (ensured 𝓤 H A first-finding.ended (first-finding.clauses 𝓤 H A mem run) (κ₀, tt) (x, (at, (p, tt))) tt r) (fact 𝓤 (r ≡ firstFinding p (x .now) at))
+    said-next at r = exE 𝓤 _ (λ ws. snd∗ 𝓤 (sem 𝓤 H A (lasts first-finding.ended (κ₀, tt) (x, (at, (p, tt))) ws)) (fact 𝓤 (r ≡ firstFinding p (x .now) at)))
 
     -- The loop's variant: how many are stored, and the offset, by what is left.
     abbrev Turn : Type 0
@@ -287,7 +287,7 @@ module _ {M : Type 1} (𝓤 : URA M) (H : Heap 𝓤) (A : Atoms 𝓤) (W : Given
           move ! (5 ∷ 0 ∷ []) $ use2 W (raw (NextFinding 𝓤 H A mem run .pre (to-next at))) (asked-next at) $
           -- [the callee's pre; the text's; obs; the borrow; 'c's token; 'b's token; the policy's; _11; …; _0; …]
           calls-at ! (fmOf 𝓤 H (W .laws) 𝓣) (NextFinding 𝓤 H A mem run) (known .of-next) (to-next at) (and-then ! (load ! (from ! (stop !)) (look ! 27 refl)) (and-then ! (load ! (from ! (stop !)) (look ! 19 refl)) (and-then ! (load ! (from ! (fld ! refl (stop !))) (look-in ! 21 (sub ! 1 refl (whole !)))) (no-more !)))) (λ u.
-          use1 W (later (some (λ (r : Finding). ((‵ (flft κ₀ q₀) ⊛ ‵ ftrue) ⊛ ‵ (R .own r (u ∷ []))) ⊛ raw (ensured 𝓤 H A next-finding.ended (next-finding.clauses 𝓤 H A mem run) (κ₀, tt) (x, (at, (p, tt))) tt r)))) (id⊢ 𝓤 _) $
+          use1 W (later (some (λ (r : Finding). ((‵ (flft κ₀ q₀) ⊛ ‵ ftrue) ⊛ ‵ (R .own r (u ∷ []))) ⊛ raw (ensured 𝓤 H A first-finding.ended (first-finding.clauses 𝓤 H A mem run) (κ₀, tt) (x, (at, (p, tt))) tt r)))) (id⊢ 𝓤 _) $
           await ! tt $ pick ! (λ r.
           split ! $ move ! (1 ∷ []) $ use1 W (raw (fact 𝓤 (r ≡ firstFinding p (x .now) at))) (said-next at r) $
           heard ! (r ≡ firstFinding p (x .now) at) (λ e. split ! $ move ! (1 ∷ []) $
@@ -437,5 +437,5 @@ list-into-table-spec 𝓤 H 𝓜 𝓖 𝓡 =
     (list-into-table-meets 𝓤 H (𝓖 .A) (givenOf 𝓤 H 𝓜 𝓖) (𝓜 .mem) (𝓡 .run) (tablesOf 𝓤 H 𝓜 (tables 𝓤 H 𝓜 𝓡 code.env))
     (record {
       of-plan = cited 𝓤 H (PlanListing 𝓤 H (𝓖 .A) (𝓜 .mem) (𝓡 .run)) 𝓜 𝓡 code.env #plan-listing plan-listing-def.routine code.calls-formatter·table·plan-listing (plan-listing-thm.met 𝓤 H 𝓜 𝓖 𝓡);
-      of-next = cited 𝓤 H (NextFinding 𝓤 H (𝓖 .A) (𝓜 .mem) (𝓡 .run)) 𝓜 𝓡 code.env #next-finding next-finding-def.routine code.calls-formatter·table·next-finding (next-finding-thm.met 𝓤 H 𝓜 𝓖 𝓡);
+      of-next = cited 𝓤 H (NextFinding 𝓤 H (𝓖 .A) (𝓜 .mem) (𝓡 .run)) 𝓜 𝓡 code.env #first-finding first-finding-def.routine code.calls-formatter·table·first-finding (first-finding-thm.met 𝓤 H 𝓜 𝓖 𝓡);
     }))

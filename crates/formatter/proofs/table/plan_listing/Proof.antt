@@ -1,22 +1,22 @@
 -- `formatter::table::plan_listing` meets its contract.
-use mathlib.Core.Path.{_≡_, sym, ap, _∙_}
+use mathlib.Core.Path.{_≡_, sym, _∙_}
 use mathlib.Core.List.{List}
 use Prim.Native.Nat.{ℕ}
 use lib.ListN.{length, length-map}
 use borrow.Author.Needs.{needs}
-use Rattle.policy.specs.declared.Policy.{Policy}
 use Rattle.policy.specs.PolicyBytes.{policyOf}
-use Rattle.formatter.specs.Findings.{findingRow, findings, findingsFrom}
+use Rattle.analysis.specs.Findings.{findingsFrom}
+use Rattle.formatter.specs.Findings.{findingRow, findings}
 use Rattle.formatter.specs.Intake.{intakeRefusal}
 use Rattle.formatter.proofs.Passing.{checked-passed, checked-refused, read-policy}
 use Rattle.formatter.proofs.Storing.{plan-all, plan-refused, plan-short, rowsOf}
 use Rattle.formatter.proofs.table.plan_listing.Statement.{statement}
 use Rattle.formatter.proofs.table.plan_listing.Tie as tie
 
--- The findings counted under the policy that was read.
-counted : (text policy : List ℕ) {p : Policy} {n : ℕ} → p ≡ policyOf policy → n ≡ length (findingsFrom p text 0) → n ≡ length (rowsOf text policy)
+-- The findings counted are the rows.
+counted : (text policy : List ℕ) {n : ℕ} → n ≡ length (findingsFrom (policyOf policy) text 0) → n ≡ length (rowsOf text policy)
 unfolding findings
-counted text policy {p} q e = e ∙ ap (λ (r : Policy). length (findingsFrom r text 0)) q ∙ sym (length-map (findingsFrom (policyOf policy) text 0) (findingRow (policyOf policy)))
+counted text policy e = e ∙ sym (length-map (findingsFrom (policyOf policy) text 0) (findingRow (policyOf policy)))
 
 read-policy-requires : tie.Need-read-policy-requires
 read-policy-requires c κs = search needs
@@ -49,7 +49,7 @@ returns-2 c =
     let p = x .policy .now in
     let e = checked-passed (intakeRefusal t p) (sym (c .before .before .before .before .intake .ensures) ∙ c .before .before .enum-told .given .1) in
     let q = read-policy p (c .before .before .before .before .before .before .read-policy .ensures) in
-    plan-short t p (x .room) q e (counted t p q (c .before .count-findings .ensures)) (c .if1 .taken)
+    plan-short t p (x .room) q e (counted t p (c .before .count-findings .ensures .0)) (c .if1 .taken)
 
 returns-3 : tie.Need-returns-3
 returns-3 c =
@@ -58,7 +58,7 @@ returns-3 c =
     let p = x .policy .now in
     let e = checked-passed (intakeRefusal t p) (sym (c .before .before .before .before .intake .ensures) ∙ c .before .before .enum-told .given .1) in
     let q = read-policy p (c .before .before .before .before .before .before .read-policy .ensures) in
-    plan-all t p (x .room) q e (counted t p q (c .before .count-findings .ensures)) (c .if1 .left)
+    plan-all t p (x .room) q e (counted t p (c .before .count-findings .ensures .0)) (c .if1 .left)
 
 pub plan-listing-spec : {M : Type 1} → statement M
 plan-listing-spec =

@@ -1,25 +1,42 @@
--- The first word has the first 64 entries.
-use mathlib.Core.Path.{ap, sym, _∙_}
-use Prim.Native.Nat.{ℕ, _%_}
+-- The first twelve entries are the bits of the first byte and of half of the second.
+use mathlib.Core.Path.{refl, ap, sym, _∙_}
+use mathlib.Core.Bool.{Bool, _&&_}
+use Prim.Native.Nat.{_%_}
+use native.Mathlib.Omega.{arith}
 use lib.Dec.{eqb}
-use Rattle.policy.proofs.ByEntry.{ascii-keys-word}
+use lib.ListN.{getD}
 use borrow.Author.Needs.{needs}
+use borrow.Author.Tests.{eq-eqb, ne-eqb}
+use Rattle.policy.proofs.ByEntry.{ascii-keys-bytes}
 use Rattle.policy.proofs.policy_bytes.ascii_keys_bare.Statement.{statement}
 use Rattle.policy.proofs.policy_bytes.ascii_keys_bare.Tie as tie
 
-read-word-requires : tie.Need-read-word-requires
-read-word-requires c κs = search needs
-
-add-result : tie.Need-add-result
-add-result c = search needs
-
-rem-result : tie.Need-rem-result
-rem-result c = search needs
+byte-at-requires : tie.Need-byte-at-requires
+byte-at-requires c κs = search needs
 
 returns : tie.Need-returns
 returns c =
-    ap (λ (w : ℕ). eqb (w % 4096) 4095) (c .read-word .ensures)
-    ∙ sym (ascii-keys-word (c .before .before .args .bytes .now))
+    let x = c .before .before in
+    let bs = x .before .args .bytes .now in
+    let a = c .before .byte-at in
+    let b = getD bs 1 0 in
+    sym
+    (ascii-keys-bytes bs (a .result) b (a .ensures) refl (omega (arith, a .ensures, x .shared-slice-known .given 0 .fits))
+    ∙ ap (λ (t : Bool). t && eqb (b % 16) 0xF) (ne-eqb (a .result) 0xFF (c .if1 .taken)))
+
+byte-at-requires-2 : tie.Need-byte-at-requires-2
+byte-at-requires-2 c κs = search needs
+
+returns-2 : tie.Need-returns-2
+returns-2 c =
+    let x = c .before .before .before in
+    let bs = x .before .args .bytes .now in
+    let a = c .before .before .byte-at in
+    let b = c .byte-at2 in
+    sym
+    (ascii-keys-bytes bs (a .result) (b .result) (a .ensures) (b .ensures)
+    (omega (arith, a .ensures, x .shared-slice-known .given 0 .fits))
+    ∙ ap (λ (t : Bool). t && eqb (b .result % 16) 0xF) (eq-eqb (a .result) 0xFF (c .before .if1 .left)))
 
 pub ascii-keys-bare-spec : {M : Type 1} → statement M
-ascii-keys-bare-spec = tie.close (tie.spec read-word-requires add-result rem-result returns)
+ascii-keys-bare-spec = tie.close (tie.spec byte-at-requires returns byte-at-requires-2 returns-2)

@@ -1,61 +1,39 @@
 -- `scanner::char_class::peek` meets its contract: the character that is read, its class, and as many bytes on as it has.
-use mathlib.Core.Path.{sym, _∙_}
 use native.Mathlib.Omega.{arith}
 use borrow.Author.Needs.{needs}
-use Rattle.utf8.proofs.Places.{step, stop-ill-formed, stop-end}
+use Rattle.utf8.proofs.Packed.{packed-step, packed-stop}
 use Rattle.scanner.proofs.Peek.{not-peeked, peeked}
 use Rattle.scanner.proofs.char_class.peek.Statement.{statement}
 use Rattle.scanner.proofs.char_class.peek.Tie as tie
 
-read-char-requires : tie.Need-read-char-requires
-read-char-requires c κs = search needs
+decode-requires : tie.Need-decode-requires
+decode-requires c κs = search needs
 
-enum-known-value : tie.Need-enum-known-value
-enum-known-value c = search needs
+returns : tie.Need-returns
+returns c =
+    let x = c .before .before .before .args in
+    not-peeked (x .text .now) (x .at) (packed-stop (x .text .now) (x .at) (c .before .decode .result) (c .before .decode .ensures) (c .if1 .taken))
 
 class-of-requires : tie.Need-class-of-requires
 class-of-requires c κs = search needs
 
+cast-end : tie.Need-cast-end
+cast-end c = search needs
+
 add-end : tie.Need-add-end
 add-end c =
-    let x = c .before .before .before .before .before .before .args in
-    let g = c .before .before .value .given in
-    let k = step (x .text .now) (x .at) (g .0 .0) (g .0 .1 .0) (sym (c .before .before .before .before .read-char .ensures) ∙ g .1) in
-    omega arith
-
-enum-told : tie.Need-enum-told
-enum-told c = search needs
-
-enum-told-2 : tie.Need-enum-told-2
-enum-told-2 c = search needs
-
-returns : tie.Need-returns
-returns c =
-    let x = c .before .before .before .before .before .before .args in
-    let g = c .before .before .value .given in
-    peeked (x .text .now) (x .at) (g .0 .0) (g .0 .1 .0) (c .class-of .result)
-    (step (x .text .now) (x .at) (g .0 .0) (g .0 .1 .0) (sym (c .before .before .before .before .read-char .ensures) ∙ g .1)) (c .class-of .ensures)
+    let x = c .before .before .before .before .args in
+    let d = c .before .before .decode in
+    let k = packed-step (x .text .now) (x .at) (d .result) (d .ensures) (c .before .if1 .left) in
+    omega (arith, k .room)
 
 returns-2 : tie.Need-returns-2
 returns-2 c =
     let x = c .before .before .before .before .args in
-    not-peeked (x .text .now) (x .at) (stop-ill-formed (x .text .now) (x .at) (sym (c .before .before .read-char .ensures) ∙ c .enum-told .given .1))
-
-returns-3 : tie.Need-returns-3
-returns-3 c =
-    let x = c .before .before .before .before .args in
-    not-peeked (x .text .now) (x .at) (stop-end (x .text .now) (x .at) (sym (c .before .before .read-char .ensures) ∙ c .enum-told2 .given .1))
+    let d = c .before .before .decode in
+    let k = packed-step (x .text .now) (x .at) (d .result) (d .ensures) (c .before .if1 .left) in
+    peeked (x .text .now) (x .at) _ _ (c .class-of .result) k (c .class-of .ensures)
 
 pub peek-spec : {M : Type 1} → statement M
 peek-spec =
-    tie.close
-    (tie.spec
-    read-char-requires
-    enum-known-value
-    class-of-requires
-    add-end
-    enum-told
-    enum-told-2
-    returns
-    returns-2
-    returns-3)
+    tie.close (tie.spec decode-requires returns class-of-requires cast-end add-end returns-2)

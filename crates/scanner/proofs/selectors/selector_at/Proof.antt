@@ -1,43 +1,54 @@
--- `scanner::selectors::selector_at` meets its contract: what the first character asks for, if there is one.
-use mathlib.Core.Path.{ap, sym, _∙_}
+-- `scanner::selectors::selector_at` meets its contract: the three bytes of a selector, or others.
+use mathlib.Core.Path.{sym, _∙_}
+use Rattle.unicode.specs.declared.presentation.Presentation.the-variants.{Emoji, Text}
+use Rattle.scanner.proofs.SelectorBytes.{no-last, no-selector-read, selector-bytes, selector-read}
 use borrow.Author.Needs.{needs}
-use Rattle.scanner.specs.SelectorRun.{firstSelector}
-use Rattle.scanner.proofs.Peek.{seen, unseen}
 use Rattle.scanner.proofs.selectors.selector_at.Statement.{statement}
 use Rattle.scanner.proofs.selectors.selector_at.Tie as tie
 
-peek-requires : tie.Need-peek-requires
-peek-requires c κs = search needs
-
-enum-known-value : tie.Need-enum-known-value
-enum-known-value c = search needs
-
-from-selector-requires : tie.Need-from-selector-requires
-from-selector-requires c κs = search needs
-
-enum-told : tie.Need-enum-told
-enum-told c = search needs
+byte-at-requires : tie.Need-byte-at-requires
+byte-at-requires c κs = search needs
 
 returns : tie.Need-returns
-unfolding firstSelector
 returns c =
-    let x = c .before .before .before .before .before .before .args in
-    let k = seen (x .text .now) (x .at) (sym (c .before .before .before .before .peek .ensures) ∙ c .before .before .value .given .1) in
-    c .from-selector .ensures ∙ ap firstSelector (sym (k .chars-on))
+    let x = c .before .before .before .args in
+    no-selector-read (x .text .now) (x .at) (λ q e. c .if1 .taken (c .before .byte-at .ensures ∙ selector-bytes (x .text .now) (x .at) q e .0))
+
+byte-at-requires-2 : tie.Need-byte-at-requires-2
+byte-at-requires-2 c κs = search needs
 
 returns-2 : tie.Need-returns-2
-unfolding firstSelector
 returns-2 c =
-    let x = c .before .before .before .before .args in
-    ap firstSelector (sym (unseen (x .text .now) (x .at) (sym (c .before .before .peek .ensures) ∙ c .enum-told .given .1) .chars-none))
+    let x = c .before .before .before .before .before .args in
+    no-selector-read (x .text .now) (x .at) (λ q e. c .if2 .taken (c .before .byte-at2 .ensures ∙ selector-bytes (x .text .now) (x .at) q e .1))
+
+byte-at-requires-3 : tie.Need-byte-at-requires-3
+byte-at-requires-3 c κs = search needs
+
+returns-3 : tie.Need-returns-3
+returns-3 c =
+    let x = c .before .before .before .before .before .before .before .args in
+    selector-read (x .text .now) (x .at) Text (sym (c .before .before .before .before .before .byte-at .ensures) ∙ c .before .before .before .before .if1 .left) (sym (c .before .before .before .byte-at2 .ensures) ∙ c .before .before .if2 .left) (sym (c .before .byte-at3 .ensures) ∙ c .if3 .taken)
+
+returns-4 : tie.Need-returns-4
+returns-4 c =
+    let x = c .before .before .before .before .before .before .before .before .args in
+    selector-read (x .text .now) (x .at) Emoji (sym (c .before .before .before .before .before .before .byte-at .ensures) ∙ c .before .before .before .before .before .if1 .left) (sym (c .before .before .before .before .byte-at2 .ensures) ∙ c .before .before .before .if2 .left) (sym (c .before .before .byte-at3 .ensures) ∙ c .if4 .taken)
+
+returns-5 : tie.Need-returns-5
+returns-5 c =
+    let x = c .before .before .before .before .before .before .before .before .args in
+    no-last (x .text .now) (x .at) (c .before .before .byte-at3 .result) (c .before .before .byte-at3 .ensures) (c .before .if3 .left) (c .if4 .left)
 
 pub selector-at-spec : {M : Type 1} → statement M
 selector-at-spec =
     tie.close
     (tie.spec
-    peek-requires
-    enum-known-value
-    from-selector-requires
-    enum-told
+    byte-at-requires
     returns
-    returns-2)
+    byte-at-requires-2
+    returns-2
+    byte-at-requires-3
+    returns-3
+    returns-4
+    returns-5)

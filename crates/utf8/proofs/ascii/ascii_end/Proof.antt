@@ -1,40 +1,52 @@
 -- `utf8::ascii::ascii_end` meets its contract. The loop's invariant: what was passed is a run of ASCII.
 -- The measure is the number of bytes left.
-use Prim.Native.Nat.{_-_}
+use mathlib.Core.Path.{_≡_, ap, _∙_, subst}
+use Prim.Native.Nat.{ℕ, _+_, _-_}
 use native.Mathlib.Omega.{arith}
-use lib.ListN.{length, getD}
+use lib.Count.{trailingZeros, trailing-of-zero}
+use lib.ListN.{length}
 use borrow.Author.Needs.{needs}
-use Rattle.utf8.specs.Ascii.{AsciiRun}
-use Rattle.utf8.proofs.AsciiRuns.{run-none, run-on, up-to-one}
+use Rattle.utf8.specs.Ascii.{AllUpTo, AsciiRun}
+use Rattle.utf8.proofs.AsciiRuns.{run-none, run-on}
+use Rattle.utf8.proofs.AsciiWords.{high, front-bytes}
 use Rattle.utf8.proofs.ascii.ascii_end.Statement.{statement}
 use Rattle.utf8.proofs.ascii.ascii_end.Tie as tie
 
 abbrev Inv-loop : tie.InvT-loop
-Inv-loop s from at₀ at = AsciiRun s from at
+Inv-loop s from last at₀ at = AsciiRun s from at
 
 abbrev μ-loop : tie.MeasureT-loop
-μ-loop s from at₀ at = length s - at
+μ-loop s from last at₀ at = length s - at
+
+run-end-requires : tie.Need-run-end-requires Inv-loop μ-loop
+run-end-requires c κs = search needs
 
 returns : tie.Need-returns Inv-loop μ-loop
-returns c = let x = c .before .before .args in run-none (x .s .now) (x .from)
+returns c = c .run-end .ensures
 
-shared-slice-read-if2 : tie.Need-shared-slice-read-if2 Inv-loop μ-loop
-shared-slice-read-if2 c = omega arith
-
-returns-2 : tie.Need-returns-2 Inv-loop μ-loop
-returns-2 c = let x = c .before .before .before .before .args in run-none (x .s .now) (x .from)
-
-blocks-end-requires : tie.Need-blocks-end-requires Inv-loop μ-loop
-blocks-end-requires c κs = search needs
+sub-last : tie.Need-sub-last Inv-loop μ-loop
+sub-last c = search needs
 
 loop-holds : tie.Need-loop-holds Inv-loop μ-loop
-loop-holds c = c .blocks-end .ensures
+loop-holds c = run-none (c .before .before .args .s .now) (c .before .before .args .from)
 
-shared-slice-read-if3 : tie.Need-shared-slice-read-if3 Inv-loop μ-loop
-shared-slice-read-if3 c = omega arith
+read-word-requires : tie.Need-read-word-requires Inv-loop μ-loop
+read-word-requires c κs = search needs
 
-returns-3 : tie.Need-returns-3 Inv-loop μ-loop
-returns-3 c = c .before .before .before .loop .inv
+zero-bytes-requires : tie.Need-zero-bytes-requires Inv-loop μ-loop
+zero-bytes-requires c κs = search needs
+
+add-result : tie.Need-add-result Inv-loop μ-loop
+add-result c = omega arith
+
+returns-2 : tie.Need-returns-2 Inv-loop μ-loop
+returns-2 c =
+    let x = c .before .before .before .before in
+    let y = x .before .before in
+    let w = c .before .before .read-word in
+    let n = c .zero-bytes .result in
+    let front = front-bytes (y .before .args .s .now) (x .loop .at) (w .ensures) (λ j. y .shared-slice-known .given j .fits) in
+    run-on 0x7F n (x .loop .inv) (front n (omega arith)) (omega arith) (omega arith)
 
 add-at : tie.Need-add-at Inv-loop μ-loop
 add-at c = omega arith
@@ -44,12 +56,33 @@ loop-less c = omega arith
 
 loop-again : tie.Need-loop-again Inv-loop μ-loop
 loop-again c =
-    let s = c .before .before .before .before .before .before .before .before .before .args .s .now in
-    let at = c .before .before .before .loop .at in
-    run-on (getD s at 0) 1 (c .before .before .before .loop .inv) (up-to-one s at) (omega arith) (omega arith)
+    let x = c .before .before .before in
+    let y = x .before .before in
+    let w = c .before .read-word in
+    let all : trailingZeros 64 (high (w .result)) ≡ 64 = ap (trailingZeros 64) (c .if2 .left) ∙ trailing-of-zero 64 in
+    let front = front-bytes (y .before .args .s .now) (x .loop .at) (w .ensures) (λ j. y .shared-slice-known .given j .fits) in
+    run-on 0x7F 8 (x .loop .inv) (front 8 (omega arith)) (omega arith) (omega arith)
+
+returns-3 : tie.Need-returns-3 Inv-loop μ-loop
+returns-3 c = c .before .before .loop .inv
+
+sub-ascii-in-word : tie.Need-sub-ascii-in-word Inv-loop μ-loop
+sub-ascii-in-word c = omega arith
+
+ascii-in-word-requires : tie.Need-ascii-in-word-requires Inv-loop μ-loop
+ascii-in-word-requires c κs = omega arith
+
+add-result-2 : tie.Need-add-result-2 Inv-loop μ-loop
+add-result-2 c = omega arith
 
 returns-4 : tie.Need-returns-4 Inv-loop μ-loop
-returns-4 c = c .before .loop .inv
+returns-4 c =
+    let x = c .before .before .before in
+    let s = x .before .before .before .args .s .now in
+    let a = c .ascii-in-word in
+    let e : length s - 8 + (x .loop .at - (length s - 8)) ≡ x .loop .at = omega arith in
+    run-on 0x7F (a .result) (x .loop .inv) (subst (λ (k : ℕ). AllUpTo 0x7F s k (a .result)) e (a .ensures .0))
+    (omega arith) (omega arith)
 
 pub ascii-end-spec : {M : Type 1} → statement M
 ascii-end-spec =
@@ -57,14 +90,19 @@ ascii-end-spec =
     (tie.spec
     Inv-loop
     μ-loop
+    run-end-requires
     returns
-    shared-slice-read-if2
-    returns-2
-    blocks-end-requires
+    sub-last
     loop-holds
-    shared-slice-read-if3
-    returns-3
+    read-word-requires
+    zero-bytes-requires
+    add-result
+    returns-2
     add-at
     loop-less
     loop-again
+    returns-3
+    sub-ascii-in-word
+    ascii-in-word-requires
+    add-result-2
     returns-4)

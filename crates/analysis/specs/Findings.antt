@@ -1,0 +1,21 @@
+-- The findings of a text under a policy, in text order, with their starts in bytes, and the totals of items (document 01, "Counts and
+-- finding").
+use mathlib.Core.List.{List, [], _∷_}
+use Prim.Native.Nat.{ℕ}
+use lib.ListN.{drop}
+use Rattle.utf8.specs.Rfc3629.{chars}
+use Rattle.policy.specs.declared.Policy.{Policy}
+use Rattle.scanner.specs.Items.{Item, items}
+use Rattle.scanner.specs.Spans.{Found, found, width}
+use Rattle.analysis.specs.Analysis.{isFinding, nonCanonicality}
+use Rattle.analysis.specs.Counts.{_⊕_, empty}
+use Rattle.analysis.specs.declared.types.NonCanonicality.{NonCanonicality}
+
+-- "A finding exists if some count is not 0": the items of a text from a byte offset on that are findings.
+abbrev pub findingsFrom : Policy → List ℕ → ℕ → List Found
+findingsFrom p text at = found (isFinding p) width at (items (chars (drop at text)))
+
+-- "A total is the sum of one count over the findings": all eight, of items.
+unfoldable pub totals : Policy → List Item → NonCanonicality
+totals p [] = empty
+totals p (x ∷ xs) = nonCanonicality p x ⊕ totals p xs

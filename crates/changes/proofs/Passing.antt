@@ -1,0 +1,159 @@
+-- Where no finding begins, and where one does: by the items from an offset on and the totals before and behind an item.
+use mathlib.Core.Path.{_≡_, refl, ap, sym, _∙_, subst}
+use mathlib.Core.Bool.{Bool, true, false, not}
+use mathlib.Core.List.{List, _∷_, _++_}
+use Prim.Native.Nat.{ℕ, suc, _+_, _-_, _≤_, _<_}
+use native.Mathlib.Omega.{arith}
+use lib.ListN.{drop, length, length-drop}
+use borrow.Author.Tests.{eq-eqb, ne-eqb}
+use Rattle.utf8.specs.Rfc3629.{chars, validUpTo}
+use Rattle.utf8.proofs.Places.{Step}
+use Rattle.utf8.proofs.Texts.{validUpTo-le}
+use Rattle.policy.specs.PolicyBytes.{asciiKeysBare, policyOf}
+use Rattle.policy.specs.declared.Policy.{Policy}
+use Rattle.policy.proofs.ByEntry.{ascii-rule-bare}
+use Rattle.scanner.specs.Classes.{classOf}
+use Rattle.scanner.specs.Items.{Item, begin, cut, items, join, kindOf}
+use Rattle.scanner.specs.Spans.{found, size, width}
+use Rattle.scanner.specs.declared.char_class.Class.the-variants.{Other as other}
+use Rattle.scanner.specs.declared.place.Place.{Place}
+use Rattle.scanner.specs.declared.place.Place.the-variants.{Plain as plain}
+use Rattle.scanner.proofs.Bytes.{chars-from, size-chars, width-some}
+use Rattle.scanner.proofs.Rescan.{found-items, found-none, found-skip, size-append}
+use Rattle.scanner.proofs.Tiling.{Filled, and-item, filled, items-tail, tiling}
+use Rattle.analysis.specs.Analysis.{isFinding, nonCanonicality}
+use Rattle.analysis.specs.CellView.{totalCells}
+use Rattle.analysis.specs.Counts.{total}
+use Rattle.analysis.specs.Findings.{findingsFrom}
+use Rattle.analysis.proofs.Items.{passthrough-no-finding}
+use Rattle.changes.specs.Changes.{AsciiBare, totalFrom}
+use Rattle.changes.specs.Findings.{Finds, Passes, Skips}
+use Rattle.changes.proofs.CellsOfItems.{total-first}
+use Rattle.changes.proofs.PlainText.{other-plain, stays-plain}
+use Rattle.changes.proofs.Staying.{stays-here, stays-on}
+
+-- ---- the item at an offset, up to its end, and the items behind it
+
+pub record ItemAt (text : List ℕ) (at : ℕ) (x : Item) (xs : List Item) : Type 0 where
+  pub some : at < at + size width (x .chars)
+  pub room : at + size width (x .chars) ≤ length text
+  pub bytes : chars (drop at text) ≡ x .chars ++ join xs
+  pub text-behind : chars (drop (at + size width (x .chars)) text) ≡ join xs
+  pub behind : items (chars (drop (at + size width (x .chars)) text)) ≡ xs
+
+pub filled-some : {x : Item} {xs : List Item} → Filled (x ∷ xs) → 1 ≤ size width (x .chars)
+filled-some (and-item c s l h) = let k = width-some c in omega (arith, ap (size width) l)
+
+pub item-at : (text : List ℕ) (at : ℕ) {x : Item} {xs : List Item} → items (chars (drop at text)) ≡ x ∷ xs → ItemAt text at x xs
+item-at text at {x} {xs} e =
+    let t = chars (drop at text) in
+    let c : t ≡ x .chars ++ join xs = sym (tiling t) ∙ ap join e in
+    let s = filled-some (subst (λ (l : List Item). Filled l) e (filled t)) in
+    let b = chars-from text at (x .chars) (join xs) c in
+    record {
+      some = omega arith;
+      room = omega (arith, size-chars (drop at text), validUpTo-le (drop at text), length-drop at text, ap (size width) c, size-append width (x .chars) (join xs));
+      bytes = c;
+      text-behind = b;
+      behind = ap items b ∙ items-tail t x xs e;
+    }
+
+-- ---- stretches without a finding
+
+module _ {p : Policy} {text : List ℕ} where
+  pub passes-here : (i : ℕ) → Passes p text i i
+  passes-here i = record { on = omega arith; inside = λ h. h; same = refl; valid = omega arith }
+
+  pub passes-on : {i j k : ℕ} → Passes p text i j → Passes p text j k → Passes p text i k
+  passes-on a b =
+      let l = a .on in
+      let m = b .on in
+      let v = a .valid in
+      let w = b .valid in
+      record { on = omega arith; inside = λ h. b .inside (a .inside h); same = a .same ∙ b .same; valid = omega arith }
+
+-- ---- an item, by the totals before and behind it
+
+module _ (p : Policy) (text : List ℕ) (at end : ℕ) {x : Item} {xs : List Item} (e : items (chars (drop at text)) ≡ x ∷ xs) (f : end ≡ at + size width (x .chars)) where
+  h : ItemAt text at x xs
+  h = item-at text at e
+
+  pub item-total : totalFrom p text at ≡ total (nonCanonicality p x) + totalFrom p text end
+  item-total =
+      omega (arith, ap total (total-first p (chars (drop at text)) x xs e), ap (λ (t : List ℕ). total (totalCells p t)) (sym (h .text-behind)), ap (totalFrom p text) (sym f))
+
+  pub item-valid : validUpTo (drop at text) ≡ (end - at) + validUpTo (drop end text)
+  item-valid =
+      omega (arith, f, size-chars (drop at text), size-chars (drop (at + size width (x .chars)) text), ap (size width) (h .bytes), ap (size width) (h .text-behind), size-append width (x .chars) (join xs), ap (λ (n : ℕ). validUpTo (drop n text)) f)
+
+  pub quiet-item : totalFrom p text at ≡ totalFrom p text end → Passes p text at end
+  quiet-item q =
+      let z : total (nonCanonicality p x) ≡ 0 = omega (arith, item-total) in
+      let n : isFinding p x ≡ false = ap not (eq-eqb _ 0 z) in
+      let s = h .some in
+      let r = h .room in
+      record {
+        on = omega arith;
+        inside = λ _. omega arith;
+        same =
+            ap (found (isFinding p) width at) e ∙ found-none (isFinding p) width at x xs n
+            ∙ ap (found (isFinding p) width (at + size width (x .chars))) (sym (h .behind))
+            ∙ ap (findingsFrom p text) (sym f);
+        valid = item-valid;
+      }
+
+  pub loud-item : (n : ℕ) → totalFrom p text at ≡ suc n + totalFrom p text end → Finds p text at end
+  loud-item n q = record {
+    item = x;
+    behind = xs;
+    items-are = e;
+    end-is = f;
+    is-finding = ap not (ne-eqb (total (nonCanonicality p x)) 0 (λ z. omega (arith, item-total)));
+  }
+
+-- ---- plain characters
+
+pub step-width : {text : List ℕ} {at v w : ℕ} → Step text at v w → width v ≡ w
+step-width {text} {at} {v} {w} s =
+    omega (arith, size-chars (drop at text), size-chars (drop (at + w) text), ap (size width) (s .chars-on), s .validUpTo-on)
+
+-- No finding begins in passthrough, and behind a character of it the same findings follow.
+pub passes-plain : (p : Policy) {text : List ℕ} {at v w : ℕ} → Step text at v w → begin (classOf v) ≡ plain → Passes p text at (at + w)
+unfolding items kindOf
+passes-plain p {text} {at} {v} {w} s b =
+    let t = chars (drop (at + w) text) in
+    let x : Item = record { kind = kindOf (begin (classOf v)); chars = v ∷ (cut (begin (classOf v)) t) .0 } in
+    let n : at + size width (v ∷ (cut plain t) .0) ≡ at + w + size width ((cut plain t) .0) = omega (arith, step-width s) in
+    record {
+      on = omega arith;
+      inside = λ _. s .room;
+      same =
+          ap (λ (l : List ℕ). found (isFinding p) width at (items l)) (s .chars-on)
+          ∙ found-skip (isFinding p) width (passthrough-no-finding p) at x ((cut (begin (classOf v)) t) .1) (ap kindOf b)
+          ∙ ap (λ (q : Place). found (isFinding p) width (at + size width (v ∷ (cut q t) .0)) ((cut q t) .1)) b
+          ∙ ap (λ (m : ℕ). found (isFinding p) width m ((cut plain t) .1)) n
+          ∙ sym (found-items (isFinding p) width (passthrough-no-finding p) (at + w) t);
+      valid = omega (arith, s .validUpTo-on);
+    }
+
+-- ---- plain text: its bytes stay too
+
+module _ {p : Policy} {text : List ℕ} where
+  pub skips-here : (i : ℕ) → Skips p text i i
+  skips-here i = (stays-here i, passes-here i)
+
+  pub skips-on : {i j k : ℕ} → Skips p text i j → Skips p text j k → Skips p text i k
+  skips-on a b = (stays-on (a .0) (b .0), passes-on (a .1) (b .1))
+
+pub skips-other : (p : Policy) {text : List ℕ} {at v w : ℕ} → Step text at v w → classOf v ≡ other → Skips p text at (at + w)
+unfolding begin
+skips-other p {v = v} s e = (stays-plain p s (other-plain v e), passes-plain p s (ap begin e))
+
+-- Plain text passed by what the policy's bytes say of the ASCII bases, as the code does.
+pub passed : (policy text : List ℕ) {at to : ℕ} {bare : Bool} → bare ≡ asciiKeysBare policy → ((p : Policy) → (bare ≡ true → AsciiBare p) → Skips p text at to)
+    → Passes (policyOf policy) text at to
+passed policy text e s = s (policyOf policy) (λ t. ascii-rule-bare policy (sym e ∙ t)) .1
+
+pub passes-skip : (policy text : List ℕ) {from at to : ℕ} {bare : Bool} → bare ≡ asciiKeysBare policy → Passes (policyOf policy) text from at
+    → ((p : Policy) → (bare ≡ true → AsciiBare p) → Skips p text at to) → Passes (policyOf policy) text from to
+passes-skip policy text e a s = passes-on a (passed policy text e s)

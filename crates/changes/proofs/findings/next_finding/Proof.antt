@@ -1,0 +1,164 @@
+-- `changes::findings::next_finding` meets its contract. The loop's invariant: up to `at` no finding begins. The measure is the number of
+-- bytes left.
+use mathlib.Core.Path.{refl, ap, sym, _∙_}
+use mathlib.Core.Bool.{true≢false}
+use Prim.Native.Nat.{_-_}
+use native.Mathlib.Omega.{arith}
+use borrow.Author.Needs.{needs}
+use lib.ListN.{drop, length}
+use Rattle.utf8.proofs.Packed.{packed-reads, packed-step, packed-stop}
+use Rattle.policy.specs.PolicyBytes.{policyOf}
+use Rattle.scanner.specs.Items.{begin}
+use Rattle.analysis.proofs.CellsAt.{selectors-end}
+use Rattle.changes.specs.Findings.{Passes}
+use Rattle.changes.proofs.Passing.{passed, passes-here, passes-on, passes-plain, passes-skip}
+use Rattle.changes.proofs.Walking.{selectors-find, structured-place}
+use Rattle.changes.proofs.findings.next_finding.Statement.{statement}
+use Rattle.changes.proofs.findings.next_finding.Tie as tie
+
+abbrev Inv-loop : tie.InvT-loop
+Inv-loop text policy from bare at₀ at = Passes (policyOf policy) text from at
+
+abbrev μ-loop : tie.MeasureT-loop
+μ-loop text policy from bare at₀ at = length text - at
+
+ascii-keys-bare-requires : tie.Need-ascii-keys-bare-requires Inv-loop μ-loop
+ascii-keys-bare-requires c κs = search needs
+
+loop-holds : tie.Need-loop-holds Inv-loop μ-loop
+loop-holds c = passes-here _
+
+skip-bare-ascii-requires : tie.Need-skip-bare-ascii-requires Inv-loop μ-loop
+skip-bare-ascii-requires c κs = search needs
+
+decode-requires : tie.Need-decode-requires Inv-loop μ-loop
+decode-requires c κs = search needs
+
+returns : tie.Need-returns Inv-loop μ-loop
+returns c =
+    let x = c .before .before .before .before .before .before .before .args in
+    let p = policyOf (x .policy .now) in
+    let a = passes-skip (x .policy .now) (x .text .now) (c .before .before .before .before .ascii-keys-bare .ensures) (c .before .before .before .loop .inv) (c .before .before .skip-bare-ascii .ensures) in
+    let z = packed-stop (x .text .now) (c .before .before .skip-bare-ascii .result) (c .before .decode .result) (c .before .decode .ensures) (c .if1 .taken) in
+    (a, λ f. absurd (true≢false (sym f)), λ _. (z .chars-none, refl))
+
+cast-width : tie.Need-cast-width Inv-loop μ-loop
+cast-width c = search needs
+
+classify-requires : tie.Need-classify-requires Inv-loop μ-loop
+classify-requires c κs = search needs
+
+begin-requires : tie.Need-begin-requires Inv-loop μ-loop
+begin-requires c κs = search needs
+
+enum-told : tie.Need-enum-told Inv-loop μ-loop
+enum-told c = search needs
+
+add-skip-letters : tie.Need-add-skip-letters Inv-loop μ-loop
+add-skip-letters c =
+    let x = c .before .before .before .before .before .before .before .before .before .before .before .args in
+    let p = policyOf (x .policy .now) in
+    let a = passes-skip (x .policy .now) (x .text .now) (c .before .before .before .before .before .before .before .before .ascii-keys-bare .ensures) (c .before .before .before .before .before .before .before .loop .inv) (c .before .before .before .before .before .before .skip-bare-ascii .ensures) in
+    let s = packed-step (x .text .now) (c .before .before .before .before .before .before .skip-bare-ascii .result) (c .before .before .before .before .before .decode .result) (c .before .before .before .before .before .decode .ensures) (c .before .before .before .before .if1 .left) in
+    omega (arith, s .room, c .before .before .before .before .before .before .before .before .before .before .before .good .0 .0)
+
+skip-letters-requires : tie.Need-skip-letters-requires Inv-loop μ-loop
+skip-letters-requires c κs = search needs
+
+loop-less : tie.Need-loop-less Inv-loop μ-loop
+loop-less c =
+    let x = c .before .before .before .before .before .before .before .before .before .before .before .before .args in
+    let p = policyOf (x .policy .now) in
+    let k = passed (x .policy .now) (x .text .now) (c .before .before .before .before .before .before .before .before .before .ascii-keys-bare .ensures) (c .before .before .before .before .before .before .before .skip-bare-ascii .ensures) in
+    let s = packed-step (x .text .now) (c .before .before .before .before .before .before .before .skip-bare-ascii .result) (c .before .before .before .before .before .before .decode .result) (c .before .before .before .before .before .before .decode .ensures) (c .before .before .before .before .before .if1 .left) in
+    let q = c .skip-letters .ensures p .0 in
+    omega (arith, k .on, s .some, s .room, q .on, q .inside (s .room))
+
+loop-again : tie.Need-loop-again Inv-loop μ-loop
+loop-again c =
+    let x = c .before .before .before .before .before .before .before .before .before .before .before .before .args in
+    let p = policyOf (x .policy .now) in
+    let a = passes-skip (x .policy .now) (x .text .now) (c .before .before .before .before .before .before .before .before .before .ascii-keys-bare .ensures) (c .before .before .before .before .before .before .before .before .loop .inv) (c .before .before .before .before .before .before .before .skip-bare-ascii .ensures) in
+    let s = packed-step (x .text .now) (c .before .before .before .before .before .before .before .skip-bare-ascii .result) (c .before .before .before .before .before .before .decode .result) (c .before .before .before .before .before .before .decode .ensures) (c .before .before .before .before .before .if1 .left) in
+    let b = ap begin (sym (c .before .before .before .before .classify .ensures .0)) ∙ sym (c .before .before .before .begin .ensures) ∙ c .before .enum-told .given .1 in
+    passes-on (passes-on a (passes-plain p s b)) (c .skip-letters .ensures p .1)
+
+enum-told-2 : tie.Need-enum-told-2 Inv-loop μ-loop
+enum-told-2 c = search needs
+
+selectors-end-requires : tie.Need-selectors-end-requires Inv-loop μ-loop
+selectors-end-requires c κs = search needs
+
+returns-2 : tie.Need-returns-2 Inv-loop μ-loop
+returns-2 c =
+    let x = c .before .before .before .before .before .before .before .before .before .before .before .before .args in
+    let p = policyOf (x .policy .now) in
+    let a = passes-skip (x .policy .now) (x .text .now) (c .before .before .before .before .before .before .before .before .before .ascii-keys-bare .ensures) (c .before .before .before .before .before .before .before .before .loop .inv) (c .before .before .before .before .before .before .before .skip-bare-ascii .ensures) in
+    let s = packed-step (x .text .now) (c .before .before .before .before .before .before .before .skip-bare-ascii .result) (c .before .before .before .before .before .before .decode .result) (c .before .before .before .before .before .before .decode .ensures) (c .before .before .before .before .before .if1 .left) in
+    let b = ap begin (sym (c .before .before .before .before .classify .ensures .0)) ∙ sym (c .before .before .before .begin .ensures) ∙ c .before .enum-told2 .given .1 in
+    (a, λ _. selectors-find p s b (c .selectors-end .result) (c .selectors-end .ensures ∙ selectors-end (x .text .now) (c .before .before .before .before .before .before .before .skip-bare-ascii .result)), λ f. absurd (true≢false f))
+
+walk-items-requires : tie.Need-walk-items-requires Inv-loop μ-loop
+walk-items-requires c κs =
+    let x = c .before .before .before .before .before .before .before .before .before .before .args in
+    let d = c .before .before .before .before .decode in
+    let k = c .before .before .classify .ensures in
+    let b = c .before .begin in (
+      packed-reads (drop (c .before .before .before .before .before .skip-bare-ascii .result) (x .text .now)) (d .result) (d .ensures) (omega (arith, c .before .before .before .if1 .left)),
+      sym (k .1),
+      b .ensures ∙ ap begin (k .0),
+      structured-place (b .result) (c .match .keys3),
+    )
+
+returns-3 : tie.Need-returns-3 Inv-loop μ-loop
+returns-3 c =
+    let x = c .before .before .before .before .before .before .before .before .before .before .before .before .args in
+    let p = policyOf (x .policy .now) in
+    let a = passes-skip (x .policy .now) (x .text .now) (c .before .before .before .before .before .before .before .before .before .ascii-keys-bare .ensures) (c .before .before .before .before .before .before .before .before .loop .inv) (c .before .before .before .before .before .before .before .skip-bare-ascii .ensures) in
+    let s = packed-step (x .text .now) (c .before .before .before .before .before .before .before .skip-bare-ascii .result) (c .before .before .before .before .before .before .decode .result) (c .before .before .before .before .before .before .decode .ensures) (c .before .before .before .before .before .if1 .left) in
+    let w = c .before .walk-items .ensures in
+    (passes-on a (w .0), w .1, λ f. absurd (true≢false (sym (c .if2 .taken) ∙ f)))
+
+loop-less-2 : tie.Need-loop-less-2 Inv-loop μ-loop
+loop-less-2 c =
+    let x = c .before .before .before .before .before .before .before .before .before .before .before .before .args in
+    let p = policyOf (x .policy .now) in
+    let k = passed (x .policy .now) (x .text .now) (c .before .before .before .before .before .before .before .before .before .ascii-keys-bare .ensures) (c .before .before .before .before .before .before .before .skip-bare-ascii .ensures) in
+    let s = packed-step (x .text .now) (c .before .before .before .before .before .before .before .skip-bare-ascii .result) (c .before .before .before .before .before .before .decode .result) (c .before .before .before .before .before .before .decode .ensures) (c .before .before .before .before .before .if1 .left) in
+    let w = c .before .walk-items .ensures in
+    omega (arith, k .on, s .room, s .some, w .2 (c .if2 .left), w .0 .inside (omega (arith, s .room)))
+
+loop-again-2 : tie.Need-loop-again-2 Inv-loop μ-loop
+loop-again-2 c =
+    let x = c .before .before .before .before .before .before .before .before .before .before .before .before .args in
+    let p = policyOf (x .policy .now) in
+    let a = passes-skip (x .policy .now) (x .text .now) (c .before .before .before .before .before .before .before .before .before .ascii-keys-bare .ensures) (c .before .before .before .before .before .before .before .before .loop .inv) (c .before .before .before .before .before .before .before .skip-bare-ascii .ensures) in
+    let s = packed-step (x .text .now) (c .before .before .before .before .before .before .before .skip-bare-ascii .result) (c .before .before .before .before .before .before .decode .result) (c .before .before .before .before .before .before .decode .ensures) (c .before .before .before .before .before .if1 .left) in
+    passes-on a (c .before .walk-items .ensures .0)
+
+pub next-finding-spec : {M : Type 1} → statement M
+next-finding-spec =
+    tie.close
+    (tie.spec
+    Inv-loop
+    μ-loop
+    ascii-keys-bare-requires
+    loop-holds
+    skip-bare-ascii-requires
+    decode-requires
+    returns
+    cast-width
+    classify-requires
+    begin-requires
+    enum-told
+    add-skip-letters
+    skip-letters-requires
+    loop-less
+    loop-again
+    enum-told-2
+    selectors-end-requires
+    returns-2
+    walk-items-requires
+    returns-3
+    loop-less-2
+    loop-again-2)

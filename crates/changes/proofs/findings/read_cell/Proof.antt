@@ -1,0 +1,50 @@
+-- `changes::findings::read_cell` meets its contract: what was read, put together.
+use mathlib.Core.Path.{_∙_}
+use borrow.Author.Needs.{needs}
+use lib.ListN.{drop}
+use Rattle.utf8.specs.Rfc3629.{chars}
+use Rattle.policy.specs.PolicyBytes.{policyOf}
+use Rattle.analysis.proofs.CellsAt.{first-leads, selectors-end}
+use Rattle.changes.proofs.Walking.{read-end}
+use Rattle.changes.proofs.findings.read_cell.Statement.{statement}
+use Rattle.changes.proofs.findings.read_cell.Tie as tie
+
+selector-at-requires : tie.Need-selector-at-requires
+selector-at-requires c κs = search needs
+
+selectors-end-requires : tie.Need-selectors-end-requires
+selectors-end-requires c κs = search needs
+
+decode-requires : tie.Need-decode-requires
+decode-requires c κs = search needs
+
+classify-requires : tie.Need-classify-requires
+classify-requires c κs = search needs
+
+sub-cell-changes : tie.Need-sub-cell-changes
+sub-cell-changes c = search needs
+
+cell-changes-requires : tie.Need-cell-changes-requires
+cell-changes-requires c κs = search needs
+
+returns : tie.Need-returns
+returns c =
+    let x = c .before .before .before .before .before .before .before .args in
+    let e = c .before .before .before .selectors-end in
+    let d = c .before .before .decode in
+    let k = c .before .classify in
+    read-end (policyOf (x .policy .now)) (x .text .now) (x .base) (x .at)
+    (c .before .before .before .before .selector-at .result) (e .result) (d .result) (k .result .class) (k .result .index) (c .cell-changes .result)
+    (c .before .before .before .before .selector-at .ensures ∙ first-leads (chars (drop (x .at) (x .text .now)))) (e .ensures ∙ selectors-end (x .text .now) (x .at)) (d .ensures) (k .ensures .0) (k .ensures .1) (c .cell-changes .ensures)
+
+pub read-cell-spec : {M : Type 1} → statement M
+read-cell-spec =
+    tie.close
+    (tie.spec
+    selector-at-requires
+    selectors-end-requires
+    decode-requires
+    classify-requires
+    sub-cell-changes
+    cell-changes-requires
+    returns)

@@ -1,0 +1,128 @@
+use mathlib.Core.Path.{sym, _∙_, subst}
+use mathlib.Core.Logic.{⊎-elim}
+use mathlib.Core.Bool.{true≢false}
+use Prim.Native.Nat.{_-_}
+use native.Mathlib.Omega.{arith}
+use borrow.Author.Needs.{needs}
+use lib.ListN.{length}
+use Rattle.utf8.proofs.Places.{step}
+use Rattle.policy.specs.PolicyBytes.{policyOf}
+use Rattle.scanner.specs.Classes.{classOf}
+use Rattle.scanner.specs.Items.{kindOf}
+use Rattle.scanner.specs.Theorems.{Structured}
+use Rattle.scanner.specs.declared.place.Place.{Place}
+use Rattle.changes.proofs.Passing.{passes-here}
+use Rattle.changes.proofs.Walking.{Walking, as-changed, begin-char, further, not-plain, now-changed, on-char, reads-next, room, structured-inner, walking-again, walking-begin, walking-finds, walking-on, walking-passes}
+use Rattle.changes.proofs.findings.walk_items.Statement.{statement}
+use Rattle.changes.proofs.findings.walk_items.Tie as tie
+
+abbrev Inv-loop : tie.InvT-loop
+Inv-loop text policy from ch width start₀ base₀ index₀ at₀ place₀ changed₀ start base index at place changed =
+    Walking (policyOf policy) text from start base index at place changed
+
+abbrev μ-loop : tie.MeasureT-loop
+μ-loop text policy from ch width start₀ base₀ index₀ at₀ place₀ changed₀ start base index at place changed =
+    length text - at
+
+add-at : tie.Need-add-at Inv-loop μ-loop
+add-at c =
+    let x = c .before .before .args in
+    let s = step (x .text .now) (x .from) (x .ch) (x .width) (c .before .before .pre .0) in
+    omega (arith, s .room, c .before .before .good .0 .0)
+
+loop-holds : tie.Need-loop-holds Inv-loop μ-loop
+loop-holds c =
+    let x = c .before .before .args in
+    let q = c .before .before .pre in
+    let s = step (x .text .now) (x .from) (x .ch) (x .width) (q .0) in
+    let i = structured-inner (classOf (x .ch)) (subst (λ (y : Place). Structured (kindOf y)) (q .2) (q .3)) in
+    rw (q .2) (walking-begin (policyOf (x .policy .now)) (x .text .now) (x .from) (x .first-index) (passes-here (x .from)) s (q .1) i)
+
+read-cell-requires : tie.Need-read-cell-requires Inv-loop μ-loop
+read-cell-requires c κs = c .loop .inv .entry
+
+step-requires : tie.Need-step-requires Inv-loop μ-loop
+step-requires c κs = search needs
+
+enum-known-next : tie.Need-enum-known-next Inv-loop μ-loop
+enum-known-next c = search needs
+
+enum-told : tie.Need-enum-told Inv-loop μ-loop
+enum-told c = search needs
+
+begin-requires : tie.Need-begin-requires Inv-loop μ-loop
+begin-requires c κs = search needs
+
+returns : tie.Need-returns Inv-loop μ-loop
+returns c =
+    let l = c .before .before .before .before .before .before .before .loop .inv in
+    let r = c .before .before .before .before .before .before .read-cell .ensures in
+    let d = ⊎-elim (λ w. now-changed (c .before .before .before .before .before .before .before .loop .changed) (w .0 .taken) (w .1)) (λ w. as-changed (c .before .before .before .before .before .before .before .loop .changed) (w .0 .left) (w .1)) (c .before .before .before .before .before .if1 .came) in
+    let e = sym (c .before .before .before .before .step .ensures) ∙ c .before .before .enum-told .given .1 in
+    (l .passed, λ _. walking-finds l r d e (c .if2 .taken), λ f. absurd (true≢false f))
+
+enum-told-2 : tie.Need-enum-told-2 Inv-loop μ-loop
+enum-told-2 c = search needs
+
+returns-2 : tie.Need-returns-2 Inv-loop μ-loop
+returns-2 c =
+    let l = c .before .before .before .before .before .before .before .before .before .loop .inv in
+    let r = c .before .before .before .before .before .before .before .before .read-cell .ensures in
+    let d = ⊎-elim (λ w. now-changed (c .before .before .before .before .before .before .before .before .before .loop .changed) (w .0 .taken) (w .1)) (λ w. as-changed (c .before .before .before .before .before .before .before .before .before .loop .changed) (w .0 .left) (w .1)) (c .before .before .before .before .before .before .before .if1 .came) in
+    let e = sym (c .before .before .before .before .before .before .step .ensures) ∙ c .before .before .before .before .enum-told .given .1 in
+    (walking-passes l r d e (c .before .before .if2 .left), λ f. absurd (true≢false (sym f)), λ _. omega (arith, l .passed .on, further l r))
+
+cast-at : tie.Need-cast-at Inv-loop μ-loop
+cast-at c = search needs
+
+add-at-2 : tie.Need-add-at-2 Inv-loop μ-loop
+add-at-2 c =
+    let l = c .before .before .before .before .before .before .loop .inv in
+    let r = c .before .before .before .before .before .read-cell .ensures in
+    let d = ⊎-elim (λ w. now-changed (c .before .before .before .before .before .before .loop .changed) (w .0 .taken) (w .1)) (λ w. as-changed (c .before .before .before .before .before .before .loop .changed) (w .0 .left) (w .1)) (c .before .before .before .before .if1 .came) in
+    let t = c .before .before .before .step .ensures in
+    let n = ⊎-elim (λ w. on-char l r d (w .1 .given .0 .0) (sym t ∙ w .1 .given .1)) (λ w. begin-char l r d (λ e. not-plain (w .2 .result) (w .4 .keys2) (w .2 .ensures ∙ e))) (c .before .before .match .came) in
+    let s = reads-next l r d n in
+    omega (arith, s .room, c .before .before .before .before .before .before .before .before .before .good .0 .0)
+
+loop-less : tie.Need-loop-less Inv-loop μ-loop
+loop-less c =
+    let l = c .before .before .before .before .before .before .loop .inv in
+    let r = c .before .before .before .before .before .read-cell .ensures in
+    let d = ⊎-elim (λ w. now-changed (c .before .before .before .before .before .before .loop .changed) (w .0 .taken) (w .1)) (λ w. as-changed (c .before .before .before .before .before .before .loop .changed) (w .0 .left) (w .1)) (c .before .before .before .before .if1 .came) in
+    let t = c .before .before .before .step .ensures in
+    let n = ⊎-elim (λ w. on-char l r d (w .1 .given .0 .0) (sym t ∙ w .1 .given .1)) (λ w. begin-char l r d (λ e. not-plain (w .2 .result) (w .4 .keys2) (w .2 .ensures ∙ e))) (c .before .before .match .came) in
+    let s = reads-next l r d n in
+    omega (arith, s .room, s .some, r .end-is)
+
+loop-again : tie.Need-loop-again Inv-loop μ-loop
+loop-again c =
+    let l = c .before .before .before .before .before .before .loop .inv in
+    let r = c .before .before .before .before .before .read-cell .ensures in
+    let d = ⊎-elim (λ w. now-changed (c .before .before .before .before .before .before .loop .changed) (w .0 .taken) (w .1)) (λ w. as-changed (c .before .before .before .before .before .before .loop .changed) (w .0 .left) (w .1)) (c .before .before .before .before .if1 .came) in
+    let t = c .before .before .before .step .ensures in
+    ⊎-elim
+    (λ w. rw (w .3, w .4) (walking-on l r d (w .1 .given .0 .0) (sym t ∙ w .1 .given .1)))
+    (λ w. rw (w .5, w .6 ∙ w .2 .ensures) (walking-again l r d (sym t ∙ w .1 .given .1) (w .3 .left) (λ e. not-plain (w .2 .result) (w .4 .keys2) (w .2 .ensures ∙ e))))
+    (c .before .before .match .came)
+
+pub walk-items-spec : {M : Type 1} → statement M
+walk-items-spec =
+    tie.close
+    (tie.spec
+    Inv-loop
+    μ-loop
+    add-at
+    loop-holds
+    read-cell-requires
+    step-requires
+    enum-known-next
+    enum-told
+    begin-requires
+    returns
+    enum-told-2
+    returns-2
+    cast-at
+    add-at-2
+    loop-less
+    loop-again)

@@ -1,0 +1,212 @@
+// The next finding of a text from an offset on: the items are gone through cell by cell, each character is read once, and of each cell
+// it is only asked whether something is counted of it (document 01, "Item", "Counts and finding"; analysis.rs of the crate evfmt
+// counts every item instead). `next_finding` equals `NextFinding` of specs/Findings.antt for every text, policy and offset.
+ghost use mathlib.Core.Path.{_≡_};
+ghost use mathlib.Core.Bool.{true, not};
+ghost use mathlib.Core.List.{List};
+ghost use Prim.Native.Nat.{_*_};
+ghost use lib.Dec.{eqb};
+ghost use lib.ListN.{drop, length};
+ghost use Rattle.utf8.specs.Rfc3629.{readChar};
+ghost use Rattle.utf8.specs.declared.ReadChar.the-variants.{Char};
+ghost use Rattle.unicode.specs.Unicode.{variationSequenceIndex};
+ghost use Rattle.unicode.specs.declared.presentation.Presentation.{Presentation as PresentationValue};
+ghost use Rattle.policy.specs.PolicyBytes.{policyOf};
+ghost use Rattle.policy.specs.declared.Policy.{Policy};
+ghost use Rattle.scanner.specs.Classes.{classOf};
+ghost use Rattle.scanner.specs.Items.{begin, kindOf};
+ghost use Rattle.scanner.specs.Theorems.{Structured};
+ghost use Rattle.analysis.specs.Counts.{total};
+ghost use Rattle.analysis.specs.Rules.{firstOf, outcome};
+ghost use Rattle.changes.specs.Changes.{AsciiBare};
+ghost use Rattle.changes.specs.Findings.{NextFinding, ReadsCell, Skips, WalkedFrom};
+use crate::base_selectors::is_change;
+use crate::base_selectors::kept_selector;
+use crate::plain::skip_ascii;
+use crate::plain::skip_letters;
+use scanner::char_class::Class;
+use scanner::char_class::Classified;
+use scanner::char_class::classify;
+use scanner::place::Next;
+use scanner::place::Place;
+use scanner::selectors::selector_at;
+use scanner::selectors::selectors_end;
+use unicode::VariationSequenceIndex;
+use unicode::presentation::FromSelector;
+
+// The bytes of the next finding, from start up to end, if there is one more; else both are the end of the well-formed text.
+pub struct FindingSpan {
+    pub start: usize,
+    pub end: usize,
+    pub more: bool,
+}
+
+// A cell behind its character: where its selectors end, whether something is counted of it, and what stands behind it: a character's
+// packed number, or 0, its class and its place among the variation entries.
+struct CellEnd {
+    end: usize,
+    changes: bool,
+    packed: u32,
+    class: Class,
+    index: VariationSequenceIndex,
+}
+
+// Whether something is counted of a base whose selectors have so many bytes, by the class of what follows them and the first of them.
+fn cell_changes(
+    policy: &[u8],
+    base: u32,
+    index: VariationSequenceIndex,
+    next: Class,
+    first: FromSelector,
+    bytes: usize,
+) -> bool
+    requires { ⌜ variationSequenceIndex base ≡ index ⌝ }
+    ensures { λ r. ⌜ ((s : List PresentationValue) → first ≡ firstOf s → bytes ≡ 3 * length s → r ≡ not (eqb (total (outcome (policyOf (now (policy .entry))) base next s .counts)) 0)) ⌝ }
+{
+    match index {
+        VariationSequenceIndex::At(i) => {
+            is_change(first, bytes, kept_selector(policy, base, i, next, first))
+        }
+        VariationSequenceIndex::NoEntry => bytes != 0,
+    }
+}
+
+// Reads the cell whose character is the base and whose selectors begin at the offset, and what stands behind it.
+fn read_cell(
+    text: &[u8],
+    policy: &[u8],
+    base: u32,
+    index: VariationSequenceIndex,
+    at: usize,
+) -> CellEnd
+    requires { ⌜ variationSequenceIndex base ≡ index ⌝ }
+    ensures { λ r. ⌜ ReadsCell (policyOf (now (policy .entry))) (now (text .entry)) base at r ⌝ }
+{
+    let first = selector_at(text, at);
+    let end = selectors_end(text, at);
+    let packed = utf8::decode(text, end);
+    let Classified { class, index: next } = classify(packed / 8);
+    let changes = cell_changes(policy, base, index, class, first, end - at);
+    CellEnd {
+        end,
+        changes,
+        packed,
+        class,
+        index: next,
+    }
+}
+
+// From an item of links or units on, whose first character is known, past items that are no findings: up to a finding, or to the end
+// of the last item before plain text.
+fn walk_items(
+    text: &[u8],
+    policy: &[u8],
+    from: usize,
+    ch: u32,
+    width: usize,
+    first_index: VariationSequenceIndex,
+    first: Place,
+) -> FindingSpan
+    requires { ⌜ (readChar (drop from (now text)) ≡ Char ch width) × (variationSequenceIndex ch ≡ «first_index») × (first ≡ begin (classOf ch)) × Structured (kindOf first) ⌝ }
+    ensures { λ r. ⌜ WalkedFrom (policyOf (now (policy .entry))) (now (text .entry)) from r ⌝ }
+{
+    let mut start = from;
+    let mut base = ch;
+    let mut index = first_index;
+    let mut at = from + width;
+    let mut place = first;
+    let mut changed = false;
+    loop {
+        let cell = read_cell(text, policy, base, index, at);
+        let end = cell.end;
+        let class = cell.class;
+        if cell.changes {
+            changed = true;
+        }
+        match scanner::place::step(place, class) {
+            Next::On(next) => {
+                place = next;
+            }
+            Next::Stop => {
+                place = scanner::place::begin(class);
+                if changed {
+                    return FindingSpan {
+                        start,
+                        end,
+                        more: true,
+                    };
+                }
+                if let Place::Plain = place {
+                    return FindingSpan {
+                        start: end,
+                        end,
+                        more: false,
+                    };
+                }
+                start = end;
+            }
+        }
+        base = cell.packed / 8;
+        index = cell.index;
+        at = end + (cell.packed % 8) as usize;
+    }
+}
+
+// Past ASCII where a character of it stands and the policy keeps the ASCII bases bare.
+fn skip_bare_ascii(text: &[u8], bare: bool, from: usize) -> usize
+    ensures { λ r. ⌜ ((p : Policy) → (bare ≡ true → AsciiBare p) → Skips p (now (text .entry)) from r) ⌝ }
+{
+    if !bare {
+        return from;
+    }
+    if text.len() <= from {
+        return from;
+    }
+    if 0x7F < text[from] {
+        return from;
+    }
+    skip_ascii(text, from)
+}
+
+// The next finding of a text from an offset on.
+pub fn next_finding(text: &[u8], policy: &[u8], from: usize) -> FindingSpan
+    ensures { λ r. ⌜ NextFinding (policyOf (now (policy .entry))) (now (text .entry)) from r ⌝ }
+{
+    let bare = policy::policy_bytes::ascii_keys_bare(policy);
+    let mut at = from;
+    loop {
+        at = skip_bare_ascii(text, bare, at);
+        let packed = utf8::decode(text, at);
+        if packed == 0 {
+            return FindingSpan {
+                start: at,
+                end: at,
+                more: false,
+            };
+        }
+        let ch = packed / 8;
+        let width = (packed % 8) as usize;
+        let Classified { class, index } = classify(ch);
+        let place = scanner::place::begin(class);
+        match place {
+            Place::Plain => {
+                at = skip_letters(text, at + width);
+            }
+            Place::Selectors => {
+                let end = selectors_end(text, at);
+                return FindingSpan {
+                    start: at,
+                    end,
+                    more: true,
+                };
+            }
+            _ => {
+                let span = walk_items(text, policy, at, ch, width, index, place);
+                if span.more {
+                    return span;
+                }
+                at = span.start;
+            }
+        }
+    }
+}

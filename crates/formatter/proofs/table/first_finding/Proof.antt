@@ -1,0 +1,86 @@
+-- `formatter::table::first_finding` meets its contract. The loop's invariant: the findings from here on are those from the start on.
+use mathlib.Core.Path.{_≡_, refl, sym, ap, _∙_}
+use mathlib.Core.List.{map}
+use Prim.Native.Nat.{_-_}
+use native.Mathlib.Omega.{arith}
+use lib.ListN.{length}
+use borrow.Author.Needs.{needs}
+use Rattle.formatter.specs.Findings.{findingRow}
+use Rattle.formatter.proofs.Steps.{analysis-says, rowsFrom}
+use Rattle.formatter.proofs.Storing.{first-none, first-some}
+use Rattle.formatter.proofs.table.first_finding.Statement.{statement}
+use Rattle.formatter.proofs.table.first_finding.Tie as tie
+
+abbrev Inv-loop : tie.InvT-loop
+Inv-loop text start policy at₀ at = rowsFrom policy text start ≡ rowsFrom policy text at
+
+abbrev μ-loop : tie.MeasureT-loop
+μ-loop text start policy at₀ at = length text - at
+
+loop-holds : tie.Need-loop-holds Inv-loop μ-loop
+loop-holds c = refl
+
+analyze-scan-item-requires : tie.Need-analyze-scan-item-requires Inv-loop μ-loop
+analyze-scan-item-requires c κs = search needs
+
+enum-told : tie.Need-enum-told Inv-loop μ-loop
+enum-told c = search needs
+
+no-finding-requires : tie.Need-no-finding-requires Inv-loop μ-loop
+no-finding-requires c κs = search needs
+
+returns : tie.Need-returns Inv-loop μ-loop
+returns c =
+    let x = c .before .before .before .before .before .before .args in
+    let l = c .before .before .before .before .loop in
+    let p = x .policy in
+    let t = x .text .now in
+    let s = analysis-says p t (l .at) (sym (c .before .enum-told .given .1) ∙ c .before .before .before .analyze-scan-item .ensures) in
+    c .no-finding .ensures ∙ first-none p t (x .start) (l .inv ∙ ap (map (findingRow p)) s)
+
+enum-known-end : tie.Need-enum-known-end Inv-loop μ-loop
+enum-known-end c = search needs
+
+loop-less : tie.Need-loop-less Inv-loop μ-loop
+loop-less c =
+    let x = c .before .before .before .before .before .before .args in
+    let l = c .before .before .before .before .loop in
+    let s = analysis-says (x .policy) (x .text .now) (l .at) (sym (c .before .end .given .1) ∙ c .before .before .before .analyze-scan-item .ensures) in
+    omega arith
+
+loop-again : tie.Need-loop-again Inv-loop μ-loop
+loop-again c =
+    let x = c .before .before .before .before .before .before .args in
+    let l = c .before .before .before .before .loop in
+    let p = x .policy in
+    let s = analysis-says p (x .text .now) (l .at) (sym (c .before .end .given .1) ∙ c .before .before .before .analyze-scan-item .ensures) in
+    l .inv ∙ ap (map (findingRow p)) (s .1)
+
+enum-known-finding : tie.Need-enum-known-finding Inv-loop μ-loop
+enum-known-finding c = search needs
+
+returns-2 : tie.Need-returns-2 Inv-loop μ-loop
+returns-2 c =
+    let x = c .before .before .before .before .before .before .args in
+    let l = c .before .before .before .before .loop in
+    let p = x .policy in
+    let t = x .text .now in
+    let s = analysis-says p t (l .at) (sym (c .before .finding .given .1) ∙ c .before .before .before .analyze-scan-item .ensures) in
+    first-some p t (x .start) (l .inv ∙ s .1)
+
+pub first-finding-spec : {M : Type 1} → statement M
+first-finding-spec =
+    tie.close
+    (tie.spec
+    Inv-loop
+    μ-loop
+    loop-holds
+    analyze-scan-item-requires
+    enum-told
+    no-finding-requires
+    returns
+    enum-known-end
+    loop-less
+    loop-again
+    enum-known-finding
+    returns-2)

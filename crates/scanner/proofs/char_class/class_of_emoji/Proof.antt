@@ -1,0 +1,26 @@
+-- `scanner::char_class::class_of_emoji` meets its contract: an emoji is an RI, a modifier or of the class emoji.
+use mathlib.Core.Path.{sym, _∙_}
+use borrow.Author.Needs.{needs}
+use Rattle.scanner.proofs.Classes.{class-is, is-emoji, is-modifier, is-ri}
+use Rattle.scanner.proofs.char_class.class_of_emoji.Statement.{statement}
+use Rattle.scanner.proofs.char_class.class_of_emoji.Tie as tie
+
+is-ri-requires : tie.Need-is-ri-requires
+is-ri-requires c κs = search needs
+
+returns : tie.Need-returns
+returns c e = sym (class-is (is-ri (sym (c .before .is-ri .ensures) ∙ c .if1 .taken)))
+
+is-emoji-modifier-requires : tie.Need-is-emoji-modifier-requires
+is-emoji-modifier-requires c κs = search needs
+
+returns-2 : tie.Need-returns-2
+returns-2 c e = sym (class-is (is-modifier (sym (c .before .is-emoji-modifier .ensures) ∙ c .if2 .taken)))
+
+returns-3 : tie.Need-returns-3
+returns-3 c e =
+    sym (class-is (is-emoji e (sym (c .before .before .before .is-ri .ensures) ∙ c .before .before .if1 .left) (sym (c .before .is-emoji-modifier .ensures) ∙ c .if2 .left)))
+
+pub class-of-emoji-spec : {M : Type 1} → statement M
+class-of-emoji-spec =
+    tie.close (tie.spec is-ri-requires returns is-emoji-modifier-requires returns-2 returns-3)

@@ -1,0 +1,31 @@
+-- The character's bit and its place in one block.
+use mathlib.Core.Path.{sym, ap, _∙_}
+use Prim.Native.Nat.{_%_}
+use borrow.Author.Needs.{needs}
+use Rattle.base.specs.Bits.{one}
+use Rattle.unicode.specs.Blocks.{entryIn}
+use Rattle.unicode.specs.declared.blocks.Block.{Block}
+use Rattle.unicode.proofs.BlockTables.{emoji-bit, entry-place}
+use Rattle.unicode.proofs.emoji_data.Statement.{statement}
+use Rattle.unicode.proofs.emoji_data.Tie as tie
+
+block-of-requires : tie.Need-block-of-requires
+block-of-requires c κs = search needs
+
+has-bit-requires : tie.Need-has-bit-requires
+has-bit-requires c κs = search needs
+
+entry-in-requires : tie.Need-entry-in-requires
+entry-in-requires c κs = search needs
+
+returns : tie.Need-returns
+returns c =
+    let x = c .before .before in
+    let ch = x .before .args .ch in
+    let e = x .block-of .ensures in (
+      c .before .has-bit .ensures ∙ ap (λ (b : Block). one (ch % 64) (b .emoji)) e ∙ sym (emoji-bit ch),
+      c .entry-in .ensures ∙ ap (entryIn (ch % 64)) e ∙ sym (entry-place ch),
+    )
+
+pub emoji-data-spec : {M : Type 1} → statement M
+emoji-data-spec = tie.close (tie.spec block-of-requires has-bit-requires entry-in-requires returns)

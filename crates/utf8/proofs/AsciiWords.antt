@@ -1,0 +1,74 @@
+-- ASCII in a word of eight bytes: a byte is ASCII where its highest bit is zero, and the zeros below the lowest one of
+-- these bits tell how many such bytes stand in front.
+use mathlib.Core.Path.{_≡_, sym, ap, ap₂, _∙_, subst}
+use mathlib.Core.Bool.{true, false}
+use mathlib.Core.List.{List}
+use Prim.Native.Nat.{ℕ, zero, suc, _+_, _-_, _*_, _/_, _%_, _^_, _≤_, _<_}
+use native.Mathlib.Nat.{add-zero, div-one}
+use native.Mathlib.Omega.{arith}
+use lib.Bits.{bitAnd}
+use lib.Count.{trailingZeros, trailing-le}
+use lib.ListN.{drop, getD, take}
+use lib.Seq.{getD-drop}
+use borrow.Author.Tests.{eqb-false, eq-eqb}
+use Rattle.base.specs.Bits.{one}
+use Rattle.base.specs.Words.{number}
+use Rattle.base.proofs.Bits.{and-bit, shifted-bit, trailing-bit}
+use Rattle.base.proofs.ByteBits.{bit-of-bytes}
+use Rattle.utf8.specs.Ascii.{AllUpTo}
+
+-- the highest bit of each of n bytes
+highBits : ℕ → ℕ
+highBits zero = 0
+highBits (suc n) = 0x80 + 256 * highBits n
+
+high-bit : (n i : ℕ) → i < n → one (i * 8 + 7) (highBits n) ≡ true
+unfolding highBits one
+high-bit zero i h = absurd (omega arith)
+high-bit (suc n) zero h = eq-eqb (highBits (suc n) / 2 ^ 7 % 2) 1 (omega arith)
+high-bit (suc n) (suc i) h =
+    let w = highBits (suc n) in
+    let place : suc i * 8 + 7 ≡ 8 + (i * 8 + 7) = omega arith in
+    let rest : w / 2 ^ 8 ≡ highBits n = omega arith in
+    ap (λ (x : ℕ). one x w) place ∙ shifted-bit 8 (i * 8 + 7) w ∙ ap (one (i * 8 + 7)) rest ∙ high-bit n i (omega arith)
+
+ascii-byte : (b : ℕ) → b < 256 → one 7 b ≡ false → b ≤ 0x7F
+unfolding one
+ascii-byte b h e = omega (arith, eqb-false (b / 2 ^ 7 % 2) 1 e)
+
+-- the highest bits of a word's bytes
+abbrev pub high : ℕ → ℕ
+high w = bitAnd w 0x8080808080808080
+
+module _ (s : List ℕ) (at : ℕ) {w : ℕ} (e : w ≡ number (take 8 (drop at s))) (f : (j : ℕ) → getD s j 0 < 256) where
+  byte-bit : (i : ℕ) → i < 8 → one 7 (getD (drop at s) i 0) ≡ one (i * 8 + 7) (high w)
+  unfolding highBits
+  byte-bit i h =
+      let bytes : (j : ℕ) → getD (drop at s) j 0 < 256 = (λ j. omega (arith, getD-drop at s j 0, f (at + j))) in
+      let top : 7 ≡ (i * 8 + 7) % 8 = omega arith in
+      let byte : i ≡ (i * 8 + 7) / 8 = omega arith in
+      ap₂ (λ (x y : ℕ). one x (getD (drop at s) y 0)) top byte
+      ∙ sym (bit-of-bytes 8 (i * 8 + 7) (drop at s) bytes (omega arith)) ∙ ap (one (i * 8 + 7)) (sym e)
+      ∙ sym (and-bit (i * 8 + 7) w 0x8080808080808080 (high-bit 8 i h))
+
+  -- behind the first p of the word's bytes stand n ASCII bytes
+  pub low-bytes : (p n : ℕ) → p + n ≤ 8 → n ≤ trailingZeros 64 (high w / 2 ^ (8 * p)) / 8
+      → AllUpTo 0x7F s (at + p) n
+  low-bytes p n h t = record {
+    each = λ k l u.
+        let i = k - at in
+        let j = (i - p) * 8 + 7 in
+        let place : i * 8 + 7 ≡ 8 * p + j = omega arith in
+        let here : at + i ≡ k = omega arith in
+        let clear =
+        byte-bit i (omega arith) ∙ ap (λ (x : ℕ). one x (high w)) place ∙ shifted-bit (8 * p) j (high w)
+        ∙ trailing-bit 64 (high w / 2 ^ (8 * p)) j (omega arith) in
+        let same = getD-drop at s i 0 ∙ ap (λ (x : ℕ). getD s x 0) here in
+        omega (arith, same, ascii-byte (getD (drop at s) i 0) (omega (arith, same, f k)) clear);
+  }
+
+  -- .. and where none has been passed
+  pub front-bytes : (n : ℕ) → n ≤ trailingZeros 64 (high w) / 8 → AllUpTo 0x7F s at n
+  front-bytes n h =
+      subst (λ (k : ℕ). AllUpTo 0x7F s k n) (add-zero at)
+      (low-bytes 0 n (omega (arith, trailing-le 64 (high w))) (omega (arith, ap (trailingZeros 64) (div-one (high w)))))

@@ -1,0 +1,42 @@
+-- `utf8::ascii::ascii_in_word` meets its contract: zero bytes of the highest bits are ASCII bytes.
+use Prim.Native.Nat.{_-_}
+use native.Mathlib.Omega.{arith}
+use borrow.Author.Needs.{needs}
+use Rattle.utf8.proofs.AsciiWords.{low-bytes}
+use Rattle.utf8.proofs.ascii.ascii_in_word.Statement.{statement}
+use Rattle.utf8.proofs.ascii.ascii_in_word.Tie as tie
+
+read-word-requires : tie.Need-read-word-requires
+read-word-requires c κs = search needs
+
+mul-high : tie.Need-mul-high
+mul-high c = search needs
+
+shr-high : tie.Need-shr-high
+shr-high c = search needs
+
+sub-left : tie.Need-sub-left
+sub-left c = search needs
+
+zero-bytes-requires : tie.Need-zero-bytes-requires
+zero-bytes-requires c κs = search needs
+
+returns : tie.Need-returns
+returns c =
+    let x = c .before .before .before in
+    let a = x .before .args in
+    let w = c .before .before .read-word in
+    let low = low-bytes (a .s .now) (a .at) (w .ensures) (λ j. x .shared-slice-known .given j .fits) (a .passed) in
+    (low (8 - a .passed) (omega arith) (omega arith), omega arith)
+
+returns-2 : tie.Need-returns-2
+returns-2 c =
+    let x = c .before .before .before in
+    let a = x .before .args in
+    let w = c .before .before .read-word in
+    let low = low-bytes (a .s .now) (a .at) (w .ensures) (λ j. x .shared-slice-known .given j .fits) (a .passed) in
+    (low (c .before .zero-bytes .result) (omega arith) (omega arith), omega arith)
+
+pub ascii-in-word-spec : {M : Type 1} → statement M
+ascii-in-word-spec =
+    tie.close (tie.spec read-word-requires mul-high shr-high sub-left zero-bytes-requires returns returns-2)

@@ -1,0 +1,53 @@
+-- `utf8::ascii::run_end` meets its contract. The loop's invariant: what was passed is a run of ASCII.
+-- The measure is the number of bytes left.
+use Prim.Native.Nat.{_-_}
+use native.Mathlib.Omega.{arith}
+use lib.ListN.{length, getD}
+use Rattle.utf8.specs.Ascii.{AsciiRun}
+use Rattle.utf8.proofs.AsciiRuns.{run-none, run-on, up-to-one}
+use Rattle.utf8.proofs.ascii.run_end.Statement.{statement}
+use Rattle.utf8.proofs.ascii.run_end.Tie as tie
+
+abbrev Inv-loop : tie.InvT-loop
+Inv-loop s from at₀ at = AsciiRun s from at
+
+abbrev μ-loop : tie.MeasureT-loop
+μ-loop s from at₀ at = length s - at
+
+loop-holds : tie.Need-loop-holds Inv-loop μ-loop
+loop-holds c = run-none (c .args .s .now) (c .args .from)
+
+shared-slice-read-if1 : tie.Need-shared-slice-read-if1 Inv-loop μ-loop
+shared-slice-read-if1 c = omega arith
+
+returns : tie.Need-returns Inv-loop μ-loop
+returns c = c .before .before .before .loop .inv
+
+add-at : tie.Need-add-at Inv-loop μ-loop
+add-at c = omega arith
+
+loop-less : tie.Need-loop-less Inv-loop μ-loop
+loop-less c = omega arith
+
+loop-again : tie.Need-loop-again Inv-loop μ-loop
+loop-again c =
+    let s = c .before .before .before .before .args .s .now in
+    let at = c .before .before .before .loop .at in
+    run-on (getD s at 0) 1 (c .before .before .before .loop .inv) (up-to-one s at) (omega arith) (omega arith)
+
+returns-2 : tie.Need-returns-2 Inv-loop μ-loop
+returns-2 c = c .before .loop .inv
+
+pub run-end-spec : {M : Type 1} → statement M
+run-end-spec =
+    tie.close
+    (tie.spec
+    Inv-loop
+    μ-loop
+    loop-holds
+    shared-slice-read-if1
+    returns
+    add-at
+    loop-less
+    loop-again
+    returns-2)
