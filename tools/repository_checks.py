@@ -8,6 +8,8 @@ Each finding is a line on standard error; the exit status is 1 if there is one.
 
 - crates:     every folder of crates/ is listed in crates.txt.
 - contracts:  no public function has a `requires`, and each has an `ensures`.
+- audit:      docs/AUDIT.md names every public function of a library, in the part of its crate, with what its contract
+              rules out; and every must-fail edit that it names is there.
 - theorems:   every statement of a crate's specs/ has its proof in proofs/Claims.antt. A statement is a closed
               definition whose type is `Type N`, or a closed record in a file Theorems.antt. A claim is a line
               `pub name : Statement` of Claims.antt, in no section, so with no further hypothesis; the statement
@@ -27,6 +29,8 @@ STATEMENT = re.compile(r"^(?:unfoldable |abbrev )*pub (\S+) : Type \d+$", re.M)
 CLOSED_RECORD = re.compile(r"^pub record (\S+) : Type \d+ where$", re.M)
 HIDDEN_STATEMENT = re.compile(r"^(?:[ \t]+.*|(?!.*\bpub ).*)\s?(\S+) : Type \d+$", re.M)
 USE = re.compile(r"^use (\S+?)\.\{(.*?)\}", re.M | re.S)
+RULED_OUT = "## What each contract rules out\n"
+NAMED_EDITS = re.compile(r"\b[Ee]dits? ((?:`\w+`(?:, | and )?)+)")
 UNFIT = re.compile(r"has no `Need-\S*` that can be named from here|that can be named from here")
 
 
@@ -80,6 +84,24 @@ def weak_contracts(root):
                 yield f"{where}: a public function has a `requires`"
             if "ensures" not in found:
                 yield f"{where}: a public function has no `ensures`"
+
+
+def unaudited_functions(root):
+    audit = (root / "docs" / "AUDIT.md").read_text(encoding="utf-8")
+    parts = re.split(r"^### ", audit.partition(RULED_OUT)[2], flags=re.M)
+    named = {part.partition("\n")[0].strip(): set(re.findall(r"\w+", " ".join(re.findall(r"`([^`]*)`", part)))) for part in parts}
+    for name in listed(root):
+        if not (root / "crates" / name / "src" / "lib.rt").is_file():
+            continue
+        for path in sorted(root.glob(f"crates/{name}/src/**/*.rt")):
+            for function in PUBLIC_FUNCTION.finditer(without_comments(path.read_text(encoding="utf-8"))):
+                if function[1] not in named.get(name, ()):
+                    yield f"docs/AUDIT.md: {name}: {function[1]} has no row of what its contract rules out"
+    edits = {path.stem for path in root.glob("crates/*/must-fail/*.edit")}
+    for names in NAMED_EDITS.findall(audit):
+        for edit in re.findall(r"`(\w+)`", names):
+            if edit not in edits:
+                yield f"docs/AUDIT.md: there is no must-fail edit {edit}"
 
 
 def statements(crate):
@@ -171,7 +193,7 @@ def rests_on_axioms(root):
 
 
 STAGES = {
-    "source": (unlisted_crates, weak_contracts, unproved_statements),
+    "source": (unlisted_crates, weak_contracts, unaudited_functions, unproved_statements),
     "products": (telling_nothing, rests_on_axioms),
 }
 

@@ -69,6 +69,18 @@ whole = record { part = same }
 """,
     "crates/one/must-fail/wrong.edit": "file: src/lib.rt\nold: x\nnew: y\n",
     "crates/two/src/main.rt": "fn main() {}\n",
+    "docs/AUDIT.md": """
+Each of `same`, `twice` and `part` has a row below.
+
+## What each contract rules out
+
+### one
+
+| function | what excludes wrong programs |
+|---|---|
+| `same`, `thing::twice` | edit `wrong` |
+| `Thing::part` | `ensures` |
+""",
     "target/must-fail/one/wrong/.log": "a/proofs/same/Proof.antt:1:2: error: `returns`: the two types differ\n",
     "target/log/one.say": "fn one::same: proved\nlogic=proved functions=2 sum=0\n",
     "target/log/two.say": "logic=proved functions=1 sum=0 axioms=2\n",
@@ -115,6 +127,15 @@ class Checks(unittest.TestCase):
             checks.weak_contracts,
             lib_rt=("impl Thing {", '#[no_mangle]\npub extern "C" fn cross(x: u64) -> u64 {\n    x\n}\n\nimpl Thing {'),
         )
+
+    def test_function_without_row(self):
+        self.finds("one: part has no row", checks.unaudited_functions, AUDIT_md=("| `Thing::part` | `ensures` |\n", ""))
+
+    def test_row_in_the_part_of_another_crate(self):
+        self.finds("one: same has no row", checks.unaudited_functions, AUDIT_md=("### one", "### two"))
+
+    def test_edit_that_is_not_there(self):
+        self.finds("no must-fail edit right", checks.unaudited_functions, AUDIT_md=("edit `wrong`", "edits `wrong`, `right`"))
 
     def test_statement_without_claim(self):
         self.finds("nothing proves Same", checks.unproved_statements, Claims_antt=("pub same : Same\n", "same : Same\n"))
