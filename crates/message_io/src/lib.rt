@@ -7,7 +7,7 @@ ghost use Prim.Native.Nat.{_<_, _≤_};
 ghost use lib.ListN.{length};
 ghost use Rattle.policy.specs.DefaultPolicy.{defaultPolicy};
 ghost use Rattle.policy.specs.PolicyBytes.{policyBytes};
-ghost use Rattle.message_io.specs.Message.{Fits, Reads, messageLimit};
+ghost use Rattle.message_io.specs.Message.{Fits, NoneUnlessWhole, Reads, messageLimit};
 use policy::POLICY_BYTES;
 use policy::Policy;
 
@@ -56,7 +56,7 @@ fn read_some(buf: &mut [u8], from: usize) -> Turn
 
 // A message of so many bytes that has ended.
 fn ended(len: usize) -> Message
-    ensures { λ r. ⌜ (r .len ≤ len) × (r .len ≤ messageLimit) ⌝ }
+    ensures { λ r. ⌜ (r .len ≤ len) × (r .len ≤ messageLimit) × NoneUnlessWhole (r .ending) (r .len) ⌝ }
 {
     if MESSAGE_LIMIT < len {
         return Message {

@@ -29,7 +29,7 @@ same-length : tie.Need-same-length Inv-loop μ-loop
 same-length c = omega arith
 
 returns : tie.Need-returns Inv-loop μ-loop
-returns c = ((omega arith, refl), omega arith)
+returns c = ((omega arith, refl), omega arith, refl)
 
 enum-told-2 : tie.Need-enum-told-2 Inv-loop μ-loop
 enum-told-2 c = search needs
@@ -44,7 +44,7 @@ returns-2 : tie.Need-returns-2 Inv-loop μ-loop
 returns-2 c =
     let e = c .ended .ensures in
     let h : c .ended .result .len ≤ length (c .before .before .before .before .before .read-some .last .0) = omega (arith, e .0) in
-    ((h, sym (length-take-le _ _ h)), e .1)
+    ((h, sym (length-take-le _ _ h)), e .1, e .2)
 
 enum-known-count : tie.Need-enum-known-count Inv-loop μ-loop
 enum-known-count c = search needs
@@ -74,7 +74,7 @@ same-length-3 : tie.Need-same-length-3 Inv-loop μ-loop
 same-length-3 c = omega arith
 
 returns-3 : tie.Need-returns-3 Inv-loop μ-loop
-returns-3 c = ((omega arith, refl), omega arith)
+returns-3 c = ((omega arith, refl), omega arith, refl)
 
 pub read-message-spec : {M : Type 1} → statement M
 read-message-spec =
