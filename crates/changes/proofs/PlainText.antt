@@ -1,17 +1,18 @@
 -- Characters that stay whatever stands behind them: which they are by their first bytes, and ASCII.
-use mathlib.Core.Path.{_≡_, refl, ap, sym, _∙_}
+use mathlib.Core.Path.{_≡_, refl, ap, sym, _∙_, subst}
 use mathlib.Core.Logic.{⊎-elim}
 use mathlib.Core.Bool.{Bool, true, false, _&&_, _||_}
 use mathlib.Core.List.{List, [], _∷_, _++_}
-use Prim.Native.Nat.{ℕ, _+_, _/_, _<_, _≤_}
+use Prim.Native.Nat.{ℕ, _+_, _/_, _%_, _<_, _≤_}
 use native.Mathlib.Omega.{arith}
 use lib.Dec.{eqb, leb}
-use lib.ListN.{drop, getD}
+use lib.ListN.{drop, getD, length}
 use borrow.Author.Tests.{eqb-true, leb-true, lt-leb, ne-eqb}
 use Rattle.base.specs.Ranges.{within}
 use Rattle.base.proofs.Tests.{both-true, either-true, le-or-lt, within-in}
-use Rattle.utf8.specs.Rfc3629.{chars, encode}
+use Rattle.utf8.specs.Rfc3629.{chars, encode, packed, readChar}
 use Rattle.utf8.proofs.Encoding.{encode-1, encode-2, encode-3, encode-4}
+use Rattle.utf8.proofs.Packed.{packed-step}
 use Rattle.utf8.proofs.Places.{Step}
 use Rattle.unicode.specs.Presentation.{isSelector}
 use Rattle.unicode.specs.Unicode.{hasVariationSequence, isEmoji, isTag}
@@ -19,9 +20,10 @@ use Rattle.unicode.specs.UnicodeData.{emojiRanges}
 use Rattle.unicode.proofs.Between.{every-range, everyRange}
 use Rattle.policy.specs.declared.Policy.{Policy}
 use Rattle.scanner.specs.Classes.{classOf}
+use Rattle.scanner.specs.declared.char_class.Class.{Class}
 use Rattle.scanner.specs.declared.char_class.Class.the-variants.{Emoji as emoji, Other as other}
 use Rattle.scanner.proofs.ClassTests.{forSelector, selector-test}
-use Rattle.scanner.proofs.Classes.{class-is, entry-class, is-other}
+use Rattle.scanner.proofs.Classes.{class-is, entry-class, is-link, is-other, is-tag}
 use Rattle.analysis.specs.Analysis.{following}
 use Rattle.analysis.specs.Cells.{cells, leading}
 use Rattle.analysis.specs.Rules.{rule1}
@@ -95,13 +97,16 @@ ascii-other c ascii hash star digit =
     go true m = absurd (every-range asciiPlace (λ d. d ≡ c → ⊥) no emojiRanges refl c m refl)
     go false m = refl
 
--- A character of the class other has no entry and is no selector.
-pub other-plain : (c : ℕ) → classOf c ≡ other → Plain c
-other-plain c e = record { no-entry = entry (hasVariationSequence c) refl; no-selector = selector-test c ∙ ap forSelector e }
+-- A character whose class is neither emoji nor selector has no entry and is no selector.
+class-plain : (c : ℕ) {k : Class} → classOf c ≡ k → (k ≡ emoji → ⊥) → forSelector k ≡ false → Plain c
+class-plain c e never s = record { no-entry = entry (hasVariationSequence c) refl; no-selector = selector-test c ∙ ap forSelector e ∙ s }
   where
     entry : (b : Bool) → hasVariationSequence c ≡ b → b ≡ false
-    entry true v = let z : emoji ≡ other = sym (entry-class c v) ∙ e in let n : _≡_ {A = ℕ} 0 1 = cc in absurd (omega arith)
+    entry true v = absurd (never (sym e ∙ entry-class c v))
     entry false v = refl
+
+pub other-plain : (c : ℕ) → classOf c ≡ other → Plain c
+other-plain c e = class-plain c e (λ z. let n : _≡_ {A = ℕ} 0 1 = cc in omega arith) refl
 
 -- ---- by the first bytes
 
@@ -136,3 +141,40 @@ stays-plain p {text} {at} {v} {w} h c =
     let t = chars (drop (at + w) text) in
     let o : outcomeFrom p text v (at + w) ≡ rule1 (leading t) = outcome-no-entry p v (following (cells t)) (leading t) (c .no-entry) in
     stays-char p h (c .no-selector) (rw o refl) (rw o (omega arith))
+
+-- ---- links and tags
+
+-- At an offset stands such a character, of so many bytes.
+pub record PlainAt (text : List ℕ) (at w : ℕ) : Type 0 where
+  pub value : ℕ
+  pub read : Step text at value w
+  pub plain : Plain value
+
+pub stays-at : (p : Policy) {text : List ℕ} {at w : ℕ} → PlainAt text at w → Stays p text at (at + w)
+stays-at p h = stays-plain p (h .read) (h .plain)
+
+module _ (text : List ℕ) (at n : ℕ) (e : n ≡ packed (readChar (drop at text))) where
+  read-as : (v w : ℕ) → 1 ≤ v → n / 8 ≡ v → length (encode v) ≡ w → Step text at v w
+  read-as v w l h f =
+      let s = subst (λ (x : ℕ). Step text at x (n % 8)) h (packed-step text at n e (λ z. omega arith)) in
+      subst (Step text at v) (sym (s .width) ∙ f) s
+
+  -- What is read with the value 200D is a link, of three bytes.
+  pub link-at : n / 8 ≡ 0x200D → PlainAt text at 3
+  unfolding encode
+  link-at h = record {
+    value = 0x200D;
+    read = read-as 0x200D 3 (omega arith) h refl;
+    plain = class-plain 0x200D (class-is (is-link refl)) (λ z. let n : _≡_ {A = ℕ} 0 1 = cc in omega arith) refl;
+  }
+
+  -- A tag has four bytes.
+  pub tag-at : isTag (n / 8) ≡ true → PlainAt text at 4
+  unfolding isTag
+  tag-at h =
+      let b = within-in 0xE0020 0xE007F (n / 8) h in
+      record {
+        value = n / 8;
+        read = read-as (n / 8) 4 (omega arith) refl (ap length (encode-4 (n / 8) (omega arith)));
+        plain = class-plain (n / 8) (class-is (is-tag h)) (λ z. let n : _≡_ {A = ℕ} 0 1 = cc in omega arith) refl;
+      }

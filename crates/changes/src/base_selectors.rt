@@ -3,7 +3,7 @@
 ghost use mathlib.Core.Path.{_≡_};
 ghost use mathlib.Core.Bool.{Bool, _&&_, cond, not};
 ghost use mathlib.Core.List.{List, []};
-ghost use Prim.Native.Nat.{ℕ};
+ghost use Prim.Native.Nat.{ℕ, _+_};
 ghost use lib.Dec.{eqb, leb};
 ghost use lib.ListN.{drop};
 ghost use Rattle.utf8.specs.Rfc3629.{chars};
@@ -12,6 +12,9 @@ ghost use Rattle.unicode.specs.declared.VariationSequenceIndex.the-variants.{At
 ghost use Rattle.unicode.specs.declared.presentation.Presentation.{Presentation as PresentationValue};
 ghost use Rattle.policy.specs.PolicyBytes.{policyOf};
 ghost use Rattle.scanner.specs.Classes.{classOf};
+ghost use Rattle.scanner.specs.Runs.{selectorsAt};
+ghost use Rattle.scanner.specs.SelectorRun.{firstSelector};
+ghost use Rattle.scanner.specs.Spans.{size, width};
 ghost use Rattle.analysis.specs.Analysis.{chosen};
 ghost use Rattle.analysis.specs.CellView.{classInFront};
 ghost use Rattle.analysis.specs.Rules.{byKeycap, outcome, rule2, rule3, rule4, rule5, rule6, runWith, textFirst};
@@ -162,13 +165,24 @@ pub(crate) fn is_change(first: FromSelector, bytes: usize, selector: FromSelecto
     false
 }
 
+// The end of the selectors from an offset on, of which the first, or that there is none, is known.
+pub(crate) fn selectors_behind(text: &[u8], at: usize, first: FromSelector) -> usize
+    requires { ⌜ first ≡ firstSelector (chars (drop at (now text))) ⌝ }
+    ensures { λ r. ⌜ r ≡ at + size width (selectorsAt (chars (drop at (now (text .entry))))) ⌝ }
+{
+    match first {
+        FromSelector::NoSelector => at,
+        FromSelector::Selector(_) => selectors_end(text, at + SELECTOR_BYTES),
+    }
+}
+
 // What becomes of the selectors from an offset on, which stand behind a base with a variation entry.
 pub(crate) fn base_change(text: &[u8], policy: &[u8], base: u32, index: usize, at: usize) -> Change
     requires { ⌜ variationSequenceIndex base ≡ At index ⌝ }
     ensures { λ r. ⌜ BaseChange (policyOf (now (policy .entry))) (now (text .entry)) base at r ⌝ }
 {
     let first = selector_at(text, at);
-    let end = selectors_end(text, at);
+    let end = selectors_behind(text, at, first);
     let next = rule_class_at(text, end);
     let selector = kept_selector(policy, base, index, next, first);
     let more = is_change(first, end - at, selector);

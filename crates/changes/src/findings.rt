@@ -22,6 +22,7 @@ ghost use Rattle.changes.specs.Changes.{AsciiBare};
 ghost use Rattle.changes.specs.Findings.{NextFinding, ReadsCell, Skips, WalkedFrom};
 use crate::base_selectors::is_change;
 use crate::base_selectors::kept_selector;
+use crate::base_selectors::selectors_behind;
 use crate::plain::skip_ascii;
 use crate::plain::skip_letters;
 use scanner::char_class::Class;
@@ -83,7 +84,7 @@ fn read_cell(
     ensures { λ r. ⌜ ReadsCell (policyOf (now (policy .entry))) (now (text .entry)) base at r ⌝ }
 {
     let first = selector_at(text, at);
-    let end = selectors_end(text, at);
+    let end = selectors_behind(text, at, first);
     let packed = utf8::decode(text, end);
     let Classified { class, index: next } = classify(packed / 8);
     let changes = cell_changes(policy, base, index, class, first, end - at);

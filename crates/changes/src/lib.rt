@@ -12,6 +12,7 @@ ghost use Rattle.utf8.specs.declared.ReadChar.the-variants.{Char};
 ghost use Rattle.policy.specs.PolicyBytes.{policyOf};
 ghost use Rattle.changes.specs.Changes.{ChangeAt, NextChange};
 use base_selectors::base_change;
+use plain::skip_alike;
 use plain::skip_plain;
 use scanner::selectors::selectors_end;
 use unicode::VariationSequenceIndex;
@@ -28,7 +29,7 @@ pub struct Change {
 }
 
 // What becomes of the character at an offset, of so many bytes, and of the selectors behind it: a selector goes with all behind it, a
-// base with a variation entry takes the selectors behind it with it, any other character stays.
+// base with a variation entry takes the selectors behind it with it, any other character stays, and more links or tags behind it.
 fn change_at(text: &[u8], policy: &[u8], at: usize, ch: u32, width: usize) -> Change
     requires { ⌜ readChar (drop at (now text)) ≡ Char ch width ⌝ }
     ensures { λ r. ⌜ ChangeAt (policyOf (now (policy .entry))) (now (text .entry)) at r ⌝ }
@@ -43,12 +44,15 @@ fn change_at(text: &[u8], policy: &[u8], at: usize, ch: u32, width: usize) -> Ch
                 end: selectors_end(text, next),
                 more: true,
             },
-            FromSelector::NoSelector => Change {
-                kept: next,
-                selector: FromSelector::NoSelector,
-                end: next,
-                more: false,
-            },
+            FromSelector::NoSelector => {
+                let end = skip_alike(text, next, ch);
+                Change {
+                    kept: end,
+                    selector: FromSelector::NoSelector,
+                    end,
+                    more: false,
+                }
+            }
         },
     }
 }

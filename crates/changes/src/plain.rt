@@ -11,6 +11,7 @@ ghost use Rattle.scanner.specs.Classes.{classOf};
 ghost use Rattle.scanner.specs.declared.char_class.Class.the-variants.{Other as other};
 ghost use Rattle.changes.specs.Changes.{AsciiBare, Stays};
 ghost use Rattle.changes.specs.Findings.{Skips};
+use unicode::ZWJ;
 
 // Whether the character at an offset is plain by its first byte: one of two bytes from C0 on, or one of three bytes that lies
 // neither among 2000 to 2FFF, nor in the blocks of 3030 and 3297, nor behind EFFF.
@@ -110,4 +111,40 @@ pub(crate) fn skip_plain(text: &[u8], bare: bool, from: usize) -> usize
         at = skip_letters(text, next);
     }
     at
+}
+
+// Past links.
+fn skip_links(text: &[u8], from: usize) -> usize
+    ensures { λ r. ⌜ ((p : Policy) → Stays p (now (text .entry)) from r) ⌝ }
+{
+    let mut at = from;
+    while utf8::decode(text, at) / 8 == ZWJ {
+        at += 3;
+    }
+    at
+}
+
+// Past tags.
+fn skip_tags(text: &[u8], from: usize) -> usize
+    ensures { λ r. ⌜ ((p : Policy) → Stays p (now (text .entry)) from r) ⌝ }
+{
+    let mut at = from;
+    while unicode::is_tag(utf8::decode(text, at) / 8) {
+        at += 4;
+    }
+    at
+}
+
+// Past the links behind a link, or the tags behind a tag: formatting leaves them, though they are part of an item. Each has as many
+// bytes as the one before it, so that no step waits for what the last one read.
+pub(crate) fn skip_alike(text: &[u8], from: usize, ch: u32) -> usize
+    ensures { λ r. ⌜ ((p : Policy) → Stays p (now (text .entry)) from r) ⌝ }
+{
+    if ch == ZWJ {
+        return skip_links(text, from);
+    }
+    if unicode::is_tag(ch) {
+        return skip_tags(text, from);
+    }
+    from
 }

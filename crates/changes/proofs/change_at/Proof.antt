@@ -1,5 +1,6 @@
--- `changes::change_at` meets its contract: a base with its selectors, a selector, or a plain character.
+-- `changes::change_at` meets its contract: a base with its selectors, a selector, or a plain character with more like it.
 use Rattle.changes.proofs.PlainText.{stays-plain}
+use Rattle.changes.proofs.Staying.{stays-on}
 use Rattle.changes.proofs.Bases.{change-at-base, change-at-selector, entry-no-selector, plain-char}
 use Rattle.policy.specs.PolicyBytes.{policyOf}
 use Rattle.scanner.proofs.SelectorChars.{selector-value}
@@ -19,29 +20,8 @@ add-next c =
     let s = step (x .text .now) (x .at) (x .ch) (x .width) (c .before .before .pre) in
     omega (arith, s .room, c .before .before .good .0 .0)
 
-variation-sequence-index-requires : tie.Need-variation-sequence-index-requires
-variation-sequence-index-requires c κs = search needs
-
-enum-known-index : tie.Need-enum-known-index
-enum-known-index c = search needs
-
 base-change-requires : tie.Need-base-change-requires
 base-change-requires c κs = sym (c .before .before .before .variation-sequence-index .ensures) ∙ c .before .index .given .1
-
-enum-told : tie.Need-enum-told
-enum-told c = search needs
-
-from-selector-requires : tie.Need-from-selector-requires
-from-selector-requires c κs = search needs
-
-enum-told-2 : tie.Need-enum-told-2
-enum-told-2 c = search needs
-
-selectors-end-requires : tie.Need-selectors-end-requires
-selectors-end-requires c κs = search needs
-
-enum-told-3 : tie.Need-enum-told-3
-enum-told-3 c = search needs
 
 returns : tie.Need-returns
 returns c =
@@ -59,24 +39,26 @@ returns-2 c =
 
 returns-3 : tie.Need-returns-3
 returns-3 c =
-    let x = c .before .before .before .before .before .before .before .before .args in
-    let s = step (x .text .now) (x .at) (x .ch) (x .width) (c .before .before .before .before .before .before .before .before .pre) in
-    let n = plain-char (x .ch) (sym (c .before .before .before .before .before .variation-sequence-index .ensures) ∙ c .before .before .before .enum-told .given .1) (sym (c .before .before .from-selector .ensures) ∙ c .enum-told3 .given .1) in
-    (λ f. absurd (true≢false (sym f)), λ _. (stays-plain (policyOf (x .policy .now)) s n, omega (arith, s .some)))
+    let x = c .before .before .before .before .before .before .before .before .before .args in
+    let s = step (x .text .now) (x .at) (x .ch) (x .width) (c .before .before .before .before .before .before .before .before .before .pre) in
+    let n = plain-char (x .ch) (sym (c .before .before .before .before .before .before .variation-sequence-index .ensures) ∙ c .before .before .before .before .enum-told .given .1) (sym (c .before .before .before .from-selector .ensures) ∙ c .before .enum-told3 .given .1) in
+    let more = c .skip-alike .ensures (policyOf (x .policy .now)) in
+    (λ f. absurd (true≢false (sym f)), λ _. (stays-on (stays-plain (policyOf (x .policy .now)) s n) more, omega (arith, s .some, more .on)))
 
 pub change-at-spec : {M : Type 1} → statement M
 change-at-spec =
     tie.close
     (tie.spec
     add-next
-    variation-sequence-index-requires
-    enum-known-index
+    (λ c κs. search needs)
+    (λ c. search needs)
     base-change-requires
-    enum-told
-    from-selector-requires
-    enum-told-2
-    selectors-end-requires
-    enum-told-3
+    (λ c. search needs)
+    (λ c κs. search needs)
+    (λ c. search needs)
+    (λ c κs. search needs)
+    (λ c. search needs)
+    (λ c κs. search needs)
     returns
     returns-2
     returns-3)

@@ -9,28 +9,10 @@ use Rattle.changes.proofs.Walking.{read-end}
 use Rattle.changes.proofs.findings.read_cell.Statement.{statement}
 use Rattle.changes.proofs.findings.read_cell.Tie as tie
 
-selector-at-requires : tie.Need-selector-at-requires
-selector-at-requires c κs = search needs
-
-selectors-end-requires : tie.Need-selectors-end-requires
-selectors-end-requires c κs = search needs
-
-decode-requires : tie.Need-decode-requires
-decode-requires c κs = search needs
-
-classify-requires : tie.Need-classify-requires
-classify-requires c κs = search needs
-
-sub-cell-changes : tie.Need-sub-cell-changes
-sub-cell-changes c = search needs
-
-cell-changes-requires : tie.Need-cell-changes-requires
-cell-changes-requires c κs = search needs
-
 returns : tie.Need-returns
 returns c =
     let x = c .before .before .before .before .before .before .before .args in
-    let e = c .before .before .before .selectors-end in
+    let e = c .before .before .before .selectors-behind in
     let d = c .before .before .decode in
     let k = c .before .classify in
     read-end (policyOf (x .policy .now)) (x .text .now) (x .base) (x .at)
@@ -41,10 +23,10 @@ pub read-cell-spec : {M : Type 1} → statement M
 read-cell-spec =
     tie.close
     (tie.spec
-    selector-at-requires
-    selectors-end-requires
-    decode-requires
-    classify-requires
-    sub-cell-changes
-    cell-changes-requires
+    (λ c κs. search needs)
+    (λ c κs. search needs)
+    (λ c κs. search needs)
+    (λ c κs. search needs)
+    (λ c. search needs)
+    (λ c κs. search needs)
     returns)
