@@ -1,7 +1,7 @@
 -- Going through a text from change to change: what is measured and written, with what is left, is the whole.
 use mathlib.Core.Path.{_≡_, refl, ap, ap₂, sym, _∙_}
 use mathlib.Core.Bool.{Bool, true, false}
-use mathlib.Core.List.{List, [], _∷_, _++_}
+use mathlib.Core.List.{List, [], _∷_, _++_, append-assoc}
 use Prim.Native.Nat.{ℕ, _+_, _*_, _-_, _<_, _≤_}
 use native.Mathlib.Omega.{arith}
 use lib.Dec.{eqb}
@@ -28,6 +28,10 @@ use Rattle.unicode.specs.declared.presentation.Presentation.the-variants.{Emoji
 use Rattle.unicode.specs.Presentation.{asSelector}
 use Rattle.changes.specs.Changes.{NextChange, formattedFrom, selectorBytes, totalFrom}
 use Rattle.changes.specs.declared.Change.{Change}
+
+-- The bytes from an offset on, as a part of the text.
+pub rest-valid : (text : List ℕ) (at : ℕ) {n : ℕ} → n ≡ validUpTo (take (length text - at) (drop at text)) → n ≡ validUpTo (drop at text)
+rest-valid text at e = e ∙ ap validUpTo (take-all (length text - at) (drop at text) (omega (arith, length-drop at text)))
 
 module _ (p : Policy) (text : List ℕ) where
   -- The formatted text is at most four times as long.
@@ -129,12 +133,6 @@ module _ (p : Policy) (text : List ℕ) where
     pub first-inside : c .end ≤ length text
     first-inside = passed (omega arith) h .inside
 
-    -- What is well-formed from its end on tells how much of the text is.
-    pub first-valid : {n : ℕ} → n ≡ validUpTo (take (length text - c .end) (drop (c .end) text)) → c .end + n ≡ validUpTo text
-    first-valid e =
-        let s = survey-on survey-begin h refl in
-        omega (arith, e, s .valid, ap validUpTo (take-all (length text - c .end) (drop (c .end) text) (omega (arith, length-drop (c .end) text))))
-
     pub first-end : c .more ≡ false → c .end ≡ validUpTo text
     first-end m = survey-valid (survey-on survey-begin h refl) (h .1 m .ends)
 
@@ -145,24 +143,38 @@ module _ (p : Policy) (text : List ℕ) where
     pub first-none : c .more ≡ false → eqb (totalFrom p text 0) 0 ≡ true
     first-none m = eq-eqb (totalFrom p text 0) 0 (h .1 m .stays .counted ∙ none-counted (c .end) (h .1 m .ends))
 
+  -- ---- two changes in a row
+
+  -- What is well-formed behind the second tells how much of the text is, and without one more it is all up to its end.
+  module _ {c d : Change} (h : NextChange p text 0 c) (k : NextChange p text (c .end) d) where
+    pub second-inside : d .end ≤ length text
+    second-inside = passed (first-inside h) k .inside
+
+    pub second-valid : {n : ℕ} → (d .more ≡ true → n ≡ d .end + validUpTo (drop (d .end) text)) × (d .more ≡ false → n ≡ d .end) → n ≡ validUpTo text
+    second-valid {n} e = go (d .more) refl
+      where
+        go : (b : Bool) → d .more ≡ b → n ≡ validUpTo text
+        go true m = let s = survey-on (survey-on survey-begin h refl) k refl in omega (arith, e .0 m, s .valid)
+        go false m = e .1 m ∙ survey-valid (survey-on (survey-on survey-begin h refl) k refl) (k .1 m .ends)
+
   -- ---- writing
 
+  -- What goes out for a change: the bytes before it, and its selector.
+  abbrev pub changeBytes : ℕ → Change → List ℕ
+  changeBytes at c = take (c .kept - at) (drop at text) ++ selectorBytes (c .selector)
+
+  pub change-formatted : {at : ℕ} {c : Change} → Passed at c → formattedFrom p text at ≡ changeBytes at c ++ formattedFrom p text (c .end)
+  change-formatted {at} {c} h = h .formatted ∙ sym (append-assoc (take (c .kept - at) (drop at text)) (selectorBytes (c .selector)) (formattedFrom p text (c .end)))
+
   -- From before a change to behind it.
-  module _ {o₀ o : List ℕ} {at to : ℕ} {c : Change} (w : Writing (formattedFrom p text 0) 0 o₀ (formattedFrom p text at) o to) (h : Passed at c) where
-    pub kept-room : to + (c .kept - at) ≤ length o
-    kept-room =
-        let t = take (c .kept - at) (drop at text) in
-        omega (arith, kept-length h, room _ _ _ _ t _ w (h .formatted))
+  module _ {all o₀ o : List ℕ} {from at to : ℕ} {c : Change} (w : Writing all from o₀ (formattedFrom p text at) o to) (h : Passed at c) where
+    pub change-room : to + (c .kept - at) + length (selectorBytes (c .selector)) ≤ length o
+    change-room =
+        let a = length-append (take (c .kept - at) (drop at text)) (selectorBytes (c .selector)) in
+        omega (arith, kept-length h, a, room _ _ _ _ (changeBytes at c) _ w (change-formatted h))
 
-    module _ {o₁ : List ℕ} {to₁ : ℕ} (a : PutAt o to (take (c .kept - at) (drop at text)) o₁ to₁) where
-      kept-put : Writing (formattedFrom p text 0) 0 o₀ (selectorBytes (c .selector) ++ formattedFrom p text (c .end)) o₁ to₁
-      kept-put = put _ _ _ _ _ w a (h .formatted)
-
-      pub selector-room : to₁ + length (selectorBytes (c .selector)) ≤ length o₁
-      selector-room = room _ _ _ _ (selectorBytes (c .selector)) _ kept-put refl
-
-      pub change-put : {o₂ : List ℕ} {to₂ : ℕ} → PutAt o₁ to₁ (selectorBytes (c .selector)) o₂ to₂ → Writing (formattedFrom p text 0) 0 o₀ (formattedFrom p text (c .end)) o₂ to₂
-      change-put b = put _ _ _ _ _ kept-put b refl
+    pub change-put : {o₁ : List ℕ} {to₁ : ℕ} → PutAt o to (changeBytes at c) o₁ to₁ → Writing all from o₀ (formattedFrom p text (c .end)) o₁ to₁
+    change-put a = put _ _ _ _ _ w a (change-formatted h)
 
 -- ---- the bytes of a selector
 

@@ -2,9 +2,9 @@
 // The text is gone through from change to change (crate changes) and written on the way; only for an output that may be too short it is
 // measured before. `format_text` equals `format` of specs/Format.antt.
 ghost use mathlib.Core.Path.{_≡_};
-ghost use mathlib.Core.Bool.{true};
-ghost use mathlib.Core.List.{[], _∷_};
-ghost use Prim.Native.Nat.{_+_, _-_, _≤_};
+ghost use mathlib.Core.Bool.{true, false};
+ghost use mathlib.Core.List.{[], _∷_, _++_};
+ghost use Prim.Native.Nat.{_+_, _*_, _-_, _≤_};
 ghost use lib.ListN.{drop, length, take};
 ghost use Rattle.base.specs.Output.{PutAt};
 ghost use Rattle.base.specs.Refusals.{textLimit};
@@ -101,18 +101,34 @@ fn put_selector(out: &mut [u8], at: usize, selector: FromSelector) -> usize
     }
 }
 
-// Puts the formatted text, for which there is room, from its first change on.
-fn put_changes(text: &[u8], policy: &[u8], first: Change, out: &mut [u8]) -> usize
-    requires { ⌜ NextChange (policyOf (now policy)) (now text) 0 first × (length (formattedFrom (policyOf (now policy)) (now text) 0) ≤ length (now out)) ⌝ }
-    ensures { λ r. ⌜ PutAt (now (out .entry)) 0 (formattedFrom (policyOf (now (policy .entry))) (now (text .entry)) 0) (now (out .exit)) r ⌝ }
+// Puts the bytes of a text from an offset up to a change, and the selector that stands there then, for which there is room, and says
+// where they end.
+fn put_change(text: &[u8], from: usize, change: Change, out: &mut [u8], at: usize) -> usize
+    requires { ⌜ (from ≤ change .kept) × (change .kept ≤ length (now text)) × (at + (change .kept - from) + length (selectorBytes (change .selector)) ≤ length (now out)) ⌝ }
+    ensures { λ r. ⌜ PutAt (now (out .entry)) at (take (change .kept - from) (drop from (now (text .entry))) ++ selectorBytes (change .selector)) (now (out .exit)) r ⌝ }
 {
-    let mut at = 0;
-    let mut to = 0;
-    let mut change = first;
+    let selector = change.selector;
+    let end = put_part(text, from, change.kept, out, at);
+    put_selector(out, end, selector)
+}
+
+// Puts the formatted text from an offset on, for which there is room; the next change from there on is known.
+fn put_changes(
+    text: &[u8],
+    policy: &[u8],
+    from: usize,
+    next: Change,
+    out: &mut [u8],
+    start: usize,
+) -> usize
+    requires { ⌜ (from ≤ length (now text)) × NextChange (policyOf (now policy)) (now text) from next × (start + length (formattedFrom (policyOf (now policy)) (now text) from) ≤ length (now out)) ⌝ }
+    ensures { λ r. ⌜ PutAt (now (out .entry)) start (formattedFrom (policyOf (now (policy .entry))) (now (text .entry)) from) (now (out .exit)) r ⌝ }
+{
+    let mut at = from;
+    let mut to = start;
+    let mut change = next;
     loop {
-        let selector = change.selector;
-        to = put_part(text, at, change.kept, out, to);
-        to = put_selector(out, to, selector);
+        to = put_change(text, at, change, out, to);
         if !change.more {
             return to;
         }
@@ -133,8 +149,38 @@ fn format_measured(text: &[u8], policy: &[u8], first: Change, out: &mut [u8]) ->
     if out.len() < len {
         return FormatAnswer::Refused(Refusal::OutputTooShort { wanted: len });
     }
-    put_changes(text, policy, first, out);
+    put_changes(text, policy, 0, first, out, 0);
     FormatAnswer::Changed { len }
+}
+
+// Up to where a text is well-formed, by a change that was found: without one more the search came to the end of what is.
+fn valid_behind(text: &[u8], change: Change) -> usize
+    requires { ⌜ change .end ≤ length (now text) ⌝ }
+    ensures { λ r. ⌜ (change .more ≡ true → r ≡ change .end + validUpTo (drop (change .end) (now (text .entry)))) × (change .more ≡ false → r ≡ change .end) ⌝ }
+{
+    let end = change.end;
+    if !change.more {
+        return end;
+    }
+    end + utf8::valid_up_to(&text[end..])
+}
+
+// Formats a text that has a change, of which the first is known, into an output that has room for every formatted text. The second one
+// is asked for before anything is written: most messages have none, and then it is known that the rest is well-formed.
+fn format_at_once(text: &[u8], policy: &[u8], first: Change, out: &mut [u8]) -> FormatAnswer
+    requires { ⌜ (length (now text) ≤ textLimit) × (isPolicy (now policy) ≡ true) × NextChange (policyOf (now policy)) (now text) 0 first × (first .more ≡ true) × (4 * length (now text) ≤ length (now out)) ⌝ }
+    ensures { λ r. ⌜ record { answer = r; buffer = now (out .exit) } ≡ format (now (text .entry)) (now (policy .entry)) (now (out .entry)) ⌝ }
+{
+    let end = first.end;
+    let second = next_change(text, policy, end);
+    let valid_up_to = valid_behind(text, second);
+    if valid_up_to != text.len() {
+        return FormatAnswer::Refused(Refusal::NotWellFormed { valid_up_to });
+    }
+    let to = put_change(text, 0, first, out, 0);
+    FormatAnswer::Changed {
+        len: put_changes(text, policy, end, second, out, to),
+    }
 }
 
 // Writes the formatted text at the front of the output, if it is another text and fits.
@@ -158,11 +204,5 @@ pub fn format_text(text: &[u8], policy: &[u8], out: &mut [u8]) -> FormatAnswer
     if out.len() / MOST_TIMES < text.len() {
         return format_measured(text, policy, first, out);
     }
-    let valid_up_to = end + utf8::valid_up_to(&text[end..]);
-    if valid_up_to != text.len() {
-        return FormatAnswer::Refused(Refusal::NotWellFormed { valid_up_to });
-    }
-    FormatAnswer::Changed {
-        len: put_changes(text, policy, first, out),
-    }
+    format_at_once(text, policy, first, out)
 }

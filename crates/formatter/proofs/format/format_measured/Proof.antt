@@ -31,10 +31,7 @@ returns-2 c =
     format-short p t a (x .out .now) (s .result .len) (first-counted (policyOf p) t (r .2) (r .3)) (s .ensures .1) (c .if2 .taken)
 
 put-changes-requires : tie.Need-put-changes-requires
-put-changes-requires c κs = (c .before .before .before .before .before .before .before .pre .2, omega (arith, c .before .before .before .survey-text .ensures .1, c .before .if2 .left))
-
-same-length : tie.Need-same-length
-same-length c = search needs
+put-changes-requires c κs = (omega arith, c .before .before .before .before .before .before .before .pre .2, omega (arith, c .before .before .before .survey-text .ensures .1, c .before .if2 .left))
 
 returns-3 : tie.Need-returns-3
 returns-3 c =
@@ -49,4 +46,4 @@ returns-3 c =
 pub format-measured-spec : {M : Type 1} → statement M
 format-measured-spec =
     tie.close
-    (tie.spec survey-text-requires returns returns-2 put-changes-requires same-length returns-3)
+    (tie.spec survey-text-requires returns returns-2 put-changes-requires (λ c. search needs) returns-3)
