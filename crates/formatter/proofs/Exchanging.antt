@@ -1,10 +1,10 @@
 -- A mending call by its parts: the text that is put together, and the tests of the decisions for the finding at the offset.
-use mathlib.Core.Path.{_≡_, ap, ap₂, sym, _∙_}
-use mathlib.Core.List.{List, _++_, append-nil, map}
+use mathlib.Core.Path.{_≡_, refl, ap, ap₂, sym, _∙_}
+use mathlib.Core.List.{List, [], _∷_, _++_, append-nil, map}
 use mathlib.Core.Option.{Option, none, some}
 use Prim.Native.Nat.{ℕ, _+_, _*_, _-_, _≤_, _<_}
 use native.Mathlib.Omega.{arith}
-use lib.ListN.{drop, length, length-append, length-drop, take}
+use lib.ListN.{drop, length, length-append, length-drop, take, take-append-drop}
 use lib.Seq.{drop-length, length-sets, length-take-le, sets}
 use borrow.Author.Tests.{le-leb}
 use Rattle.base.specs.Refusals.{After, kept, orElse, textLimit}
@@ -85,6 +85,21 @@ module _ (p : Policy) (text : List ℕ) (start : ℕ) (decisions : List ℕ) {en
       let v : take start o ++ (b ++ drop k (drop start o)) ≡ R ++ drop (length R) out =
       ap₂ (λ (b : List ℕ) (k : ℕ). take start o ++ (b ++ drop k (drop start o))) m f ∙ ap (λ (o : List ℕ). take start o ++ (B ++ drop n (drop start o))) c ∙ z in
       out-written R out _ wanted-is _ l v
+
+  -- Written in none, they leave what was put around them.
+  pub exchange-nothing : n ≡ 0 → start + n + (length text - end) ≤ length out → {o : List ℕ} → o ≡ sets (sets out 0 (take start text)) (start + n) (drop end text)
+      → record { answer = Mended (start + n + (length text - end)); buffer = o } ≡ writeOut R out
+  exchange-nothing f l {o} c =
+      let b : B ≡ [] = nothing B (sym g ∙ f) in
+      let z = between (take start text) B (drop end text) out start-length (sym g) (omega (arith, length-drop end text)) in
+      let v : o ≡ R ++ drop (length R) out =
+      sym (take-append-drop start o) ∙ ap₂ (λ (b : List ℕ) (k : ℕ). take start o ++ (b ++ drop k (drop start o))) (sym b) (sym f)
+      ∙ ap (λ (o : List ℕ). take start o ++ (B ++ drop n (drop start o))) c ∙ z in
+      out-written R out _ wanted-is _ l v
+    where
+      nothing : (b : List ℕ) → length b ≡ 0 → b ≡ []
+      nothing [] e = refl
+      nothing (x ∷ b) e = absurd (omega arith)
 
 -- ---- the call
 

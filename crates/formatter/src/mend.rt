@@ -6,10 +6,11 @@ ghost use Prim.Native.Nat.{_+_, _-_, _≤_};
 ghost use lib.ListN.{drop, length, take};
 ghost use lib.Seq.{sets};
 ghost use Rattle.base.specs.Refusals.{textLimit};
+ghost use Rattle.utf8.specs.Rfc3629.{validUpTo};
 ghost use Rattle.policy.specs.PolicyBytes.{policyOf};
 ghost use Rattle.analysis.specs.Decisions.{meaning, writeOut};
-ghost use Rattle.formatter.specs.Mend.{FindingStarting, cellsFrom, mend};
-use crate::intake::intake;
+ghost use Rattle.formatter.specs.Demand3.{Accepted};
+ghost use Rattle.formatter.specs.Mend.{FindingStarting, Starts, cellsFrom, mend};
 use analysis::decisions::check_decisions;
 use analysis::measure::Measure;
 use analysis::measure::measure_cells;
@@ -17,14 +18,18 @@ use analysis::render::write_cells;
 use analysis::types::MendAnswer;
 use base::Check;
 use base::Refusal;
+use base::TEXT_LIMIT;
 use changes::findings::FindingSpan;
 use changes::findings::next_finding;
 use policy::Policy;
 use policy::ReadPolicy;
+use policy::policy_bytes::is_policy;
 
-// The finding of a text that starts at an offset; an item may start before it and reach over it.
+// The finding of a text that starts at an offset; an item may start before it and reach over it. Up to where the search ends the text is
+// well-formed.
 fn finding_starting(text: &[u8], policy: &[u8], offset: usize) -> FindingSpan
-    ensures { λ r. ⌜ FindingStarting (policyOf (now (policy .entry))) (now (text .entry)) offset r ⌝ }
+    ensures starts { λ r. ⌜ FindingStarting (policyOf (now (policy .entry))) (now (text .entry)) offset r ⌝ }
+    ensures valid { λ r. ⌜ (r .end ≤ length (now (text .entry))) × (r .end + validUpTo (drop (r .end) (now (text .entry))) ≡ validUpTo (now (text .entry))) ⌝ }
 {
     let mut at = 0;
     loop {
@@ -53,7 +58,8 @@ fn put_around(text: &[u8], start: usize, end: usize, len: usize, out: &mut [u8])
     base::write_bytes(out, start + len, &text[end..]);
 }
 
-// Writes the text with the cells from start up to end, which are written in so many bytes, in their place, if there is room.
+// Writes the text with the cells from start up to end, which are written in so many bytes, in their place, if there is room. Selectors
+// alone are written in none.
 fn exchange(
     text: &[u8],
     start: usize,
@@ -72,8 +78,34 @@ fn exchange(
         return MendAnswer::Refused(Refusal::OutputTooShort { wanted });
     }
     put_around(text, start, end, len, out);
+    if len == 0 {
+        return MendAnswer::Mended { len: wanted };
+    }
     write_cells(&text[start..end], policy, decisions, &mut out[start..stop]);
     MendAnswer::Mended { len: wanted }
+}
+
+// Writes an accepted text with the finding from the offset up to end replaced under the decisions, if they are valid and there is room.
+fn mend_finding(
+    text: &[u8],
+    policy: &[u8],
+    offset: usize,
+    end: usize,
+    decisions: &[u8],
+    out: &mut [u8],
+) -> MendAnswer
+    requires { ⌜ Accepted (now policy) (now text) × Starts (policyOf (now policy)) (now text) offset end ⌝ }
+    ensures { λ r. ⌜ record { answer = r; buffer = now (out .exit) } ≡ mend (now (text .entry)) (now (policy .entry)) offset (now (decisions .entry)) (now (out .entry)) ⌝ }
+{
+    let ReadPolicy {
+        accepted: _,
+        policy: accepted_policy,
+    } = policy::read_policy(policy);
+    let Measure { counts, len } = measure_cells(&text[offset..end], accepted_policy);
+    if let Check::Refused(refusal) = check_decisions(decisions, counts.presentation_decisions) {
+        return MendAnswer::Refused(refusal);
+    }
+    exchange(text, offset, end, len, accepted_policy, decisions, out)
 }
 
 // Writes the text with the finding that starts at the offset replaced under the decisions.
@@ -86,24 +118,23 @@ pub fn mend(
 ) -> MendAnswer
     ensures { λ r. ⌜ record { answer = r; buffer = now (out .exit) } ≡ mend (now (text .entry)) (now (policy .entry)) offset (now (decisions .entry)) (now (out .entry)) ⌝ }
 {
-    if let Check::Refused(refusal) = intake(text, policy) {
-        return MendAnswer::Refused(refusal);
+    if TEXT_LIMIT < text.len() {
+        return MendAnswer::Refused(Refusal::TextTooLong);
+    }
+    if !is_policy(policy) {
+        return MendAnswer::Refused(Refusal::NotAPolicy);
     }
     let FindingSpan {
         start: _,
         end,
         more,
     } = finding_starting(text, policy, offset);
+    let valid_up_to = end + utf8::valid_up_to(&text[end..]);
+    if valid_up_to != text.len() {
+        return MendAnswer::Refused(Refusal::NotWellFormed { valid_up_to });
+    }
     if !more {
         return MendAnswer::Refused(Refusal::NoFinding);
     }
-    let ReadPolicy {
-        accepted: _,
-        policy: accepted_policy,
-    } = policy::read_policy(policy);
-    let Measure { counts, len } = measure_cells(&text[offset..end], accepted_policy);
-    if let Check::Refused(refusal) = check_decisions(decisions, counts.presentation_decisions) {
-        return MendAnswer::Refused(refusal);
-    }
-    exchange(text, offset, end, len, accepted_policy, decisions, out)
+    mend_finding(text, policy, offset, end, decisions, out)
 }

@@ -1,147 +1,91 @@
--- `formatter::mend::mend` meets its contract.
-use mathlib.Core.Path.{refl, sym, _∙_}
-use mathlib.Core.List.{map}
+-- `formatter::mend::mend` meets its contract: the refusals in their order, and the finding at the offset.
+use mathlib.Core.Path.{_≡_, refl, ap, sym, _∙_}
+use Prim.Native.Nat.{ℕ, _+_, _≤_}
 use native.Mathlib.Omega.{arith}
 use borrow.Author.Needs.{needs}
-use borrow.Author.Tests.{not-false, not-true}
-use Rattle.analysis.specs.Decisions.{decisionsRefusal, meaning}
-use Rattle.analysis.proofs.Rendering.{measured}
-use Rattle.analysis.proofs.Replacing.{part, part-within}
-use Rattle.formatter.specs.Intake.{intakeRefusal}
+use borrow.Author.Tests.{le-leb, lt-leb, not-false, not-true}
+use lib.ListN.{length}
+use Rattle.base.specs.Refusals.{textLimit}
+use Rattle.base.specs.declared.Refusal.the-variants.{NotAPolicy, TextTooLong}
+use Rattle.utf8.proofs.Texts.{validUpTo-le}
 use Rattle.formatter.specs.Theorems.{IntakeComesFirst}
-use Rattle.formatter.proofs.Exchanging.{mend-nothing, mend-tested}
-use Rattle.formatter.proofs.Outcomes.{comes-first}
-use Rattle.formatter.proofs.Passing.{checked-passed, checked-refused, passed-accepted, read-policy}
-use Rattle.formatter.proofs.NextFindings.{finds-ahead}
+use Rattle.formatter.proofs.Exchanging.{mend-nothing}
+use Rattle.formatter.proofs.Outcomes.{all-well-formed, comes-first, not-well-formed}
+use Rattle.formatter.proofs.Passing.{intake-is}
+use Rattle.formatter.proofs.Surveying.{rest-valid}
 use Rattle.formatter.proofs.mend.mend.Statement.{statement}
 use Rattle.formatter.proofs.mend.mend.Tie as tie
-
-intake-requires : tie.Need-intake-requires
-intake-requires c κs = search needs
-
-enum-known-refusal : tie.Need-enum-known-refusal
-enum-known-refusal c = search needs
 
 returns : tie.Need-returns
 unfolding IntakeComesFirst
 returns c =
-    let x = c .before .before .before .before .before .before .before .before .args in
+    let x = c .before .before .before .before .before .args in
     let t = x .text .now in
-    let p = x .policy .now in
-    let g = c .before .refusal .given in
-    sym (comes-first t p (g .0 .0) (checked-refused (intakeRefusal t p) (g .0 .0) (sym (c .before .before .before .intake .ensures) ∙ g .1)) .3 (x .offset) (x .decisions .now) (x .out .now))
-
-enum-told : tie.Need-enum-told
-enum-told c = search needs
-
-finding-starting-requires : tie.Need-finding-starting-requires
-finding-starting-requires c κs = search needs
+    sym (comes-first t (x .policy .now) TextTooLong (intake-is t (x .policy .now) (lt-leb (length t) textLimit (c .if1 .taken)) refl refl) .3 (x .offset) (x .decisions .now) (x .out .now))
 
 returns-2 : tie.Need-returns-2
+unfolding IntakeComesFirst
 returns-2 c =
-    let x = c .before .before .before .before .before .before .before .before .before .args in
+    let x = c .before .before .before .before .before .before .before .args in
     let t = x .text .now in
-    let p = x .policy .now in
-    let a = passed-accepted t p (checked-passed (intakeRefusal t p) (sym (c .before .before .before .before .intake .ensures) ∙ c .before .before .enum-told .given .1)) in
-    let f = c .before .finding-starting in
-    mend-nothing p t a (x .offset) (x .decisions .now) (f .ensures .1 (not-true (f .result .more) (c .if1 .taken))) (x .out .now)
+    sym (comes-first t (x .policy .now) NotAPolicy (intake-is t (x .policy .now) (le-leb (length t) textLimit (omega (arith, c .before .before .if1 .left))) (sym (c .before .is-policy .ensures) ∙ not-true _ (c .if2 .taken)) refl) .3 (x .offset) (x .decisions .now) (x .out .now))
 
-read-policy-requires : tie.Need-read-policy-requires
-read-policy-requires c κs = search needs
-
-sub-measure-cells : tie.Need-sub-measure-cells
-sub-measure-cells c =
-    let f = c .before .before .before .finding-starting in
-    let s = f .ensures .0 (not-false (f .result .more) (c .before .before .if1 .left)) in
-    omega (arith, finds-ahead (s .finds) .some)
-
-part-measure-cells-start : tie.Need-part-measure-cells-start
-part-measure-cells-start c =
-    let f = c .before .before .before .finding-starting in
-    let s = f .ensures .0 (not-false (f .result .more) (c .before .before .if1 .left)) in
-    omega (arith, finds-ahead (s .finds) .some)
-
-part-measure-cells-end : tie.Need-part-measure-cells-end
-part-measure-cells-end c =
-    let f = c .before .before .before .finding-starting in
-    let s = f .ensures .0 (not-false (f .result .more) (c .before .before .if1 .left)) in
-    omega (arith, finds-ahead (s .finds) .room)
-
-measure-cells-requires : tie.Need-measure-cells-requires
-measure-cells-requires c κs = search needs
-
-check-decisions-requires : tie.Need-check-decisions-requires
-check-decisions-requires c κs = search needs
-
-enum-known-refusal-2 : tie.Need-enum-known-refusal-2
-enum-known-refusal-2 c = search needs
+add-valid-up-to : tie.Need-add-valid-up-to
+add-valid-up-to c =
+    let x = c .before .before .before .before .before .before .before .before .before .before .args in
+    let f = c .before .before .finding-starting in
+    omega (arith, f .ensures .1, rest-valid (x .text .now) (f .result .end) (c .valid-up-to .ensures), validUpTo-le (x .text .now), c .before .before .before .before .before .if1 .left)
 
 returns-3 : tie.Need-returns-3
+unfolding IntakeComesFirst
 returns-3 c =
-    let x = c .before .before .before .before .before .before .before .before .before .before .before .before .before .before .before .before .before .before .args in
+    let x = c .before .before .before .before .before .before .before .before .before .before .before .args in
     let t = x .text .now in
     let p = x .policy .now in
-    let a = passed-accepted t p (checked-passed (intakeRefusal t p) (sym (c .before .before .before .before .before .before .before .before .before .before .before .before .before .intake .ensures) ∙ c .before .before .before .before .before .before .before .before .before .before .before .enum-told .given .1)) in
-    let f = c .before .before .before .before .before .before .before .before .before .before .finding-starting in
-    let s = f .ensures .0 (not-false (f .result .more) (c .before .before .before .before .before .before .before .before .before .if1 .left)) in
-    let r = read-policy p (c .before .before .before .before .before .before .before .before .read-policy .ensures) in
-    let m = c .before .before .before .before .before .measure-cells in
-    let k = c .before .before .before .check-decisions in
-    let d = checked-refused (decisionsRefusal (m .result .counts .«presentation_decisions») (x .decisions .now)) (c .before .refusal2 .given .0 .0) (sym (k .ensures) ∙ c .before .refusal2 .given .1) in
-    mend-tested p t a (x .offset) (x .decisions .now) s r (m .ensures .0) d (x .out .now) refl
-
-enum-told-2 : tie.Need-enum-told-2
-enum-told-2 c = search needs
-
-exchange-requires : tie.Need-exchange-requires
-exchange-requires c κs =
-    let x = c .before .before .before .before .before .before .before .before .before .before .before .before .before .before .before .before .before .before .args in
-    let t = x .text .now in
-    let p = x .policy .now in
-    let a = passed-accepted t p (checked-passed (intakeRefusal t p) (sym (c .before .before .before .before .before .before .before .before .before .before .before .before .before .intake .ensures) ∙ c .before .before .before .before .before .before .before .before .before .before .before .enum-told .given .1)) in
-    let f = c .before .before .before .before .before .before .before .before .before .before .finding-starting in
-    let s = f .ensures .0 (not-false (f .result .more) (c .before .before .before .before .before .before .before .before .before .if1 .left)) in
-    let h = finds-ahead (s .finds) in
-    let q = c .before .before .before .before .before .before .before .before .read-policy .result .policy in
-    let raw = part t (x .offset) (f .result .end) in
-    (omega (arith, h .some), h .room, a .short, c .before .before .before .before .before .measure-cells .ensures .1 ∙ measured q raw (map meaning (x .decisions .now)) (omega (arith, a .short, part-within t (x .offset) (f .result .end))))
-
-same-length : tie.Need-same-length
-same-length c = search needs
+    let short : length t ≤ textLimit = omega (arith, c .before .before .before .before .before .before .if1 .left) in
+    let fit = sym (c .before .before .before .before .before .is-policy .ensures) ∙ not-false _ (c .before .before .before .before .if2 .left) in
+    let f = c .before .before .before .finding-starting in
+    let v = ap (λ (n : ℕ). f .result .end + n) (rest-valid t (f .result .end) (c .before .valid-up-to .ensures)) ∙ f .ensures .1 .1 in
+    sym (comes-first t p _ (not-well-formed t p short fit v (c .if3 .taken)) .3 (x .offset) (x .decisions .now) (x .out .now))
 
 returns-4 : tie.Need-returns-4
 returns-4 c =
-    let x = c .before .before .before .before .before .before .before .before .before .before .before .before .before .before .before .before .before .before .before .before .before .args in
+    let x = c .before .before .before .before .before .before .before .before .before .before .before .before .args in
     let t = x .text .now in
     let p = x .policy .now in
-    let a = passed-accepted t p (checked-passed (intakeRefusal t p) (sym (c .before .before .before .before .before .before .before .before .before .before .before .before .before .before .before .before .intake .ensures) ∙ c .before .before .before .before .before .before .before .before .before .before .before .before .before .before .enum-told .given .1)) in
-    let f = c .before .before .before .before .before .before .before .before .before .before .before .before .before .finding-starting in
-    let s = f .ensures .0 (not-false (f .result .more) (c .before .before .before .before .before .before .before .before .before .before .before .before .if1 .left)) in
-    let r = read-policy p (c .before .before .before .before .before .before .before .before .before .before .before .read-policy .ensures) in
-    let m = c .before .before .before .before .before .before .before .before .measure-cells in
-    let k = c .before .before .before .before .before .before .check-decisions in
-    let d = checked-passed (decisionsRefusal (m .result .counts .«presentation_decisions») (x .decisions .now)) (sym (k .ensures) ∙ c .before .before .before .before .enum-told2 .given .1) in
-    mend-tested p t a (x .offset) (x .decisions .now) s r (m .ensures .0) d (x .out .now) (c .before .before .exchange .ensures)
+    let short : length t ≤ textLimit = omega (arith, c .before .before .before .before .before .before .before .if1 .left) in
+    let fit = sym (c .before .before .before .before .before .before .is-policy .ensures) ∙ not-false _ (c .before .before .before .before .before .if2 .left) in
+    let f = c .before .before .before .before .finding-starting in
+    let v = ap (λ (n : ℕ). f .result .end + n) (rest-valid t (f .result .end) (c .before .before .valid-up-to .ensures)) ∙ f .ensures .1 .1 in
+    let a = all-well-formed t p short fit v (c .before .if3 .left) in
+    mend-nothing p t a (x .offset) (x .decisions .now) (f .ensures .0 .1 (not-true (f .result .more) (c .if4 .taken))) (x .out .now)
+
+mend-finding-requires : tie.Need-mend-finding-requires
+mend-finding-requires c κs =
+    let x = c .before .before .before .before .before .before .before .before .before .before .before .before .before .args in
+    let t = x .text .now in
+    let p = x .policy .now in
+    let short : length t ≤ textLimit = omega (arith, c .before .before .before .before .before .before .before .before .if1 .left) in
+    let fit = sym (c .before .before .before .before .before .before .before .is-policy .ensures) ∙ not-false _ (c .before .before .before .before .before .before .if2 .left) in
+    let f = c .before .before .before .before .before .finding-starting in
+    let v = ap (λ (n : ℕ). f .result .end + n) (rest-valid t (f .result .end) (c .before .before .before .valid-up-to .ensures)) ∙ f .ensures .1 .1 in
+    (all-well-formed t p short fit v (c .before .before .if3 .left), f .ensures .0 .0 (not-false (f .result .more) (c .before .if4 .left)))
 
 pub mend-spec : {M : Type 1} → statement M
 mend-spec =
     tie.close
     (tie.spec
-    intake-requires
-    enum-known-refusal
     returns
-    enum-told
-    finding-starting-requires
+    (λ c κs. search needs)
     returns-2
-    read-policy-requires
-    sub-measure-cells
-    part-measure-cells-start
-    part-measure-cells-end
-    measure-cells-requires
-    check-decisions-requires
-    enum-known-refusal-2
+    (λ c κs. search needs)
+    (λ c. c .finding-starting .ensures .1 .0)
+    (λ c. c .finding-starting .ensures .1 .0)
+    (λ c. search needs)
+    (λ c κs. search needs)
+    add-valid-up-to
     returns-3
-    enum-told-2
-    exchange-requires
-    same-length
-    returns-4)
+    returns-4
+    mend-finding-requires
+    (λ c. search needs)
+    (λ c. c .before .before .mend-finding .ensures))
