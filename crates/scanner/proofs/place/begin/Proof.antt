@@ -8,15 +8,6 @@ use Rattle.scanner.proofs.Arms.{class-arm}
 use Rattle.scanner.proofs.place.begin.Statement.{statement}
 use Rattle.scanner.proofs.place.begin.Tie as tie
 
-enum-told : tie.Need-enum-told
-enum-told c = search needs
-
-enum-told-2 : tie.Need-enum-told-2
-enum-told-2 c = search needs
-
-enum-told-3 : tie.Need-enum-told-3
-enum-told-3 c = search needs
-
 returns : tie.Need-returns
 unfolding begin
 returns c = cc
@@ -40,4 +31,12 @@ returns-5 c = class-arm (5 ∷ 6 ∷ 7 ∷ []) (λ (k : Class). plain ≡ begin 
 pub begin-spec : {M : Type 1} → statement M
 begin-spec =
     tie.close
-    (tie.spec enum-told enum-told-2 enum-told-3 returns returns-2 returns-3 returns-4 returns-5)
+    (tie.spec
+    (λ c. search needs)
+    (λ c. search needs)
+    (λ c. search needs)
+    returns
+    returns-2
+    returns-3
+    returns-4
+    returns-5)

@@ -8,15 +8,6 @@ use Rattle.scanner.proofs.Arms.{class-arm}
 use Rattle.scanner.proofs.tag_report.tags_after.Statement.{statement}
 use Rattle.scanner.proofs.tag_report.tags_after.Tie as tie
 
-enum-told : tie.Need-enum-told
-enum-told c = search needs
-
-enum-told-2 : tie.Need-enum-told-2
-enum-told-2 c = search needs
-
-close-requires : tie.Need-close-requires
-close-requires c κs = search needs
-
 returns : tie.Need-returns
 unfolding tagsAfter
 returns c = cc
@@ -33,4 +24,4 @@ returns-3 c =
 
 pub tags-after-spec : {M : Type 1} → statement M
 tags-after-spec =
-    tie.close (tie.spec enum-told enum-told-2 close-requires returns returns-2 returns-3)
+    tie.close (tie.spec (λ c. search needs) (λ c. search needs) (λ c κs. search needs) returns returns-2 returns-3)

@@ -4,21 +4,6 @@ use Rattle.scanner.specs.TagReport.{reportOf}
 use Rattle.scanner.proofs.tag_report.tags_complete.Statement.{statement}
 use Rattle.scanner.proofs.tag_report.tags_complete.Tie as tie
 
-enum-told : tie.Need-enum-told
-enum-told c = search needs
-
-all-complete-requires : tie.Need-all-complete-requires
-all-complete-requires c κs = search needs
-
-enum-told-2 : tie.Need-enum-told-2
-enum-told-2 c = search needs
-
-enum-told-3 : tie.Need-enum-told-3
-enum-told-3 c = search needs
-
-enum-told-4 : tie.Need-enum-told-4
-enum-told-4 c = search needs
-
 returns : tie.Need-returns
 unfolding reportOf
 returns c = cc
@@ -39,11 +24,11 @@ pub tags-complete-spec : {M : Type 1} → statement M
 tags-complete-spec =
     tie.close
     (tie.spec
-    enum-told
-    all-complete-requires
-    enum-told-2
-    enum-told-3
-    enum-told-4
+    (λ c. search needs)
+    (λ c κs. search needs)
+    (λ c. search needs)
+    (λ c. search needs)
+    (λ c. search needs)
     returns
     returns-2
     returns-3

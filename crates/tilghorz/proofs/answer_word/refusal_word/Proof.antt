@@ -4,54 +4,6 @@ use Rattle.base.specs.Refusals.{refusalRow}
 use Rattle.tilghorz.proofs.answer_word.refusal_word.Statement.{statement}
 use Rattle.tilghorz.proofs.answer_word.refusal_word.Tie as tie
 
-enum-told : tie.Need-enum-told
-enum-told c = search needs
-
-word-of-requires : tie.Need-word-of-requires
-word-of-requires c κs = search needs
-
-enum-told-2 : tie.Need-enum-told-2
-enum-told-2 c = search needs
-
-word-of-requires-2 : tie.Need-word-of-requires-2
-word-of-requires-2 c κs = search needs
-
-enum-known-refusal : tie.Need-enum-known-refusal
-enum-known-refusal c = search needs
-
-word-of-requires-3 : tie.Need-word-of-requires-3
-word-of-requires-3 c κs = search needs
-
-enum-told-3 : tie.Need-enum-told-3
-enum-told-3 c = search needs
-
-word-of-requires-4 : tie.Need-word-of-requires-4
-word-of-requires-4 c κs = search needs
-
-enum-known-refusal-2 : tie.Need-enum-known-refusal-2
-enum-known-refusal-2 c = search needs
-
-word-of-requires-5 : tie.Need-word-of-requires-5
-word-of-requires-5 c κs = search needs
-
-enum-known-refusal-3 : tie.Need-enum-known-refusal-3
-enum-known-refusal-3 c = search needs
-
-word-of-requires-6 : tie.Need-word-of-requires-6
-word-of-requires-6 c κs = search needs
-
-enum-known-refusal-4 : tie.Need-enum-known-refusal-4
-enum-known-refusal-4 c = search needs
-
-word-of-requires-7 : tie.Need-word-of-requires-7
-word-of-requires-7 c κs = search needs
-
-enum-known-refusal-5 : tie.Need-enum-known-refusal-5
-enum-known-refusal-5 c = search needs
-
-word-of-requires-8 : tie.Need-word-of-requires-8
-word-of-requires-8 c κs = search needs
-
 returns : tie.Need-returns
 unfolding refusalRow
 returns c = simp (c .before .enum-told .given .1, c .word-of .ensures)
@@ -88,22 +40,22 @@ pub refusal-word-spec : {M : Type 1} → statement M
 refusal-word-spec =
     tie.close
     (tie.spec
-    enum-told
-    word-of-requires
-    enum-told-2
-    word-of-requires-2
-    enum-known-refusal
-    word-of-requires-3
-    enum-told-3
-    word-of-requires-4
-    enum-known-refusal-2
-    word-of-requires-5
-    enum-known-refusal-3
-    word-of-requires-6
-    enum-known-refusal-4
-    word-of-requires-7
-    enum-known-refusal-5
-    word-of-requires-8
+    (λ c. search needs)
+    (λ c κs. search needs)
+    (λ c. search needs)
+    (λ c κs. search needs)
+    (λ c. search needs)
+    (λ c κs. search needs)
+    (λ c. search needs)
+    (λ c κs. search needs)
+    (λ c. search needs)
+    (λ c κs. search needs)
+    (λ c. search needs)
+    (λ c κs. search needs)
+    (λ c. search needs)
+    (λ c κs. search needs)
+    (λ c. search needs)
+    (λ c κs. search needs)
     returns
     returns-2
     returns-3

@@ -4,18 +4,6 @@ use Rattle.tilghorz.specs.AnswerWord.{writeRow}
 use Rattle.tilghorz.proofs.answer_word.write_word.Statement.{statement}
 use Rattle.tilghorz.proofs.answer_word.write_word.Tie as tie
 
-enum-known-answer : tie.Need-enum-known-answer
-enum-known-answer c = search needs
-
-word-of-requires : tie.Need-word-of-requires
-word-of-requires c κs = search needs
-
-enum-known-answer-2 : tie.Need-enum-known-answer-2
-enum-known-answer-2 c = search needs
-
-word-of-requires-2 : tie.Need-word-of-requires-2
-word-of-requires-2 c κs = search needs
-
 returns : tie.Need-returns
 unfolding writeRow
 returns c = simp (c .before .before .answer .given .1, c .word-of .ensures)
@@ -28,9 +16,9 @@ pub write-word-spec : {M : Type 1} → statement M
 write-word-spec =
     tie.close
     (tie.spec
-    enum-known-answer
-    word-of-requires
-    enum-known-answer-2
-    word-of-requires-2
+    (λ c. search needs)
+    (λ c κs. search needs)
+    (λ c. search needs)
+    (λ c κs. search needs)
     returns
     returns-2)

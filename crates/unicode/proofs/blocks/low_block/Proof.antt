@@ -21,8 +21,4 @@ returns-3 c = sym (in-no-arm (c .before .args .k) lowBlocks (c .match .rest))
 
 pub low-block-spec : {M : Type 1} → statement M
 low-block-spec =
-    tie.close
-    (tie.spec
-    returns
-    returns-2
-    returns-3)
+    tie.close (tie.spec returns returns-2 returns-3)

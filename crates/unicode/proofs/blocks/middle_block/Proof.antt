@@ -33,11 +33,4 @@ returns-6 c = sym (in-no-arm (c .before .args .k) middleBlocks (c .match .rest))
 
 pub middle-block-spec : {M : Type 1} → statement M
 middle-block-spec =
-    tie.close
-    (tie.spec
-    returns
-    returns-2
-    returns-3
-    returns-4
-    returns-5
-    returns-6)
+    tie.close (tie.spec returns returns-2 returns-3 returns-4 returns-5 returns-6)
