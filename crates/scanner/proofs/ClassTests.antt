@@ -6,7 +6,7 @@ use mathlib.Core.List.{List, [], _∷_}
 use Prim.Native.Nat.{ℕ}
 use lib.Dec.{eqb}
 use borrow.Author.Tests.{eq-eqb, eqb-true}
-use Rattle.base.proofs.Tests.{either-true}
+use Rattle.base.proofs.Tests.{either-left, either-right, either-true, same-test}
 use Rattle.unicode.specs.Presentation.{isSelector}
 use Rattle.unicode.specs.Unicode.{isEmoji, isEmojiModifier, isRi, isTag}
 use Rattle.scanner.specs.Classes.{Class, selector, link, ri, modifier, emoji, keycap, tag, other, classOf}
@@ -33,13 +33,6 @@ use Rattle.scanner.proofs.Classes.{
   modifier-emoji,
   ri-emoji,
 }
-use Rattle.scanner.proofs.ItemRuns.{either-left, either-right}
-
--- Two tests that pass together are equal.
-same-test : (a b : Bool) → (a ≡ true → b ≡ true) → (b ≡ true → a ≡ true) → a ≡ b
-same-test true b f g = sym (f refl)
-same-test false true f g = g refl
-same-test false false f g = refl
 
 -- ---- the tests by class: a selector, a link, an RI, a modifier, another emoji, 20E3, a tag, any other
 

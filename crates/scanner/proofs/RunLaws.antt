@@ -6,36 +6,14 @@ use mathlib.Core.List.{List, [], _∷_, _++_}
 use Prim.Native.Nat.{ℕ}
 use lib.Dec.{eqb}
 use borrow.Author.Tests.{eqb-true}
-use Rattle.base.proofs.Tests.{either-true}
+use Rattle.base.proofs.Tests.{either-left, either-true}
 use Rattle.unicode.specs.Presentation.{isSelector}
 use Rattle.unicode.specs.Unicode.{isEmoji, isEmojiModifier, isTag}
-use Rattle.scanner.specs.Grammar.{
-  S,
-  no-selectors,
-  selector-and,
-  one-tag,
-  TagGroups,
-  one-group,
-  group-and,
-  Modification,
-  by-modifier,
-  by-keycap,
-  by-tags,
-  Stem,
-  Modifications,
-  unmodified,
-  EmojiUnit,
-  unit-of,
-  Link,
-  a-link,
-  Links,
-  no-links,
-  link-and,
-}
+use Rattle.scanner.specs.Grammar.{S, no-selectors, selector-and, one-tag, TagGroups, one-group, group-and, Modification, by-modifier, by-keycap, by-tags, Stem, Modifications, unmodified, EmojiUnit, unit-of, Link, a-link, Links, no-links}
 use Rattle.scanner.specs.Runs.{behindStem, inLinks, inModifications, inTags, isModification, linkAt, linksAt, modificationAt, modificationsAt, run, selectorsAt, stemAt, tagModificationAt, unitAt}
 use Rattle.scanner.specs.Structure.{flattenModifications, modificationsOf}
 use Rattle.scanner.proofs.EmojiRuns as Emoji
-use Rattle.scanner.proofs.ItemRuns.{either-left}
+use Rattle.scanner.proofs.LinksTail.{LinksTail, links-tail, links-selector, tail-links}
 use Rattle.scanner.proofs.Modifications.{
   ModFront,
   front-keycap,
@@ -155,22 +133,13 @@ pub link-derived : (t : List ℕ) → Link (linkAt (0x200D ∷ t))
 unfolding linkAt
 link-derived t = a-link (selectors-derived t)
 
--- Selectors, and then links.
-data LinksTail : List ℕ → Type 0 where
-  links-tail : {a l : List ℕ} → S a → Links l → LinksTail (a ++ l)
-
 link-before : {c : ℕ} {s : List ℕ} → eqb c 0x200D ≡ true → LinksTail s → Links (c ∷ s)
-link-before {c} {s} e h = subst (λ (x : ℕ). Links (x ∷ s)) (sym (eqb-true c 0x200D e)) (go h)
-  where
-    go : {u : List ℕ} → LinksTail u → Links (0x200D ∷ u)
-    go (links-tail a l) = link-and (a-link a) l
+link-before {c} {s} e h = subst (λ (x : ℕ). Links (x ∷ s)) (sym (eqb-true c 0x200D e)) (tail-links h)
 
 links-passes : {s : List ℕ} → Passes inLinks s → LinksTail s
 links-passes all-pass = links-tail no-selectors no-links
-links-passes (pass-and {c = c} e h) = ⊎-elim (λ k. links-tail no-selectors (link-before k (links-passes h))) (λ f. more f (links-passes h)) (either-true (eqb c 0x200D) (isSelector c) e)
-  where
-    more : {u : List ℕ} → isSelector c ≡ true → LinksTail u → LinksTail (c ∷ u)
-    more f (links-tail a l) = links-tail (selector-and f a) l
+links-passes (pass-and {c = c} e h) =
+    ⊎-elim (λ k. links-tail no-selectors (link-before k (links-passes h))) (λ f. links-selector f (links-passes h)) (either-true (eqb c 0x200D) (isSelector c) e)
 
 pub links-derived : (t : List ℕ) → Links (linksAt t)
 unfolding linksAt
