@@ -8,12 +8,13 @@ use lib.ListN.{drop, getD, length, take}
 use lib.Seq.{drop-append-seam, drop-cons, length-sets, sets-eq, take-append-seam}
 use Rattle.io.specs.Counts.{Counts}
 use Rattle.base.specs.Output.{PutAt}
+use Rattle.base.specs.Texts.{parted}
 use Rattle.base.specs.declared.Refusal.{Refusal}
 use Rattle.base.proofs.Writer.{put-as, put-then}
-use Rattle.message_io.specs.Lines.{behindBlanks, decimal, findingLine, line, parted, returned}
+use Rattle.message_io.specs.Lines.{behindBlanks, decimal, findingLine, line, returned}
 
 -- a line is its first text, and the others behind blanks
-blanks : (t : List ℕ) (ts : List (List ℕ)) → parted (t ∷ ts) ≡ t ++ behindBlanks ts
+blanks : (t : List ℕ) (ts : List (List ℕ)) → parted 0x20 (t ∷ ts) ≡ t ++ behindBlanks ts
 unfolding parted behindBlanks
 blanks t [] = sym (append-nil t)
 blanks t (u ∷ ts) = ap (λ (xs : List ℕ). t ++ (0x20 ∷ xs)) (blanks u ts)
@@ -22,7 +23,7 @@ pub line-put : {o o₁ o₂ o₃ t : List ℕ} {i j r : ℕ} (ts : List (List �
     → PutAt o₂ j (0x0A ∷ []) o₃ r → PutAt o 0 (line (t ∷ ts)) o₃ r
 unfolding line
 line-put {t = t} ts p q s =
-    put-as (parted (t ∷ ts) ++ (0x0A ∷ [])) (ap (λ (xs : List ℕ). xs ++ (0x0A ∷ [])) (sym (blanks t ts))) (put-then (put-then p q) s)
+    put-as (parted 0x20 (t ∷ ts) ++ (0x0A ∷ [])) (ap (λ (xs : List ℕ). xs ++ (0x0A ∷ [])) (sym (blanks t ts))) (put-then (put-then p q) s)
 
 -- what is put at the front of a buffer is its front, and what is behind it is as it was
 pub front : {o o′ xs : List ℕ} {r : ℕ} → PutAt o 0 xs o′ r → r ≤ length o → Counts r o′ × ((take r o′ ≡ xs) × (drop r o′ ≡ drop r o))

@@ -1,18 +1,12 @@
--- `tilghorz::answer_word::write_word` meets its contract.
+-- Case by case, the word of the answer's row.
 use borrow.Author.Needs.{needs}
+use Rattle.base.specs.Refusals.{refusalRow}
 use Rattle.tilghorz.specs.AnswerWord.{writeRow}
 use Rattle.tilghorz.proofs.answer_word.write_word.Statement.{statement}
 use Rattle.tilghorz.proofs.answer_word.write_word.Tie as tie
 
-returns : tie.Need-returns
-unfolding writeRow
-returns c = simp (c .before .before .answer .given .1, c .word-of .ensures)
-
-returns-2 : tie.Need-returns-2
-unfolding writeRow
-returns-2 c = simp (c .before .before .answer2 .given .1, c .word-of2 .ensures)
-
 pub write-word-spec : {M : Type 1} → statement M
+unfolding writeRow refusalRow
 write-word-spec =
     tie.close
     (tie.spec
@@ -20,5 +14,5 @@ write-word-spec =
     (λ c κs. search needs)
     (λ c. search needs)
     (λ c κs. search needs)
-    returns
-    returns-2)
+    (λ c. simp (c .before .before .answer .given .1, c .word-of .ensures))
+    (λ c. simp (c .before .before .answer2 .given .1, c .word-of2 .ensures)))
