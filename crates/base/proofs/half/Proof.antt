@@ -1,4 +1,4 @@
--- `base::half` meets its contract.
+-- The four bytes by their weights (`number-four-at`).
 use native.Mathlib.Omega.{arith}
 use lib.ListN.{drop}
 use Rattle.base.proofs.Words.{number-four-at}

@@ -1,4 +1,4 @@
--- `base::read_word` meets its contract.
+-- The two halves make the number of the eight bytes (`number-eight`).
 use native.Mathlib.Omega.{arith}
 use lib.ListN.{drop}
 use Rattle.base.proofs.Words.{number-eight}

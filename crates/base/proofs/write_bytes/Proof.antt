@@ -1,4 +1,4 @@
--- `base::write_bytes` meets its contract.
+-- Without room nothing is written; with room it is what `put_bytes` puts.
 use mathlib.Core.Path.{sym, ap, _∙_}
 use mathlib.Core.Bool.{Bool, cond}
 use Prim.Native.Nat.{_+_}

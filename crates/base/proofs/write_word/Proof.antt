@@ -1,4 +1,4 @@
--- `base::write_word` meets its contract.
+-- Without room nothing is written; with room the two halves are the word (`sets-word`).
 use mathlib.Core.Path.{sym, ap, _∙_}
 use mathlib.Core.Bool.{Bool, cond}
 use mathlib.Core.List.{List}

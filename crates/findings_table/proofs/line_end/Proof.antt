@@ -1,4 +1,4 @@
--- `findings_table::line_end` meets its contract.
+-- `line_end` stays within the message: the place is between where it starts and the message's end.
 use Prim.Native.Nat.{_-_, _≤_}
 use lib.ListN.{length}
 use borrow.Author.Needs.{needs}

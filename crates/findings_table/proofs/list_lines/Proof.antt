@@ -1,4 +1,4 @@
--- `findings_table::list_lines` meets its contract.
+-- `list_lines` is safe and ends: each turn leaves less of the message.
 use Prim.Native.Nat.{_-_, _≤_}
 use lib.ListN.{length}
 use borrow.Author.Needs.{needs}

@@ -1,4 +1,4 @@
--- `findings_table::same_row` meets its contract.
+-- `same_row` is safe and ends: a row has ten numbers.
 use Prim.Native.Nat.{_-_, _≤_}
 use borrow.Author.Needs.{needs}
 use Rattle.findings_table.proofs.same_row.Statement.{statement}

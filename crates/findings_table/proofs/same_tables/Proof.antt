@@ -1,4 +1,4 @@
--- `findings_table::same_tables` meets its contract.
+-- `same_tables` is safe and ends: a table has eight rows.
 use Prim.Native.Nat.{_-_, _≤_}
 use borrow.Author.Needs.{needs}
 use Rattle.findings_table.proofs.same_tables.Statement.{statement}

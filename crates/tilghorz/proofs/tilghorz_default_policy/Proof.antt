@@ -1,4 +1,4 @@
--- `tilghorz::tilghorz_default_policy` meets its contract.
+-- What `write_policy` writes of the default policy, and the word of its answer.
 use borrow.Author.Needs.{needs}
 use Rattle.tilghorz.proofs.tilghorz_default_policy.Statement.{statement}
 use Rattle.tilghorz.proofs.tilghorz_default_policy.Tie as tie

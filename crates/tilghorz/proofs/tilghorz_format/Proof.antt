@@ -1,4 +1,4 @@
--- `tilghorz::tilghorz_format` meets its contract.
+-- The outcome of `format_text`, and the word of its answer.
 use borrow.Author.Needs.{needs}
 use Rattle.tilghorz.specs.AnswerWord.{formatRow}
 use Rattle.tilghorz.proofs.Outcomes.{outcome}

@@ -1,4 +1,4 @@
--- `tilghorz::tilghorz_list` meets its contract.
+-- The outcome of `list_findings`, and the word of its answer.
 use borrow.Author.Needs.{needs}
 use Rattle.tilghorz.specs.AnswerWord.{listRow}
 use Rattle.tilghorz.proofs.Outcomes.{outcome}

@@ -1,4 +1,4 @@
--- `tilghorz::tilghorz_mend` meets its contract.
+-- The outcome of `mend`, and the word of its answer.
 use borrow.Author.Needs.{needs}
 use Rattle.tilghorz.specs.AnswerWord.{mendRow}
 use Rattle.tilghorz.proofs.Outcomes.{outcome}

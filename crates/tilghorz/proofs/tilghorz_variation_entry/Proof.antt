@@ -1,4 +1,4 @@
--- `tilghorz::tilghorz_variation_entry` meets its contract.
+-- The word of the entry at the index.
 use borrow.Author.Needs.{needs}
 use Rattle.tilghorz.proofs.tilghorz_variation_entry.Statement.{statement}
 use Rattle.tilghorz.proofs.tilghorz_variation_entry.Tie as tie

@@ -1,4 +1,4 @@
--- `policy_key_set::display::put_bytes` meets its contract.
+-- What `write_bytes` puts where there is room.
 use borrow.Author.Needs.{needs}
 use Rattle.base.proofs.Output.{bytes-put}
 use Rattle.policy_key_set.proofs.display.put_bytes.Statement.{statement}

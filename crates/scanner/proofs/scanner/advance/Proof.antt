@@ -1,4 +1,4 @@
--- `scanner::scanner::advance` meets its contract.
+-- By what the cursor answered.
 use borrow.Author.Needs.{needs}
 use Rattle.scanner.proofs.Advancing.{advance-end, advance-item}
 use Rattle.scanner.proofs.scanner.advance.Statement.{statement}

@@ -1,4 +1,4 @@
--- `scanner::scanner::item_of` meets its contract.
+-- By what the answer is.
 use mathlib.Core.Path.{ap, sym}
 use borrow.Author.Needs.{needs}
 use Rattle.scanner.specs.Scanner.{itemOf}

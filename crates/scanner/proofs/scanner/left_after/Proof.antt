@@ -1,4 +1,4 @@
--- `scanner::scanner::left_after` meets its contract.
+-- By what the answer is, and by whether a call is left.
 use mathlib.Core.Path.{_≡_, ap, sym, _∙_}
 use Prim.Native.Nat.{_-_}
 use native.Mathlib.Omega.{arith}

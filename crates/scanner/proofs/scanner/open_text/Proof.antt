@@ -1,4 +1,4 @@
--- `scanner::scanner::open_text` meets its contract.
+-- By the verdict on the text.
 use borrow.Author.Needs.{needs}
 use Rattle.scanner.proofs.Advancing.{open-passed, open-refused}
 use Rattle.scanner.proofs.scanner.open_text.Statement.{statement}

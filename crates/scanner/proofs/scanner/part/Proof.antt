@@ -1,4 +1,4 @@
--- `scanner::scanner::part` meets its contract.
+-- By the comparisons of the two offsets and the length.
 use borrow.Author.Needs.{needs}
 use borrow.Author.Tests.{le-leb, lt-leb}
 use Rattle.scanner.proofs.scanner.part.Statement.{statement}

@@ -1,4 +1,4 @@
--- `scanner::text_check::check_text` meets its contract.
+-- By the length, and by how far the text is well-formed.
 use mathlib.Core.Path.{refl, sym, ap, _∙_}
 use Prim.Native.Nat.{ℕ}
 use native.Mathlib.Omega.{arith}
