@@ -1,7 +1,7 @@
 -- Tests and what they say: a conjunction, a disjunction, a comparison, a range.
 use mathlib.Core.Path.{_≡_, refl, sym}
 use mathlib.Core.Logic.{_⊎_, inl, inr}
-use mathlib.Core.Bool.{Bool, true, false, _&&_, _||_, true≢false}
+use mathlib.Core.Bool.{Bool, true, false, Bool·beq, _&&_, _||_, true≢false}
 use Prim.Native.Nat.{ℕ, _≤_, _<_}
 use native.Mathlib.Omega.{arith}
 use lib.Dec.{leb}
@@ -40,6 +40,18 @@ pub same-test : (x y : Bool) → (x ≡ true → y ≡ true) → (y ≡ true →
 same-test true y f g = sym (f refl)
 same-test false true f g = g refl
 same-test false false f g = refl
+
+pub beq-so : (x y : Bool) → Bool·beq x y ≡ true → x ≡ y
+beq-so true true e = refl
+beq-so true false e = sym e
+beq-so false true e = e
+beq-so false false e = refl
+
+pub so-beq : (x y : Bool) → x ≡ y → Bool·beq x y ≡ true
+so-beq true true e = refl
+so-beq true false e = sym e
+so-beq false true e = e
+so-beq false false e = refl
 
 pub le-or-lt : (m n : ℕ) → (m ≤ n) ⊎ (n < m)
 le-or-lt m n = go (leb m n) refl

@@ -9,7 +9,7 @@ use lib.Dec.{eqb, ltb}
 use lib.ListN.{drop, getD, take}
 use borrow.Author.Tests.{eq-eqb, eqb-true, le-ltb, lt-ltb}
 use Rattle.base.specs.Words.{number}
-use Rattle.base.proofs.Tests.{and-both, both-true, le-or-lt, same-test}
+use Rattle.base.proofs.Tests.{and-both, beq-so, both-true, le-or-lt, same-test}
 use Rattle.base.proofs.Words.{number-eight, number-four}
 use Rattle.unicode.specs.Unicode.{hasVariationSequence, variationSequenceIndex}
 use Rattle.unicode.specs.UnicodeData.{variationEntries}
@@ -19,7 +19,7 @@ use Rattle.unicode.proofs.Ascent.{isAt}
 use Rattle.policy_key_set.specs.Sets.{allBelow, contains, entryCount, member, memberAt}
 use Rattle.policy_key_set.specs.KeySets.{isAscii, ordinary}
 use Rattle.policy_key_set.specs.declared.PolicyKeySet.{PolicyKeySet}
-use Rattle.policy_key_set.proofs.Below.{all-below, below-all, beq-so}
+use Rattle.policy_key_set.proofs.Below.{all-below, below-all}
 use Rattle.policy_key_set.proofs.Contains.{has-index}
 use Rattle.policy_key_set.proofs.Entries.{entry-count, index-has-place}
 use Rattle.policy.specs.Policy.{entryRule, holdsBase, holdsEntry, ruleOf, singletonRule}

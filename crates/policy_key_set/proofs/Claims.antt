@@ -3,6 +3,7 @@ use mathlib.Core.Path.{_≡_, refl, sym, ap, _∙_}
 use mathlib.Core.Bool.{Bool, true, false, Bool·beq, Bool·not-not, not, _&&_, _||_}
 use Prim.Native.Nat.{ℕ, _*_}
 use native.Mathlib.Omega.{arith}
+use Rattle.base.proofs.Tests.{beq-so, so-beq}
 use Rattle.base.specs.Texts.{parted}
 use Rattle.unicode.specs.Unicode.{hasVariationSequence, isEmojiDefault, isEmojiPresentation, isTextDefault}
 use Rattle.unicode.specs.UnicodeData.{variationEntries}
@@ -42,14 +43,12 @@ use Rattle.policy_key_set.proofs.Below.{
   all-below,
   all-counted,
   below-all,
-  beq-so,
   count-all,
   count-le,
   count-none,
   count-same,
   count-union,
   none-counted,
-  so-beq,
 }
 use Rattle.policy_key_set.proofs.Members.{held, holds-same, members-determine}
 use Rattle.policy_key_set.proofs.Sizes.{count-held, sum-count}
