@@ -257,24 +257,23 @@ def block_proof(name):
         listed = f"{name}Blocks"
         out = [
             "-- Each arm is found in the list, and nothing else is. Made by tools/unicode_tables.py.",
-            "use mathlib.Core.Path.{sym, ap}",
-            "use Prim.Native.Nat.{ℕ}",
+            "use mathlib.Core.Path.{sym}",
             "use Rattle.unicode.specs.Blocks.{blockIn, noBlock}",
             f"use Rattle.unicode.specs.BlockData.{{{listed}}}",
-            "use Rattle.unicode.proofs.BlockSearch.{in-no-arm}",
+            "use Rattle.unicode.proofs.BlockSearch.{in-arm, in-no-arm}",
             f"use Rattle.unicode.proofs.blocks.{name}_block.Statement.{{statement}}",
             f"use Rattle.unicode.proofs.blocks.{name}_block.Tie as tie",
         ]
-        needs = ["returns"] + [f"returns-{i}" for i in range(2, len(rows) + 2)]
-        for i, need in enumerate(needs, 1):
-            out += ["", f"{need} : tie.Need-{need}", f"unfolding blockIn noBlock {listed}"]
-            if i <= len(rows):
-                out += [f"{need} c = sym (ap (λ (k : ℕ). blockIn k {listed}) (c .match .keys{i}))"]
-            else:
-                out += [f"{need} c = sym (in-no-arm (c .before .args .k) {listed} (c .match .rest))"]
-        out += ["", f"pub {name}-block-spec : {{M : Type 1}} → statement M", f"{name}-block-spec ="]
-        out += ["    tie.close", "    (tie.spec"] + [f"    {need}" for need in needs]
-        out[-1] += ")"
+        out += [
+            "",
+            f"pub {name}-block-spec : {{M : Type 1}} → statement M",
+            f"unfolding blockIn noBlock {listed}",
+            f"{name}-block-spec =",
+            "    tie.close",
+            "    (tie.spec",
+        ]
+        out += [f"    (λ c. in-arm {listed} (c .match .keys{i}))" for i in range(1, len(rows) + 1)]
+        out += [f"    (λ c. sym (in-no-arm (c .before .args .k) {listed} (c .match .rest))))"]
         return "\n".join(out) + "\n"
 
     return make

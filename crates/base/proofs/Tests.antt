@@ -1,10 +1,11 @@
 -- Tests and what they say: a conjunction, a disjunction, a comparison, a range.
-use mathlib.Core.Path.{_≡_, refl}
+use mathlib.Core.Path.{_≡_, refl, sym}
 use mathlib.Core.Logic.{_⊎_, inl, inr}
-use mathlib.Core.Bool.{Bool, true, false, _&&_, _||_}
+use mathlib.Core.Bool.{Bool, true, false, Bool·beq, _&&_, _||_, true≢false}
 use Prim.Native.Nat.{ℕ, _≤_, _<_}
+use native.Mathlib.Omega.{arith}
 use lib.Dec.{leb}
-use borrow.Author.Tests.{leb-true, leb-false, le-leb}
+use borrow.Author.Tests.{leb-true, leb-false, le-leb, lt-leb}
 use Rattle.base.specs.Ranges.{within}
 
 pub both-true : (x y : Bool) → (x && y) ≡ true → (x ≡ true) × (y ≡ true)
@@ -17,6 +18,40 @@ and-both x y p q = rw (p, q)
 pub either-true : (x y : Bool) → (x || y) ≡ true → (x ≡ true) ⊎ (y ≡ true)
 either-true true y e = inl refl
 either-true false y e = inr e
+
+pub either-left : (x y : Bool) → x ≡ true → (x || y) ≡ true
+either-left x y e = rw e
+
+pub either-right : (x y : Bool) → y ≡ true → (x || y) ≡ true
+either-right true y e = refl
+either-right false y e = e
+
+pub both-false : (x y : Bool) → (x || y) ≡ false → (x ≡ false) × (y ≡ false)
+both-false true y e = absurd (true≢false e)
+both-false false y e = (refl, e)
+
+-- A test that cannot pass fails.
+pub fails : (x : Bool) → (x ≡ true → ⊥) → x ≡ false
+fails true f = absurd (f refl)
+fails false f = refl
+
+-- Two tests that pass together are equal.
+pub same-test : (x y : Bool) → (x ≡ true → y ≡ true) → (y ≡ true → x ≡ true) → x ≡ y
+same-test true y f g = sym (f refl)
+same-test false true f g = g refl
+same-test false false f g = refl
+
+pub beq-so : (x y : Bool) → Bool·beq x y ≡ true → x ≡ y
+beq-so true true e = refl
+beq-so true false e = sym e
+beq-so false true e = e
+beq-so false false e = refl
+
+pub so-beq : (x y : Bool) → x ≡ y → Bool·beq x y ≡ true
+so-beq true true e = refl
+so-beq true false e = sym e
+so-beq false true e = e
+so-beq false false e = refl
 
 pub le-or-lt : (m n : ℕ) → (m ≤ n) ⊎ (n < m)
 le-or-lt m n = go (leb m n) refl
@@ -37,3 +72,9 @@ within-in lo hi b e =
 
 pub within-true : (lo hi b : ℕ) → lo ≤ b → b ≤ hi → within lo hi b ≡ true
 within-true lo hi b l h = simp (le-leb lo b l, le-leb b hi h)
+
+pub within-above : (lo hi b : ℕ) → hi < b → within lo hi b ≡ false
+within-above lo hi b h = fails (within lo hi b) (λ e. let i = within-in lo hi b e in omega arith)
+
+pub within-below : (lo hi b : ℕ) → b < lo → within lo hi b ≡ false
+within-below lo hi b h = simp (lt-leb lo b h)

@@ -8,14 +8,15 @@ use Prim.Native.Nat.{ℕ, _+_}
 use lib.Dec.{leb}
 use lib.ListN.{drop, length}
 use lib.Seq.{sets}
-use Rattle.base.specs.Refusals.{RefusalRow}
+use Rattle.base.specs.Refusals.{RefusalRow, refusalRow}
+use Rattle.base.specs.declared.Refusal.the-variants.{OutputTooShort}
 use Rattle.base.specs.declared.WriteAnswer.{WriteAnswer}
 use Rattle.base.specs.declared.WriteAnswer.the-variants.{TooShort, Written}
 
 -- "output too short | 8 | length wanted"
 unfoldable pub refusal : WriteAnswer → Option RefusalRow
 refusal (Written n) = none
-refusal (TooShort n) = some (record { number = 8; value = n })
+refusal (TooShort n) = some (refusalRow (OutputTooShort n))
 
 -- the answer to writing a result into a buffer
 unfoldable pub answerOf : List ℕ → List ℕ → WriteAnswer

@@ -1,4 +1,4 @@
--- A number and its eight bytes give each other back; a result is written or refused.
+-- A number and its eight bytes give each other back; a result is written or refused; the table's row tells the refusal.
 use mathlib.Core.Path.{_≡_}
 use mathlib.Core.Bool.{true}
 use mathlib.Core.List.{List, _++_}

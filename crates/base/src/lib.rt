@@ -1,6 +1,7 @@
-// What every layer shares: a bit of a word, a byte of a slice, and numbers of eight bytes, lowest first (document
-// 01: "There a policy word, a start, an end or a count is 8 bytes, lowest first"). `read_word` equals `number` of the
-// eight bytes, `write_word` puts `wordBytes`, and `write_bytes` puts the bytes it is given.
+// What every layer shares: the refusals of document 01's table, a bit of a word, a byte of a slice, and numbers of eight
+// bytes, lowest first (document 01: "There a policy word, a start, an end or a count is 8 bytes, lowest first").
+// `read_word` equals `number` of the eight bytes, `write_word` puts `wordBytes`, and `write_bytes` puts the bytes it is
+// given.
 ghost use mathlib.Core.Path.{_≡_};
 ghost use mathlib.Core.Bool.{cond};
 ghost use Prim.Native.Nat.{_+_, _*_, _%_, _≤_};

@@ -1,8 +1,9 @@
 -- The statements of specs/, each with its proof.
 use mathlib.Core.Path.{refl}
 use native.Mathlib.Omega.{arith}
+use Rattle.base.specs.Texts.{parted}
 use Rattle.base.specs.Refusals.{refusalRow}
-use Rattle.message_io.specs.Lines.{decimal, decimalBy, findingLine, line, parted, refusalLine, returned, totalLine}
+use Rattle.message_io.specs.Lines.{decimal, decimalBy, findingLine, line, refusalLine, returned, totalLine}
 use Rattle.message_io.specs.Theorems.{DecimalTells, WorkedLines}
 use Rattle.message_io.proofs.Digits.{tells}
 

@@ -1,19 +1,20 @@
 -- Lines as they are put, piece by piece.
 use mathlib.Core.Path.{_≡_, refl, sym, ap, _∙_}
 use mathlib.Core.List.{List, [], _∷_, _++_, append-assoc, append-nil, map}
-use Prim.Native.Nat.{ℕ, zero, suc, _<_, _≤_}
+use Prim.Native.Nat.{ℕ, zero, suc, _+_, _<_, _≤_}
 use native.Mathlib.Nat.{add-zero, not-suc-le-zero, zero-add}
 use native.Mathlib.Omega.{arith}
 use lib.ListN.{drop, getD, length, take}
 use lib.Seq.{drop-append-seam, drop-cons, length-sets, sets-eq, take-append-seam}
 use Rattle.io.specs.Counts.{Counts}
 use Rattle.base.specs.Output.{PutAt}
+use Rattle.base.specs.Texts.{parted}
 use Rattle.base.specs.declared.Refusal.{Refusal}
 use Rattle.base.proofs.Writer.{put-as, put-then}
-use Rattle.message_io.specs.Lines.{behindBlanks, decimal, findingLine, line, parted, returned}
+use Rattle.message_io.specs.Lines.{behindBlanks, decimal, findingLine, line, returned}
 
 -- a line is its first text, and the others behind blanks
-blanks : (t : List ℕ) (ts : List (List ℕ)) → parted (t ∷ ts) ≡ t ++ behindBlanks ts
+blanks : (t : List ℕ) (ts : List (List ℕ)) → parted 0x20 (t ∷ ts) ≡ t ++ behindBlanks ts
 unfolding parted behindBlanks
 blanks t [] = sym (append-nil t)
 blanks t (u ∷ ts) = ap (λ (xs : List ℕ). t ++ (0x20 ∷ xs)) (blanks u ts)
@@ -22,7 +23,7 @@ pub line-put : {o o₁ o₂ o₃ t : List ℕ} {i j r : ℕ} (ts : List (List �
     → PutAt o₂ j (0x0A ∷ []) o₃ r → PutAt o 0 (line (t ∷ ts)) o₃ r
 unfolding line
 line-put {t = t} ts p q s =
-    put-as (parted (t ∷ ts) ++ (0x0A ∷ [])) (ap (λ (xs : List ℕ). xs ++ (0x0A ∷ [])) (sym (blanks t ts))) (put-then (put-then p q) s)
+    put-as (parted 0x20 (t ∷ ts) ++ (0x0A ∷ [])) (ap (λ (xs : List ℕ). xs ++ (0x0A ∷ [])) (sym (blanks t ts))) (put-then (put-then p q) s)
 
 -- what is put at the front of a buffer is its front, and what is behind it is as it was
 pub front : {o o′ xs : List ℕ} {r : ℕ} → PutAt o 0 xs o′ r → r ≤ length o → Counts r o′ × ((take r o′ ≡ xs) × (drop r o′ ≡ drop r o))
@@ -52,17 +53,20 @@ pub first-number : (ns : List ℕ) → 0 < length ns → line (decimal (getD ns 
 unfolding findingLine
 first-number ns h = ap (λ (xs : List ℕ). line (map decimal xs)) (sym (drop-cons ns 0 0 h))
 
--- what is returned with a refusal: a number, or nothing
-pub value-put : {o o₁ : List ℕ} {s r n : ℕ} (x : Refusal) → returned x ≡ n ∷ [] → PutAt o s (0x20 ∷ decimal n) o₁ r
-    → PutAt o s (behindBlanks (map decimal (returned x))) o₁ r
+-- what is returned with a refusal: a number, or nothing; 21 bytes have room for it
+pub value-put : {o o₁ : List ℕ} {s r n : ℕ} {x y : Refusal} → x ≡ y → returned y ≡ n ∷ [] → PutAt o s (0x20 ∷ decimal n) o₁ r × (r ≤ s + 21)
+    → PutAt o s (behindBlanks (map decimal (returned x))) o₁ r × (r ≤ s + 21)
 unfolding behindBlanks
-value-put {n = n} x e p =
-    put-as (behindBlanks (map decimal (returned x))) (
-    ap (λ (xs : List ℕ). 0x20 ∷ xs) (sym (append-nil (decimal n)))
-    ∙ ap (λ (ns : List ℕ). behindBlanks (map decimal ns)) (sym e)
-    ) p
+value-put {n = n} {x = x} d e p = (
+  put-as (behindBlanks (map decimal (returned x)))
+      (ap (λ (xs : List ℕ). 0x20 ∷ xs) (sym (append-nil (decimal n))) ∙ ap (λ (ns : List ℕ). behindBlanks (map decimal ns)) (sym (ap returned d ∙ e)))
+      (p .0),
+  p .1,
+)
 
-pub nothing-put : {o : List ℕ} {s : ℕ} (x : Refusal) → returned x ≡ [] → PutAt o s (behindBlanks (map decimal (returned x))) o s
+pub nothing-put : {o : List ℕ} {s : ℕ} {x y : Refusal} → x ≡ y → returned y ≡ [] → PutAt o s (behindBlanks (map decimal (returned x))) o s × (s ≤ s + 21)
 unfolding behindBlanks
-nothing-put {o} {s} x e =
-    put-as (behindBlanks (map decimal (returned x))) (ap (λ (ns : List ℕ). behindBlanks (map decimal ns)) (sym e)) (record { ends = sym (add-zero s); bytes = refl })
+nothing-put {o} {s} {x} d e = (
+  put-as (behindBlanks (map decimal (returned x))) (ap (λ (ns : List ℕ). behindBlanks (map decimal ns)) (sym (ap returned d ∙ e))) (record { ends = sym (add-zero s); bytes = refl }),
+  omega arith,
+)

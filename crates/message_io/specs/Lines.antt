@@ -3,6 +3,7 @@ use mathlib.Core.Bool.{cond}
 use mathlib.Core.List.{List, [], _∷_, _++_, map}
 use Prim.Native.Nat.{ℕ, zero, suc, _+_, _/_, _%_}
 use lib.Dec.{ltb}
+use Rattle.base.specs.Texts.{parted}
 use Rattle.base.specs.Refusals.{refusalRow}
 use Rattle.base.specs.declared.Refusal.{Refusal}
 use Rattle.base.specs.declared.Refusal.the-variants.{
@@ -29,20 +30,14 @@ decimal n = decimalBy n n
 
 -- ---- lines
 
--- ".. parted by one blank"
-unfoldable pub parted : List (List ℕ) → List ℕ
-parted [] = []
-parted (t ∷ []) = t
-parted (t ∷ u ∷ ts) = t ++ (0x20 ∷ parted (u ∷ ts))
-
 -- Texts with a blank before each.
 unfoldable pub behindBlanks : List (List ℕ) → List ℕ
 behindBlanks [] = []
 behindBlanks (t ∷ ts) = 0x20 ∷ (t ++ behindBlanks ts)
 
--- ".. each line ended by 0A"
+-- ".. each line ended by 0A; numbers are parted by one blank"
 unfoldable pub line : List (List ℕ) → List ℕ
-line ts = parted ts ++ (0x0A ∷ [])
+line ts = parted 0x20 ts ++ (0x0A ∷ [])
 
 -- "The report writes, per finding, start, end and eight counts": of these ten numbers.
 unfoldable pub findingLine : List ℕ → List ℕ

@@ -9,7 +9,7 @@ use lib.Dec.{eqb, ltb}
 use lib.ListN.{drop, getD, take}
 use borrow.Author.Tests.{eq-eqb, eqb-true, le-ltb, lt-ltb}
 use Rattle.base.specs.Words.{number}
-use Rattle.base.proofs.Tests.{and-both, both-true, le-or-lt}
+use Rattle.base.proofs.Tests.{and-both, beq-so, both-true, le-or-lt, same-test}
 use Rattle.base.proofs.Words.{number-eight, number-four}
 use Rattle.unicode.specs.Unicode.{hasVariationSequence, variationSequenceIndex}
 use Rattle.unicode.specs.UnicodeData.{variationEntries}
@@ -19,14 +19,13 @@ use Rattle.unicode.proofs.Ascent.{isAt}
 use Rattle.policy_key_set.specs.Sets.{allBelow, contains, entryCount, member, memberAt}
 use Rattle.policy_key_set.specs.KeySets.{isAscii, ordinary}
 use Rattle.policy_key_set.specs.declared.PolicyKeySet.{PolicyKeySet}
-use Rattle.policy_key_set.proofs.Below.{all-below, below-all, beq-so}
+use Rattle.policy_key_set.proofs.Below.{all-below, below-all}
 use Rattle.policy_key_set.proofs.Contains.{has-index}
 use Rattle.policy_key_set.proofs.Entries.{entry-count, index-has-place}
 use Rattle.policy.specs.Policy.{entryRule, holdsBase, holdsEntry, ruleOf, singletonRule}
 use Rattle.policy.specs.PolicyBytes.{asciiKeysBare, policyOf, wordCount, wordsFrom}
 use Rattle.policy.specs.declared.Policy.{Policy}
 use Rattle.policy.specs.declared.SingletonRule.the-variants.{EmojiToBare, TextToBare}
-use Rattle.policy.proofs.Unused.{same-truth}
 use Rattle.policy.proofs.ByteBits.{low-ones}
 
 -- a key set holds a base where it holds the base's entry
@@ -68,7 +67,7 @@ asciiTest p i = not (isAscii (getD variationEntries i 0)) || p i
 
 ascii-below : (p : ℕ → Bool) → allBelow entryCount (asciiTest p) ≡ allBelow 12 p
 ascii-below p =
-    same-truth (allBelow entryCount (asciiTest p)) (allBelow 12 p)
+    same-test (allBelow entryCount (asciiTest p)) (allBelow 12 p)
     (λ t. below-all 12 p (λ i h.
     let l : i < entryCount = omega (arith, entry-count) in
     ap (λ (b : Bool). not b || p i) (sym (ascii-entry i l ∙ lt-ltb i 12 h)) ∙ all-below entryCount (asciiTest p) t i l))
@@ -93,7 +92,7 @@ ascii-keys-bytes bs a b p q h =
     let w = number (take 8 (drop 0 bs)) % 4096 in
     let n : w ≡ a + 256 * (b % 16) = omega (arith, number-eight (drop 0 bs), number-four (drop 0 bs)) in
     ascii-keys-word bs
-    ∙ same-truth (eqb w 4095) (eqb a 0xFF && eqb (b % 16) 0xF)
+    ∙ same-test (eqb w 4095) (eqb a 0xFF && eqb (b % 16) 0xF)
     (λ t.
     let e = eqb-true w 4095 t in
     and-both (eqb a 0xFF) (eqb (b % 16) 0xF) (eq-eqb a 0xFF (omega arith)) (eq-eqb (b % 16) 0xF (omega arith)))

@@ -10,6 +10,7 @@ use lib.ListN.{drop, getD}
 use lib.Pow.{pow-pos, split}
 use lib.Seq.{getD-drop}
 use borrow.Author.Tests.{eq-eqb, eqb-true}
+use Rattle.base.proofs.Tests.{same-test}
 use Rattle.base.specs.Bits.{one}
 use Rattle.policy_key_set.specs.Sets.{allBelow, member}
 use Rattle.policy_key_set.proofs.Below.{all-below, below-all}
@@ -18,7 +19,6 @@ use Rattle.base.proofs.ByteBits.{bit-of-bytes}
 use Rattle.policy_key_set.proofs.Bits.{bits-determine, not-one}
 use Rattle.policy.specs.PolicyBytes.{wordsFrom}
 use Rattle.policy.proofs.Bytes.{getD-wordsFrom}
-use Rattle.policy.proofs.Unused.{same-truth}
 
 -- entry i of a set is bit i mod 8 of the byte i / 8 behind the place where the set's bytes begin
 pub member-of-bytes : (n at i : ℕ) (bs : List ℕ) → ((j : ℕ) → getD bs j 0 < 256) → i < n * 64
@@ -37,7 +37,7 @@ member-of-bytes n at i bs f h =
 -- the lowest n bits are all one exactly where the rest modulo 2 to the n is the largest
 pub low-ones : (n w : ℕ) → allBelow n (λ (k : ℕ). one k w) ≡ eqb (w % 2 ^ n) (2 ^ n - 1)
 low-ones n w =
-    same-truth (allBelow n (λ (k : ℕ). one k w)) (eqb (w % 2 ^ n) (2 ^ n - 1))
+    same-test (allBelow n (λ (k : ℕ). one k w)) (eqb (w % 2 ^ n) (2 ^ n - 1))
     (λ t.
     eq-eqb (w % 2 ^ n) (2 ^ n - 1)
     (bits-determine n (w % 2 ^ n) (2 ^ n - 1) (mod-lt w (pow-pos n)) (omega (arith, pow-pos n))

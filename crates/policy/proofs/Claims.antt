@@ -6,6 +6,7 @@ use Prim.Native.Nat.{ℕ, _^_, _<_}
 use native.Mathlib.Omega.{arith}
 use lib.ListN.{getD, length}
 use borrow.Author.Tests.{eq-eqb, ltb-true}
+use Rattle.base.specs.Refusals.{refusalRow}
 use Rattle.unicode.specs.Tables.{inRanges, member as Tables·member}
 use Rattle.unicode.specs.Unicode.{hasVariationSequence, isEmojiDefault, isEmojiPresentation, isTextDefault}
 use Rattle.unicode.specs.UnicodeData.{emojiPresentationRanges, variationEntries}
@@ -145,5 +146,5 @@ unfolding WriteRead policyBytes wordCount entryCount variationEntries
 write-read bs t l = ap bytesOf (words-of bs) ∙ write-words 24 bs l t
 
 pub refused-by-two : RefusedByTwo
-unfolding RefusedByTwo policyRefusal readPolicy
+unfolding RefusedByTwo policyRefusal readPolicy refusalRow
 refused-by-two bs = ((λ e. simp e), (λ e. simp e))

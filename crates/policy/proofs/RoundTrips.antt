@@ -116,12 +116,7 @@ same-words p q s t e =
 
 pub many-words : (p : Policy) → Sixes p → length (policyWords p) ≡ 24
 unfolding policyWords keyWords
-many-words p s =
-    let a = p .«prefer_bare» .chars .bits in
-    let b = p .«prefer_bare» .«keycap_chars» .bits in
-    let c = p .«bare_as_text» .chars .bits in
-    let d = p .«bare_as_text» .«keycap_chars» .bits in
-    omega (arith, s .first, s .second, s .third, s .fourth, length-append a b, length-append c d, length-append (a ++ b) (c ++ d))
+many-words p s = simp length-append (omega arith)
 
 -- the policy that bytes say has their words, six in each set
 pub sixes-of : (bs : List ℕ) → Sixes (policyOf bs)

@@ -1,7 +1,7 @@
 -- The unused bits of a set: all of them stand in its last word.
-use mathlib.Core.Path.{_≡_, refl, sym, ap, ap₂, _∙_}
+use mathlib.Core.Path.{_≡_, sym, ap, ap₂, _∙_}
 use mathlib.Core.Logic.{⊎-elim}
-use mathlib.Core.Bool.{Bool, true, false, not, _||_}
+use mathlib.Core.Bool.{Bool, true, not, _||_}
 use mathlib.Core.List.{List}
 use Prim.Native.Nat.{ℕ, suc, _+_, _-_, _*_, _/_, _%_, _^_, _<_, _≤_}
 use native.Mathlib.Omega.{arith}
@@ -9,7 +9,7 @@ use lib.Dec.{leb, ltb}
 use lib.ListN.{getD}
 use lib.Pow.{pow-pos}
 use borrow.Author.Tests.{le-leb, le-ltb, leb-true, lt-ltb, not-true}
-use Rattle.base.proofs.Tests.{le-or-lt}
+use Rattle.base.proofs.Tests.{le-or-lt, same-test}
 use Rattle.base.specs.Bits.{one}
 use Rattle.policy_key_set.specs.Sets.{allBelow, member}
 use Rattle.policy_key_set.proofs.Below.{all-below, below-all}
@@ -17,10 +17,7 @@ use Rattle.policy.proofs.Bounds.{high-bits, low-word}
 
 -- two tests that pass together are the same
 pub same-truth : (a b : Bool) → (a ≡ true → b ≡ true) → (b ≡ true → a ≡ true) → a ≡ b
-same-truth true true f g = refl
-same-truth true false f g = sym (f refl)
-same-truth false true f g = g refl
-same-truth false false f g = refl
+same-truth = same-test
 
 -- a bit that is no entry's, and a test of it
 unused : (n i : ℕ) (b : Bool) → n ≤ i → (ltb i n || not b) ≡ not b
@@ -43,25 +40,25 @@ module _ (n last : ℕ) (ws : List ℕ) (h : last * 64 ≤ n) where
       let m : (last * 64 + k) % 64 ≡ k = omega arith in
       ap₂ (λ (a b : ℕ). one a (getD ws b 0)) m d
 
-  same-test : (k : ℕ) → k < 64 → entryTest (last * 64 + k) ≡ lastTest k
-  same-test k l = ap (λ (b : Bool). ltb (last * 64 + k) n || not b) (in-last k l)
+  at-last : (k : ℕ) → k < 64 → entryTest (last * 64 + k) ≡ lastTest k
+  at-last k l = ap (λ (b : Bool). ltb (last * 64 + k) n || not b) (in-last k l)
 
   pub unused-in-last : allBelow (suc last * 64) entryTest ≡ allBelow 64 lastTest
   unused-in-last =
-      same-truth (allBelow (suc last * 64) entryTest) (allBelow 64 lastTest)
-      (λ t. below-all 64 lastTest (λ k l. sym (same-test k l) ∙ all-below (suc last * 64) entryTest t (last * 64 + k) (omega arith)))
+      same-test (allBelow (suc last * 64) entryTest) (allBelow 64 lastTest)
+      (λ t. below-all 64 lastTest (λ k l. sym (at-last k l) ∙ all-below (suc last * 64) entryTest t (last * 64 + k) (omega arith)))
       (λ t. below-all (suc last * 64) entryTest (λ i l.
       ⊎-elim
       (λ (m : n ≤ i).
       let e : last * 64 + (i - last * 64) ≡ i = omega arith in
-      ap entryTest (sym e) ∙ same-test (i - last * 64) (omega arith) ∙ all-below 64 lastTest t (i - last * 64) (omega arith))
+      ap entryTest (sym e) ∙ at-last (i - last * 64) (omega arith) ∙ all-below 64 lastTest t (i - last * 64) (omega arith))
       (λ m. used n i (member i ws) m) (le-or-lt n i)))
 
 -- the bits from u on are 0 in a word of 64 bits exactly when it is at most 2 to the u less 1
 pub small-word : (n base u w : ℕ) → base + u ≡ n → u ≤ 64 → w < 2 ^ 64
     → allBelow 64 (λ (k : ℕ). ltb (base + k) n || not (one k w)) ≡ leb w (2 ^ u - 1)
 small-word n base u w e l h =
-    same-truth (allBelow 64 test) (leb w (2 ^ u - 1))
+    same-test (allBelow 64 test) (leb w (2 ^ u - 1))
     (λ t.
     let s : u + (64 - u) ≡ 64 = omega arith in
     let h′ : w < 2 ^ (u + (64 - u)) = rw s h in

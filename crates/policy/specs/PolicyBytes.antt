@@ -7,7 +7,8 @@ use Prim.Native.Nat.{ℕ, zero, suc, _+_, _*_, _/_, _^_, _<_}
 use lib.Dec.{eqb, ltb}
 use lib.ListN.{drop, getD, length, take}
 use mathlib.Core.Option.{Option, none, some}
-use Rattle.base.specs.Refusals.{RefusalRow}
+use Rattle.base.specs.Refusals.{RefusalRow, refusalRow}
+use Rattle.base.specs.declared.Refusal.the-variants.{NotAPolicy}
 use Rattle.base.specs.Words.{number, wordBytes}
 use Rattle.unicode.specs.UnicodeData.{variationEntries}
 use Rattle.policy_key_set.specs.Sets.{allBelow, entryCount, member}
@@ -70,7 +71,7 @@ readPolicy bs = record { accepted = isPolicy bs; policy = policyOf bs }
 
 -- "policy not 4W words, or an unused bit set | 2 | nothing more"
 unfoldable pub policyRefusal : ReadPolicy → Option RefusalRow
-policyRefusal r = cond (r .accepted) none (some (record { number = 2; value = 0 }))
+policyRefusal r = cond (r .accepted) none (some (refusalRow NotAPolicy))
 
 -- the policy that bytes say has every ASCII entry among the ordinary keys of `prefer_bare`. Then such a base, where it
 -- has no selector and rule 6 holds, stays as it is: `AsciiBasesBare`

@@ -23,18 +23,6 @@ unfolding allBelow
 below-all zero p h = refl
 below-all (suc n) p h = simp (h n (omega arith), below-all n p (λ k l. h k (omega arith)))
 
-pub beq-so : (a b : Bool) → Bool·beq a b ≡ true → a ≡ b
-beq-so true true e = refl
-beq-so true false e = sym e
-beq-so false true e = e
-beq-so false false e = refl
-
-pub so-beq : (a b : Bool) → a ≡ b → Bool·beq a b ≡ true
-so-beq true true e = refl
-so-beq true false e = sym e
-so-beq false true e = e
-so-beq false false e = refl
-
 -- tests that agree below n pass equally often
 pub count-same : (n : ℕ) (p q : ℕ → Bool) → ((k : ℕ) → k < n → p k ≡ q k) → countBelow n p ≡ countBelow n q
 unfolding countBelow

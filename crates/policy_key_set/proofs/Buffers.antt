@@ -6,6 +6,7 @@ use Prim.Native.Nat.{ℕ, _+_, _<_}
 use native.Mathlib.Omega.{arith}
 use lib.ListN.{length, length-append}
 use borrow.Author.Tests.{eq-eqb, ne-eqb}
+use Rattle.base.specs.Texts.{parted}
 use Rattle.unicode.specs.UnicodeData.{variationEntries}
 use Rattle.policy_key_set.specs.Sets.{entryCount}
 use Rattle.policy_key_set.specs.KeySets.{keysSize}
@@ -13,7 +14,6 @@ use Rattle.policy_key_set.specs.Display.{
   display,
   hexDigits,
   hexWidth,
-  joined,
   keyList,
   keyText,
   keyTexts,
@@ -47,9 +47,9 @@ module _ (s : PolicyKeySet) where
   keycapTexts = keyTexts true (s .«keycap_chars» .bits) 0 variationEntries
 
   key-list : written 0 ordinaryTexts ++ written (0 + length (written 0 ordinaryTexts)) keycapTexts ≡ keyList s
-  unfolding keyList written joined
+  unfolding keyList written parted
   key-list =
-      let e : written 0 keycapTexts ≡ joined keycapTexts =
+      let e : written 0 keycapTexts ≡ parted 0x2C keycapTexts =
       rw append-nil at (written-texts true (s .«keycap_chars» .bits) 0 variationEntries [] refl) in
       sym (written-append 0 ordinaryTexts keycapTexts) ∙ written-texts false (s .chars .bits) 0 variationEntries keycapTexts e
 

@@ -3,6 +3,8 @@ use mathlib.Core.Path.{_≡_, refl, sym, ap, _∙_}
 use mathlib.Core.Bool.{Bool, true, false, Bool·beq, Bool·not-not, not, _&&_, _||_}
 use Prim.Native.Nat.{ℕ, _*_}
 use native.Mathlib.Omega.{arith}
+use Rattle.base.proofs.Tests.{beq-so, so-beq}
+use Rattle.base.specs.Texts.{parted}
 use Rattle.unicode.specs.Unicode.{hasVariationSequence, isEmojiDefault, isEmojiPresentation, isTextDefault}
 use Rattle.unicode.specs.UnicodeData.{variationEntries}
 use Rattle.unicode.proofs.Between.{every, every-member}
@@ -14,7 +16,6 @@ use Rattle.policy_key_set.specs.Display.{
   hexDigit,
   hexDigits,
   hexWidth,
-  joined,
   keyList,
   keyText,
   keyTexts,
@@ -42,14 +43,12 @@ use Rattle.policy_key_set.proofs.Below.{
   all-below,
   all-counted,
   below-all,
-  beq-so,
   count-all,
   count-le,
   count-none,
   count-same,
   count-union,
   none-counted,
-  so-beq,
 }
 use Rattle.policy_key_set.proofs.Members.{held, holds-same, members-determine}
 use Rattle.policy_key_set.proofs.Sizes.{count-held, sum-count}
@@ -148,5 +147,5 @@ size-of-all s =
     )
 
 pub display-example : DisplayExample
-unfolding DisplayExample display keyList joined keyTexts keyText opening hexWidth hexDigits hexDigit sizeOf countBelow member one entryCount variationEntries
+unfolding DisplayExample display keyList parted keyTexts keyText opening hexWidth hexDigits hexDigit sizeOf countBelow member one entryCount variationEntries
 display-example = refl

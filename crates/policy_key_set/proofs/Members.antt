@@ -10,12 +10,12 @@ use lib.ListN.{List·getD-eq-default, getD, length, length-replicate, replicate,
 use lib.Seq.{ext-getD, getD-set-other, getD-set-same}
 use borrow.Author.Count.{below-more}
 use borrow.Author.Tests.{eq-eqb, eqb-false, eqb-true, le-ltb, lt-ltb, ne-eqb}
-use Rattle.base.proofs.Tests.{le-or-lt}
+use Rattle.base.proofs.Tests.{beq-so, le-or-lt}
 use Rattle.base.specs.Bits.{one}
 use Rattle.base.proofs.Bits.{zero-one}
 use Rattle.policy_key_set.specs.Sets.{HoldsBelow, allBelow, butNot, member}
 use Rattle.policy_key_set.proofs.Bits.{bits-determine}
-use Rattle.policy_key_set.proofs.Below.{all-below, beq-so}
+use Rattle.policy_key_set.proofs.Below.{all-below}
 
 pub decide : (a b : ℕ) → (a ≡ b) ⊎ (a ≡ b → ⊥)
 decide a b = go (eqb a b) refl

@@ -8,12 +8,12 @@ use native.Mathlib.Numerals.{add-one}
 use native.Mathlib.Omega.{arith}
 use lib.ListN.{drop, drop-of-length-le, getD, length, length-append}
 use lib.Seq.{drop-cons}
+use Rattle.base.specs.Texts.{parted}
 use Rattle.policy_key_set.specs.Sets.{member}
 use Rattle.policy_key_set.specs.Display.{
   hexDigit,
   hexDigits,
   hexWidth,
-  joined,
   keyText,
   keyTexts,
   opening,
@@ -76,30 +76,30 @@ written-append j (t ∷ ts) us =
     ∙ sym (append-assoc p w (written (j + length (p ++ w)) us))
 
 -- behind a first text there is a comma before each
-behind : (j : ℕ) (t : List ℕ) (ts : List (List ℕ)) → 0 < j → written j (t ∷ ts) ≡ 0x2C ∷ joined (t ∷ ts)
-unfolding written joined
+behind : (j : ℕ) (t : List ℕ) (ts : List (List ℕ)) → 0 < j → written j (t ∷ ts) ≡ 0x2C ∷ parted 0x2C (t ∷ ts)
+unfolding written parted
 behind j t [] h = rw (piece-later j t h) (ap (λ (xs : List ℕ). 0x2C ∷ xs) (append-nil t))
 behind j t (u ∷ ts) h =
     rw (piece-later j t h) (ap (λ (xs : List ℕ). 0x2C ∷ (t ++ xs)) (behind (j + length (0x2C ∷ t)) u ts (omega arith)))
 
 -- texts of which the first is not empty, written from the front on
-pub written-joined : (t : List ℕ) (ts : List (List ℕ)) → 0 < length t → written 0 (t ∷ ts) ≡ joined (t ∷ ts)
-unfolding written joined piece
-written-joined t [] h = append-nil t
-written-joined t (u ∷ ts) h = ap (λ (xs : List ℕ). t ++ xs) (behind (0 + length t) u ts (omega arith))
+pub written-parted : (t : List ℕ) (ts : List (List ℕ)) → 0 < length t → written 0 (t ∷ ts) ≡ parted 0x2C (t ∷ ts)
+unfolding written parted piece
+written-parted t [] h = append-nil t
+written-parted t (u ∷ ts) h = ap (λ (xs : List ℕ). t ++ xs) (behind (0 + length t) u ts (omega arith))
 
 -- the texts of keys are not empty
 text-full : (keycap : Bool) (c : ℕ) → 0 < length (keyText keycap c)
 text-full keycap c = let e = text-length keycap c in omega arith
 
-pub written-texts : (keycap : Bool) (ws : List ℕ) (i : ℕ) (cs : List ℕ) (us : List (List ℕ)) → written 0 us ≡ joined us
-    → written 0 (keyTexts keycap ws i cs ++ us) ≡ joined (keyTexts keycap ws i cs ++ us)
+pub written-texts : (keycap : Bool) (ws : List ℕ) (i : ℕ) (cs : List ℕ) (us : List (List ℕ)) → written 0 us ≡ parted 0x2C us
+    → written 0 (keyTexts keycap ws i cs ++ us) ≡ parted 0x2C (keyTexts keycap ws i cs ++ us)
 unfolding keyTexts
 written-texts keycap ws i [] us h = h
 written-texts keycap ws i (c ∷ cs) us h = go (member i ws) (written-texts keycap ws (suc i) cs us h)
   where
-    go : (b : Bool) → written 0 (keyTexts keycap ws (suc i) cs ++ us) ≡ joined (keyTexts keycap ws (suc i) cs ++ us)
+    go : (b : Bool) → written 0 (keyTexts keycap ws (suc i) cs ++ us) ≡ parted 0x2C (keyTexts keycap ws (suc i) cs ++ us)
         → written 0 (cond b (keyText keycap c ∷ keyTexts keycap ws (suc i) cs) (keyTexts keycap ws (suc i) cs) ++ us)
-        ≡ joined (cond b (keyText keycap c ∷ keyTexts keycap ws (suc i) cs) (keyTexts keycap ws (suc i) cs) ++ us)
-    go true e = written-joined (keyText keycap c) (keyTexts keycap ws (suc i) cs ++ us) (text-full keycap c)
+        ≡ parted 0x2C (cond b (keyText keycap c ∷ keyTexts keycap ws (suc i) cs) (keyTexts keycap ws (suc i) cs) ++ us)
+    go true e = written-parted (keyText keycap c) (keyTexts keycap ws (suc i) cs ++ us) (text-full keycap c)
     go false e = e

@@ -5,6 +5,7 @@ use mathlib.Core.List.{List, [], _∷_, _++_}
 use Prim.Native.Nat.{ℕ, zero, suc, _+_, _*_, _/_, _%_, _^_}
 use lib.Dec.{eqb, ltb}
 use lib.ListN.{length}
+use Rattle.base.specs.Texts.{parted}
 use Rattle.unicode.specs.UnicodeData.{variationEntries}
 use Rattle.policy_key_set.specs.Sets.{entryCount, member}
 use Rattle.policy_key_set.specs.KeySets.{keysSize}
@@ -38,26 +39,20 @@ keyTexts keycap ws i [] = []
 keyTexts keycap ws i (c ∷ cs) =
     cond (member i ws) (keyText keycap c ∷ keyTexts keycap ws (suc i) cs) (keyTexts keycap ws (suc i) cs)
 
--- texts with single commas between them
-unfoldable pub joined : List (List ℕ) → List ℕ
-joined [] = []
-joined (t ∷ []) = t
-joined (t ∷ u ∷ ts) = t ++ (0x2C ∷ joined (u ∷ ts))
-
 -- a text that is written at place j of the output, with the comma that parts it from what stands before it
 unfoldable pub piece : ℕ → List ℕ → List ℕ
 piece zero t = t
 piece (suc j) t = 0x2C ∷ t
 
--- texts that are written one behind the other from place j on; from place 0 on they are `joined`
+-- texts that are written one behind the other from place j on; from place 0 on they are parted by commas
 unfoldable pub written : ℕ → List (List ℕ) → List ℕ
 written j [] = []
 written j (t ∷ ts) = piece j t ++ written (j + length (piece j t)) ts
 
--- the ordinary keys in ascending order, then the keycap keys
+-- the ordinary keys in ascending order, then the keycap keys, with single commas between them
 unfoldable pub keyList : PolicyKeySet → List ℕ
 keyList s =
-    joined (keyTexts false (s .chars .bits) 0 variationEntries ++ keyTexts true (s .«keycap_chars» .bits) 0 variationEntries)
+    parted 0x2C (keyTexts false (s .chars .bits) 0 variationEntries ++ keyTexts true (s .«keycap_chars» .bits) 0 variationEntries)
 
 -- `none` without a key, `all` with every key of both domains, else the keys
 unfoldable pub display : PolicyKeySet → List ℕ

@@ -4,6 +4,7 @@ use mathlib.Core.List.{List}
 use Prim.Native.Nat.{ℕ, _+_, _*_}
 use lib.Dec.{eqb, leb, ltb}
 use lib.ListN.{getD, length}
+use Rattle.base.specs.Ranges.{within}
 use Rattle.unicode.specs.Unicode.{isEmojiDefault, isTextDefault}
 use Rattle.unicode.specs.UnicodeData.{variationEntries}
 use Rattle.policy_key_set.specs.Sets.{Holds, allBelow, entryCount, member, sameEntries, sizeOf}
@@ -36,7 +37,7 @@ abbrev pub isAscii : ℕ → Bool
 isAscii c = ltb c 0x80
 
 abbrev pub isKeycapRgi : ℕ → Bool
-isKeycapRgi c = eqb c 0x23 || (eqb c 0x2A || (leb 0x30 c && leb c 0x39))
+isKeycapRgi c = eqb c 0x23 || (eqb c 0x2A || within 0x30 0x39 c)
 
 -- the rule of a named set: `named_entry_matches` of policy_key_set.rs
 abbrev pub namedEntryMatches : NamedSet → ℕ → Bool

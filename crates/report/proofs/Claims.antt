@@ -1,5 +1,6 @@
 -- The statements of specs/, each with its proof.
 use mathlib.Core.Path.{refl}
+use Rattle.base.specs.Texts.{parted}
 use Rattle.base.specs.Words.{littleEndian, number, wordBytes}
 use Rattle.utf8.specs.Rfc3629.{chars, encode, encodeAll, foldChars, foldStep, readChar, readFour, utf8-1, utf8-2, utf8-3, utf8-4, validUpTo}
 use Rattle.unicode.specs.Presentation.{asSelector, fromSelector, isSelector}
@@ -22,7 +23,7 @@ use Rattle.analysis.specs.Findings.{totals}
 use Rattle.formatter.specs.Findings.{findingRow, findings}
 use Rattle.formatter.specs.Intake.{intakeRefusal}
 use Rattle.formatter.specs.List.{countNumbers, rowNumbers}
-use Rattle.message_io.specs.Lines.{decimal, decimalBy, findingLine, line, parted, totalLine}
+use Rattle.message_io.specs.Lines.{decimal, decimalBy, findingLine, line, totalLine}
 use Rattle.report.specs.Report.{linesFrom, reported, rowLines, totalsAt}
 use Rattle.report.specs.Theorems.{ExampleReported}
 

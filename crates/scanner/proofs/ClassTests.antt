@@ -6,13 +6,14 @@ use mathlib.Core.List.{List, [], _∷_}
 use Prim.Native.Nat.{ℕ}
 use lib.Dec.{eqb}
 use borrow.Author.Tests.{eq-eqb, eqb-true}
-use Rattle.base.proofs.Tests.{either-true}
+use Rattle.base.proofs.Tests.{either-left, either-right, either-true, same-test}
 use Rattle.unicode.specs.Presentation.{isSelector}
 use Rattle.unicode.specs.Unicode.{isEmoji, isEmojiModifier, isRi, isTag}
 use Rattle.scanner.specs.Classes.{Class, selector, link, ri, modifier, emoji, keycap, tag, other, classOf}
 use Rattle.scanner.specs.RunKinds.{byClass, inRun, runOf}
 use Rattle.scanner.specs.Runs.{inLinks, inModifications, inTags, isModification, isPassthrough, passthroughAt, run, selectorsAt}
 use Rattle.scanner.specs.declared.consume.RunKind.the-variants.{Links, Modifications, Passthrough, Selectors, Tags}
+use Rattle.scanner.proofs.Arms.{When}
 use Rattle.scanner.proofs.Classes.{
   HasClass,
   is-emoji,
@@ -33,13 +34,6 @@ use Rattle.scanner.proofs.Classes.{
   modifier-emoji,
   ri-emoji,
 }
-use Rattle.scanner.proofs.ItemRuns.{either-left, either-right}
-
--- Two tests that pass together are equal.
-same-test : (a b : Bool) → (a ≡ true → b ≡ true) → (b ≡ true → a ≡ true) → a ≡ b
-same-test true b f g = sym (f refl)
-same-test false true f g = g refl
-same-test false false f g = refl
 
 -- ---- the tests by class: a selector, a link, an RI, a modifier, another emoji, 20E3, a tag, any other
 
@@ -65,79 +59,65 @@ forModification = byClass false false false true false true true false
 at-class : (f : Class → Bool) {c : ℕ} {k : Class} → HasClass c k → f k ≡ true → f (classOf c) ≡ true
 at-class f h e = ap f (class-is h) ∙ e
 
+taken : (b : Bool) (X : Type 0) → When b X → b ≡ true → X
+taken true X x e = x
+taken false X x e = absurd (false≢true e)
+
+-- What holds of a character whose class the test passes: to be shown from what each such class says of the character.
+passed : (f : Class → Bool) (c : ℕ) (X : Type 0)
+    → When (f selector) (isSelector c ≡ true → X)
+    × When (f link) (c ≡ 0x200D → X)
+    × When (f ri) (isRi c ≡ true → X)
+    × When (f modifier) (isEmojiModifier c ≡ true → X)
+    × When (f emoji) (isEmoji c ≡ true → X)
+    × When (f keycap) (c ≡ 0x20E3 → X)
+    × When (f tag) (isTag c ≡ true → X)
+    × When (f other) X
+    → {k : Class} → HasClass c k → f k ≡ true → X
+passed f c X b (is-selector s) e = taken (f selector) (isSelector c ≡ true → X) (b .0) e s
+passed f c X b (is-link s) e = taken (f link) (c ≡ 0x200D → X) (b .1) e s
+passed f c X b (is-ri s) e = taken (f ri) (isRi c ≡ true → X) (b .2) e s
+passed f c X b (is-modifier s) e = taken (f modifier) (isEmojiModifier c ≡ true → X) (b .3) e s
+passed f c X b (is-emoji s r m) e = taken (f emoji) (isEmoji c ≡ true → X) (b .4) e s
+passed f c X b (is-keycap s) e = taken (f keycap) (c ≡ 0x20E3 → X) (b .5) e s
+passed f c X b (is-tag s) e = taken (f tag) (isTag c ≡ true → X) (b .6) e s
+passed f c X b (is-other s k t) e = taken (f other) X (b .7) e
+
 pub selector-test : (c : ℕ) → isSelector c ≡ forSelector (classOf c)
-selector-test c = same-test (isSelector c) (forSelector (classOf c)) (λ e. at-class forSelector (is-selector e) refl) (back (hasClass c))
-  where
-    back : {k : Class} → HasClass c k → forSelector k ≡ true → isSelector c ≡ true
-    back (is-selector s) e = s
-    back (is-link s) e = absurd (false≢true e)
-    back (is-keycap s) e = absurd (false≢true e)
-    back (is-tag s) e = absurd (false≢true e)
-    back (is-ri s) e = absurd (false≢true e)
-    back (is-modifier s) e = absurd (false≢true e)
-    back (is-emoji s r m) e = absurd (false≢true e)
-    back (is-other s k t) e = absurd (false≢true e)
+selector-test c =
+    same-test (isSelector c) (forSelector (classOf c)) (λ e. at-class forSelector (is-selector e) refl)
+    (passed forSelector c (isSelector c ≡ true) ((λ s. s), tt, tt, tt, tt, tt, tt, tt) (hasClass c))
 
 pub link-test : (c : ℕ) → eqb c 0x200D ≡ forLink (classOf c)
-link-test c = same-test (eqb c 0x200D) (forLink (classOf c)) (λ e. at-class forLink (is-link (eqb-true c 0x200D e)) refl) (back (hasClass c))
-  where
-    back : {k : Class} → HasClass c k → forLink k ≡ true → eqb c 0x200D ≡ true
-    back (is-selector s) e = absurd (false≢true e)
-    back (is-link s) e = eq-eqb c 0x200D s
-    back (is-keycap s) e = absurd (false≢true e)
-    back (is-tag s) e = absurd (false≢true e)
-    back (is-ri s) e = absurd (false≢true e)
-    back (is-modifier s) e = absurd (false≢true e)
-    back (is-emoji s r m) e = absurd (false≢true e)
-    back (is-other s k t) e = absurd (false≢true e)
+link-test c =
+    same-test (eqb c 0x200D) (forLink (classOf c)) (λ e. at-class forLink (is-link (eqb-true c 0x200D e)) refl)
+    (passed forLink c (eqb c 0x200D ≡ true) (tt, eq-eqb c 0x200D, tt, tt, tt, tt, tt, tt) (hasClass c))
 
 pub ri-test : (c : ℕ) → isRi c ≡ forRi (classOf c)
-ri-test c = same-test (isRi c) (forRi (classOf c)) (λ e. at-class forRi (is-ri e) refl) (back (hasClass c))
-  where
-    back : {k : Class} → HasClass c k → forRi k ≡ true → isRi c ≡ true
-    back (is-selector s) e = absurd (false≢true e)
-    back (is-link s) e = absurd (false≢true e)
-    back (is-keycap s) e = absurd (false≢true e)
-    back (is-tag s) e = absurd (false≢true e)
-    back (is-ri s) e = s
-    back (is-modifier s) e = absurd (false≢true e)
-    back (is-emoji s r m) e = absurd (false≢true e)
-    back (is-other s k t) e = absurd (false≢true e)
+ri-test c =
+    same-test (isRi c) (forRi (classOf c)) (λ e. at-class forRi (is-ri e) refl)
+    (passed forRi c (isRi c ≡ true) (tt, tt, (λ s. s), tt, tt, tt, tt, tt) (hasClass c))
 
 pub tag-test : (c : ℕ) → isTag c ≡ forTag (classOf c)
-tag-test c = same-test (isTag c) (forTag (classOf c)) (λ e. at-class forTag (is-tag e) refl) (back (hasClass c))
-  where
-    back : {k : Class} → HasClass c k → forTag k ≡ true → isTag c ≡ true
-    back (is-selector s) e = absurd (false≢true e)
-    back (is-link s) e = absurd (false≢true e)
-    back (is-keycap s) e = absurd (false≢true e)
-    back (is-tag s) e = s
-    back (is-ri s) e = absurd (false≢true e)
-    back (is-modifier s) e = absurd (false≢true e)
-    back (is-emoji s r m) e = absurd (false≢true e)
-    back (is-other s k t) e = absurd (false≢true e)
+tag-test c =
+    same-test (isTag c) (forTag (classOf c)) (λ e. at-class forTag (is-tag e) refl)
+    (passed forTag c (isTag c ≡ true) (tt, tt, tt, tt, tt, tt, (λ s. s), tt) (hasClass c))
 
 pub emoji-test : (c : ℕ) → isEmoji c ≡ forEmoji (classOf c)
-emoji-test c = same-test (isEmoji c) (forEmoji (classOf c)) (λ e. forth (emoji-class c e)) (back (hasClass c))
+emoji-test c =
+    same-test (isEmoji c) (forEmoji (classOf c)) (λ e. forth (emoji-class c e))
+    (passed forEmoji c (isEmoji c ≡ true) (tt, tt, ri-emoji c, modifier-emoji c, (λ s. s), tt, tt, tt) (hasClass c))
   where
     forth : EmojiClass c → forEmoji (classOf c) ≡ true
     forth (an-ri r) = at-class forEmoji (is-ri r) refl
     forth (a-modifier m) = at-class forEmoji (is-modifier m) refl
     forth (an-emoji h) = at-class forEmoji h refl
 
-    back : {k : Class} → HasClass c k → forEmoji k ≡ true → isEmoji c ≡ true
-    back (is-selector s) e = absurd (false≢true e)
-    back (is-link s) e = absurd (false≢true e)
-    back (is-keycap s) e = absurd (false≢true e)
-    back (is-tag s) e = absurd (false≢true e)
-    back (is-ri s) e = ri-emoji c s
-    back (is-modifier s) e = modifier-emoji c s
-    back (is-emoji s r m) e = s
-    back (is-other s k t) e = absurd (false≢true e)
-
 pub modification-test : (c : ℕ) → isModification c ≡ forModification (classOf c)
 unfolding isModification
-modification-test c = same-test (isModification c) (forModification (classOf c)) forth (back (hasClass c))
+modification-test c =
+    same-test (isModification c) (forModification (classOf c)) forth
+    (passed forModification c (isModification c ≡ true) (tt, tt, tt, either-left (isEmojiModifier c) (eqb c 0x20E3 || isTag c), tt, by-keycap, by-tag, tt) (hasClass c))
   where
     forth : isModification c ≡ true → forModification (classOf c) ≡ true
     forth e =
@@ -145,15 +125,11 @@ modification-test c = same-test (isModification c) (forModification (classOf c))
         (λ o. ⊎-elim (λ k. at-class forModification (is-keycap (eqb-true c 0x20E3 k)) refl) (λ t. at-class forModification (is-tag t) refl) (either-true (eqb c 0x20E3) (isTag c) o))
         (either-true (isEmojiModifier c) (eqb c 0x20E3 || isTag c) e)
 
-    back : {k : Class} → HasClass c k → forModification k ≡ true → isModification c ≡ true
-    back (is-selector s) e = absurd (false≢true e)
-    back (is-link s) e = absurd (false≢true e)
-    back (is-keycap s) e = either-right (isEmojiModifier c) (eqb c 0x20E3 || isTag c) (either-left (eqb c 0x20E3) (isTag c) (eq-eqb c 0x20E3 s))
-    back (is-tag s) e = either-right (isEmojiModifier c) (eqb c 0x20E3 || isTag c) (either-right (eqb c 0x20E3) (isTag c) s)
-    back (is-ri s) e = absurd (false≢true e)
-    back (is-modifier s) e = either-left (isEmojiModifier c) (eqb c 0x20E3 || isTag c) s
-    back (is-emoji s r m) e = absurd (false≢true e)
-    back (is-other s k t) e = absurd (false≢true e)
+    by-keycap : c ≡ 0x20E3 → isModification c ≡ true
+    by-keycap s = either-right (isEmojiModifier c) (eqb c 0x20E3 || isTag c) (either-left (eqb c 0x20E3) (isTag c) (eq-eqb c 0x20E3 s))
+
+    by-tag : isTag c ≡ true → isModification c ≡ true
+    by-tag s = either-right (isEmojiModifier c) (eqb c 0x20E3 || isTag c) (either-right (eqb c 0x20E3) (isTag c) s)
 
 abbrev pub forTags : Class → Bool
 forTags k = forTag k || forSelector k

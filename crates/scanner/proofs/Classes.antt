@@ -5,7 +5,7 @@ use Prim.Native.Nat.{ℕ, _<_}
 use native.Mathlib.Omega.{arith}
 use lib.Dec.{eqb}
 use borrow.Author.Tests.{eq-eqb, eqb-true, ne-eqb, not-true}
-use Rattle.base.proofs.Tests.{within-in}
+use Rattle.base.proofs.Tests.{fails, within-below, within-in}
 use Rattle.unicode.specs.Presentation.{isSelector}
 use Rattle.unicode.specs.Tables.{inRanges}
 use Rattle.unicode.specs.Unicode.{hasVariationSequence, isEmoji, isEmojiModifier, isRi, isTag}
@@ -66,15 +66,11 @@ hasClass c = go (isSelector c) (eqb c 0x200D) (eqb c 0x20E3) (isTag c) (isRi c) 
 
 -- A test that passes only where isEmoji says x fails where it says otherwise.
 contrary : (f : ℕ → Bool) (x : Bool) → ((c : ℕ) → f c ≡ true → isEmoji c ≡ x) → (c : ℕ) → isEmoji c ≡ not x → f c ≡ false
-contrary f x h c e = go (f c) refl
+contrary f x h c e = fails (f c) (λ p. never x (sym (h c p) ∙ e))
   where
     never : (x : Bool) → x ≡ not x → ⊥
     never true p = true≢false p
     never false p = false≢true p
-
-    go : (b : Bool) → f c ≡ b → b ≡ false
-    go true p = absurd (never x (sym (h c p) ∙ e))
-    go false p = refl
 
 pub emoji-no-selector : (c : ℕ) → isEmoji c ≡ true → isSelector c ≡ false
 unfolding NoSelectorIsEmoji
@@ -149,11 +145,7 @@ class-other c e s s′ l k t =
 -- So is one below 200D that is no emoji.
 pub class-low : (c : ℕ) → isEmoji c ≡ false → c < 0x200D → classOf c ≡ other
 unfolding isTag
-class-low c e h = class-other c e (λ p. omega arith) (λ p. omega arith) (λ p. omega arith) (λ p. omega arith) (no-tag (isTag c) refl)
-  where
-    no-tag : (b : Bool) → isTag c ≡ b → b ≡ false
-    no-tag true p = let w = within-in 0xE0020 0xE007F c p in absurd (omega arith)
-    no-tag false p = refl
+class-low c e h = class-other c e (λ p. omega arith) (λ p. omega arith) (λ p. omega arith) (λ p. omega arith) (within-below 0xE0020 0xE007F c (omega arith))
 
 pub class-selector : (c : ℕ) → isSelector c ≡ true → classOf c ≡ selector
 class-selector c e = class-is (is-selector e)
@@ -209,8 +201,7 @@ plain-class {c} (is-other o k t) p = of-other
 -- A variation entry is of the class emoji.
 pub entry-class : (c : ℕ) → hasVariationSequence c ≡ true → classOf c ≡ emoji
 unfolding VariationEntriesAreEmoji NoRegionalIndicatorIsEntry NoModifierIsEntry
-entry-class c e = class-is (is-emoji (variation-entries-are-emoji c e) (no (isRi c) refl no-regional-indicator-is-entry) (no (isEmojiModifier c) refl no-modifier-is-entry))
-  where
-    no : {f : ℕ → Bool} (b : Bool) → f c ≡ b → ((c : ℕ) → f c ≡ true → hasVariationSequence c ≡ false) → f c ≡ false
-    no true p h = absurd (true≢false (sym e ∙ h c p))
-    no false p h = p
+entry-class c e =
+    class-is
+    (is-emoji (variation-entries-are-emoji c e) (fails (isRi c) (λ r. true≢false (sym e ∙ no-regional-indicator-is-entry c r)))
+    (fails (isEmojiModifier c) (λ m. true≢false (sym e ∙ no-modifier-is-entry c m))))

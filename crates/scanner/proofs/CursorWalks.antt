@@ -1,10 +1,11 @@
 -- The cursors over tag runs and modifications, walked over the modifications of a unit.
 use mathlib.Core.Path.{_≡_, refl, ap, ap₂, sym, _∙_, subst}
-use mathlib.Core.Bool.{Bool, true, false, _||_, true≢false}
+use mathlib.Core.Bool.{Bool, true, false}
 use mathlib.Core.List.{List, [], _∷_, _++_, append-assoc}
 use Prim.Native.Nat.{ℕ, _+_}
 use native.Mathlib.Omega.{arith}
 use lib.ListN.{drop}
+use Rattle.base.proofs.Tests.{both-false, either-left, either-right}
 use Rattle.utf8.specs.Rfc3629.{chars}
 use Rattle.unicode.specs.Presentation.{isSelector}
 use Rattle.unicode.specs.Unicode.{isTag}
@@ -31,7 +32,6 @@ use Rattle.scanner.specs.declared.parts.EmojiTagRun.the-variants.{NoTags
 use Rattle.scanner.proofs.Bytes.{chars-from}
 use Rattle.scanner.proofs.Classes.{HasClass, class-is, is-keycap, is-modifier, is-selector, tag-no-selector}
 use Rattle.scanner.proofs.ClassTests.{forModification, forTag, modification-test, tag-test}
-use Rattle.scanner.proofs.ItemRuns.{either-left, either-right}
 use Rattle.scanner.proofs.ModificationWalks.{no-tag-behind, Mods, mods-end, mods-keycap, mods-modifier, mods-tags}
 use Rattle.scanner.proofs.Modifications.{RunsOk, one-run, run-and as run-more, of-class}
 use Rattle.scanner.proofs.Rescan.{size-append}
@@ -47,11 +47,7 @@ selector-no-tag c e = tag-test c ∙ ap forTag (class-is (is-selector e))
 
 neither : {t : List ℕ} → Stops inTags t → Stops isTag t × Stops isSelector t
 neither at-end = (at-end, at-end)
-neither (at-char {c = c} e) = let p = go (isTag c) (isSelector c) e in (at-char (p .0), at-char (p .1))
-  where
-    go : (a b : Bool) → (a || b) ≡ false → (a ≡ false) × (b ≡ false)
-    go true b e = absurd (true≢false e)
-    go false b e = (refl, e)
+neither (at-char {c = c} e) = let p = both-false (isTag c) (isSelector c) e in (at-char (p .0), at-char (p .1))
 
 no-tag-front : {s t : List ℕ} → S s → Stops isTag t → Stops isTag (s ++ t)
 no-tag-front no-selectors p = p
@@ -140,14 +136,10 @@ module _ {c : ℕ} {k : Class} (h : HasClass c k) (s t : List ℕ) where
 none-read : (at : ℕ) {t : List ℕ} → Stops inModifications t → modificationRead at t ≡ Value.NoModification
 unfolding modificationRead modificationAt modificationsOf firstFrom
 none-read at at-end = refl
-none-read at (at-char {c = c} {s = t} e) = front-read at (c ∷ t) (modification-other c t false (no-tag (neither (no-tag-behind (at-char e)) .0)) (go (isModification c) (isSelector c) e)) refl
+none-read at (at-char {c = c} {s = t} e) = front-read at (c ∷ t) (modification-other c t false (no-tag (neither (no-tag-behind (at-char e)) .0)) (both-false (isModification c) (isSelector c) e .0)) refl
   where
     no-tag : Stops isTag (c ∷ t) → isTag c ≡ false
     no-tag (at-char f) = f
-
-    go : (a b : Bool) → (a || b) ≡ false → a ≡ false
-    go true b e = absurd (true≢false e)
-    go false b e = refl
 
 -- Groups of tags, before t.
 passes-append : {f : ℕ → Bool} {s t : List ℕ} → Passes f s → Passes f t → Passes f (s ++ t)

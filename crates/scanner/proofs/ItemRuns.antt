@@ -1,11 +1,12 @@
 -- Items by the runs at the front of a text: what a loop over a text that goes by these runs needs.
 use mathlib.Core.Path.{_≡_, refl, ap, sym, _∙_, subst}
-use mathlib.Core.Bool.{Bool, true, false, cond, _||_, true≢false, false≢true}
+use mathlib.Core.Bool.{Bool, true, false, cond, _||_, true≢false}
 use mathlib.Core.Option.{none, some}
 use mathlib.Core.List.{List, [], _∷_, _++_, append-nil}
 use Prim.Native.Nat.{ℕ}
 use lib.Dec.{eqb}
 use borrow.Author.Tests.{eq-eqb, not-true}
+use Rattle.base.proofs.Tests.{either-left, either-right}
 use Rattle.unicode.specs.Presentation.{isSelector}
 use Rattle.unicode.specs.Unicode.{isEmoji}
 use Rattle.scanner.specs.Classes.{Class, selector, link, classOf}
@@ -36,14 +37,6 @@ use Rattle.scanner.proofs.Walk.{Walk, stay, pass, walk-cut}
 use Rattle.scanner.proofs.Runs.{Passes, all-pass, pass-and, run-behind, run-passes, run-true, Stops, at-char, at-end, behind-stops}
 
 -- ---- a place that a test keeps to
-
-pub either-left : (a b : Bool) → a ≡ true → (a || b) ≡ true
-either-left true b e = refl
-either-left false b e = absurd (false≢true e)
-
-pub either-right : (a b : Bool) → b ≡ true → (a || b) ≡ true
-either-right true b e = refl
-either-right false b e = e
 
 module _ (p : Place) (f : ℕ → Bool) (on : (c : ℕ) → f c ≡ true → step p (classOf c) ≡ some p) where
   pub walk-passes : {s : List ℕ} → Passes f s → Walk p s p

@@ -5,6 +5,7 @@ pub mod Tiling
 pub mod Places
 pub mod Walk
 pub mod DerivedWalks
+pub mod LinksTail
 pub mod WalksDerive
 pub mod Reading
 pub mod Rescan

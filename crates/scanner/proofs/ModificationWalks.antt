@@ -1,9 +1,10 @@
 -- The modifications that `modificationsOf` makes, before what stands behind the unit: each ends where the next begins.
-use mathlib.Core.Path.{_≡_, refl, ap, sym, _∙_, subst}
-use mathlib.Core.Bool.{Bool, true, false, _||_, true≢false}
+use mathlib.Core.Path.{_≡_, refl, ap, ap₂, sym, _∙_, subst}
+use mathlib.Core.Bool.{Bool, true, false, _||_}
 use mathlib.Core.List.{List, [], _∷_, _++_}
 use Prim.Native.Nat.{ℕ}
 use lib.Dec.{eqb}
+use Rattle.base.proofs.Tests.{both-false}
 use Rattle.unicode.specs.Presentation.{isSelector}
 use Rattle.unicode.specs.Unicode.{isEmojiModifier, isTag}
 use Rattle.scanner.specs.Classes.{Class}
@@ -40,21 +41,15 @@ use Rattle.scanner.proofs.Runs.{Stops, at-char, at-end}
 
 pub no-selector-behind : {t : List ℕ} → Stops inModifications t → Stops isSelector t
 no-selector-behind at-end = at-end
-no-selector-behind (at-char {c = c} e) = at-char (go (isModification c) (isSelector c) e)
-  where
-    go : (a b : Bool) → (a || b) ≡ false → b ≡ false
-    go true b e = absurd (true≢false e)
-    go false b e = e
+no-selector-behind (at-char {c = c} e) = at-char (both-false (isModification c) (isSelector c) e .1)
 
 pub no-tag-behind : {t : List ℕ} → Stops inModifications t → Stops inTags t
 unfolding isModification
 no-tag-behind at-end = at-end
-no-tag-behind (at-char {c = c} e) = at-char (go (isEmojiModifier c) (eqb c 0x20E3) (isTag c) (isSelector c) e)
-  where
-    go : (m k t s : Bool) → ((m || (k || t)) || s) ≡ false → (t || s) ≡ false
-    go true k t s e = absurd (true≢false e)
-    go false true t s e = absurd (true≢false e)
-    go false false t s e = e
+no-tag-behind (at-char {c = c} e) =
+    let p = both-false (isModification c) (isSelector c) e in
+    let q = both-false (isEmojiModifier c) (eqb c 0x20E3 || isTag c) (p .0) in
+    at-char (ap₂ (λ (x y : Bool). x || y) (both-false (eqb c 0x20E3) (isTag c) (q .1) .1) (p .1))
 
 no-tags-at : {c : ℕ} {k : Class} → HasClass c k → forTags k ≡ false → inTags c ≡ false
 no-tags-at {c} h e = tags-test c ∙ ap forTags (class-is h) ∙ e

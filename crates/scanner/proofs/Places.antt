@@ -3,7 +3,7 @@ use mathlib.Core.Path.{_≡_, refl, sym, subst}
 use mathlib.Core.Bool.{Bool, true, false, _&&_, Bool·beq, false≢true, true≢false}
 use mathlib.Core.Option.{Option, none, some}
 use lib.Dec.{T}
-use Rattle.base.proofs.Tests.{both-true}
+use Rattle.base.proofs.Tests.{beq-so, both-true}
 use Rattle.scanner.specs.Classes.{Class, selector, link, ri, modifier, emoji, keycap, tag, other}
 use Rattle.scanner.specs.Items.{Place, plain, selectors, links, oneRi, unit, joined, leftOver, step, begin, kindOf}
 use Rattle.scanner.specs.declared.ScanKind.the-variants.{EmojiHeaded, LinksOnly, Passthrough, UnsanctionedPresentationSelectors}
@@ -39,15 +39,12 @@ everywhere f e leftOver = row-of (f leftOver) (e .6)
 abbrev pub always : Every (λ p k. true)
 always = let r : Row (λ k. true) = (tt, tt, tt, tt, tt, tt, tt, tt) in (r, r, r, r, r, r, r)
 
-pub same-bool : (a b : Bool) → T (Bool·beq a b) → a ≡ b
-same-bool true true e = refl
-same-bool true false e = absurd e
-same-bool false true e = absurd e
-same-bool false false e = refl
-
 pub is-true : (b : Bool) → T b → b ≡ true
 is-true true h = refl
 is-true false h = absurd h
+
+same-bool : (a b : Bool) → T (Bool·beq a b) → a ≡ b
+same-bool a b h = beq-so a b (is-true (Bool·beq a b) h)
 
 -- A test of the place that a step leads to.
 abbrev pub onSome : (Place → Bool) → Option Place → Bool
@@ -125,16 +122,6 @@ solid-selector unit e = refl
 solid-selector joined e = refl
 solid-selector leftOver e = refl
 
-pub inner-selector : (p : Place) → inner p ≡ true → step p selector ≡ some p
-unfolding step
-inner-selector plain e = absurd (false≢true e)
-inner-selector selectors e = absurd (false≢true e)
-inner-selector links e = refl
-inner-selector oneRi e = refl
-inner-selector unit e = refl
-inner-selector joined e = refl
-inner-selector leftOver e = refl
-
 -- Only behind passthrough, or at the start, a selector begins an item.
 pub selector-ends : (p : Place) → step p selector ≡ none → p ≡ plain
 unfolding step
@@ -154,6 +141,9 @@ inner-solid oneRi e = refl
 inner-solid unit e = refl
 inner-solid joined e = refl
 inner-solid leftOver e = refl
+
+pub inner-selector : (p : Place) → inner p ≡ true → step p selector ≡ some p
+inner-selector p e = solid-selector p (inner-solid p e)
 
 -- A run of selectors goes on with a selector only.
 pub selectors-step : (k : Class) (q : Place) → step selectors k ≡ some q → (k ≡ selector) × (q ≡ selectors)

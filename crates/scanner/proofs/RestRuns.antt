@@ -6,6 +6,7 @@ use mathlib.Core.List.{List, [], _∷_, _++_}
 use Prim.Native.Nat.{ℕ}
 use lib.Dec.{eqb}
 use borrow.Author.Tests.{eq-eqb}
+use Rattle.base.proofs.Tests.{either-left, either-right}
 use Rattle.unicode.specs.Presentation.{isSelector}
 use Rattle.unicode.specs.Unicode.{isEmoji, isEmojiModifier, isTag}
 use Rattle.scanner.specs.Classes.{Class, classOf}
@@ -49,7 +50,7 @@ use Rattle.scanner.proofs.Runs.{
   at-end,
   behind-stops,
 }
-use Rattle.scanner.proofs.ItemRuns.{cut-run, either-left, either-right, links-off, links-on}
+use Rattle.scanner.proofs.ItemRuns.{cut-run, links-off, links-on}
 
 unit-off : {c : ℕ} {k : Class} → HasClass c k → inModifications c ≡ false → eqb c 0x200D ≡ false → step unit k ≡ none
 unfolding step isModification

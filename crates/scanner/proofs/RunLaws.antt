@@ -1,60 +1,19 @@
--- The runs at the front of a text are the grammar's parts, and the runs of modifications and of links go one by one.
+-- The runs at the front of a text are the grammar's parts.
 use mathlib.Core.Path.{_≡_, refl, ap, ap₂, sym, _∙_, subst}
 use mathlib.Core.Logic.{⊎-elim}
 use mathlib.Core.Bool.{Bool, true, false, cond, _||_, true≢false}
 use mathlib.Core.List.{List, [], _∷_, _++_}
 use Prim.Native.Nat.{ℕ}
 use lib.Dec.{eqb}
-use lib.ListN.{length, drop}
-use lib.Seq.{drop-append-seam}
 use borrow.Author.Tests.{eqb-true}
-use Rattle.base.proofs.Tests.{either-true}
+use Rattle.base.proofs.Tests.{either-left, either-true}
 use Rattle.unicode.specs.Presentation.{isSelector}
 use Rattle.unicode.specs.Unicode.{isEmoji, isEmojiModifier, isTag}
-use Rattle.scanner.specs.Grammar.{
-  S,
-  no-selectors,
-  selector-and,
-  one-tag,
-  TagGroups,
-  one-group,
-  group-and,
-  Modification,
-  by-modifier,
-  by-keycap,
-  by-tags,
-  Stem,
-  Modifications,
-  unmodified,
-  EmojiUnit,
-  unit-of,
-  Link,
-  a-link,
-  Links,
-  no-links,
-  link-and,
-}
-use Rattle.scanner.specs.Runs.{
-  behindRun,
-  behindSelectors,
-  behindStem,
-  inLinks,
-  inModifications,
-  inTags,
-  isModification,
-  linkAt,
-  linksAt,
-  modificationAt,
-  modificationsAt,
-  run,
-  selectorsAt,
-  stemAt,
-  tagModificationAt,
-  unitAt,
-}
+use Rattle.scanner.specs.Grammar.{S, no-selectors, selector-and, one-tag, TagGroups, one-group, group-and, Modification, by-modifier, by-keycap, by-tags, Stem, Modifications, unmodified, EmojiUnit, unit-of, Link, a-link, Links, no-links}
+use Rattle.scanner.specs.Runs.{behindStem, inLinks, inModifications, inTags, isModification, linkAt, linksAt, modificationAt, modificationsAt, run, selectorsAt, stemAt, tagModificationAt, unitAt}
 use Rattle.scanner.specs.Structure.{flattenModifications, modificationsOf}
 use Rattle.scanner.proofs.EmojiRuns as Emoji
-use Rattle.scanner.proofs.ItemRuns.{either-left, either-right}
+use Rattle.scanner.proofs.LinksTail.{LinksTail, links-tail, links-selector, tail-links}
 use Rattle.scanner.proofs.Modifications.{
   ModFront,
   front-keycap,
@@ -71,20 +30,7 @@ use Rattle.scanner.proofs.Modifications.{
   modifications-flatten,
   modifications-ok,
 }
-use Rattle.scanner.proofs.Runs.{
-  Passes,
-  all-pass,
-  pass-and,
-  passes-S,
-  run-behind,
-  run-false,
-  run-passes,
-  run-true,
-  Stops,
-  at-char,
-  at-end,
-  behind-stops,
-}
+use Rattle.scanner.proofs.Runs.{Passes, all-pass, pass-and, passes-S, run-passes, run-true}
 
 pub selectors-derived : (t : List ℕ) → S (selectorsAt t)
 selectors-derived t = passes-S (run-passes isSelector t)
@@ -187,22 +133,13 @@ pub link-derived : (t : List ℕ) → Link (linkAt (0x200D ∷ t))
 unfolding linkAt
 link-derived t = a-link (selectors-derived t)
 
--- Selectors, and then links.
-data LinksTail : List ℕ → Type 0 where
-  links-tail : {a l : List ℕ} → S a → Links l → LinksTail (a ++ l)
-
 link-before : {c : ℕ} {s : List ℕ} → eqb c 0x200D ≡ true → LinksTail s → Links (c ∷ s)
-link-before {c} {s} e h = subst (λ (x : ℕ). Links (x ∷ s)) (sym (eqb-true c 0x200D e)) (go h)
-  where
-    go : {u : List ℕ} → LinksTail u → Links (0x200D ∷ u)
-    go (links-tail a l) = link-and (a-link a) l
+link-before {c} {s} e h = subst (λ (x : ℕ). Links (x ∷ s)) (sym (eqb-true c 0x200D e)) (tail-links h)
 
 links-passes : {s : List ℕ} → Passes inLinks s → LinksTail s
 links-passes all-pass = links-tail no-selectors no-links
-links-passes (pass-and {c = c} e h) = ⊎-elim (λ k. links-tail no-selectors (link-before k (links-passes h))) (λ f. more f (links-passes h)) (either-true (eqb c 0x200D) (isSelector c) e)
-  where
-    more : {u : List ℕ} → isSelector c ≡ true → LinksTail u → LinksTail (c ∷ u)
-    more f (links-tail a l) = links-tail (selector-and f a) l
+links-passes (pass-and {c = c} e h) =
+    ⊎-elim (λ k. links-tail no-selectors (link-before k (links-passes h))) (λ f. links-selector f (links-passes h)) (either-true (eqb c 0x200D) (isSelector c) e)
 
 pub links-derived : (t : List ℕ) → Links (linksAt t)
 unfolding linksAt
@@ -212,75 +149,3 @@ links-derived (c ∷ t) = go (eqb c 0x200D) refl
     go : (b : Bool) → eqb c 0x200D ≡ b → Links (cond b (run inLinks (c ∷ t)) [])
     go true e = subst Links (sym (run-true inLinks c t (either-left (eqb c 0x200D) (isSelector c) e))) (link-before e (links-passes (run-passes inLinks t)))
     go false e = no-links
-
--- ---- one by one
-
--- A run that takes in what another takes in goes on behind it.
-run-over : {f g : ℕ → Bool} {s : List ℕ} → ((c : ℕ) → f c ≡ true → g c ≡ true) → Passes f s → (t : List ℕ) → run g (s ++ t) ≡ s ++ run g t
-run-over {f} {g} {s} i all-pass t = refl
-run-over {f} {g} {s} i (pass-and {c = c} {s = u} e h) t = run-true g c (u ++ t) (i c e) ∙ ap (λ (l : List ℕ). c ∷ l) (run-over i h t)
-
--- Behind no selector, all links are one run.
-links-run : {r : List ℕ} → Stops isSelector r → linksAt r ≡ run inLinks r
-unfolding linksAt run
-links-run at-end = refl
-links-run (at-char {c = c} {s = t} e) = go (eqb c 0x200D) refl
-  where
-    go : (b : Bool) → eqb c 0x200D ≡ b → cond b (run inLinks (c ∷ t)) [] ≡ run inLinks (c ∷ t)
-    go true f = refl
-    go false f = sym (run-false inLinks c t (ap₂ (λ (x y : Bool). x || y) f e))
-
--- All parts of a kind are one part and all parts behind it, where all of them are a run.
-one-then-all : (g : ℕ → Bool) (one all : List ℕ → List ℕ) (w s r : List ℕ)
-    → one w ≡ s → s ++ r ≡ w → all w ≡ run g w → run g (s ++ r) ≡ s ++ run g r → all r ≡ run g r → all w ≡ one w ++ all (drop (length (one w)) w)
-one-then-all g one all w s r a b c d e =
-    c ∙ ap (run g) (sym b) ∙ d ∙ ap (λ (l : List ℕ). s ++ l) (sym e ∙ ap all (sym (ap (drop (length s)) (sym b) ∙ drop-append-seam s r)))
-    ∙ ap (λ (l : List ℕ). l ++ all (drop (length l) w)) (sym a)
-
-stops-selector : {r : List ℕ} → Stops inTags r → Stops isSelector r
-stops-selector at-end = at-end
-stops-selector (at-char {c = c} e) = at-char (go (isTag c) (isSelector c) e)
-  where
-    go : (a b : Bool) → (a || b) ≡ false → b ≡ false
-    go true b f = absurd (true≢false f)
-    go false b f = f
-
-pub modifications-step : (t : List ℕ) → modificationsAt t ≡ modificationAt t ++ modificationsAt (drop (length (modificationAt t)) t)
-unfolding modificationsAt modificationAt tagModificationAt isModification
-modifications-step [] = refl
-modifications-step (c ∷ t) = go (isTag c) (isModification c) refl refl
-  where
-    whole : isModification c ≡ true → modificationsAt (c ∷ t) ≡ run inModifications (c ∷ t)
-    whole e = ap (λ (b : Bool). cond b (run inModifications (c ∷ t)) []) e
-
-    in-both : (d : ℕ) → inTags d ≡ true → inModifications d ≡ true
-    in-both d e =
-        ⊎-elim (λ g. either-left (isModification d) (isSelector d) (either-right (isEmojiModifier d) (eqb d 0x20E3 || isTag d) (either-right (eqb d 0x20E3) (isTag d) g)))
-        (λ s. either-right (isModification d) (isSelector d) s) (either-true (isTag d) (isSelector d) e)
-
-    go : (a b : Bool) → isTag c ≡ a → isModification c ≡ b → modificationsAt (c ∷ t) ≡ modificationAt (c ∷ t) ++ modificationsAt (drop (length (modificationAt (c ∷ t))) (c ∷ t))
-    go true b e f =
-        one-then-all inModifications modificationAt modificationsAt (c ∷ t) (run inTags (c ∷ t)) (behindRun inTags (c ∷ t)) (modification-tag c t e) (run-behind inTags (c ∷ t))
-        (whole (either-right (isEmojiModifier c) (eqb c 0x20E3 || isTag c) (either-right (eqb c 0x20E3) (isTag c) e)))
-        (run-over in-both (run-passes inTags (c ∷ t)) (behindRun inTags (c ∷ t))) (Emoji.modifications-run (stops-selector (behind-stops inTags (c ∷ t))))
-    go false true e f =
-        one-then-all inModifications modificationAt modificationsAt (c ∷ t) (c ∷ selectorsAt t) (behindSelectors t) (modification-other c t true e f)
-        (ap (λ (l : List ℕ). c ∷ l) (run-behind isSelector t)) (whole f)
-        (run-true inModifications c (selectorsAt t ++ behindSelectors t) (either-left (isModification c) (isSelector c) f)
-        ∙ ap (λ (l : List ℕ). c ∷ l) (run-over (λ d s. either-right (isModification d) (isSelector d) s) (run-passes isSelector t) (behindSelectors t)))
-        (Emoji.modifications-run (behind-stops isSelector t))
-    go false false e f = ap (λ (l : List ℕ). l ++ modificationsAt (drop (length l) (c ∷ t))) (sym (modification-other c t false e f))
-
-pub links-step : (t : List ℕ) → linksAt t ≡ linkAt t ++ linksAt (drop (length (linkAt t)) t)
-unfolding linksAt linkAt
-links-step [] = refl
-links-step (c ∷ t) = go (eqb c 0x200D) refl
-  where
-    go : (b : Bool) → eqb c 0x200D ≡ b → linksAt (c ∷ t) ≡ linkAt (c ∷ t) ++ linksAt (drop (length (linkAt (c ∷ t))) (c ∷ t))
-    go true e =
-        one-then-all inLinks linkAt linksAt (c ∷ t) (c ∷ selectorsAt t) (behindSelectors t) (ap (λ (b : Bool). cond b (c ∷ selectorsAt t) []) e)
-        (ap (λ (l : List ℕ). c ∷ l) (run-behind isSelector t)) (ap (λ (b : Bool). cond b (run inLinks (c ∷ t)) []) e)
-        (run-true inLinks c (selectorsAt t ++ behindSelectors t) (either-left (eqb c 0x200D) (isSelector c) e)
-        ∙ ap (λ (l : List ℕ). c ∷ l) (run-over (λ d s. either-right (eqb d 0x200D) (isSelector d) s) (run-passes isSelector t) (behindSelectors t)))
-        (links-run (behind-stops isSelector t))
-    go false e = ap (λ (l : List ℕ). l ++ linksAt (drop (length l) (c ∷ t))) (sym (ap (λ (b : Bool). cond b (c ∷ selectorsAt t) []) e))

@@ -1,6 +1,6 @@
 -- The tag report read from left to right is `tagsComplete`: `last` says it of the tags of the tag modification that goes on.
 use mathlib.Core.Path.{_≡_, refl, ap, sym, _∙_, subst}
-use mathlib.Core.Bool.{Bool, true, false, cond, _&&_, and-true}
+use mathlib.Core.Bool.{Bool, true, false, cond, _&&_, and-assoc, and-false, and-true}
 use mathlib.Core.List.{List, [], _∷_, _++_, getLastD}
 use Prim.Native.Nat.{ℕ}
 use lib.Dec.{eqb}
@@ -35,10 +35,6 @@ cond-and : (a b : Bool) → cond a b false ≡ (a && b)
 cond-and true b = refl
 cond-and false b = refl
 
-and-assoc : (a b d : Bool) → ((a && b) && d) ≡ (a && (b && d))
-and-assoc true b d = refl
-and-assoc false b d = refl
-
 closed-ended : (r : TagReport) → (closed r) .ended ≡ (r .ended && r .last)
 unfolding closed
 closed-ended r = go (r .last) refl
@@ -46,10 +42,6 @@ closed-ended r = go (r .last) refl
     go : (b : Bool) → r .last ≡ b → (cond b r (record { ended = false; last = true })) .ended ≡ (r .ended && b)
     go true e = sym (and-true (r .ended))
     go false e = sym (and-false (r .ended))
-      where
-        and-false : (a : Bool) → (a && false) ≡ false
-        and-false true = refl
-        and-false false = refl
 
 closed-last : (r : TagReport) → (closed r) .last ≡ true
 unfolding closed

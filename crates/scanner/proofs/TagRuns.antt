@@ -1,15 +1,14 @@
 -- The modifications that `modificationsOf` makes of selectors alone, and of tags and selectors.
 use mathlib.Core.Path.{_≡_, refl, ap, sym, _∙_, subst}
-use mathlib.Core.Bool.{true, true≢false}
-use mathlib.Core.List.{List, [], _∷_, _++_, append-nil}
+use mathlib.Core.Bool.{true}
+use mathlib.Core.List.{List, [], _∷_, _++_, append-nil, cons-ne-nil}
 use Prim.Native.Nat.{ℕ}
 use Rattle.unicode.specs.Presentation.{isSelector}
 use Rattle.unicode.specs.Unicode.{isTag}
 use Rattle.scanner.specs.Runs.{inTags, run, tagModificationAt}
 use Rattle.scanner.specs.Structure.{EmojiModification, EmojiTagRun, TagModifier, flattenModification, flattenModifications, flattenRuns, modificationsOf, tagToModifications, tagToRuns, toModifications}
-use Rattle.base.proofs.Tests.{either-true}
+use Rattle.base.proofs.Tests.{either-left, either-true}
 use Rattle.scanner.proofs.Classes.{is-selector, is-tag}
-use Rattle.scanner.proofs.ItemRuns.{either-left}
 use Rattle.scanner.proofs.Modifications.{ModFront, ModRun, front-none, front-tag, modifications-flatten, of-class, run-end, run-selector, run-tag}
 use Rattle.scanner.proofs.Runs.{Passes, all-pass, pass-and, run-passes, run-true}
 use mathlib.Core.Logic.{⊎-elim}
@@ -23,9 +22,6 @@ of-selectors (pass-and {c = c} {s = s} e h) = of-class s (is-selector e) ∙ ap 
 data OneTags : List EmojiModification → Type 0 where
   no-tags : OneTags []
   the-tags : (rs : List EmojiTagRun) → OneTags (TagModifier rs ∷ [])
-
-not-empty : {c : ℕ} {t : List ℕ} → [] ≡ c ∷ t → ⊥
-not-empty e = true≢false (cc)
 
 -- One tag modification, of the characters s.
 pub record OfTags (s : List ℕ) : Type 0 where
@@ -69,5 +65,5 @@ of-tags c t e = go ((modificationsOf s) .1) refl (one-tags passes)
         ∙ modifications-flatten (passes-run passes)
 
     go : (ms : List EmojiModification) → (modificationsOf s) .1 ≡ ms → OneTags ms → OfTags s
-    go _ p no-tags = absurd (not-empty (sym (ap flattenModifications p) ∙ whole ∙ begins))
+    go _ p no-tags = absurd (cons-ne-nil c (run inTags t) (sym (sym (ap flattenModifications p) ∙ whole ∙ begins)))
     go _ p (the-tags rs) = record { runs = rs; is = p; flat = sym (append-nil (flattenRuns rs)) ∙ sym (ap flattenModifications p) ∙ whole }

@@ -1,8 +1,9 @@
 -- The tags of each tag modification, taken from an item's characters: behind links, stems and modifications.
 use mathlib.Core.Path.{_≡_, refl, ap, ap₂, sym, _∙_}
-use mathlib.Core.Bool.{Bool, true, false, true≢false}
+use mathlib.Core.Bool.{true, false, true≢false}
 use mathlib.Core.List.{List, [], _∷_, _++_, append-assoc}
 use Prim.Native.Nat.{ℕ}
+use Rattle.base.proofs.Tests.{fails}
 use Rattle.unicode.specs.Presentation.{isSelector}
 use Rattle.unicode.specs.Unicode.{isEmoji, isTag}
 use Rattle.scanner.specs.Grammar.{S, no-selectors, selector-and, Tags, one-tag, tag-and, Stem, flag, single}
@@ -63,11 +64,7 @@ tag-runs-tag c t e = simp e
 
 pub tag-runs-selector : (c : ℕ) (t : List ℕ) → isSelector c ≡ true → tagRuns (c ∷ t) ≡ tagRuns t
 unfolding tagRuns
-tag-runs-selector c t e = simp (go (isTag c) refl, e)
-  where
-    go : (b : Bool) → isTag c ≡ b → isTag c ≡ false
-    go true p = absurd (true≢false (sym e ∙ tag-no-selector c p))
-    go false p = p
+tag-runs-selector c t e = simp (fails (isTag c) (λ p. true≢false (sym e ∙ tag-no-selector c p)), e)
 
 pub tag-runs-other : (c : ℕ) (t : List ℕ) → isTag c ≡ false → isSelector c ≡ false → tagRuns (c ∷ t) ≡ ([], tagModifications t)
 unfolding tagRuns tagModifications

@@ -52,11 +52,6 @@ restart p (c ∷ t) = go (step p (classOf c)) refl (λ q. restart q t)
     go (some q) e h = rw (cut-some p q c t e) (h q)
     go none e h = rw (cut-none p c t e)
 
--- The first item of a text, and the items of what is left.
-pub items-cons : (c : ℕ) (t : List ℕ) → items (c ∷ t) ≡ first c t ∷ items (drop (length ((first c t) .chars)) (c ∷ t))
-unfolding items
-items-cons c t = ap (λ (l : List Item). first c t ∷ l) (restart (begin (classOf c)) t)
-
 -- What a place is left with is scanned as a text of its own.
 pub cut-restart : (p : Place) (t : List ℕ) → items (join ((cut p t) .1)) ≡ (cut p t) .1
 cut-restart p t =

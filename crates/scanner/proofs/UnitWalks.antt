@@ -1,14 +1,14 @@
 -- A unit before characters that it cannot take in: what is read of it at its offset is the unit that `emojiLike` makes of its characters.
 use mathlib.Core.Path.{_≡_, refl, ap, ap₂, sym, _∙_, subst}
 use mathlib.Core.Logic.{⊎-elim}
-use mathlib.Core.Bool.{Bool, true, false, _||_}
+use mathlib.Core.Bool.{Bool, true, _||_}
 use mathlib.Core.List.{List, [], _∷_, _++_, append-assoc, append-nil}
 use Prim.Native.Nat.{ℕ, _+_}
 use native.Mathlib.Omega.{arith}
 use borrow.Author.Tests.{eqb-true}
 use lib.Dec.{eqb}
 use lib.ListN.{drop}
-use Rattle.base.proofs.Tests.{either-true}
+use Rattle.base.proofs.Tests.{either-left, either-right, either-true, fails}
 use Rattle.utf8.specs.Rfc3629.{chars}
 use Rattle.unicode.specs.Presentation.{isSelector}
 use Rattle.unicode.specs.Unicode.{isEmojiModifier, isRi, isTag}
@@ -33,7 +33,6 @@ use Rattle.scanner.proofs.Bytes.{chars-from}
 use Rattle.scanner.proofs.Classes.{emoji-no-selector, ri-emoji}
 use Rattle.scanner.proofs.CursorWalks.{modifications-walk}
 use Rattle.scanner.proofs.EmojiRuns as EmojiRuns
-use Rattle.scanner.proofs.ItemRuns.{either-left, either-right}
 use Rattle.scanner.proofs.ModificationWalks.{mods-read}
 use Rattle.scanner.proofs.Modifications.{ModRun, front-none, modifications-flatten, modifications-front, modifications-run, run-end, run-keycap, run-modifier, run-selector, run-tag}
 use Rattle.scanner.proofs.Rescan.{size-append}
@@ -65,23 +64,19 @@ one-modification c e =
 -- Behind the unit no modification goes on ..
 last-stops : {v : List ℕ} (r : List ℕ) → EmojiUnit v → Last v r → Stops inModifications r
 last-stops [] u l = at-end
-last-stops (c ∷ t) u l = at-char (go (isModification c) refl (l .no-selector))
+last-stops (c ∷ t) u l = go (l .no-selector)
   where
-    go : (b : Bool) → isModification c ≡ b → Stops isSelector (c ∷ t) → inModifications c ≡ false
-    go true e p = absurd (l .no-more c t refl (unit-more u (one-modification c e)))
-    go false e (at-char f) = ap₂ (λ (x y : Bool). x || y) e f
+    go : Stops isSelector (c ∷ t) → Stops inModifications (c ∷ t)
+    go (at-char f) = at-char (ap₂ (λ (x y : Bool). x || y) (fails (isModification c) (λ e. l .no-more c t refl (unit-more u (one-modification c e)))) f)
 
 -- .. and behind a lone RI there is no RI.
 no-ri-behind : {c : ℕ} {s : List ℕ} (r : List ℕ) → isRi c ≡ true → S s → Last ((c ∷ s) ++ []) r → Stops isRi r
 no-ri-behind [] e h l = at-end
-no-ri-behind {c} {s} (d ∷ t) e h l = at-char (go (isRi d) refl)
-  where
-    go : (b : Bool) → isRi d ≡ b → isRi d ≡ false
-    go true f =
-        absurd (l .no-more d t refl (subst EmojiUnit
-        (append-nil (c ∷ (s ++ d ∷ [])) ∙ ap (λ (x : List ℕ). (c ∷ x) ++ d ∷ []) (sym (append-nil s)))
-        (unit-of (flag c d e h f no-selectors) unmodified)))
-    go false f = f
+no-ri-behind {c} {s} (d ∷ t) e h l =
+    at-char
+    (fails (isRi d) (λ f. l .no-more d t refl (subst EmojiUnit
+    (append-nil (c ∷ (s ++ d ∷ [])) ∙ ap (λ (x : List ℕ). (c ∷ x) ++ d ∷ []) (sym (append-nil s)))
+    (unit-of (flag c d e h f no-selectors) unmodified))))
 
 stops-append : {f : ℕ → Bool} {s t : List ℕ} → Stops f s → (s ≡ [] → Stops f t) → Stops f (s ++ t)
 stops-append at-end p = p refl

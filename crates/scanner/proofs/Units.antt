@@ -5,6 +5,7 @@ use mathlib.Core.List.{List, [], _∷_, _++_, append-assoc}
 use Prim.Native.Nat.{ℕ}
 use lib.Dec.{eqb}
 use borrow.Author.Tests.{eqb-true}
+use Rattle.base.proofs.Tests.{fails}
 use Rattle.unicode.specs.Presentation.{isSelector}
 use Rattle.unicode.specs.Tables.{inRanges}
 use Rattle.unicode.specs.Unicode.{isEmoji, isRi}
@@ -171,11 +172,7 @@ no-link-append (no-link-and e h) k = no-link-and e (no-link-append h k)
 
 selector-no-link : (c : ℕ) → isSelector c ≡ true → eqb c 0x200D ≡ false
 unfolding isSelector
-selector-no-link c e = go (eqb c 0x200D) refl
-  where
-    go : (b : Bool) → eqb c 0x200D ≡ b → b ≡ false
-    go true p = absurd (false≢true (subst (λ (x : ℕ). isSelector x ≡ true) (eqb-true c 0x200D p) e))
-    go false p = refl
+selector-no-link c e = fails (eqb c 0x200D) (λ p. false≢true (subst (λ (x : ℕ). isSelector x ≡ true) (eqb-true c 0x200D p) e))
 
 pub S-no-link : {s : List ℕ} → S s → NoLink s
 S-no-link no-selectors = no-more

@@ -5,6 +5,7 @@ use mathlib.Core.Bool.{Bool, true, false, false≢true}
 use mathlib.Core.Option.{Option, none, some}
 use mathlib.Core.List.{List, [], _∷_, _++_}
 use Prim.Native.Nat.{ℕ}
+use Rattle.base.proofs.Tests.{fails}
 use Rattle.unicode.specs.Presentation.{isSelector}
 use Rattle.scanner.specs.Classes.{Class, classOf, strip}
 use Rattle.scanner.specs.Items.{Place, plain, selectors, step, begin, kindOf, Item, cut, items}
@@ -113,11 +114,7 @@ same-walk {p} {q} s t i e w = fill-walk t i (subst (λ (l : List ℕ). Walk p l 
 -- The first character of an item of links or units is no selector.
 pub inner-no-selector : (c : ℕ) → inner (begin (classOf c)) ≡ true → isSelector c ≡ false
 unfolding begin
-inner-no-selector c i = go (isSelector c) refl
-  where
-    go : (b : Bool) → isSelector c ≡ b → b ≡ false
-    go true e = absurd (false≢true (sym (ap (λ (k : Class). inner (begin k)) (class-selector c e)) ∙ i))
-    go false e = refl
+inner-no-selector c i = fails (isSelector c) (λ e. false≢true (sym (ap (λ (k : Class). inner (begin k)) (class-selector c e)) ∙ i))
 
 -- A run of selectors has no other character.
 pub selectors-strip : {p q : Place} {s : List ℕ} → p ≡ selectors → Walk p s q → strip s ≡ []

@@ -58,13 +58,10 @@ use Rattle.scanner.proofs.Classes.{
   ri-emoji,
   tag-plain,
 }
+use Rattle.scanner.proofs.LinksTail.{LinksTail, links-tail, links-link, links-selector}
 use Rattle.scanner.proofs.Walk.{Walk, stay, pass}
 
 -- ---- what may follow at a place, in the grammar's terms
-
--- In a run of links.
-data LinksTail : List ℕ → Type 0 where
-  links-tail : {a l : List ℕ} → S a → Links l → LinksTail (a ++ l)
 
 -- Behind a stem that is whole.
 data UnitTail : List ℕ → Type 0 where
@@ -90,12 +87,6 @@ Tail joined s = JoinTail s
 Tail leftOver s = LinksTail s
 
 -- ---- one character more
-
-links-selector : {c : ℕ} {t : List ℕ} → isSelector c ≡ true → LinksTail t → LinksTail (c ∷ t)
-links-selector e (links-tail a l) = links-tail (selector-and e a) l
-
-links-link : {t : List ℕ} → LinksTail t → LinksTail (0x200D ∷ t)
-links-link (links-tail a l) = links-tail no-selectors (link-and (a-link a) l)
 
 unit-selector : {c : ℕ} {t : List ℕ} → isSelector c ≡ true → UnitTail t → UnitTail (c ∷ t)
 unit-selector e (unit-tail a m j l) = unit-tail (selector-and e a) m j l

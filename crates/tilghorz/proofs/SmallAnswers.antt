@@ -187,7 +187,7 @@ unfolding policyBytes policyWords keyWords defaultPolicy preferBare preferBareKe
 default-bytes = length-bytesOf (policyWords defaultPolicy)
 
 pub default-small : (out : List ℕ) → writeRow (answerOf (policyBytes defaultPolicy) out) .value ≤ most
-unfolding answerOf writeRow
+unfolding answerOf writeRow refusalRow
 default-small out = go (leb (length B) (length out)) default-bytes
   where
     B : List ℕ

@@ -102,7 +102,7 @@ mend-rows (Mend.Refused r) (Mend.Mended n) e = absurd (omega (arith, num e, refu
 mend-rows (Mend.Refused r) (Mend.Refused s) e = ap Mend.Refused (refusals r s e)
 
 pub write-rows : (a b : WriteAnswer) → writeRow a ≡ writeRow b → a ≡ b
-unfolding writeRow
+unfolding writeRow refusalRow
 write-rows (Write.Written n) (Write.Written m) e = ap Write.Written (val e)
 write-rows (Write.Written n) (Write.TooShort m) e = absurd (omega (arith, num e))
 write-rows (Write.TooShort n) (Write.Written m) e = absurd (omega (arith, num e))

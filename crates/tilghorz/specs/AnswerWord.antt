@@ -2,6 +2,7 @@
 -- was written, or the code point), document 01's number of a refusal (value: what it returns), 255 for nothing to do.
 use Prim.Native.Nat.{ℕ, _+_, _*_, _%_, _^_}
 use Rattle.base.specs.Refusals.{RefusalRow, refusalRow}
+use Rattle.base.specs.declared.Refusal.the-variants.{OutputTooShort}
 use Rattle.base.specs.declared.WriteAnswer.{WriteAnswer}
 use Rattle.base.specs.declared.WriteAnswer.the-variants as Write
 use Rattle.unicode.specs.declared.VariationEntry.{VariationEntry}
@@ -44,7 +45,7 @@ mendRow (Mend.Refused r) = refusalRow r
 -- The bytes written, or refusal 8.
 unfoldable pub writeRow : WriteAnswer → RefusalRow
 writeRow (Write.Written n) = done n
-writeRow (Write.TooShort n) = record { number = 8; value = n }
+writeRow (Write.TooShort n) = refusalRow (OutputTooShort n)
 
 -- The code point, or no such entry.
 unfoldable pub entryRow : VariationEntry → RefusalRow

@@ -21,6 +21,10 @@ none-of k known (r ∷ rs) h =
     let t = none-of k (known × (k ≡ r .key → ⊥)) rs h in
     (t .0 .0, rw (ne-eqb (r .key) k (λ e. t .0 .1 (sym e))) (t .1))
 
+-- At the number of an arm the list has what it has at that number.
+pub in-arm : {j k : ℕ} (rs : List BlockRow) → j ≡ k → blockIn k rs ≡ blockIn j rs
+in-arm rs e = sym (ap (λ (k : ℕ). blockIn k rs) e)
+
 pub in-no-arm : (k : ℕ) (rs : List BlockRow) → NoneOf k Unit rs → blockIn k rs ≡ noBlock
 in-no-arm k rs h = none-of k Unit rs h .1
 

@@ -1,7 +1,7 @@
 -- The proof of each statement of specs/Theorems.antt.
 use mathlib.Core.Path.{_≡_, refl, sym, ap, _∙_, subst}
 use mathlib.Core.Logic.{⊎-elim}
-use mathlib.Core.Bool.{Bool, true, false, cond, not}
+use mathlib.Core.Bool.{Bool, true, false, cond, not, true≢false}
 use Prim.Native.Nat.{ℕ}
 use lib.Dec.{eqb}
 use borrow.Author.Tests.{eqb-true, not-true}
@@ -43,7 +43,7 @@ use Rattle.unicode.specs.Theorems.{
   TablesInOrder,
   VariationEntriesAreEmoji,
 }
-use Rattle.base.proofs.Tests.{either-true}
+use Rattle.base.proofs.Tests.{either-true, fails}
 use Rattle.unicode.proofs.Ascent.{ascending-lt, index-holds, isAt, member-index, place-is-index}
 use Rattle.unicode.proofs.Ranges.{range-ordered, ranges-lt}
 use Rattle.unicode.proofs.Between.{every, every-member, every-range, everyRange, lies-in, lies-out, liesIn, liesOut}
@@ -100,14 +100,8 @@ no-tag-is-emoji c t = lies-out 0xE0020 0xE007F c t emojiRanges refl
 
 pub no-regional-indicator-is-entry : NoRegionalIndicatorIsEntry
 unfolding NoRegionalIndicatorIsEntry isRi hasVariationSequence inRanges every riRanges variationEntries
-no-regional-indicator-is-entry c r = go (hasVariationSequence c) refl
-  where
-    go : (t : Bool) → hasVariationSequence c ≡ t → t ≡ false
-    go false e = refl
-    go true e =
-        let p = not-true (isRi c) (every-member (λ x. not (isRi x)) variationEntries refl c e) in
-        let z : true ≡ false = sym r ∙ p in
-        z
+no-regional-indicator-is-entry c r =
+    fails (hasVariationSequence c) (λ e. true≢false (sym r ∙ not-true (isRi c) (every-member (λ x. not (isRi x)) variationEntries refl c e)))
 
 pub no-modifier-is-entry : NoModifierIsEntry
 unfolding NoModifierIsEntry isEmojiModifier hasVariationSequence member every emojiModifiers variationEntries

@@ -18,6 +18,7 @@ use Rattle.unicode.specs.declared.VariationSequenceIndex.{VariationSeque
 unfoldable pub isTag : ℕ → Bool
 isTag c = within 0xE0020 0xE007F c
 
+-- the properties Emoji, Emoji_Presentation, Emoji_Modifier and Emoji_Modifier_Base of emoji-data.txt
 unfoldable pub isEmoji : ℕ → Bool
 isEmoji c = inRanges c emojiRanges
 

@@ -2,7 +2,7 @@
 use mathlib.Core.Path.{_≡_, sym, ap, _∙_, subst}
 use mathlib.Core.Logic.{⊎-elim}
 use mathlib.Core.Bool.{true}
-use mathlib.Core.List.{List, _∷_}
+use mathlib.Core.List.{List}
 use Prim.Native.Nat.{ℕ, zero, suc, _+_, _-_, _≤_, _<_}
 use native.Mathlib.Omega.{arith}
 use lib.ListN.{getD, length, drop}
@@ -35,10 +35,6 @@ run-on {s} {from} {at} top n r u t h = record {
 ascii-1 : (a : ℕ) → a ≤ 0x7F → utf8-1 a ≡ true
 unfolding utf8-1
 ascii-1 a h = within-true 0x00 0x7F a (omega arith) h
-
-pub readChar-ascii : (a : ℕ) (s : List ℕ) → a ≤ 0x7F → readChar (a ∷ s) ≡ Char a 1
-unfolding readChar
-readChar-ascii a s h = readFour-1 a (getD s 0 0) (getD s 1 0) (getD s 2 0) (ascii-1 a h)
 
 pub readChar-ascii-at : (s : List ℕ) (at : ℕ) → at < length s → getD s at 0 ≤ 0x7F → readChar (drop at s) ≡ Char (getD s at 0) 1
 readChar-ascii-at s at l h =

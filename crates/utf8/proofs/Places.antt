@@ -1,16 +1,13 @@
 -- What is read at a place of a text, and how chars and validUpTo go on from there: what a loop over the bytes of a text goes by.
 use mathlib.Core.Path.{_≡_, sym, ap, _∙_}
-use mathlib.Core.Logic.{⊎-elim}
 use mathlib.Core.Bool.{true}
 use mathlib.Core.List.{List, [], _∷_, _++_}
-use Prim.Native.Nat.{ℕ, _+_, _≤_, _<_}
+use Prim.Native.Nat.{ℕ, _+_, _≤_}
 use native.Mathlib.Omega.{arith}
 use lib.ListN.{length, drop, length-drop, length-append}
 use lib.Seq.{drop-drop}
 use Rattle.utf8.specs.Rfc3629.{readChar, chars, validUpTo, isScalar, encode}
 use Rattle.utf8.specs.declared.ReadChar.the-variants.{Char, IllFormed, End}
-use Rattle.base.proofs.Tests.{le-or-lt}
-use Rattle.utf8.proofs.Fronts.{readChar-past-end}
 use Rattle.utf8.proofs.Encoding.{char-begins, end-empty}
 use Rattle.utf8.proofs.Folds.{chars-ill-formed, chars-end, chars-char, validUpTo-ill-formed, validUpTo-end, validUpTo-char}
 
@@ -52,10 +49,6 @@ stop-ill-formed s at e = record { validUpTo-zero = validUpTo-ill-formed (drop at
 pub stop-end : (s : List ℕ) (at : ℕ) → readChar (drop at s) ≡ End → Stop s at
 stop-end s at e = record { validUpTo-zero = validUpTo-end (drop at s) e; chars-none = chars-end (drop at s) e }
 
--- The end is read only at or past the text's length, and IllFormed only before it.
+-- The end is read only at or past the text's length.
 pub end-past : (s : List ℕ) (at : ℕ) → readChar (drop at s) ≡ End → length s ≤ at
 end-past s at e = omega (arith, length-drop at s, ap length (end-empty (drop at s) e))
-
-pub ill-formed-within : (s : List ℕ) (at : ℕ) → readChar (drop at s) ≡ IllFormed → at < length s
-ill-formed-within s at e =
-    ⊎-elim (λ h. let z : _≡_ {A = ℕ} 0 1 = cc (readChar-past-end s at h) in absurd (omega arith)) (λ h. h) (le-or-lt (length s) at)

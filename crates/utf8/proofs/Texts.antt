@@ -111,10 +111,6 @@ validUpTo-append s t e =
     let p = encodeAll-chars s e in
     ap (λ (l : List ℕ). validUpTo (l ++ t)) (sym p) ∙ validUpTo-encodeAll (chars s) t (chars-allScalar s) ∙ ap (λ (l : List ℕ). length l + validUpTo t) p
 
-pub chars-append : (s t : List ℕ) → validUpTo s ≡ length s → chars (s ++ t) ≡ chars s ++ chars t
-chars-append s t e =
-    ap (λ (l : List ℕ). chars (l ++ t)) (sym (encodeAll-chars s e)) ∙ chars-encodeAll (chars s) t (chars-allScalar s)
-
 -- ---- an encoding is well-formed, and no well-formed beginning is longer than validUpTo
 
 pub encodeAll-whole : (vs : List ℕ) → allScalar vs ≡ true → validUpTo (encodeAll vs) ≡ length (encodeAll vs)

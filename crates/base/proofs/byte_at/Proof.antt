@@ -14,19 +14,10 @@ returns c =
     let x = c .before .args in
     sym (ap (λ (l : List ℕ). getD l (x .i) 0) (drop-of-length-le (x .s .now) {i = x .at} (omega arith)))
 
-sub-if2 : tie.Need-sub-if2
-sub-if2 c = search needs
-
 returns-2 : tie.Need-returns-2
 returns-2 c =
     let x = c .before .before .args in
     sym (List·getD-eq-default (drop (x .at) (x .s .now)) 0 {n = x .i} (omega (arith, length-drop (x .at) (x .s .now))))
-
-add-result : tie.Need-add-result
-add-result c = search needs
-
-shared-slice-read-result : tie.Need-shared-slice-read-result
-shared-slice-read-result c = search needs
 
 returns-3 : tie.Need-returns-3
 returns-3 c =
@@ -34,4 +25,4 @@ returns-3 c =
     sym (getD-drop (x .at) (x .s .now) (x .i) 0)
 
 pub byte-at-spec : {M : Type 1} → statement M
-byte-at-spec = tie.close (tie.spec returns sub-if2 returns-2 add-result shared-slice-read-result returns-3)
+byte-at-spec = tie.close (tie.spec returns (λ c. search needs) returns-2 (λ c. search needs) (λ c. search needs) returns-3)

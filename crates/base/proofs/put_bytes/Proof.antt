@@ -19,35 +19,19 @@ abbrev μ-loop : tie.MeasureT-loop
 next : (xs : List ℕ) (i : ℕ) → i < length xs → drop i xs ≡ getD xs i 0 ∷ drop (i + 1) xs
 next xs i h = rw (add-one, drop-cons xs i 0) refl
 
+has-place : {bytes out₀ out : List ℕ} {start at : ℕ} (i : ℕ) → i < length bytes → Writing bytes start out₀ (drop i bytes) out at → at < length out
+has-place {bytes} {out₀} {out} {start} i h w = byte-room bytes start out₀ (drop i bytes) w (next bytes i h)
+
 loop-holds : tie.Need-loop-holds Inv-loop μ-loop
 loop-holds c =
     let a = c .args in
     (omega arith, begin (a .bytes .now) (a .start) (a .out .now) (c .pre))
 
-shared-slice-read-out : tie.Need-shared-slice-read-out Inv-loop μ-loop
-shared-slice-read-out c = omega arith
-
 slice-write-out : tie.Need-slice-write-out Inv-loop μ-loop
-slice-write-out c =
-    let l = c .before .before .loop in
-    let a = c .before .before .before .args in
-    let b = a .bytes .now in
-    let r = byte-room b (a .start) (a .out .now) (drop (l .i) b) (l .inv .1) (next b (l .i) (omega arith)) in
-    omega arith
+slice-write-out c = let l = c .before .before .loop in has-place (l .i) (omega arith) (l .inv .1)
 
 add-at : tie.Need-add-at Inv-loop μ-loop
-add-at c =
-    let l = c .before .before .loop in
-    let a = c .before .before .before .args in
-    let b = a .bytes .now in
-    let r = byte-room b (a .start) (a .out .now) (drop (l .i) b) (l .inv .1) (next b (l .i) (omega arith)) in
-    omega arith
-
-add-i : tie.Need-add-i Inv-loop μ-loop
-add-i c = omega arith
-
-loop-less : tie.Need-loop-less Inv-loop μ-loop
-loop-less c = omega arith
+add-at c = let l = c .before .before .loop in omega (arith, has-place (l .i) (omega arith) (l .inv .1))
 
 loop-again : tie.Need-loop-again Inv-loop μ-loop
 loop-again c =
@@ -75,11 +59,11 @@ put-bytes-spec =
     Inv-loop
     μ-loop
     loop-holds
-    shared-slice-read-out
+    (λ c. omega arith)
     slice-write-out
     add-at
-    add-i
-    loop-less
+    (λ c. omega arith)
+    (λ c. omega arith)
     loop-again
     same-length
     returns)

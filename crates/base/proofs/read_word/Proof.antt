@@ -1,22 +1,10 @@
--- `base::read_word` meets its contract.
+-- The two halves make the number of the eight bytes (`number-eight`).
 use native.Mathlib.Omega.{arith}
 use lib.ListN.{drop}
 use Rattle.base.proofs.Words.{number-eight}
 use borrow.Author.Needs.{needs}
 use Rattle.base.proofs.read_word.Statement.{statement}
 use Rattle.base.proofs.read_word.Tie as tie
-
-half-requires : tie.Need-half-requires
-half-requires c κs = search needs
-
-half-requires-2 : tie.Need-half-requires-2
-half-requires-2 c κs = search needs
-
-mul-result : tie.Need-mul-result
-mul-result c = search needs
-
-add-result : tie.Need-add-result
-add-result c = search needs
 
 returns : tie.Need-returns
 returns c =
@@ -26,4 +14,4 @@ returns c =
     omega (arith, number-eight (drop (x .at) (x .s .now)))
 
 pub read-word-spec : {M : Type 1} → statement M
-read-word-spec = tie.close (tie.spec half-requires half-requires-2 mul-result add-result returns)
+read-word-spec = tie.close (tie.spec (λ c κs. search needs) (λ c κs. search needs) (λ c. search needs) (λ c. search needs) returns)

@@ -1,4 +1,4 @@
--- `base::write_bytes` meets its contract.
+-- Without room nothing is written; with room it is what `put_bytes` puts.
 use mathlib.Core.Path.{sym, ap, _∙_}
 use mathlib.Core.Bool.{Bool, cond}
 use Prim.Native.Nat.{_+_}
@@ -16,20 +16,11 @@ returns c =
     let e = lt-leb (x .at + length (x .bytes .now)) (length (x .out .now)) (omega arith) in
     (sym e, simp e)
 
-sub-if2 : tie.Need-sub-if2
-sub-if2 c = search needs
-
 returns-2 : tie.Need-returns-2
 returns-2 c =
     let x = c .before .before .before .before .args in
     let e = lt-leb (x .at + length (x .bytes .now)) (length (x .out .now)) (omega arith) in
     (sym e, simp e)
-
-put-bytes-requires : tie.Need-put-bytes-requires
-put-bytes-requires c κs = search needs
-
-same-length : tie.Need-same-length
-same-length c = search needs
 
 returns-3 : tie.Need-returns-3
 returns-3 c =
@@ -42,4 +33,4 @@ returns-3 c =
 
 pub write-bytes-spec : {M : Type 1} → statement M
 write-bytes-spec =
-    tie.close (tie.spec returns sub-if2 returns-2 put-bytes-requires same-length returns-3)
+    tie.close (tie.spec returns (λ c. search needs) returns-2 (λ c κs. search needs) (λ c. search needs) returns-3)

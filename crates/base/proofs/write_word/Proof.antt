@@ -1,4 +1,4 @@
--- `base::write_word` meets its contract.
+-- Without room nothing is written; with room the two halves are the word (`sets-word`).
 use mathlib.Core.Path.{sym, ap, _∙_}
 use mathlib.Core.Bool.{Bool, cond}
 use mathlib.Core.List.{List}
@@ -19,26 +19,11 @@ returns c =
     let e = lt-leb (x .at + 8) (length (x .out .now)) (omega arith) in
     (sym e, simp e)
 
-sub-if2 : tie.Need-sub-if2
-sub-if2 c = search needs
-
 returns-2 : tie.Need-returns-2
 returns-2 c =
     let x = c .before .before .before .args in
     let e = lt-leb (x .at + 8) (length (x .out .now)) (omega arith) in
     (sym e, simp e)
-
-put-half-requires : tie.Need-put-half-requires
-put-half-requires c κs = search needs
-
-add-put-half : tie.Need-add-put-half
-add-put-half c = search needs
-
-put-half-requires-2 : tie.Need-put-half-requires-2
-put-half-requires-2 c κs = search needs
-
-same-length : tie.Need-same-length
-same-length c = search needs
 
 returns-3 : tie.Need-returns-3
 returns-3 c =
@@ -56,10 +41,10 @@ write-word-spec =
     tie.close
     (tie.spec
     returns
-    sub-if2
+    (λ c. search needs)
     returns-2
-    put-half-requires
-    add-put-half
-    put-half-requires-2
-    same-length
+    (λ c κs. search needs)
+    (λ c. search needs)
+    (λ c κs. search needs)
+    (λ c. search needs)
     returns-3)

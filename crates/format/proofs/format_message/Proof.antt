@@ -8,18 +8,6 @@ use Rattle.format.proofs.Rooms.{IsAnswer, answers}
 use Rattle.format.proofs.format_message.Statement.{statement}
 use Rattle.format.proofs.format_message.Tie as tie
 
-put-default-policy-requires : tie.Need-put-default-policy-requires
-put-default-policy-requires c κs = search needs
-
-slice-aggregate-format-text : tie.Need-slice-aggregate-format-text
-slice-aggregate-format-text c = search needs
-
-format-text-requires : tie.Need-format-text-requires
-format-text-requires c κs = search needs
-
-same-length : tie.Need-same-length
-same-length c = search needs
-
 returns : tie.Need-returns
 returns c =
     let x = c .before .before .before .before .before .before .before .before .before in
@@ -30,4 +18,4 @@ returns c =
 
 pub format-message-spec : {M : Type 1} → statement M
 format-message-spec =
-    tie.close (tie.spec put-default-policy-requires slice-aggregate-format-text format-text-requires same-length returns)
+    tie.close (tie.spec (λ c κs. search needs) (λ c. search needs) (λ c κs. search needs) (λ c. search needs) returns)

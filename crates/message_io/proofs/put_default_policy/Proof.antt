@@ -6,12 +6,6 @@ use Rattle.message_io.proofs.DefaultBytes.{default-length, default-writ
 use Rattle.message_io.proofs.put_default_policy.Statement.{statement}
 use Rattle.message_io.proofs.put_default_policy.Tie as tie
 
-default-requires : tie.Need-default-requires
-default-requires c κs = search needs
-
-write-policy-requires : tie.Need-write-policy-requires
-write-policy-requires c κs = search needs
-
 returns : tie.Need-returns
 returns c =
     let l : length (c .before .before .before .args .out .now) ≡ 192 = search needs in
@@ -19,4 +13,4 @@ returns c =
     (ap length w ∙ default-length, w)
 
 pub put-default-policy-spec : {M : Type 1} → statement M
-put-default-policy-spec = tie.close (tie.spec default-requires write-policy-requires returns)
+put-default-policy-spec = tie.close (tie.spec (λ c κs. search needs) (λ c κs. search needs) returns)

@@ -8,12 +8,6 @@ use borrow.Author.Needs.{needs}
 use Rattle.policy.proofs.cleared.Statement.{statement}
 use Rattle.policy.proofs.cleared.Tie as tie
 
-all-requires : tie.Need-all-requires
-all-requires c κs = search needs
-
-bitand-requires : tie.Need-bitand-requires
-bitand-requires c κs = search needs
-
 once : (e m : Bool) → (e && (m && (e && true))) ≡ (e && m)
 once true true = refl
 once true false = refl
@@ -30,4 +24,4 @@ returns c =
     }
 
 pub cleared-spec : {M : Type 1} → statement M
-cleared-spec = tie.close (tie.spec all-requires bitand-requires returns)
+cleared-spec = tie.close (tie.spec (λ c κs. search needs) (λ c κs. search needs) returns)

@@ -5,17 +5,11 @@ use borrow.Author.Needs.{needs}
 use Rattle.policy.proofs.holds.Statement.{statement}
 use Rattle.policy.proofs.holds.Tie as tie
 
-contains-keycap-requires : tie.Need-contains-keycap-requires
-contains-keycap-requires c κs = search needs
-
 returns : tie.Need-returns
 unfolding holdsBase
 returns c =
     let x = c .before .before .args in
     c .contains-keycap .ensures ∙ ap (holdsBase (x .set) (x .base)) (sym (c .before .if1 .taken))
-
-contains-requires : tie.Need-contains-requires
-contains-requires c κs = search needs
 
 returns-2 : tie.Need-returns-2
 unfolding holdsBase
@@ -24,4 +18,4 @@ returns-2 c =
     c .contains .ensures ∙ ap (holdsBase (x .set) (x .base)) (sym (c .before .if1 .left))
 
 pub holds-spec : {M : Type 1} → statement M
-holds-spec = tie.close (tie.spec contains-keycap-requires returns contains-requires returns-2)
+holds-spec = tie.close (tie.spec (λ c κs. search needs) returns (λ c κs. search needs) returns-2)

@@ -6,15 +6,6 @@ use borrow.Author.Needs.{needs}
 use Rattle.policy.proofs.keys_len.Statement.{statement}
 use Rattle.policy.proofs.keys_len.Tie as tie
 
-set-len-requires : tie.Need-set-len-requires
-set-len-requires c κs = search needs
-
-set-len-requires-2 : tie.Need-set-len-requires-2
-set-len-requires-2 c κs = search needs
-
-add-result : tie.Need-add-result
-add-result c = search needs
-
 returns : tie.Need-returns
 unfolding keyWords
 returns c =
@@ -24,4 +15,4 @@ returns c =
     omega (arith, length-both (x .chars .bits) (x .«keycap_chars» .bits))
 
 pub keys-len-spec : {M : Type 1} → statement M
-keys-len-spec = tie.close (tie.spec set-len-requires set-len-requires-2 add-result returns)
+keys-len-spec = tie.close (tie.spec (λ c κs. search needs) (λ c κs. search needs) (λ c. search needs) returns)

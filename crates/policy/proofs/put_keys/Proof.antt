@@ -26,9 +26,6 @@ put-set-requires-2 c κs =
     let l = ap length (a .bytes) ∙ length-sets (x .out .now) (x .start) (bytesOf (x .set .chars .bits)) in
     omega (arith, length-both (x .set .chars .bits) (x .set .«keycap_chars» .bits))
 
-same-length : tie.Need-same-length
-same-length c = search needs
-
 returns : tie.Need-returns
 unfolding keyWords
 returns c =
@@ -36,4 +33,4 @@ returns c =
     put-both (x .chars .bits) (x .«keycap_chars» .bits) (c .before .before .before .before .before .before .put-set .ensures) (c .before .before .put-set2 .ensures)
 
 pub put-keys-spec : {M : Type 1} → statement M
-put-keys-spec = tie.close (tie.spec put-set-requires put-set-requires-2 same-length returns)
+put-keys-spec = tie.close (tie.spec put-set-requires put-set-requires-2 (λ c. search needs) returns)

@@ -24,27 +24,12 @@ loop-holds c =
     let six : length ws ≡ 6 = sym (length-map ws (λ v. v)) ∙ c .before .before .good .1 .1 .0 .1 .1 .0 .1 .0 .1 in
     (omega arith, six, begin (bytesOf ws) (x .start) (x .out .now) (c .before .before .pre))
 
-mul-write-word : tie.Need-mul-write-word Inv-loop μ-loop
-mul-write-word c = omega arith
-
-array-read-write-word : tie.Need-array-read-write-word Inv-loop μ-loop
-array-read-write-word c = omega arith
-
-write-word-requires : tie.Need-write-word-requires Inv-loop μ-loop
-write-word-requires c κs = search needs
-
 add-at : tie.Need-add-at Inv-loop μ-loop
 add-at c =
     let l = c .before .before .before .before .before .loop in
     let x = c .before .before .before .before .before .before .before .before .args in
     let r = word-room (x .set .bits) (x .out .now) (l .out) (x .start) (l .at) (l .i) (omega arith) (l .inv .2) in
     omega arith
-
-add-i : tie.Need-add-i Inv-loop μ-loop
-add-i c = omega arith
-
-loop-less : tie.Need-loop-less Inv-loop μ-loop
-loop-less c = omega arith
 
 loop-again : tie.Need-loop-again Inv-loop μ-loop
 loop-again c =
@@ -74,12 +59,12 @@ put-set-spec =
     Inv-loop
     μ-loop
     loop-holds
-    mul-write-word
-    array-read-write-word
-    write-word-requires
+    (λ c. omega arith)
+    (λ c. omega arith)
+    (λ c κs. search needs)
     add-at
-    add-i
-    loop-less
+    (λ c. omega arith)
+    (λ c. omega arith)
     loop-again
     same-length
     returns)

@@ -11,27 +11,6 @@ use borrow.Author.Needs.{needs}
 use Rattle.policy.proofs.read_policy.Statement.{statement}
 use Rattle.policy.proofs.read_policy.Tie as tie
 
-read-set-requires : tie.Need-read-set-requires
-read-set-requires c κs = search needs
-
-read-set-requires-2 : tie.Need-read-set-requires-2
-read-set-requires-2 c κs = search needs
-
-mul-read-set : tie.Need-mul-read-set
-mul-read-set c = search needs
-
-read-set-requires-3 : tie.Need-read-set-requires-3
-read-set-requires-3 c κs = search needs
-
-mul-read-set-2 : tie.Need-mul-read-set-2
-mul-read-set-2 c = search needs
-
-read-set-requires-4 : tie.Need-read-set-requires-4
-read-set-requires-4 c κs = search needs
-
-is-policy-requires : tie.Need-is-policy-requires
-is-policy-requires c κs = search needs
-
 returns : tie.Need-returns
 unfolding readPolicy wordCount entryCount variationEntries
 returns c =
@@ -50,11 +29,11 @@ pub read-policy-spec : {M : Type 1} → statement M
 read-policy-spec =
     tie.close
     (tie.spec
-    read-set-requires
-    read-set-requires-2
-    mul-read-set
-    read-set-requires-3
-    mul-read-set-2
-    read-set-requires-4
-    is-policy-requires
+    (λ c κs. search needs)
+    (λ c κs. search needs)
+    (λ c. search needs)
+    (λ c κs. search needs)
+    (λ c. search needs)
+    (λ c κs. search needs)
+    (λ c κs. search needs)
     returns)

@@ -25,27 +25,6 @@ abbrev μ-loop : tie.MeasureT-loop
 loop-holds : tie.Need-loop-holds Inv-loop μ-loop
 loop-holds c = (omega arith, refl, (λ k l. absurd (not-suc-le-zero l)))
 
-mul-read-word : tie.Need-mul-read-word Inv-loop μ-loop
-mul-read-word c = omega arith
-
-add-read-word : tie.Need-add-read-word Inv-loop μ-loop
-add-read-word c = omega arith
-
-read-word-requires : tie.Need-read-word-requires Inv-loop μ-loop
-read-word-requires c κs = search needs
-
-mul-bits : tie.Need-mul-bits Inv-loop μ-loop
-mul-bits c = omega arith
-
-array-write-bits : tie.Need-array-write-bits Inv-loop μ-loop
-array-write-bits c = omega arith
-
-add-i : tie.Need-add-i Inv-loop μ-loop
-add-i c = omega arith
-
-loop-less : tie.Need-loop-less Inv-loop μ-loop
-loop-less c = omega arith
-
 loop-again : tie.Need-loop-again Inv-loop μ-loop
 loop-again c =
     let l = c .before .before .loop in
@@ -71,12 +50,12 @@ read-set-spec =
     Inv-loop
     μ-loop
     loop-holds
-    mul-read-word
-    add-read-word
-    read-word-requires
-    mul-bits
-    array-write-bits
-    add-i
-    loop-less
+    (λ c. omega arith)
+    (λ c. omega arith)
+    (λ c κs. search needs)
+    (λ c. omega arith)
+    (λ c. omega arith)
+    (λ c. omega arith)
+    (λ c. omega arith)
     loop-again
     returns)

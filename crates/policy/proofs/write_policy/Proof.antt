@@ -7,15 +7,6 @@ use borrow.Author.Needs.{needs}
 use Rattle.policy.proofs.write_policy.Statement.{statement}
 use Rattle.policy.proofs.write_policy.Tie as tie
 
-keys-len-requires : tie.Need-keys-len-requires
-keys-len-requires c κs = search needs
-
-keys-len-requires-2 : tie.Need-keys-len-requires-2
-keys-len-requires-2 c κs = search needs
-
-add-wanted : tie.Need-add-wanted
-add-wanted c = search needs
-
 returns : tie.Need-returns
 unfolding policyBytes policyWords
 returns c =
@@ -24,15 +15,6 @@ returns c =
     let b = c .before .keys-len2 .ensures in
     let l = length-both (keyWords (p .«prefer_bare»)) (keyWords (p .«bare_as_text»)) in
     too-short (policyBytes p) (omega arith) (omega arith)
-
-put-keys-requires : tie.Need-put-keys-requires
-put-keys-requires c κs = search needs
-
-put-keys-requires-2 : tie.Need-put-keys-requires-2
-put-keys-requires-2 c κs = search needs
-
-same-length : tie.Need-same-length
-same-length c = search needs
 
 returns-2 : tie.Need-returns-2
 unfolding policyBytes policyWords
@@ -49,11 +31,11 @@ pub write-policy-spec : {M : Type 1} → statement M
 write-policy-spec =
     tie.close
     (tie.spec
-    keys-len-requires
-    keys-len-requires-2
-    add-wanted
+    (λ c κs. search needs)
+    (λ c κs. search needs)
+    (λ c. search needs)
     returns
-    put-keys-requires
-    put-keys-requires-2
-    same-length
+    (λ c κs. search needs)
+    (λ c κs. search needs)
+    (λ c. search needs)
     returns-2)

@@ -16,29 +16,17 @@ same-rule : (r : CharSet) {id o : NamedSet} → id ≡ o → HoldsChars (namedEn
     → HoldsChars (namedEntryMatches id) (r .bits)
 same-rule r e h = subst (λ (o : NamedSet). HoldsChars (namedEntryMatches o) (r .bits)) (sym e) h
 
-enum-told : tie.Need-enum-told
-enum-told c = search needs
-
 tested-requires : tie.Need-tested-requires
 unfolding rightWords allBelow member one entryCount variationEntries
 tested-requires c κs = refl
-
-enum-told-2 : tie.Need-enum-told-2
-enum-told-2 c = search needs
 
 tested-requires-2 : tie.Need-tested-requires-2
 unfolding rightWords allBelow member one entryCount variationEntries isTextDefault hasVariationSequence isEmojiPresentation Tables.member Tables.inRanges emojiPresentationRanges
 tested-requires-2 c κs = refl
 
-enum-told-3 : tie.Need-enum-told-3
-enum-told-3 c = search needs
-
 tested-requires-3 : tie.Need-tested-requires-3
 unfolding rightWords allBelow member one entryCount variationEntries isEmojiDefault hasVariationSequence isEmojiPresentation Tables.member Tables.inRanges emojiPresentationRanges
 tested-requires-3 c κs = refl
-
-enum-told-4 : tie.Need-enum-told-4
-enum-told-4 c = search needs
 
 tested-requires-4 : tie.Need-tested-requires-4
 unfolding rightWords allBelow member one entryCount variationEntries
@@ -60,13 +48,13 @@ pub named-bits-spec : {M : Type 1} → statement M
 named-bits-spec =
     tie.close
     (tie.spec
-    enum-told
+    (λ c. search needs)
     tested-requires
-    enum-told-2
+    (λ c. search needs)
     tested-requires-2
-    enum-told-3
+    (λ c. search needs)
     tested-requires-3
-    enum-told-4
+    (λ c. search needs)
     tested-requires-4
     returns
     returns-2

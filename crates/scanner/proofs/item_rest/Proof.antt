@@ -16,26 +16,8 @@ Inv-loop text from at₀ place₀ tags₀ at place tags = Reading text from plac
 abbrev μ-loop : tie.MeasureT-loop
 μ-loop text from at₀ place₀ tags₀ at place tags = length text - at
 
-no-tags-requires : tie.Need-no-tags-requires Inv-loop μ-loop
-no-tags-requires c κs = search needs
-
 loop-holds : tie.Need-loop-holds Inv-loop μ-loop
 loop-holds c = reading-begin (c .no-tags .ensures)
-
-peek-requires : tie.Need-peek-requires Inv-loop μ-loop
-peek-requires c κs = search needs
-
-enum-known-value : tie.Need-enum-known-value Inv-loop μ-loop
-enum-known-value c = search needs
-
-step-requires : tie.Need-step-requires Inv-loop μ-loop
-step-requires c κs = search needs
-
-enum-known-next : tie.Need-enum-known-next Inv-loop μ-loop
-enum-known-next c = search needs
-
-enum-told : tie.Need-enum-told Inv-loop μ-loop
-enum-told c = search needs
 
 returns : tie.Need-returns Inv-loop μ-loop
 returns c =
@@ -43,9 +25,6 @@ returns c =
     let l = c .before .before .before .before .before .before .before .loop in
     let k = seen (x .text .now) (l .at) (sym (c .before .before .before .before .before .before .peek .ensures) ∙ c .before .before .before .before .value .given .1) in
     reading-done (l .inv) (rest-ends k (l .place) (sym (c .before .before .step .ensures) ∙ c .enum-told .given .1))
-
-tags-after-requires : tie.Need-tags-after-requires Inv-loop μ-loop
-tags-after-requires c κs = search needs
 
 loop-less : tie.Need-loop-less Inv-loop μ-loop
 loop-less c =
@@ -60,9 +39,6 @@ loop-again c =
     let k = seen (x .text .now) (l .at) (sym (c .before .before .before .before .before .before .before .before .peek .ensures) ∙ c .before .before .before .before .before .before .value .given .1) in
     rw (c .tags-after .ensures) (reading-on (l .inv) k (c .before .before .next .given .0 .0) (sym (c .before .before .before .before .step .ensures) ∙ c .before .before .next .given .1))
 
-enum-told-2 : tie.Need-enum-told-2 Inv-loop μ-loop
-enum-told-2 c = search needs
-
 returns-2 : tie.Need-returns-2 Inv-loop μ-loop
 returns-2 c =
     let x = c .before .before .before .before .before .before .args in
@@ -75,16 +51,16 @@ item-rest-spec =
     (tie.spec
     Inv-loop
     μ-loop
-    no-tags-requires
+    (λ c κs. search needs)
     loop-holds
-    peek-requires
-    enum-known-value
-    step-requires
-    enum-known-next
-    enum-told
+    (λ c κs. search needs)
+    (λ c. search needs)
+    (λ c κs. search needs)
+    (λ c. search needs)
+    (λ c. search needs)
     returns
-    tags-after-requires
+    (λ c κs. search needs)
     loop-less
     loop-again
-    enum-told-2
+    (λ c. search needs)
     returns-2)

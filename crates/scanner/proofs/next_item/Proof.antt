@@ -6,27 +6,6 @@ use borrow.Author.Needs.{needs}
 use Rattle.scanner.proofs.next_item.Statement.{statement}
 use Rattle.scanner.proofs.next_item.Tie as tie
 
-peek-requires : tie.Need-peek-requires
-peek-requires c κs = search needs
-
-enum-known-class : tie.Need-enum-known-class
-enum-known-class c = search needs
-
-begin-requires : tie.Need-begin-requires
-begin-requires c κs = search needs
-
-item-rest-requires : tie.Need-item-rest-requires
-item-rest-requires c κs = search needs
-
-kind-of-requires : tie.Need-kind-of-requires
-kind-of-requires c κs = search needs
-
-tags-complete-requires : tie.Need-tags-complete-requires
-tags-complete-requires c κs = search needs
-
-enum-told : tie.Need-enum-told
-enum-told c = search needs
-
 returns : tie.Need-returns
 returns c =
     let x = c .before .before .before .before .before .before .before .before .before .before .args in
@@ -45,12 +24,12 @@ pub next-item-spec : {M : Type 1} → statement M
 next-item-spec =
     tie.close
     (tie.spec
-    peek-requires
-    enum-known-class
-    begin-requires
-    item-rest-requires
-    kind-of-requires
-    tags-complete-requires
-    enum-told
+    (λ c κs. search needs)
+    (λ c. search needs)
+    (λ c κs. search needs)
+    (λ c κs. search needs)
+    (λ c κs. search needs)
+    (λ c κs. search needs)
+    (λ c. search needs)
     returns
     returns-2)

@@ -1,19 +1,7 @@
--- `tilghorz::tilghorz_default_policy` meets its contract.
+-- What `write_policy` writes of the default policy, and the word of its answer.
 use borrow.Author.Needs.{needs}
 use Rattle.tilghorz.proofs.tilghorz_default_policy.Statement.{statement}
 use Rattle.tilghorz.proofs.tilghorz_default_policy.Tie as tie
-
-default-requires : tie.Need-default-requires
-default-requires c κs = search needs
-
-write-policy-requires : tie.Need-write-policy-requires
-write-policy-requires c κs = search needs
-
-write-word-requires : tie.Need-write-word-requires
-write-word-requires c κs = search needs
-
-same-length : tie.Need-same-length
-same-length c = search needs
 
 returns : tie.Need-returns
 returns c =
@@ -24,4 +12,9 @@ returns c =
 pub tilghorz-default-policy-spec : {M : Type 1} → statement M
 tilghorz-default-policy-spec =
     tie.close
-    (tie.spec default-requires write-policy-requires write-word-requires same-length returns)
+    (tie.spec
+    (λ c κs. search needs)
+    (λ c κs. search needs)
+    (λ c κs. search needs)
+    (λ c. search needs)
+    returns)

@@ -1,22 +1,13 @@
--- `tilghorz::tilghorz_format` meets its contract.
+-- The outcome of `format_text`, and the word of its answer.
 use borrow.Author.Needs.{needs}
 use Rattle.tilghorz.specs.AnswerWord.{formatRow}
 use Rattle.tilghorz.proofs.Outcomes.{outcome}
 use Rattle.tilghorz.proofs.tilghorz_format.Statement.{statement}
 use Rattle.tilghorz.proofs.tilghorz_format.Tie as tie
 
-format-text-requires : tie.Need-format-text-requires
-format-text-requires c κs = search needs
-
-format-word-requires : tie.Need-format-word-requires
-format-word-requires c κs = search needs
-
-same-length : tie.Need-same-length
-same-length c = search needs
-
 returns : tie.Need-returns
 returns c = outcome formatRow (c .before .before .before .format-text .ensures) (c .format-word .ensures)
 
 pub tilghorz-format-spec : {M : Type 1} → statement M
 tilghorz-format-spec =
-    tie.close (tie.spec format-text-requires format-word-requires same-length returns)
+    tie.close (tie.spec (λ c κs. search needs) (λ c κs. search needs) (λ c. search needs) returns)

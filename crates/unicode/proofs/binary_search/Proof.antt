@@ -21,18 +21,6 @@ abbrev μ-loop : tie.MeasureT-loop
 loop-holds : tie.Need-loop-holds Inv-loop μ-loop
 loop-holds c = (omega arith, omega arith, (λ k l. omega arith), (λ k l m. omega arith))
 
-sub-mid : tie.Need-sub-mid Inv-loop μ-loop
-sub-mid c = omega arith
-
-add-mid : tie.Need-add-mid Inv-loop μ-loop
-add-mid c = omega arith
-
-mul-current : tie.Need-mul-current Inv-loop μ-loop
-mul-current c = omega arith
-
-shared-slice-read-current : tie.Need-shared-slice-read-current Inv-loop μ-loop
-shared-slice-read-current c = omega arith
-
 returns : tie.Need-returns Inv-loop μ-loop
 returns c =
     let l = c .before .before .before in
@@ -42,21 +30,12 @@ returns c =
     (index-first (l .before .args .ch) t m (omega arith) (c .if1 .taken)
     (λ j h e. omega (arith, ascending-lt t (l .before .pre) j m h (omega arith), c .if1 .taken)))
 
-add-lo : tie.Need-add-lo Inv-loop μ-loop
-add-lo c = omega arith
-
-loop-less : tie.Need-loop-less Inv-loop μ-loop
-loop-less c = omega arith
-
 loop-again : tie.Need-loop-again Inv-loop μ-loop
 loop-again c =
     let l = c .before .before .before .before in
     let t = l .before .args .table .now in
     let m = l .loop .lo + (l .loop .hi - l .loop .lo) / 2 in
     (omega arith, omega arith, (λ k h. omega (arith, ascending-le t (l .before .pre) k m (omega arith) (omega arith))), l .loop .inv .3)
-
-loop-less-2 : tie.Need-loop-less-2 Inv-loop μ-loop
-loop-less-2 c = omega arith
 
 loop-again-2 : tie.Need-loop-again-2 Inv-loop μ-loop
 loop-again-2 c =
@@ -81,14 +60,14 @@ binary-search-spec =
     Inv-loop
     μ-loop
     loop-holds
-    sub-mid
-    add-mid
-    mul-current
-    shared-slice-read-current
+    (λ c. omega arith)
+    (λ c. omega arith)
+    (λ c. omega arith)
+    (λ c. omega arith)
     returns
-    add-lo
-    loop-less
+    (λ c. omega arith)
+    (λ c. omega arith)
     loop-again
-    loop-less-2
+    (λ c. omega arith)
     loop-again-2
     returns-2)

@@ -9,15 +9,6 @@ use Rattle.unicode.proofs.BlockTables.{emoji-bit, entry-place}
 use Rattle.unicode.proofs.emoji_data.Statement.{statement}
 use Rattle.unicode.proofs.emoji_data.Tie as tie
 
-block-of-requires : tie.Need-block-of-requires
-block-of-requires c κs = search needs
-
-has-bit-requires : tie.Need-has-bit-requires
-has-bit-requires c κs = search needs
-
-entry-in-requires : tie.Need-entry-in-requires
-entry-in-requires c κs = search needs
-
 returns : tie.Need-returns
 returns c =
     let x = c .before .before in
@@ -28,4 +19,4 @@ returns c =
     )
 
 pub emoji-data-spec : {M : Type 1} → statement M
-emoji-data-spec = tie.close (tie.spec block-of-requires has-bit-requires entry-in-requires returns)
+emoji-data-spec = tie.close (tie.spec (λ c κs. search needs) (λ c κs. search needs) (λ c κs. search needs) returns)

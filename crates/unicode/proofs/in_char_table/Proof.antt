@@ -5,15 +5,6 @@ use Rattle.unicode.proofs.Ascent.{isAt, member-index}
 use Rattle.unicode.proofs.in_char_table.Statement.{statement}
 use Rattle.unicode.proofs.in_char_table.Tie as tie
 
-binary-search-requires : tie.Need-binary-search-requires
-binary-search-requires c κs = search needs
-
-enum-told : tie.Need-enum-told
-enum-told c = search needs
-
-enum-told-2 : tie.Need-enum-told-2
-enum-told-2 c = search needs
-
 returns : tie.Need-returns
 unfolding isAt
 returns c =
@@ -27,4 +18,4 @@ returns-2 c =
     sym (member-index (x .ch) (x .table .now) ∙ ap isAt (sym (c .before .before .binary-search .ensures) ∙ c .enum-told2 .given .1))
 
 pub in-char-table-spec : {M : Type 1} → statement M
-in-char-table-spec = tie.close (tie.spec binary-search-requires enum-told enum-told-2 returns returns-2)
+in-char-table-spec = tie.close (tie.spec (λ c κs. search needs) (λ c. search needs) (λ c. search needs) returns returns-2)

@@ -8,12 +8,6 @@ use Rattle.unicode.proofs.BlockTables.{emoji-bit}
 use Rattle.unicode.proofs.is_emoji.Statement.{statement}
 use Rattle.unicode.proofs.is_emoji.Tie as tie
 
-block-of-requires : tie.Need-block-of-requires
-block-of-requires c κs = search needs
-
-has-bit-requires : tie.Need-has-bit-requires
-has-bit-requires c κs = search needs
-
 returns : tie.Need-returns
 returns c =
     let x = c .before in
@@ -21,4 +15,4 @@ returns c =
     c .has-bit .ensures ∙ ap (λ (b : Block). one (ch % 64) (b .emoji)) (x .block-of .ensures) ∙ sym (emoji-bit ch)
 
 pub is-emoji-spec : {M : Type 1} → statement M
-is-emoji-spec = tie.close (tie.spec block-of-requires has-bit-requires returns)
+is-emoji-spec = tie.close (tie.spec (λ c κs. search needs) (λ c κs. search needs) returns)

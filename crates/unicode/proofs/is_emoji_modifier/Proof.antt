@@ -8,15 +8,6 @@ use Rattle.unicode.proofs.RangeNumbers.{in-numbers, numbersFrom, number
 use Rattle.unicode.proofs.is_emoji_modifier.Statement.{statement}
 use Rattle.unicode.proofs.is_emoji_modifier.Tie as tie
 
-array-read-is-within : tie.Need-array-read-is-within
-array-read-is-within c = search needs
-
-array-read-is-within-2 : tie.Need-array-read-is-within-2
-array-read-is-within-2 c = search needs
-
-is-within-requires : tie.Need-is-within-requires
-is-within-requires c κs = search needs
-
 returns : tie.Need-returns
 unfolding isEmojiModifier emojiModifiers numbersOf numbersFrom
 returns c =
@@ -24,4 +15,4 @@ returns c =
     c .is-within .ensures ∙ one-range 0x1F3FB 0x1F3FF ch ∙ in-numbers ch (0x1F3FB ∷ 0x1F3FF ∷ [])
 
 pub is-emoji-modifier-spec : {M : Type 1} → statement M
-is-emoji-modifier-spec = tie.close (tie.spec array-read-is-within array-read-is-within-2 is-within-requires returns)
+is-emoji-modifier-spec = tie.close (tie.spec (λ c. search needs) (λ c. search needs) (λ c κs. search needs) returns)

@@ -6,9 +6,6 @@ use Rattle.unicode.proofs.InOrder.{emoji-modifier-bases-ascend}
 use Rattle.unicode.proofs.is_emoji_modifier_base.Statement.{statement}
 use Rattle.unicode.proofs.is_emoji_modifier_base.Tie as tie
 
-slice-aggregate-in-char-table : tie.Need-slice-aggregate-in-char-table
-slice-aggregate-in-char-table c = search needs
-
 in-char-table-requires : tie.Need-in-char-table-requires
 unfolding emojiModifierBases
 in-char-table-requires c κs = emoji-modifier-bases-ascend
@@ -18,4 +15,4 @@ unfolding isEmojiModifierBase emojiModifierBases
 returns c = c .in-char-table .ensures
 
 pub is-emoji-modifier-base-spec : {M : Type 1} → statement M
-is-emoji-modifier-base-spec = tie.close (tie.spec slice-aggregate-in-char-table in-char-table-requires returns)
+is-emoji-modifier-base-spec = tie.close (tie.spec (λ c. search needs) in-char-table-requires returns)

@@ -6,9 +6,6 @@ use Rattle.unicode.proofs.InOrder.{emoji-presentation-ranges-apart}
 use Rattle.unicode.proofs.is_emoji_presentation.Statement.{statement}
 use Rattle.unicode.proofs.is_emoji_presentation.Tie as tie
 
-slice-aggregate-in-ranges : tie.Need-slice-aggregate-in-ranges
-slice-aggregate-in-ranges c = search needs
-
 in-ranges-requires : tie.Need-in-ranges-requires
 unfolding emojiPresentationRanges
 in-ranges-requires c κs = emoji-presentation-ranges-apart
@@ -18,4 +15,4 @@ unfolding isEmojiPresentation emojiPresentationRanges
 returns c = c .in-ranges .ensures
 
 pub is-emoji-presentation-spec : {M : Type 1} → statement M
-is-emoji-presentation-spec = tie.close (tie.spec slice-aggregate-in-ranges in-ranges-requires returns)
+is-emoji-presentation-spec = tie.close (tie.spec (λ c. search needs) in-ranges-requires returns)

@@ -4,12 +4,9 @@ use Rattle.unicode.specs.Unicode.{isTag}
 use Rattle.unicode.proofs.is_tag.Statement.{statement}
 use Rattle.unicode.proofs.is_tag.Tie as tie
 
-is-within-requires : tie.Need-is-within-requires
-is-within-requires c κs = search needs
-
 returns : tie.Need-returns
 unfolding isTag
 returns c = c .is-within .ensures
 
 pub is-tag-spec : {M : Type 1} → statement M
-is-tag-spec = tie.close (tie.spec is-within-requires returns)
+is-tag-spec = tie.close (tie.spec (λ c κs. search needs) returns)

@@ -13,12 +13,6 @@ use Rattle.unicode.proofs.ones_below.Tie as tie
 power : (k : ℕ) → k < 64 → 1 * 2 ^ k % 2 ^ 64 ≡ 2 ^ k
 power k h = shl-exact 1 k 64 (omega arith) (omega arith) ∙ one-mul (2 ^ k)
 
-cast-result : tie.Need-cast-result
-cast-result c = search needs
-
-shl-result : tie.Need-shl-result
-shl-result c = search needs
-
 rem-result : tie.Need-rem-result
 rem-result c = let k = c .args .i % 64 in omega (arith, power k (omega arith), pow-pos k)
 
@@ -31,4 +25,4 @@ returns c =
     )
 
 pub ones-below-spec : {M : Type 1} → statement M
-ones-below-spec = tie.close (tie.spec cast-result shl-result rem-result returns)
+ones-below-spec = tie.close (tie.spec (λ c. search needs) (λ c. search needs) rem-result returns)

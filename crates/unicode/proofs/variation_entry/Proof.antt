@@ -7,12 +7,6 @@ use Rattle.unicode.proofs.Ascent.{entry-in, entry-out}
 use Rattle.unicode.proofs.variation_entry.Statement.{statement}
 use Rattle.unicode.proofs.variation_entry.Tie as tie
 
-mul-t5 : tie.Need-mul-t5
-mul-t5 c = search needs
-
-array-read-t8 : tie.Need-array-read-t8
-array-read-t8 c = search needs
-
 returns : tie.Need-returns
 unfolding variationEntry variationEntries
 returns c = sym (entry-in (c .before .args .index) variationEntries (search needs))
@@ -22,4 +16,4 @@ unfolding variationEntry variationEntries
 returns-2 c = sym (entry-out (c .before .args .index) variationEntries (search needs))
 
 pub variation-entry-spec : {M : Type 1} → statement M
-variation-entry-spec = tie.close (tie.spec mul-t5 array-read-t8 returns returns-2)
+variation-entry-spec = tie.close (tie.spec (λ c. search needs) (λ c. search needs) returns returns-2)

@@ -7,16 +7,10 @@ use Rattle.unicode.proofs.BlockTables.{entry-place}
 use Rattle.unicode.proofs.variation_sequence_index.Statement.{statement}
 use Rattle.unicode.proofs.variation_sequence_index.Tie as tie
 
-block-of-requires : tie.Need-block-of-requires
-block-of-requires c κs = search needs
-
-entry-in-requires : tie.Need-entry-in-requires
-entry-in-requires c κs = search needs
-
 returns : tie.Need-returns
 returns c =
     let ch = c .before .before .args .ch in
     c .entry-in .ensures ∙ ap (entryIn (ch % 64)) (c .before .block-of .ensures) ∙ sym (entry-place ch)
 
 pub variation-sequence-index-spec : {M : Type 1} → statement M
-variation-sequence-index-spec = tie.close (tie.spec block-of-requires entry-in-requires returns)
+variation-sequence-index-spec = tie.close (tie.spec (λ c κs. search needs) (λ c κs. search needs) returns)

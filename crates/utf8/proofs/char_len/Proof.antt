@@ -5,12 +5,6 @@ use borrow.Author.Needs.{needs}
 use Rattle.utf8.proofs.char_len.Statement.{statement}
 use Rattle.utf8.proofs.char_len.Tie as tie
 
-decode-requires : tie.Need-decode-requires
-decode-requires c κs = search needs
-
-cast-result : tie.Need-cast-result
-cast-result c = search needs
-
 returns : tie.Need-returns
 returns c =
     let x = c .before .before .args in
@@ -18,4 +12,4 @@ returns c =
     packed-len (drop (x .at) (x .s .now)) (n .result) (n .ensures)
 
 pub char-len-spec : {M : Type 1} → statement M
-char-len-spec = tie.close (tie.spec decode-requires cast-result returns)
+char-len-spec = tie.close (tie.spec (λ c κs. search needs) (λ c. search needs) returns)

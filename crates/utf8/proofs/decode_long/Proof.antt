@@ -8,24 +8,12 @@ use borrow.Author.Needs.{needs}
 use Rattle.utf8.proofs.decode_long.Statement.{statement}
 use Rattle.utf8.proofs.decode_long.Tie as tie
 
-sub-if1 : tie.Need-sub-if1
-sub-if1 c = search needs
-
 returns : tie.Need-returns
 returns c =
     let x = c .before .before .args in
     let z = List·getD-eq-default (x .s .now) 0 {n = x .at + 2} (omega arith) in
     refused-at (x .s .now) (x .at) (omega arith)
     (λ p. omega arith) (λ p q. omega arith) (λ p q r l n. omega arith) (λ p q r t v. omega arith)
-
-add-wide : tie.Need-add-wide
-add-wide c = search needs
-
-shared-slice-read-wide : tie.Need-shared-slice-read-wide
-shared-slice-read-wide c = search needs
-
-wide-requires : tie.Need-wide-requires
-wide-requires c κs = search needs
 
 returns-2 : tie.Need-returns-2
 returns-2 c =
@@ -39,9 +27,6 @@ returns-3 c =
     refused-at (x .s .now) (x .at) (omega arith)
     (λ p. omega arith) (λ p q. omega arith) (λ p q r l n. omega arith) (λ p q r t v. omega arith)
 
-pack-3-requires : tie.Need-pack-3-requires
-pack-3-requires c κs = search needs
-
 returns-4 : tie.Need-returns-4
 returns-4 c =
     let x = c .before .before .before .before .before .before .before .before .args in
@@ -49,27 +34,12 @@ returns-4 c =
     packed-at s (x .at) (omega arith) (c .pack-3 .ensures (getD s (x .at + 3) 0))
     (omega arith) (omega arith) (omega arith) refl
 
-sub-if5 : tie.Need-sub-if5
-sub-if5 c = search needs
-
 returns-5 : tie.Need-returns-5
 returns-5 c =
     let x = c .before .before .before .before .before .before .before .before .args in
     let z = List·getD-eq-default (x .s .now) 0 {n = x .at + 3} (omega arith) in
     refused-at (x .s .now) (x .at) (omega arith)
     (λ p. omega arith) (λ p q. omega arith) (λ p q r l n. omega arith) (λ p q r t v. omega arith)
-
-add-wide-2 : tie.Need-add-wide-2
-add-wide-2 c = search needs
-
-shared-slice-read-wide-2 : tie.Need-shared-slice-read-wide-2
-shared-slice-read-wide-2 c = search needs
-
-wide-requires-2 : tie.Need-wide-requires-2
-wide-requires-2 c κs = search needs
-
-pack-4-requires : tie.Need-pack-4-requires
-pack-4-requires c κs = search needs
 
 returns-6 : tie.Need-returns-6
 returns-6 c =
@@ -81,19 +51,19 @@ pub decode-long-spec : {M : Type 1} → statement M
 decode-long-spec =
     tie.close
     (tie.spec
-    sub-if1
+    (λ c. search needs)
     returns
-    add-wide
-    shared-slice-read-wide
-    wide-requires
+    (λ c. search needs)
+    (λ c. search needs)
+    (λ c κs. search needs)
     returns-2
     returns-3
-    pack-3-requires
+    (λ c κs. search needs)
     returns-4
-    sub-if5
+    (λ c. search needs)
     returns-5
-    add-wide-2
-    shared-slice-read-wide-2
-    wide-requires-2
-    pack-4-requires
+    (λ c. search needs)
+    (λ c. search needs)
+    (λ c κs. search needs)
+    (λ c κs. search needs)
     returns-6)

@@ -7,38 +7,11 @@ use borrow.Author.Needs.{needs}
 use Rattle.utf8.proofs.pack_3.Statement.{statement}
 use Rattle.utf8.proofs.pack_3.Tie as tie
 
-sub-value : tie.Need-sub-value
-sub-value c = search needs
-
-mul-value : tie.Need-mul-value
-mul-value c = search needs
-
-sub-value-2 : tie.Need-sub-value-2
-sub-value-2 c = search needs
-
-add-value : tie.Need-add-value
-add-value c = search needs
-
-mul-value-2 : tie.Need-mul-value-2
-mul-value-2 c = search needs
-
-sub-value-3 : tie.Need-sub-value-3
-sub-value-3 c = search needs
-
-add-value-2 : tie.Need-add-value-2
-add-value-2 c = search needs
-
 returns : tie.Need-returns
 returns c =
     let x = c .before .args in
     λ d. refused (x .a) (x .b) (x .c) d
     (λ p. omega arith) (λ p q. omega arith) (λ p q r l n. omega arith) (λ p q r t v. omega arith)
-
-mul-result : tie.Need-mul-result
-mul-result c = search needs
-
-add-result : tie.Need-add-result
-add-result c = search needs
 
 returns-2 : tie.Need-returns-2
 returns-2 c =
@@ -52,12 +25,6 @@ returns-3 c =
     λ d. refused (x .a) (x .b) (x .c) d
     (λ p. omega arith) (λ p q. omega arith) (λ p q r l n. omega (arith, n (omega arith))) (λ p q r t v. omega arith)
 
-mul-result-2 : tie.Need-mul-result-2
-mul-result-2 c = search needs
-
-add-result-2 : tie.Need-add-result-2
-add-result-2 c = search needs
-
 returns-4 : tie.Need-returns-4
 returns-4 c =
     let x = c .before .before .before .args in
@@ -68,18 +35,18 @@ pub pack-3-spec : {M : Type 1} → statement M
 pack-3-spec =
     tie.close
     (tie.spec
-    sub-value
-    mul-value
-    sub-value-2
-    add-value
-    mul-value-2
-    sub-value-3
-    add-value-2
+    (λ c. search needs)
+    (λ c. search needs)
+    (λ c. search needs)
+    (λ c. search needs)
+    (λ c. search needs)
+    (λ c. search needs)
+    (λ c. search needs)
     returns
-    mul-result
-    add-result
+    (λ c. search needs)
+    (λ c. search needs)
     returns-2
     returns-3
-    mul-result-2
-    add-result-2
+    (λ c. search needs)
+    (λ c. search needs)
     returns-4)

@@ -17,33 +17,6 @@ returns-2 c =
     refused (x .a) (x .b) (x .c) (x .d)
     (λ p. omega arith) (λ p q. omega arith) (λ p q r l n. omega arith) (λ p q r t v. omega arith)
 
-sub-value : tie.Need-sub-value
-sub-value c = search needs
-
-mul-value : tie.Need-mul-value
-mul-value c = search needs
-
-sub-value-2 : tie.Need-sub-value-2
-sub-value-2 c = search needs
-
-add-value : tie.Need-add-value
-add-value c = search needs
-
-mul-value-2 : tie.Need-mul-value-2
-mul-value-2 c = search needs
-
-sub-value-3 : tie.Need-sub-value-3
-sub-value-3 c = search needs
-
-add-value-2 : tie.Need-add-value-2
-add-value-2 c = search needs
-
-mul-value-3 : tie.Need-mul-value-3
-mul-value-3 c = search needs
-
-add-value-3 : tie.Need-add-value-3
-add-value-3 c = search needs
-
 returns-3 : tie.Need-returns-3
 returns-3 c =
     let x = c .before .before .before .args in
@@ -56,12 +29,6 @@ returns-4 c =
     refused (x .a) (x .b) (x .c) (x .d)
     (λ p. omega arith) (λ p q. omega arith) (λ p q r l n. omega arith) (λ p q r t v. omega arith)
 
-mul-result : tie.Need-mul-result
-mul-result c = search needs
-
-add-result : tie.Need-add-result
-add-result c = search needs
-
 returns-5 : tie.Need-returns-5
 returns-5 c =
     let x = c .before .before .before .before .args in
@@ -73,17 +40,17 @@ pack-4-spec =
     (tie.spec
     returns
     returns-2
-    sub-value
-    mul-value
-    sub-value-2
-    add-value
-    mul-value-2
-    sub-value-3
-    add-value-2
-    mul-value-3
-    add-value-3
+    (λ c. search needs)
+    (λ c. search needs)
+    (λ c. search needs)
+    (λ c. search needs)
+    (λ c. search needs)
+    (λ c. search needs)
+    (λ c. search needs)
+    (λ c. search needs)
+    (λ c. search needs)
     returns-3
     returns-4
-    mul-result
-    add-result
+    (λ c. search needs)
+    (λ c. search needs)
     returns-5)

@@ -10,21 +10,6 @@ use borrow.Author.Needs.{needs}
 use Rattle.utf8.proofs.put_3.Statement.{statement}
 use Rattle.utf8.proofs.put_3.Tie as tie
 
-add-out : tie.Need-add-out
-add-out c = search needs
-
-cast-out : tie.Need-cast-out
-cast-out c = search needs
-
-slice-write-out : tie.Need-slice-write-out
-slice-write-out c = search needs
-
-add-put-pair : tie.Need-add-put-pair
-add-put-pair c = search needs
-
-add-put-pair-2 : tie.Need-add-put-pair-2
-add-put-pair-2 c = search needs
-
 put-pair-requires : tie.Need-put-pair-requires
 put-pair-requires c κs = (omega arith, simp length-set (omega arith))
 
@@ -44,11 +29,11 @@ pub put-3-spec : {M : Type 1} → statement M
 put-3-spec =
     tie.close
     (tie.spec
-    add-out
-    cast-out
-    slice-write-out
-    add-put-pair
-    add-put-pair-2
+    (λ c. search needs)
+    (λ c. search needs)
+    (λ c. search needs)
+    (λ c. search needs)
+    (λ c. search needs)
     put-pair-requires
     same-length
     returns)

@@ -8,24 +8,6 @@ use borrow.Author.Needs.{needs}
 use Rattle.utf8.proofs.put_4.Statement.{statement}
 use Rattle.utf8.proofs.put_4.Tie as tie
 
-add-put-pair : tie.Need-add-put-pair
-add-put-pair c = search needs
-
-put-pair-requires : tie.Need-put-pair-requires
-put-pair-requires c κs = search needs
-
-add-put-pair-2 : tie.Need-add-put-pair-2
-add-put-pair-2 c = search needs
-
-add-put-pair-3 : tie.Need-add-put-pair-3
-add-put-pair-3 c = search needs
-
-put-pair-requires-2 : tie.Need-put-pair-requires-2
-put-pair-requires-2 c κs = search needs
-
-same-length : tie.Need-same-length
-same-length c = search needs
-
 returns : tie.Need-returns
 returns c =
     let x = c .before .before .before .before .before .before .before .before .before .args in
@@ -38,10 +20,10 @@ pub put-4-spec : {M : Type 1} → statement M
 put-4-spec =
     tie.close
     (tie.spec
-    add-put-pair
-    put-pair-requires
-    add-put-pair-2
-    add-put-pair-3
-    put-pair-requires-2
-    same-length
+    (λ c. search needs)
+    (λ c κs. search needs)
+    (λ c. search needs)
+    (λ c. search needs)
+    (λ c κs. search needs)
+    (λ c. search needs)
     returns)

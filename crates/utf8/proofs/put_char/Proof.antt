@@ -11,9 +11,6 @@ use Rattle.utf8.proofs.put_char.Tie as tie
 put-1-requires : tie.Need-put-1-requires
 put-1-requires c κs = omega (arith, ap length (encode-1 (c .before .before .before .args .ch) (omega arith)))
 
-same-length : tie.Need-same-length
-same-length c = search needs
-
 returns : tie.Need-returns
 returns c =
     let x = c .before .before .before .before .before .before .args in
@@ -21,9 +18,6 @@ returns c =
 
 put-2-requires : tie.Need-put-2-requires
 put-2-requires c κs = omega (arith, ap length (encode-2 (c .before .before .before .before .args .ch) (omega arith) (omega arith)))
-
-same-length-2 : tie.Need-same-length-2
-same-length-2 c = search needs
 
 returns-2 : tie.Need-returns-2
 returns-2 c =
@@ -33,9 +27,6 @@ returns-2 c =
 put-3-requires : tie.Need-put-3-requires
 put-3-requires c κs = omega (arith, ap length (encode-3 (c .before .before .before .before .before .args .ch) (omega arith) (omega arith)))
 
-same-length-3 : tie.Need-same-length-3
-same-length-3 c = search needs
-
 returns-3 : tie.Need-returns-3
 returns-3 c =
     let x = c .before .before .before .before .before .before .before .before .args in
@@ -43,9 +34,6 @@ returns-3 c =
 
 put-4-requires : tie.Need-put-4-requires
 put-4-requires c κs = omega (arith, ap length (encode-4 (c .before .before .before .before .before .args .ch) (omega arith)))
-
-same-length-4 : tie.Need-same-length-4
-same-length-4 c = search needs
 
 returns-4 : tie.Need-returns-4
 returns-4 c =
@@ -57,14 +45,14 @@ put-char-spec =
     tie.close
     (tie.spec
     put-1-requires
-    same-length
+    (λ c. search needs)
     returns
     put-2-requires
-    same-length-2
+    (λ c. search needs)
     returns-2
     put-3-requires
-    same-length-3
+    (λ c. search needs)
     returns-3
     put-4-requires
-    same-length-4
+    (λ c. search needs)
     returns-4)

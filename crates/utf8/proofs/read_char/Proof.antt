@@ -13,17 +13,11 @@ returns c =
     let x = c .before .before .args in
     sym (readChar-past-end (x .s .now) (x .at) (omega arith))
 
-decode-requires : tie.Need-decode-requires
-decode-requires c κs = search needs
-
 returns-2 : tie.Need-returns-2
 returns-2 c =
     let x = c .before .before .before .before .args in
     let n = c .before .decode in
     sym (packed-none (x .s .now) (x .at) (n .result) (n .ensures) (c .if2 .taken) (omega arith))
-
-cast-width : tie.Need-cast-width
-cast-width c = search needs
 
 returns-3 : tie.Need-returns-3
 returns-3 c =
@@ -32,4 +26,4 @@ returns-3 c =
     sym (packed-reads (drop (x .at) (x .s .now)) (n .result) (n .ensures) (omega arith))
 
 pub read-char-spec : {M : Type 1} → statement M
-read-char-spec = tie.close (tie.spec returns decode-requires returns-2 cast-width returns-3)
+read-char-spec = tie.close (tie.spec returns (λ c κs. search needs) returns-2 (λ c. search needs) returns-3)

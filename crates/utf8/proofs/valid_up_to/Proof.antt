@@ -17,15 +17,6 @@ Inv-loop s at₀ at = (at ≤ length s) × (at + validUpTo (drop at s) ≡ valid
 abbrev μ-loop : tie.MeasureT-loop
 μ-loop s at₀ at = length s - at
 
-loop-holds : tie.Need-loop-holds Inv-loop μ-loop
-loop-holds c = omega arith
-
-decode-requires : tie.Need-decode-requires Inv-loop μ-loop
-decode-requires c κs = search needs
-
-cast-width : tie.Need-cast-width Inv-loop μ-loop
-cast-width c = search needs
-
 returns : tie.Need-returns Inv-loop μ-loop
 returns c =
     let x = c .before .before in
@@ -39,9 +30,6 @@ add-at c =
     let w = c .before .decode in
     let k = step-len (x .before .before .args .s .now) (x .loop .at) (w .result % 8) (packed-len _ (w .result) (w .ensures)) (omega arith) .on in
     omega arith
-
-ascii-end-requires : tie.Need-ascii-end-requires Inv-loop μ-loop
-ascii-end-requires c κs = search needs
 
 loop-less : tie.Need-loop-less Inv-loop μ-loop
 loop-less c =
@@ -79,12 +67,12 @@ valid-up-to-spec =
     (tie.spec
     Inv-loop
     μ-loop
-    loop-holds
-    decode-requires
-    cast-width
+    (λ c. omega arith)
+    (λ c κs. search needs)
+    (λ c. search needs)
     returns
     add-at
-    ascii-end-requires
+    (λ c κs. search needs)
     loop-less
     loop-again
     loop-less-2

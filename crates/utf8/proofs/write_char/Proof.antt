@@ -8,17 +8,11 @@ use borrow.Author.Needs.{needs}
 use Rattle.utf8.proofs.write_char.Statement.{statement}
 use Rattle.utf8.proofs.write_char.Tie as tie
 
-is-scalar-requires : tie.Need-is-scalar-requires
-is-scalar-requires c κs = search needs
-
 returns : tie.Need-returns
 returns c =
     let x = c .before .before .before .args in
     let i = c .before .is-scalar in
     not-scalar (x .ch) (x .out .now) (x .at) (sym (i .ensures) ∙ not-true (i .result) (c .if1 .taken))
-
-char-width-requires : tie.Need-char-width-requires
-char-width-requires c κs = search needs
 
 returns-2 : tie.Need-returns-2
 returns-2 c =
@@ -27,9 +21,6 @@ returns-2 c =
     let w = c .before .char-width in
     let e = w .ensures in
     too-short (x .ch) (x .out .now) (x .at) (w .result) e (sym (i .ensures) ∙ not-false (i .result) (c .before .before .if1 .left)) (omega arith)
-
-sub-if3 : tie.Need-sub-if3
-sub-if3 c = search needs
 
 returns-3 : tie.Need-returns-3
 returns-3 c =
@@ -46,9 +37,6 @@ put-char-requires c κs =
     let e = c .before .before .before .char-width .ensures in
     omega (arith, isScalar-le (x .ch) (sym (i .ensures) ∙ not-false (i .result) (c .before .before .before .before .if1 .left)))
 
-same-length : tie.Need-same-length
-same-length c = search needs
-
 returns-4 : tie.Need-returns-4
 returns-4 c =
     let x = c .before .before .before .before .before .before .before .before .before .before .args in
@@ -62,12 +50,12 @@ pub write-char-spec : {M : Type 1} → statement M
 write-char-spec =
     tie.close
     (tie.spec
-    is-scalar-requires
+    (λ c κs. search needs)
     returns
-    char-width-requires
+    (λ c κs. search needs)
     returns-2
-    sub-if3
+    (λ c. search needs)
     returns-3
     put-char-requires
-    same-length
+    (λ c. search needs)
     returns-4)

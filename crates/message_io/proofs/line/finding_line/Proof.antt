@@ -12,30 +12,6 @@ use borrow.Author.Needs.{needs}
 use Rattle.message_io.proofs.line.finding_line.Statement.{statement}
 use Rattle.message_io.proofs.line.finding_line.Tie as tie
 
-shared-slice-read-put-decimal : tie.Need-shared-slice-read-put-decimal
-shared-slice-read-put-decimal c = search needs
-
-put-decimal-requires : tie.Need-put-decimal-requires
-put-decimal-requires c κs = search needs
-
-sub-put-numbers : tie.Need-sub-put-numbers
-sub-put-numbers c = search needs
-
-part-put-numbers-start : tie.Need-part-put-numbers-start
-part-put-numbers-start c = search needs
-
-part-put-numbers-end : tie.Need-part-put-numbers-end
-part-put-numbers-end c = search needs
-
-put-numbers-requires : tie.Need-put-numbers-requires
-put-numbers-requires c κs = search needs
-
-slice-aggregate-put-bytes : tie.Need-slice-aggregate-put-bytes
-slice-aggregate-put-bytes c = search needs
-
-put-bytes-requires : tie.Need-put-bytes-requires
-put-bytes-requires c κs = search needs
-
 returns : tie.Need-returns
 returns c =
     let ns = c .before .before .before .before .before .before .before .before .before .before .args .numbers .now in
@@ -50,4 +26,14 @@ returns c =
 
 pub finding-line-spec : {M : Type 1} → statement M
 finding-line-spec =
-    tie.close (tie.spec shared-slice-read-put-decimal put-decimal-requires sub-put-numbers part-put-numbers-start part-put-numbers-end put-numbers-requires slice-aggregate-put-bytes put-bytes-requires returns)
+    tie.close
+    (tie.spec
+    (λ c. search needs)
+    (λ c κs. search needs)
+    (λ c. search needs)
+    (λ c. search needs)
+    (λ c. search needs)
+    (λ c κs. search needs)
+    (λ c. search needs)
+    (λ c κs. search needs)
+    returns)

@@ -4,15 +4,6 @@ use borrow.Author.Needs.{needs}
 use Rattle.message_io.proofs.line.put_bytes.Statement.{statement}
 use Rattle.message_io.proofs.line.put_bytes.Tie as tie
 
-write-bytes-requires : tie.Need-write-bytes-requires
-write-bytes-requires c κs = search needs
-
-add-result : tie.Need-add-result
-add-result c = search needs
-
-same-length : tie.Need-same-length
-same-length c = search needs
-
 returns : tie.Need-returns
 returns c =
     let x = c .before .before .before .before .before .before in
@@ -20,4 +11,4 @@ returns c =
     bytes-put (a .out .now) _ (a .start) (a .bytes .now) (x .pre) (c .before .before .write-bytes .ensures .1)
 
 pub put-bytes-spec : {M : Type 1} → statement M
-put-bytes-spec = tie.close (tie.spec write-bytes-requires add-result same-length returns)
+put-bytes-spec = tie.close (tie.spec (λ c κs. search needs) (λ c. search needs) (λ c. search needs) returns)

@@ -8,23 +8,11 @@ use borrow.Author.Needs.{needs}
 use Rattle.message_io.proofs.line.put_decimal.Statement.{statement}
 use Rattle.message_io.proofs.line.put_decimal.Tie as tie
 
-decimal-requires : tie.Need-decimal-requires
-decimal-requires c κs = search needs
-
-array-share-prefix-digits : tie.Need-array-share-prefix-digits
-array-share-prefix-digits c = search needs
-
-slice-aggregate-put-bytes : tie.Need-slice-aggregate-put-bytes
-slice-aggregate-put-bytes c = search needs
-
 put-bytes-requires : tie.Need-put-bytes-requires
 put-bytes-requires c κs =
     let d = c .before .before .decimal in
     let x = c .before .before .before .before .before in
     omega (arith, x .pre, d .ensures .0 .1, at-most (x .args .n) (d .result) (x .fits .n .fits) (d .ensures .1 .0))
-
-same-length : tie.Need-same-length
-same-length c = search needs
 
 returns : tie.Need-returns
 returns c =
@@ -37,4 +25,11 @@ returns c =
 
 pub put-decimal-spec : {M : Type 1} → statement M
 put-decimal-spec =
-    tie.close (tie.spec decimal-requires array-share-prefix-digits slice-aggregate-put-bytes put-bytes-requires same-length returns)
+    tie.close
+    (tie.spec
+    (λ c κs. search needs)
+    (λ c. search needs)
+    (λ c. search needs)
+    put-bytes-requires
+    (λ c. search needs)
+    returns)

@@ -7,21 +7,6 @@ use borrow.Author.Needs.{needs}
 use Rattle.message_io.proofs.line.total_line.Statement.{statement}
 use Rattle.message_io.proofs.line.total_line.Tie as tie
 
-slice-aggregate-put-bytes : tie.Need-slice-aggregate-put-bytes
-slice-aggregate-put-bytes c = search needs
-
-put-bytes-requires : tie.Need-put-bytes-requires
-put-bytes-requires c κs = search needs
-
-put-numbers-requires : tie.Need-put-numbers-requires
-put-numbers-requires c κs = search needs
-
-slice-aggregate-put-bytes-2 : tie.Need-slice-aggregate-put-bytes-2
-slice-aggregate-put-bytes-2 c = search needs
-
-put-bytes-requires-2 : tie.Need-put-bytes-requires-2
-put-bytes-requires-2 c κs = search needs
-
 returns : tie.Need-returns
 unfolding totalLine
 returns c =
@@ -33,4 +18,11 @@ returns c =
 
 pub total-line-spec : {M : Type 1} → statement M
 total-line-spec =
-    tie.close (tie.spec slice-aggregate-put-bytes put-bytes-requires put-numbers-requires slice-aggregate-put-bytes-2 put-bytes-requires-2 returns)
+    tie.close
+    (tie.spec
+    (λ c. search needs)
+    (λ c κs. search needs)
+    (λ c κs. search needs)
+    (λ c. search needs)
+    (λ c κs. search needs)
+    returns)

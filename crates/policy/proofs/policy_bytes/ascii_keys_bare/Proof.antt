@@ -11,9 +11,6 @@ use Rattle.policy.proofs.ByEntry.{ascii-keys-bytes}
 use Rattle.policy.proofs.policy_bytes.ascii_keys_bare.Statement.{statement}
 use Rattle.policy.proofs.policy_bytes.ascii_keys_bare.Tie as tie
 
-byte-at-requires : tie.Need-byte-at-requires
-byte-at-requires c κs = search needs
-
 returns : tie.Need-returns
 returns c =
     let x = c .before .before in
@@ -23,9 +20,6 @@ returns c =
     sym
     (ascii-keys-bytes bs (a .result) b (a .ensures) refl (omega (arith, a .ensures, x .shared-slice-known .given 0 .fits))
     ∙ ap (λ (t : Bool). t && eqb (b % 16) 0xF) (ne-eqb (a .result) 0xFF (c .if1 .taken)))
-
-byte-at-requires-2 : tie.Need-byte-at-requires-2
-byte-at-requires-2 c κs = search needs
 
 returns-2 : tie.Need-returns-2
 returns-2 c =
@@ -39,4 +33,4 @@ returns-2 c =
     ∙ ap (λ (t : Bool). t && eqb (b .result % 16) 0xF) (eq-eqb (a .result) 0xFF (c .before .if1 .left)))
 
 pub ascii-keys-bare-spec : {M : Type 1} → statement M
-ascii-keys-bare-spec = tie.close (tie.spec byte-at-requires returns byte-at-requires-2 returns-2)
+ascii-keys-bare-spec = tie.close (tie.spec (λ c κs. search needs) returns (λ c κs. search needs) returns-2)

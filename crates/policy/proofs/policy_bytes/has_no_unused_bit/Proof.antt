@@ -14,15 +14,6 @@ use borrow.Author.Needs.{needs}
 use Rattle.policy.proofs.policy_bytes.has_no_unused_bit.Statement.{statement}
 use Rattle.policy.proofs.policy_bytes.has_no_unused_bit.Tie as tie
 
-add-read-word : tie.Need-add-read-word
-add-read-word c = search needs
-
-read-word-requires : tie.Need-read-word-requires
-read-word-requires c κs = search needs
-
-last-is-used-requires : tie.Need-last-is-used-requires
-last-is-used-requires c κs = search needs
-
 returns : tie.Need-returns
 unfolding noUnusedBit wordCount entryCount variationEntries
 returns c =
@@ -34,4 +25,4 @@ returns c =
 
 pub has-no-unused-bit-spec : {M : Type 1} → statement M
 has-no-unused-bit-spec =
-    tie.close (tie.spec add-read-word read-word-requires last-is-used-requires returns)
+    tie.close (tie.spec (λ c. search needs) (λ c κs. search needs) (λ c κs. search needs) returns)

@@ -20,15 +20,6 @@ returns c =
     let ws = wordsFrom 6 (x .at) (x .bytes .now) in
     sym (member-past ws (x .index) (omega (arith, length-wordsFrom 6 (x .at) (x .bytes .now))))
 
-byte-at-requires : tie.Need-byte-at-requires
-byte-at-requires c κs = search needs
-
-cast-has-bit : tie.Need-cast-has-bit
-cast-has-bit c = search needs
-
-has-bit-requires : tie.Need-has-bit-requires
-has-bit-requires c κs = search needs
-
 returns-2 : tie.Need-returns-2
 unfolding wordCount entryCount variationEntries
 returns-2 c =
@@ -40,4 +31,4 @@ returns-2 c =
     (λ j. c .before .before .before .shared-slice-known .given j .fits) (omega arith))
 
 pub holds-entry-spec : {M : Type 1} → statement M
-holds-entry-spec = tie.close (tie.spec returns byte-at-requires cast-has-bit has-bit-requires returns-2)
+holds-entry-spec = tie.close (tie.spec returns (λ c κs. search needs) (λ c. search needs) (λ c κs. search needs) returns-2)

@@ -13,9 +13,6 @@ returns : tie.Need-returns
 unfolding isPolicy noUnusedBits policyOf wordCount entryCount variationEntries
 returns c = simp (ne-eqb (length (c .before .before .args .bytes .now)) 192 (c .if1 .taken))
 
-has-no-unused-bit-requires : tie.Need-has-no-unused-bit-requires
-has-no-unused-bit-requires c κs = search needs
-
 returns-2 : tie.Need-returns-2
 unfolding isPolicy noUnusedBits policyOf wordCount entryCount variationEntries
 returns-2 c =
@@ -24,9 +21,6 @@ returns-2 c =
       eq-eqb (length (x .before .before .args .bytes .now)) 192 (x .if1 .left),
       sym (c .before .has-no-unused-bit .ensures) ∙ not-true _ (c .if2 .taken),
     )
-
-has-no-unused-bit-requires-2 : tie.Need-has-no-unused-bit-requires-2
-has-no-unused-bit-requires-2 c κs = search needs
 
 returns-3 : tie.Need-returns-3
 unfolding isPolicy noUnusedBits policyOf wordCount entryCount variationEntries
@@ -38,12 +32,6 @@ returns-3 c =
       sym (y .before .has-no-unused-bit .ensures) ∙ not-false _ (y .if2 .left),
       sym (c .before .has-no-unused-bit2 .ensures) ∙ not-true _ (c .if3 .taken),
     )
-
-mul-has-no-unused-bit : tie.Need-mul-has-no-unused-bit
-mul-has-no-unused-bit c = search needs
-
-has-no-unused-bit-requires-3 : tie.Need-has-no-unused-bit-requires-3
-has-no-unused-bit-requires-3 c κs = search needs
 
 returns-4 : tie.Need-returns-4
 unfolding isPolicy noUnusedBits policyOf wordCount entryCount variationEntries
@@ -57,12 +45,6 @@ returns-4 c =
       sym (z .before .has-no-unused-bit2 .ensures) ∙ not-false _ (z .if3 .left),
       sym (c .before .has-no-unused-bit3 .ensures) ∙ not-true _ (c .if4 .taken),
     )
-
-mul-has-no-unused-bit-2 : tie.Need-mul-has-no-unused-bit-2
-mul-has-no-unused-bit-2 c = search needs
-
-has-no-unused-bit-requires-4 : tie.Need-has-no-unused-bit-requires-4
-has-no-unused-bit-requires-4 c κs = search needs
 
 returns-5 : tie.Need-returns-5
 unfolding isPolicy noUnusedBits policyOf wordCount entryCount variationEntries
@@ -84,13 +66,13 @@ is-policy-spec =
     tie.close
     (tie.spec
     returns
-    has-no-unused-bit-requires
+    (λ c κs. search needs)
     returns-2
-    has-no-unused-bit-requires-2
+    (λ c κs. search needs)
     returns-3
-    mul-has-no-unused-bit
-    has-no-unused-bit-requires-3
+    (λ c. search needs)
+    (λ c κs. search needs)
     returns-4
-    mul-has-no-unused-bit-2
-    has-no-unused-bit-requires-4
+    (λ c. search needs)
+    (λ c κs. search needs)
     returns-5)

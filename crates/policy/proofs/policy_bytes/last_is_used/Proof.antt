@@ -6,19 +6,10 @@ use borrow.Author.Needs.{needs}
 use Rattle.policy.proofs.policy_bytes.last_is_used.Statement.{statement}
 use Rattle.policy.proofs.policy_bytes.last_is_used.Tie as tie
 
-sub-result : tie.Need-sub-result
-sub-result c = search needs
-
-mul-result : tie.Need-mul-result
-mul-result c = search needs
-
-array-read-result : tie.Need-array-read-result
-array-read-result c = search needs
-
 returns : tie.Need-returns
 returns c =
     let w = c .args .last in
     sym (small-word 354 320 34 w refl (omega arith) (c .fits .last .fits))
 
 pub last-is-used-spec : {M : Type 1} → statement M
-last-is-used-spec = tie.close (tie.spec sub-result mul-result array-read-result returns)
+last-is-used-spec = tie.close (tie.spec (λ c. search needs) (λ c. search needs) (λ c. search needs) returns)

@@ -6,24 +6,6 @@ use borrow.Author.Needs.{needs}
 use Rattle.policy.proofs.policy_bytes.rule_at.Statement.{statement}
 use Rattle.policy.proofs.policy_bytes.rule_at.Tie as tie
 
-set-start-requires : tie.Need-set-start-requires
-set-start-requires c κs = search needs
-
-holds-entry-requires : tie.Need-holds-entry-requires
-holds-entry-requires c κs = search needs
-
-mul-holds-entry : tie.Need-mul-holds-entry
-mul-holds-entry c = search needs
-
-add-holds-entry : tie.Need-add-holds-entry
-add-holds-entry c = search needs
-
-holds-entry-requires-2 : tie.Need-holds-entry-requires-2
-holds-entry-requires-2 c κs = search needs
-
-rule-of-requires : tie.Need-rule-of-requires
-rule-of-requires c κs = search needs
-
 returns : tie.Need-returns
 returns c =
     let x = c .before .before .before .before .before .args in
@@ -35,10 +17,10 @@ pub rule-at-spec : {M : Type 1} → statement M
 rule-at-spec =
     tie.close
     (tie.spec
-    set-start-requires
-    holds-entry-requires
-    mul-holds-entry
-    add-holds-entry
-    holds-entry-requires-2
-    rule-of-requires
+    (λ c κs. search needs)
+    (λ c κs. search needs)
+    (λ c. search needs)
+    (λ c. search needs)
+    (λ c κs. search needs)
+    (λ c κs. search needs)
     returns)

@@ -6,12 +6,6 @@ use Rattle.policy_key_set.specs.Sets.{sameEntries}
 use Rattle.policy_key_set.proofs.PolicyKeySet.eq.Statement.{statement}
 use Rattle.policy_key_set.proofs.PolicyKeySet.eq.Tie as tie
 
-eq-requires : tie.Need-eq-requires
-eq-requires c κs = search needs
-
-eq-requires-2 : tie.Need-eq-requires-2
-eq-requires-2 c κs = search needs
-
 returns : tie.Need-returns
 returns c =
     let a = c .before .before .before .args in
@@ -26,4 +20,4 @@ returns-2 c =
     (sym (c .if1 .left) ∙ c .before .eq .ensures)
 
 pub eq-spec : {M : Type 1} → statement M
-eq-spec = tie.close (tie.spec eq-requires eq-requires-2 returns returns-2)
+eq-spec = tie.close (tie.spec (λ c κs. search needs) (λ c κs. search needs) returns returns-2)

@@ -5,12 +5,6 @@ use Rattle.policy_key_set.proofs.Members.{complement-held}
 use Rattle.policy_key_set.proofs.PolicyKeySet.not.Statement.{statement}
 use Rattle.policy_key_set.proofs.PolicyKeySet.not.Tie as tie
 
-all-requires : tie.Need-all-requires
-all-requires c κs = search needs
-
-sub-requires : tie.Need-sub-requires
-sub-requires c κs = search needs
-
 returns : tie.Need-returns
 returns c =
     let a = c .before .all in
@@ -24,4 +18,4 @@ returns c =
     }
 
 pub not-spec : {M : Type 1} → statement M
-not-spec = tie.close (tie.spec all-requires sub-requires returns)
+not-spec = tie.close (tie.spec (λ c κs. search needs) (λ c κs. search needs) returns)

@@ -10,9 +10,6 @@ use borrow.Author.Needs.{needs}
 use Rattle.policy_key_set.proofs.char_set.bit.Statement.{statement}
 use Rattle.policy_key_set.proofs.char_set.bit.Tie as tie
 
-shl-result : tie.Need-shl-result
-shl-result c = search needs
-
 returns : tie.Need-returns
 returns c j =
     let h = c .pre in
@@ -20,4 +17,4 @@ returns c j =
     ap (one j) p ∙ power-one j (c .args .k)
 
 pub bit-spec : {M : Type 1} → statement M
-bit-spec = tie.close (tie.spec shl-result returns)
+bit-spec = tie.close (tie.spec (λ c. search needs) returns)

@@ -19,39 +19,6 @@ abbrev μ-loop : tie.MeasureT-loop
 loop-holds : tie.Need-loop-holds Inv-loop μ-loop
 loop-holds c = (omega arith, omega arith, (λ k h. absurd (omega arith)))
 
-mul-combine-words : tie.Need-mul-combine-words Inv-loop μ-loop
-mul-combine-words c = omega arith
-
-array-read-combine-words : tie.Need-array-read-combine-words Inv-loop μ-loop
-array-read-combine-words c = omega arith
-
-mul-combine-words-2 : tie.Need-mul-combine-words-2 Inv-loop μ-loop
-mul-combine-words-2 c = omega arith
-
-array-read-combine-words-2 : tie.Need-array-read-combine-words-2 Inv-loop μ-loop
-array-read-combine-words-2 c = omega arith
-
-mul-combine-words-3 : tie.Need-mul-combine-words-3 Inv-loop μ-loop
-mul-combine-words-3 c = omega arith
-
-array-read-combine-words-3 : tie.Need-array-read-combine-words-3 Inv-loop μ-loop
-array-read-combine-words-3 c = omega arith
-
-combine-words-requires : tie.Need-combine-words-requires Inv-loop μ-loop
-combine-words-requires c κs = omega arith
-
-mul-z : tie.Need-mul-z Inv-loop μ-loop
-mul-z c = omega arith
-
-array-write-z : tie.Need-array-write-z Inv-loop μ-loop
-array-write-z c = omega arith
-
-add-i : tie.Need-add-i Inv-loop μ-loop
-add-i c = omega arith
-
-loop-less : tie.Need-loop-less Inv-loop μ-loop
-loop-less c = omega arith
-
 loop-again : tie.Need-loop-again Inv-loop μ-loop
 loop-again c =
     let l = c .before .before .loop in
@@ -76,16 +43,16 @@ combine-spec =
     Inv-loop
     μ-loop
     loop-holds
-    mul-combine-words
-    array-read-combine-words
-    mul-combine-words-2
-    array-read-combine-words-2
-    mul-combine-words-3
-    array-read-combine-words-3
-    combine-words-requires
-    mul-z
-    array-write-z
-    add-i
-    loop-less
+    (λ c. omega arith)
+    (λ c. omega arith)
+    (λ c. omega arith)
+    (λ c. omega arith)
+    (λ c. omega arith)
+    (λ c. omega arith)
+    (λ c κs. omega arith)
+    (λ c. omega arith)
+    (λ c. omega arith)
+    (λ c. omega arith)
+    (λ c. omega arith)
     loop-again
     returns)

@@ -16,18 +16,6 @@ kept : (op o : SetOperation) (k x y used w : ℕ) → op ≡ o → one k w ≡ k
 kept op o k x y used w e h =
     and-one k used w ∙ ap (λ (b : Bool). one k used && b) (h ∙ ap (λ (p : SetOperation). keeps p (one k x) (one k y)) (sym e))
 
-enum-told : tie.Need-enum-told
-enum-told c = search needs
-
-enum-told-2 : tie.Need-enum-told-2
-enum-told-2 c = search needs
-
-enum-told-3 : tie.Need-enum-told-3
-enum-told-3 c = search needs
-
-enum-told-4 : tie.Need-enum-told-4
-enum-told-4 c = search needs
-
 returns : tie.Need-returns
 returns c k h =
     let a = c .before .before .args in
@@ -53,4 +41,12 @@ returns-4 c k h =
 pub combine-words-spec : {M : Type 1} → statement M
 combine-words-spec =
     tie.close
-    (tie.spec enum-told enum-told-2 enum-told-3 enum-told-4 returns returns-2 returns-3 returns-4)
+    (tie.spec
+    (λ c. search needs)
+    (λ c. search needs)
+    (λ c. search needs)
+    (λ c. search needs)
+    returns
+    returns-2
+    returns-3
+    returns-4)

@@ -9,15 +9,6 @@ use borrow.Author.Needs.{needs}
 use Rattle.policy_key_set.proofs.display.entry.Statement.{statement}
 use Rattle.policy_key_set.proofs.display.entry.Tie as tie
 
-variation-entry-requires : tie.Need-variation-entry-requires
-variation-entry-requires c κs = search needs
-
-enum-known-ch : tie.Need-enum-known-ch
-enum-known-ch c = search needs
-
-enum-told : tie.Need-enum-told
-enum-told c = search needs
-
 returns : tie.Need-returns
 unfolding variationEntry entryCount
 returns c =
@@ -38,4 +29,4 @@ returns-2 c =
 
 pub entry-spec : {M : Type 1} → statement M
 entry-spec =
-    tie.close (tie.spec variation-entry-requires enum-known-ch enum-told returns returns-2)
+    tie.close (tie.spec (λ c κs. search needs) (λ c. search needs) (λ c. search needs) returns returns-2)

@@ -5,21 +5,9 @@ use borrow.Author.Needs.{needs}
 use Rattle.policy_key_set.proofs.display.hex_digit.Statement.{statement}
 use Rattle.policy_key_set.proofs.display.hex_digit.Tie as tie
 
-add-result : tie.Need-add-result
-add-result c = search needs
-
-cast-result : tie.Need-cast-result
-cast-result c = search needs
-
 returns : tie.Need-returns
 unfolding hexDigit
 returns c = simp (lt-ltb _ _ (c .if1 .taken))
-
-add-result-2 : tie.Need-add-result-2
-add-result-2 c = search needs
-
-cast-result-2 : tie.Need-cast-result-2
-cast-result-2 c = search needs
 
 returns-2 : tie.Need-returns-2
 unfolding hexDigit
@@ -27,4 +15,11 @@ returns-2 c = simp (le-ltb _ _ (c .if1 .left))
 
 pub hex-digit-spec : {M : Type 1} → statement M
 hex-digit-spec =
-    tie.close (tie.spec add-result cast-result returns add-result-2 cast-result-2 returns-2)
+    tie.close
+    (tie.spec
+    (λ c. search needs)
+    (λ c. search needs)
+    returns
+    (λ c. search needs)
+    (λ c. search needs)
+    returns-2)

@@ -8,15 +8,9 @@ use borrow.Author.Needs.{needs}
 use Rattle.policy_key_set.proofs.display.key_len.Statement.{statement}
 use Rattle.policy_key_set.proofs.display.key_len.Tie as tie
 
-text-len-requires : tie.Need-text-len-requires
-text-len-requires c κs = search needs
-
 returns : tie.Need-returns
 unfolding piece
 returns c = (rw (c .if1 .taken) (c .before .text-len .ensures .0), omega arith)
-
-add-result : tie.Need-add-result
-add-result c = search needs
 
 returns-2 : tie.Need-returns-2
 returns-2 c =
@@ -25,4 +19,4 @@ returns-2 c =
     (omega (arith, ap length (piece-later (a .start) (keyText (a .keycap) (a .ch)) (omega arith))), omega arith)
 
 pub key-len-spec : {M : Type 1} → statement M
-key-len-spec = tie.close (tie.spec text-len-requires returns add-result returns-2)
+key-len-spec = tie.close (tie.spec (λ c κs. search needs) returns (λ c. search needs) returns-2)

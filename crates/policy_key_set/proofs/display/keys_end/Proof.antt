@@ -24,23 +24,8 @@ abbrev μ-loop : tie.MeasureT-loop
 loop-holds : tie.Need-loop-holds Inv-loop μ-loop
 loop-holds c = (omega arith, omega arith, c .pre, refl)
 
-entry-requires : tie.Need-entry-requires Inv-loop μ-loop
-entry-requires c κs = omega arith
-
-contains-requires : tie.Need-contains-requires Inv-loop μ-loop
-contains-requires c κs = omega arith
-
-key-len-requires : tie.Need-key-len-requires Inv-loop μ-loop
-key-len-requires c κs = omega arith
-
-add-at : tie.Need-add-at Inv-loop μ-loop
-add-at c = omega arith
-
 add-i : tie.Need-add-i Inv-loop μ-loop
 add-i c = ⊎-elim (λ w. omega arith) (λ w. omega arith) (c .if1 .came)
-
-loop-less : tie.Need-loop-less Inv-loop μ-loop
-loop-less c = omega arith
 
 loop-again : tie.Need-loop-again Inv-loop μ-loop
 loop-again c =
@@ -87,11 +72,11 @@ keys-end-spec =
     Inv-loop
     μ-loop
     loop-holds
-    entry-requires
-    contains-requires
-    key-len-requires
-    add-at
+    (λ c κs. omega arith)
+    (λ c κs. omega arith)
+    (λ c κs. omega arith)
+    (λ c. omega arith)
     add-i
-    loop-less
+    (λ c. omega arith)
     loop-again
     returns)

@@ -1,17 +1,8 @@
--- `policy_key_set::display::put_bytes` meets its contract.
+-- What `write_bytes` puts where there is room.
 use borrow.Author.Needs.{needs}
 use Rattle.base.proofs.Output.{bytes-put}
 use Rattle.policy_key_set.proofs.display.put_bytes.Statement.{statement}
 use Rattle.policy_key_set.proofs.display.put_bytes.Tie as tie
-
-write-bytes-requires : tie.Need-write-bytes-requires
-write-bytes-requires c κs = search needs
-
-add-result : tie.Need-add-result
-add-result c = search needs
-
-same-length : tie.Need-same-length
-same-length c = search needs
 
 returns : tie.Need-returns
 returns c =
@@ -19,4 +10,4 @@ returns c =
     bytes-put (x .out .now) _ (x .start) (x .bytes .now) (c .before .before .before .before .before .before .pre) (c .before .before .write-bytes .ensures .1)
 
 pub put-bytes-spec : {M : Type 1} → statement M
-put-bytes-spec = tie.close (tie.spec write-bytes-requires add-result same-length returns)
+put-bytes-spec = tie.close (tie.spec (λ c κs. search needs) (λ c. search needs) (λ c. search needs) returns)

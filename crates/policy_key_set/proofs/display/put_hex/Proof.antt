@@ -24,21 +24,6 @@ loop-holds c =
       begin (hexDigits (a .width) (a .ch)) (a .start) (a .out .now) (omega (arith, hex-length (a .width) (a .ch))),
     )
 
-sub-k : tie.Need-sub-k Inv-loop μ-loop
-sub-k c = omega arith
-
-mul-hex-digit : tie.Need-mul-hex-digit Inv-loop μ-loop
-mul-hex-digit c = omega arith
-
-cast-hex-digit : tie.Need-cast-hex-digit Inv-loop μ-loop
-cast-hex-digit c = omega arith
-
-shr-hex-digit : tie.Need-shr-hex-digit Inv-loop μ-loop
-shr-hex-digit c = omega arith
-
-hex-digit-requires : tie.Need-hex-digit-requires Inv-loop μ-loop
-hex-digit-requires c κs = omega arith
-
 slice-write-out : tie.Need-slice-write-out Inv-loop μ-loop
 slice-write-out c =
     let l = c .before .before .loop in
@@ -52,9 +37,6 @@ add-at c =
     let a = c .before .before .before .before .args in
     let r = byte-room (hexDigits (a .width) (a .ch)) (a .start) (a .out .now) (hexDigits (l .k) (a .ch)) (l .inv .2) (hex-step (l .k) (a .ch) (omega arith)) in
     omega arith
-
-loop-less : tie.Need-loop-less Inv-loop μ-loop
-loop-less c = omega arith
 
 loop-again : tie.Need-loop-again Inv-loop μ-loop
 loop-again c =
@@ -84,14 +66,14 @@ put-hex-spec =
     Inv-loop
     μ-loop
     loop-holds
-    sub-k
-    mul-hex-digit
-    cast-hex-digit
-    shr-hex-digit
-    hex-digit-requires
+    (λ c. omega arith)
+    (λ c. omega arith)
+    (λ c. omega arith)
+    (λ c. omega arith)
+    (λ c κs. omega arith)
     slice-write-out
     add-at
-    loop-less
+    (λ c. omega arith)
     loop-again
     same-length
     returns)

@@ -13,15 +13,9 @@ put-text-requires : tie.Need-put-text-requires
 unfolding piece
 put-text-requires c κs = rw (c .before .if1 .taken) at (c .before .before .before .pre)
 
-same-length : tie.Need-same-length
-same-length c = search needs
-
 returns : tie.Need-returns
 unfolding piece
 returns c = rw (c .before .before .before .before .if1 .taken) (c .before .before .put-text .ensures)
-
-slice-aggregate-put-bytes : tie.Need-slice-aggregate-put-bytes
-slice-aggregate-put-bytes c = search needs
 
 put-bytes-requires : tie.Need-put-bytes-requires
 put-bytes-requires c κs =
@@ -36,9 +30,6 @@ put-text-requires-2 c κs =
     let h = x .before .before .before .if1 .left in
     omega (arith, ap length (piece-later (a .start) (keyText (a .keycap) (a .ch)) (omega arith)), x .put-bytes .ensures .ends)
 
-same-length-2 : tie.Need-same-length-2
-same-length-2 c = search needs
-
 returns-2 : tie.Need-returns-2
 returns-2 c =
     let y = c .before .before in
@@ -52,10 +43,10 @@ put-key-spec =
     tie.close
     (tie.spec
     put-text-requires
-    same-length
+    (λ c. search needs)
     returns
-    slice-aggregate-put-bytes
+    (λ c. search needs)
     put-bytes-requires
     put-text-requires-2
-    same-length-2
+    (λ c. search needs)
     returns-2)

@@ -25,12 +25,6 @@ abbrev μ-loop : tie.MeasureT-loop
 loop-holds : tie.Need-loop-holds Inv-loop μ-loop
 loop-holds c = (omega arith, begin _ _ _ (c .before .pre))
 
-entry-requires : tie.Need-entry-requires Inv-loop μ-loop
-entry-requires c κs = omega arith
-
-contains-requires : tie.Need-contains-requires Inv-loop μ-loop
-contains-requires c κs = omega arith
-
 put-key-requires : tie.Need-put-key-requires Inv-loop μ-loop
 put-key-requires c κs =
     let l = c .before .before .before .before .before .loop in
@@ -39,12 +33,6 @@ put-key-requires c κs =
     let m = contains-place (a .set .bits) (l .i) (omega arith) (e .ensures) (c .before .before .contains .ensures) in
     room _ _ _ _ (piece (l .at) (keyText (a .keycap) (e .result))) _ (l .inv .1)
     (keys-in (a .keycap) (a .set .bits) variationEntries (l .i) (l .at) (omega (arith, entries-length)) (e .ensures) (m ∙ c .before .if1 .taken))
-
-add-i : tie.Need-add-i Inv-loop μ-loop
-add-i c = omega arith
-
-loop-less : tie.Need-loop-less Inv-loop μ-loop
-loop-less c = omega arith
 
 loop-again : tie.Need-loop-again Inv-loop μ-loop
 loop-again c =
@@ -90,11 +78,11 @@ put-keys-spec =
     Inv-loop
     μ-loop
     loop-holds
-    entry-requires
-    contains-requires
+    (λ c κs. omega arith)
+    (λ c κs. omega arith)
     put-key-requires
-    add-i
-    loop-less
+    (λ c. omega arith)
+    (λ c. omega arith)
     loop-again
     same-length
     returns)

@@ -11,9 +11,6 @@ put-opening-requires c κs =
     let a = c .before .before .args in
     omega (arith, text-length (a .keycap) (a .ch))
 
-hex-width-requires : tie.Need-hex-width-requires
-hex-width-requires c κs = search needs
-
 put-hex-requires : tie.Need-put-hex-requires
 put-hex-requires c κs =
     let x = c .before .before .before .before in
@@ -22,9 +19,6 @@ put-hex-requires c κs =
     let e = x .put-opening .ensures in
     (w .1, omega (arith, text-length (a .keycap) (a .ch), w .0, e .ends))
 
-slice-aggregate-put-bytes : tie.Need-slice-aggregate-put-bytes
-slice-aggregate-put-bytes c = search needs
-
 put-bytes-requires : tie.Need-put-bytes-requires
 put-bytes-requires c κs =
     let y = c .before .before .before .before in
@@ -32,9 +26,6 @@ put-bytes-requires c κs =
     let a = x .before .before .before .args in
     let w = y .before .before .hex-width .result in
     omega (arith, text-length (a .keycap) (a .ch), hex-length w (a .ch), y .before .before .hex-width .ensures .0, x .put-opening .ensures .ends, y .put-hex .ensures .ends)
-
-same-length : tie.Need-same-length
-same-length c = search needs
 
 returns : tie.Need-returns
 returns c =
@@ -49,9 +40,9 @@ put-text-spec =
     tie.close
     (tie.spec
     put-opening-requires
-    hex-width-requires
+    (λ c κs. search needs)
     put-hex-requires
-    slice-aggregate-put-bytes
+    (λ c. search needs)
     put-bytes-requires
-    same-length
+    (λ c. search needs)
     returns)

@@ -8,24 +8,12 @@ use borrow.Author.Needs.{needs}
 use Rattle.policy_key_set.proofs.display.show_keys.Statement.{statement}
 use Rattle.policy_key_set.proofs.display.show_keys.Tie as tie
 
-keys-end-requires : tie.Need-keys-end-requires
-keys-end-requires c κs = omega arith
-
-keys-end-requires-2 : tie.Need-keys-end-requires-2
-keys-end-requires-2 c κs = omega arith
-
-put-keys-requires : tie.Need-put-keys-requires
-put-keys-requires c κs = omega arith
-
 put-keys-requires-2 : tie.Need-put-keys-requires-2
 put-keys-requires-2 c κs =
     let x = c .before .before .before in
     let k = x .before .before .before .before in
     let e : x .put-keys .result ≡ k .keys-end .result = x .put-keys .ensures .ends ∙ sym (k .keys-end .ensures .0) in
     rw e (omega arith)
-
-same-length : tie.Need-same-length
-same-length c = search needs
 
 returns : tie.Need-returns
 returns c =
@@ -48,10 +36,10 @@ pub show-keys-spec : {M : Type 1} → statement M
 show-keys-spec =
     tie.close
     (tie.spec
-    keys-end-requires
-    keys-end-requires-2
-    put-keys-requires
+    (λ c κs. omega arith)
+    (λ c κs. omega arith)
+    (λ c κs. omega arith)
     put-keys-requires-2
-    same-length
+    (λ c. search needs)
     returns
     returns-2)

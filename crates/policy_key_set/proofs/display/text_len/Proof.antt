@@ -9,15 +9,6 @@ use borrow.Author.Needs.{needs}
 use Rattle.policy_key_set.proofs.display.text_len.Statement.{statement}
 use Rattle.policy_key_set.proofs.display.text_len.Tie as tie
 
-hex-width-requires : tie.Need-hex-width-requires
-hex-width-requires c κs = search needs
-
-add-result : tie.Need-add-result
-add-result c = search needs
-
-add-result-2 : tie.Need-add-result-2
-add-result-2 c = search needs
-
 returns : tie.Need-returns
 unfolding opening
 returns c =
@@ -25,12 +16,6 @@ returns c =
     let w = c .before .hex-width .ensures in
     let e = ap (λ (b : Bool). length (opening b)) (c .if1 .taken) in
     (omega (arith, text-length (a .keycap) (a .ch), w .0), omega arith)
-
-add-result-3 : tie.Need-add-result-3
-add-result-3 c = search needs
-
-add-result-4 : tie.Need-add-result-4
-add-result-4 c = search needs
 
 returns-2 : tie.Need-returns-2
 unfolding opening
@@ -44,10 +29,10 @@ pub text-len-spec : {M : Type 1} → statement M
 text-len-spec =
     tie.close
     (tie.spec
-    hex-width-requires
-    add-result
-    add-result-2
+    (λ c κs. search needs)
+    (λ c. search needs)
+    (λ c. search needs)
     returns
-    add-result-3
-    add-result-4
+    (λ c. search needs)
+    (λ c. search needs)
     returns-2)

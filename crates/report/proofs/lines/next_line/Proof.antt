@@ -6,21 +6,6 @@ use borrow.Author.Needs.{needs}
 use Rattle.report.proofs.lines.next_line.Statement.{statement}
 use Rattle.report.proofs.lines.next_line.Tie as tie
 
-analyze-scan-item-requires : tie.Need-analyze-scan-item-requires
-analyze-scan-item-requires c κs = search needs
-
-enum-told : tie.Need-enum-told
-enum-told c = search needs
-
-enum-known-end : tie.Need-enum-known-end
-enum-known-end c = search needs
-
-enum-known-finding : tie.Need-enum-known-finding
-enum-known-finding c = search needs
-
-put-finding-requires : tie.Need-put-finding-requires
-put-finding-requires c κs = search needs
-
 returns : tie.Need-returns
 returns c =
     let a = c .before .before .before .before .args in
@@ -38,4 +23,13 @@ returns-3 c =
     (w .0, a-finding (a .policy) (a .message .now) (a .at) _ (sym (c .before .before .before .finding .given .1) ∙ c .before .before .before .before .before .analyze-scan-item .ensures) (w .1))
 
 pub next-line-spec : {M : Type 1} → statement M
-next-line-spec = tie.close (tie.spec analyze-scan-item-requires enum-told enum-known-end enum-known-finding put-finding-requires returns returns-2 returns-3)
+next-line-spec = tie.close
+    (tie.spec
+    (λ c κs. search needs)
+    (λ c. search needs)
+    (λ c. search needs)
+    (λ c. search needs)
+    (λ c κs. search needs)
+    returns
+    returns-2
+    returns-3)

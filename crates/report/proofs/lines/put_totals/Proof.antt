@@ -4,12 +4,9 @@ use borrow.Author.Needs.{needs}
 use Rattle.report.proofs.lines.put_totals.Statement.{statement}
 use Rattle.report.proofs.lines.put_totals.Tie as tie
 
-total-line-requires : tie.Need-total-line-requires
-total-line-requires c κs = search needs
-
 returns : tie.Need-returns
 unfolding countNumbers
 returns c = (c .total-line .ensures .0, c .total-line .ensures .1 .0)
 
 pub put-totals-spec : {M : Type 1} → statement M
-put-totals-spec = tie.close (tie.spec total-line-requires returns)
+put-totals-spec = tie.close (tie.spec (λ c κs. search needs) returns)

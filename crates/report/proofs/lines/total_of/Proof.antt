@@ -10,12 +10,6 @@ use borrow.Author.Needs.{needs}
 use Rattle.report.proofs.lines.total_of.Statement.{statement}
 use Rattle.report.proofs.lines.total_of.Tie as tie
 
-measure-cells-requires : tie.Need-measure-cells-requires
-measure-cells-requires c κs = search needs
-
-put-totals-requires : tie.Need-put-totals-requires
-put-totals-requires c κs = search needs
-
 returns : tie.Need-returns
 unfolding totalsAt
 returns c =
@@ -25,4 +19,4 @@ returns c =
     (w .0, w .1 ∙ ap (λ (n : NonCanonicality). totalLine (countNumbers n)) m)
 
 pub total-of-spec : {M : Type 1} → statement M
-total-of-spec = tie.close (tie.spec measure-cells-requires put-totals-requires returns)
+total-of-spec = tie.close (tie.spec (λ c κs. search needs) (λ c κs. search needs) returns)

@@ -5,14 +5,8 @@ use Rattle.scanner.proofs.Classes.{class-is, is-emoji, is-modifier, is-
 use Rattle.scanner.proofs.char_class.class_of_emoji.Statement.{statement}
 use Rattle.scanner.proofs.char_class.class_of_emoji.Tie as tie
 
-is-ri-requires : tie.Need-is-ri-requires
-is-ri-requires c κs = search needs
-
 returns : tie.Need-returns
 returns c e = sym (class-is (is-ri (sym (c .before .is-ri .ensures) ∙ c .if1 .taken)))
-
-is-emoji-modifier-requires : tie.Need-is-emoji-modifier-requires
-is-emoji-modifier-requires c κs = search needs
 
 returns-2 : tie.Need-returns-2
 returns-2 c e = sym (class-is (is-modifier (sym (c .before .is-emoji-modifier .ensures) ∙ c .if2 .taken)))
@@ -23,4 +17,4 @@ returns-3 c e =
 
 pub class-of-emoji-spec : {M : Type 1} → statement M
 class-of-emoji-spec =
-    tie.close (tie.spec is-ri-requires returns is-emoji-modifier-requires returns-2 returns-3)
+    tie.close (tie.spec (λ c κs. search needs) returns (λ c κs. search needs) returns-2 returns-3)

@@ -23,9 +23,6 @@ returns-5 : tie.Need-returns-5
 unfolding isSelector
 returns-5 c e = sym (class-selector _ (ap isSelector (c .if5 .taken)))
 
-is-tag-requires : tie.Need-is-tag-requires
-is-tag-requires c κs = search needs
-
 returns-6 : tie.Need-returns-6
 returns-6 c e = sym (class-is (is-tag (sym (c .before .is-tag .ensures) ∙ c .if6 .taken)))
 
@@ -36,4 +33,4 @@ returns-7 c e =
 
 pub class-of-plain-spec : {M : Type 1} → statement M
 class-of-plain-spec =
-    tie.close (tie.spec returns returns-2 returns-3 returns-4 returns-5 is-tag-requires returns-6 returns-7)
+    tie.close (tie.spec returns returns-2 returns-3 returns-4 returns-5 (λ c κs. search needs) returns-6 returns-7)

@@ -4,15 +4,6 @@ use borrow.Author.Needs.{needs}
 use Rattle.scanner.proofs.char_class.classify.Statement.{statement}
 use Rattle.scanner.proofs.char_class.classify.Tie as tie
 
-emoji-data-requires : tie.Need-emoji-data-requires
-emoji-data-requires c κs = search needs
-
-class-of-emoji-requires : tie.Need-class-of-emoji-requires
-class-of-emoji-requires c κs = search needs
-
-class-of-plain-requires : tie.Need-class-of-plain-requires
-class-of-plain-requires c κs = search needs
-
 returns : tie.Need-returns
 returns c =
     let d = c .before .before .emoji-data .ensures in
@@ -25,4 +16,4 @@ returns-2 c =
 
 pub classify-spec : {M : Type 1} → statement M
 classify-spec =
-    tie.close (tie.spec emoji-data-requires class-of-emoji-requires class-of-plain-requires returns returns-2)
+    tie.close (tie.spec (λ c κs. search needs) (λ c κs. search needs) (λ c κs. search needs) returns returns-2)

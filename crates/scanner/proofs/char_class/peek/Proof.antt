@@ -6,19 +6,10 @@ use Rattle.scanner.proofs.Peek.{not-peeked, peeked}
 use Rattle.scanner.proofs.char_class.peek.Statement.{statement}
 use Rattle.scanner.proofs.char_class.peek.Tie as tie
 
-decode-requires : tie.Need-decode-requires
-decode-requires c κs = search needs
-
 returns : tie.Need-returns
 returns c =
     let x = c .before .before .before .args in
     not-peeked (x .text .now) (x .at) (packed-stop (x .text .now) (x .at) (c .before .decode .result) (c .before .decode .ensures) (c .if1 .taken))
-
-class-of-requires : tie.Need-class-of-requires
-class-of-requires c κs = search needs
-
-cast-end : tie.Need-cast-end
-cast-end c = search needs
 
 add-end : tie.Need-add-end
 add-end c =
@@ -36,4 +27,4 @@ returns-2 c =
 
 pub peek-spec : {M : Type 1} → statement M
 peek-spec =
-    tie.close (tie.spec decode-requires returns class-of-requires cast-end add-end returns-2)
+    tie.close (tie.spec (λ c κs. search needs) returns (λ c κs. search needs) (λ c. search needs) add-end returns-2)

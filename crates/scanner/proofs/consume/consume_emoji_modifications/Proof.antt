@@ -9,18 +9,6 @@ use Rattle.scanner.proofs.Peek.{seen, seen-arm, unseen}
 use Rattle.scanner.proofs.consume.consume_emoji_modifications.Statement.{statement}
 use Rattle.scanner.proofs.consume.consume_emoji_modifications.Tie as tie
 
-peek-requires : tie.Need-peek-requires
-peek-requires c κs = search needs
-
-enum-known-class : tie.Need-enum-known-class
-enum-known-class c = search needs
-
-run-end-requires : tie.Need-run-end-requires
-run-end-requires c κs = search needs
-
-enum-told : tie.Need-enum-told
-enum-told c = search needs
-
 returns : tie.Need-returns
 returns c =
     let x = c .before .before .before .before .before .before .before .args in
@@ -42,10 +30,10 @@ pub consume-emoji-modifications-spec : {M : Type 1} → statement M
 consume-emoji-modifications-spec =
     tie.close
     (tie.spec
-    peek-requires
-    enum-known-class
-    run-end-requires
-    enum-told
+    (λ c κs. search needs)
+    (λ c. search needs)
+    (λ c κs. search needs)
+    (λ c. search needs)
     returns
     returns-2
     returns-3)

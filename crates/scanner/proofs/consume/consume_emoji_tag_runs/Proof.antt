@@ -35,18 +35,6 @@ groups-holds c = refl
 loop-holds : tie.Need-loop-holds Inv-loop μ-loop Inv-groups μ-groups
 loop-holds c = (omega arith, λ e. absurd (false≢true e), c .groups .inv)
 
-peek-requires : tie.Need-peek-requires Inv-loop μ-loop Inv-groups μ-groups
-peek-requires c κs = search needs
-
-enum-known-class : tie.Need-enum-known-class Inv-loop μ-loop Inv-groups μ-groups
-enum-known-class c = search needs
-
-enum-told : tie.Need-enum-told Inv-loop μ-loop Inv-groups μ-groups
-enum-told c = search needs
-
-enum-told-2 : tie.Need-enum-told-2 Inv-loop μ-loop Inv-groups μ-groups
-enum-told-2 c = search needs
-
 groups-less : tie.Need-groups-less Inv-loop μ-loop Inv-groups μ-groups
 groups-less c =
     let x = c .before .before .before .before .before .before .before .before .before .before .args in
@@ -85,9 +73,6 @@ loop-again-2 c =
     let o = tags-test _ ∙ ap forTags (sym (k .class) ∙ c .before .enum-told2 .given .1) in
     (omega (arith, k .on, l .inv .0), λ _. omega (arith, k .on, l .inv .0), l .inv .2 ∙ run-on inTags k o)
 
-enum-told-3 : tie.Need-enum-told-3 Inv-loop μ-loop Inv-groups μ-groups
-enum-told-3 c = search needs
-
 returns : tie.Need-returns Inv-loop μ-loop Inv-groups μ-groups
 unfolding tagModificationAt
 returns c =
@@ -114,16 +99,16 @@ consume-emoji-tag-runs-spec =
     μ-groups
     groups-holds
     loop-holds
-    peek-requires
-    enum-known-class
-    enum-told
-    enum-told-2
+    (λ c κs. search needs)
+    (λ c. search needs)
+    (λ c. search needs)
+    (λ c. search needs)
     groups-less
     groups-again
     loop-less
     loop-again
     loop-less-2
     loop-again-2
-    enum-told-3
+    (λ c. search needs)
     returns
     returns-2)

@@ -8,30 +8,6 @@ use Rattle.scanner.proofs.Arms.{run-arm}
 use Rattle.scanner.proofs.consume.in_run.Statement.{statement}
 use Rattle.scanner.proofs.consume.in_run.Tie as tie
 
-enum-told : tie.Need-enum-told
-enum-told c = search needs
-
-enum-told-2 : tie.Need-enum-told-2
-enum-told-2 c = search needs
-
-enum-told-3 : tie.Need-enum-told-3
-enum-told-3 c = search needs
-
-enum-told-4 : tie.Need-enum-told-4
-enum-told-4 c = search needs
-
-enum-told-5 : tie.Need-enum-told-5
-enum-told-5 c = search needs
-
-enum-told-6 : tie.Need-enum-told-6
-enum-told-6 c = search needs
-
-enum-told-7 : tie.Need-enum-told-7
-enum-told-7 c = search needs
-
-returns : tie.Need-returns
-returns c = search needs
-
 returns-2 : tie.Need-returns-2
 returns-2 c = let x = c .before .before .before .args in run-arm (1 ∷ 2 ∷ 3 ∷ 4 ∷ 5 ∷ 6 ∷ 7 ∷ []) Selectors false (tt, refl, refl, refl, refl, refl, refl, refl) (x .kind) (x .class) (c .before .enum-told .given .1) (c .match2 .keys2)
 
@@ -47,9 +23,6 @@ returns-5 c = let x = c .before .before .before .args in run-arm (0 ∷ 3 ∷ 5 
 returns-6 : tie.Need-returns-6
 returns-6 c = let x = c .before .before .before .args in run-arm (1 ∷ 2 ∷ 4 ∷ 7 ∷ []) Modifications false (tt, refl, refl, tt, refl, tt, tt, refl) (x .kind) (x .class) (c .before .enum-told4 .given .1) (c .match4 .keys2)
 
-returns-7 : tie.Need-returns-7
-returns-7 c = search needs
-
 returns-8 : tie.Need-returns-8
 returns-8 c = let x = c .before .before .before .args in run-arm (0 ∷ 1 ∷ 2 ∷ 3 ∷ 4 ∷ 5 ∷ 7 ∷ []) Tags false (refl, refl, refl, refl, refl, refl, tt, refl) (x .kind) (x .class) (c .before .enum-told5 .given .1) (c .match5 .keys2)
 
@@ -63,20 +36,20 @@ pub in-run-spec : {M : Type 1} → statement M
 in-run-spec =
     tie.close
     (tie.spec
-    enum-told
-    enum-told-2
-    enum-told-3
-    enum-told-4
-    enum-told-5
-    enum-told-6
-    enum-told-7
-    returns
+    (λ c. search needs)
+    (λ c. search needs)
+    (λ c. search needs)
+    (λ c. search needs)
+    (λ c. search needs)
+    (λ c. search needs)
+    (λ c. search needs)
+    (λ c. search needs)
     returns-2
     returns-3
     returns-4
     returns-5
     returns-6
-    returns-7
+    (λ c. search needs)
     returns-8
     returns-9
     returns-10)

@@ -24,15 +24,6 @@ abbrev μ-loop : tie.MeasureT-loop
 loop-holds : tie.Need-loop-holds Inv-loop μ-loop
 loop-holds c = refl
 
-peek-requires : tie.Need-peek-requires Inv-loop μ-loop
-peek-requires c κs = search needs
-
-enum-known-class : tie.Need-enum-known-class Inv-loop μ-loop
-enum-known-class c = search needs
-
-in-run-requires : tie.Need-in-run-requires Inv-loop μ-loop
-in-run-requires c κs = search needs
-
 returns : tie.Need-returns Inv-loop μ-loop
 returns c =
     let x = c .before .before .before .before .before .before .before .before .args in
@@ -53,9 +44,6 @@ loop-again c =
     let e = ap (inRun (x .kind)) (sym (k .class)) ∙ sym (c .before .in-run .ensures) ∙ not-false (c .before .in-run .result) (c .if1 .left) in
     c .before .before .before .before .before .before .loop .inv ∙ run-on (λ y. inRun (x .kind) (classOf y)) k e
 
-enum-told : tie.Need-enum-told Inv-loop μ-loop
-enum-told c = search needs
-
 returns-2 : tie.Need-returns-2 Inv-loop μ-loop
 returns-2 c =
     let x = c .before .before .before .before .before .args in
@@ -68,11 +56,11 @@ run-end-spec =
     Inv-loop
     μ-loop
     loop-holds
-    peek-requires
-    enum-known-class
-    in-run-requires
+    (λ c κs. search needs)
+    (λ c. search needs)
+    (λ c κs. search needs)
     returns
     loop-less
     loop-again
-    enum-told
+    (λ c. search needs)
     returns-2)

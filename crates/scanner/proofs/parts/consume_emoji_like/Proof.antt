@@ -5,24 +5,6 @@ use Rattle.scanner.proofs.UnitsAt.{flag-some, single-some, unit-off, un
 use Rattle.scanner.proofs.parts.consume_emoji_like.Statement.{statement}
 use Rattle.scanner.proofs.parts.consume_emoji_like.Tie as tie
 
-consume-emoji-stem-requires : tie.Need-consume-emoji-stem-requires
-consume-emoji-stem-requires c κs = search needs
-
-enum-known-stem : tie.Need-enum-known-stem
-enum-known-stem c = search needs
-
-consume-emoji-modifications-requires : tie.Need-consume-emoji-modifications-requires
-consume-emoji-modifications-requires c κs = search needs
-
-enum-known-stem-2 : tie.Need-enum-known-stem-2
-enum-known-stem-2 c = search needs
-
-consume-emoji-modifications-requires-2 : tie.Need-consume-emoji-modifications-requires-2
-consume-emoji-modifications-requires-2 c κs = search needs
-
-enum-told : tie.Need-enum-told
-enum-told c = search needs
-
 returns : tie.Need-returns
 returns c =
     let x = c .before .before .before .before .before .before .args in
@@ -44,12 +26,12 @@ pub consume-emoji-like-spec : {M : Type 1} → statement M
 consume-emoji-like-spec =
     tie.close
     (tie.spec
-    consume-emoji-stem-requires
-    enum-known-stem
-    consume-emoji-modifications-requires
-    enum-known-stem-2
-    consume-emoji-modifications-requires-2
-    enum-told
+    (λ c κs. search needs)
+    (λ c. search needs)
+    (λ c κs. search needs)
+    (λ c. search needs)
+    (λ c κs. search needs)
+    (λ c. search needs)
     returns
     returns-2
     returns-3)

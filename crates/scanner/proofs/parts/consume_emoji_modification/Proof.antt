@@ -9,33 +9,6 @@ use Rattle.scanner.proofs.Peek.{seen, seen-arm, unseen}
 use Rattle.scanner.proofs.parts.consume_emoji_modification.Statement.{statement}
 use Rattle.scanner.proofs.parts.consume_emoji_modification.Tie as tie
 
-peek-requires : tie.Need-peek-requires
-peek-requires c κs = search needs
-
-enum-known-value : tie.Need-enum-known-value
-enum-known-value c = search needs
-
-enum-told : tie.Need-enum-told
-enum-told c = search needs
-
-consume-presentation-selectors-requires : tie.Need-consume-presentation-selectors-requires
-consume-presentation-selectors-requires c κs = search needs
-
-enum-told-2 : tie.Need-enum-told-2
-enum-told-2 c = search needs
-
-consume-presentation-selectors-requires-2 : tie.Need-consume-presentation-selectors-requires-2
-consume-presentation-selectors-requires-2 c κs = search needs
-
-enum-told-3 : tie.Need-enum-told-3
-enum-told-3 c = search needs
-
-consume-emoji-tag-runs-requires : tie.Need-consume-emoji-tag-runs-requires
-consume-emoji-tag-runs-requires c κs = search needs
-
-enum-told-4 : tie.Need-enum-told-4
-enum-told-4 c = search needs
-
 returns : tie.Need-returns
 returns c =
     let x = c .before .before .before .before .before .before .before .before .args in
@@ -70,15 +43,15 @@ pub consume-emoji-modification-spec : {M : Type 1} → statement M
 consume-emoji-modification-spec =
     tie.close
     (tie.spec
-    peek-requires
-    enum-known-value
-    enum-told
-    consume-presentation-selectors-requires
-    enum-told-2
-    consume-presentation-selectors-requires-2
-    enum-told-3
-    consume-emoji-tag-runs-requires
-    enum-told-4
+    (λ c κs. search needs)
+    (λ c. search needs)
+    (λ c. search needs)
+    (λ c κs. search needs)
+    (λ c. search needs)
+    (λ c κs. search needs)
+    (λ c. search needs)
+    (λ c κs. search needs)
+    (λ c. search needs)
     returns
     returns-2
     returns-3

@@ -9,24 +9,6 @@ use Rattle.scanner.proofs.Peek.{seen, seen-arm, unseen}
 use Rattle.scanner.proofs.parts.consume_emoji_stem.Statement.{statement}
 use Rattle.scanner.proofs.parts.consume_emoji_stem.Tie as tie
 
-peek-requires : tie.Need-peek-requires
-peek-requires c κs = search needs
-
-enum-known-value : tie.Need-enum-known-value
-enum-known-value c = search needs
-
-enum-told : tie.Need-enum-told
-enum-told c = search needs
-
-consume-regional-indicator-stem-requires : tie.Need-consume-regional-indicator-stem-requires
-consume-regional-indicator-stem-requires c κs = search needs
-
-consume-presentation-selectors-requires : tie.Need-consume-presentation-selectors-requires
-consume-presentation-selectors-requires c κs = search needs
-
-enum-told-2 : tie.Need-enum-told-2
-enum-told-2 c = search needs
-
 returns : tie.Need-returns
 returns c =
     let x = c .before .before .before .before .before .before .before .before .args in
@@ -55,12 +37,12 @@ pub consume-emoji-stem-spec : {M : Type 1} → statement M
 consume-emoji-stem-spec =
     tie.close
     (tie.spec
-    peek-requires
-    enum-known-value
-    enum-told
-    consume-regional-indicator-stem-requires
-    consume-presentation-selectors-requires
-    enum-told-2
+    (λ c κs. search needs)
+    (λ c. search needs)
+    (λ c. search needs)
+    (λ c κs. search needs)
+    (λ c κs. search needs)
+    (λ c. search needs)
     returns
     returns-2
     returns-3

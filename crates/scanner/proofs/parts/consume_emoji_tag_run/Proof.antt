@@ -4,16 +4,10 @@ use Rattle.scanner.proofs.UnitsAt.{no-tags, some-tags}
 use Rattle.scanner.proofs.parts.consume_emoji_tag_run.Statement.{statement}
 use Rattle.scanner.proofs.parts.consume_emoji_tag_run.Tie as tie
 
-run-end-requires : tie.Need-run-end-requires
-run-end-requires c κs = search needs
-
 returns : tie.Need-returns
 returns c =
     let x = c .before .before .before .args in
     no-tags (x .text .now) (x .at) (c .before .run-end .ensures) (c .if1 .taken)
-
-consume-presentation-selectors-requires : tie.Need-consume-presentation-selectors-requires
-consume-presentation-selectors-requires c κs = search needs
 
 returns-2 : tie.Need-returns-2
 returns-2 c =
@@ -22,9 +16,4 @@ returns-2 c =
 
 pub consume-emoji-tag-run-spec : {M : Type 1} → statement M
 consume-emoji-tag-run-spec =
-    tie.close
-    (tie.spec
-    run-end-requires
-    returns
-    consume-presentation-selectors-requires
-    returns-2)
+    tie.close (tie.spec (λ c κs. search needs) returns (λ c κs. search needs) returns-2)

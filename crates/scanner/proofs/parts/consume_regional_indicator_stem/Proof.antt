@@ -9,24 +9,6 @@ use Rattle.scanner.proofs.Peek.{seen, seen-arm, unseen}
 use Rattle.scanner.proofs.parts.consume_regional_indicator_stem.Statement.{statement}
 use Rattle.scanner.proofs.parts.consume_regional_indicator_stem.Tie as tie
 
-consume-presentation-selectors-requires : tie.Need-consume-presentation-selectors-requires
-consume-presentation-selectors-requires c κs = search needs
-
-peek-requires : tie.Need-peek-requires
-peek-requires c κs = search needs
-
-enum-known-value : tie.Need-enum-known-value
-enum-known-value c = search needs
-
-enum-told : tie.Need-enum-told
-enum-told c = search needs
-
-consume-presentation-selectors-requires-2 : tie.Need-consume-presentation-selectors-requires-2
-consume-presentation-selectors-requires-2 c κs = search needs
-
-enum-told-2 : tie.Need-enum-told-2
-enum-told-2 c = search needs
-
 returns : tie.Need-returns
 returns c =
     let x = c .before .before .before .before .before .before .before .before .before .args in
@@ -51,12 +33,12 @@ pub consume-regional-indicator-stem-spec : {M : Type 1} → statement M
 consume-regional-indicator-stem-spec =
     tie.close
     (tie.spec
-    consume-presentation-selectors-requires
-    peek-requires
-    enum-known-value
-    enum-told
-    consume-presentation-selectors-requires-2
-    enum-told-2
+    (λ c κs. search needs)
+    (λ c κs. search needs)
+    (λ c. search needs)
+    (λ c. search needs)
+    (λ c κs. search needs)
+    (λ c. search needs)
     returns
     returns-2
     returns-3)

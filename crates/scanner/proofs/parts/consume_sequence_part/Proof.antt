@@ -14,28 +14,10 @@ returns c =
     let x = c .before .before .args in
     part-past (x .text .now) (x .item-end) (x .at) (c .if1 .taken)
 
-consume-zwj-link-requires : tie.Need-consume-zwj-link-requires
-consume-zwj-link-requires c κs = search needs
-
-enum-known-selectors : tie.Need-enum-known-selectors
-enum-known-selectors c = search needs
-
 returns-2 : tie.Need-returns-2
 returns-2 c =
     let x = c .before .before .before .before .before .before .before .before .args in
     part-last (x .text .now) (x .item-end) (x .at) (c .before .before .before .before .before .before .if1 .left) (sym (c .before .before .before .selectors .given .1) ∙ c .before .before .before .before .before .consume-zwj-link .ensures) (c .if2 .taken)
-
-peek-requires : tie.Need-peek-requires
-peek-requires c κs = search needs
-
-enum-known-class : tie.Need-enum-known-class
-enum-known-class c = search needs
-
-enum-told : tie.Need-enum-told
-enum-told c = search needs
-
-enum-told-2 : tie.Need-enum-told-2
-enum-told-2 c = search needs
 
 returns-3 : tie.Need-returns-3
 returns-3 c =
@@ -70,13 +52,13 @@ consume-sequence-part-spec =
     tie.close
     (tie.spec
     returns
-    consume-zwj-link-requires
-    enum-known-selectors
+    (λ c κs. search needs)
+    (λ c. search needs)
     returns-2
-    peek-requires
-    enum-known-class
-    enum-told
-    enum-told-2
+    (λ c κs. search needs)
+    (λ c. search needs)
+    (λ c. search needs)
+    (λ c. search needs)
     returns-3
     returns-4
     returns-5

@@ -9,21 +9,6 @@ use Rattle.scanner.proofs.Peek.{seen, seen-arm, unseen}
 use Rattle.scanner.proofs.parts.consume_zwj_link.Statement.{statement}
 use Rattle.scanner.proofs.parts.consume_zwj_link.Tie as tie
 
-peek-requires : tie.Need-peek-requires
-peek-requires c κs = search needs
-
-enum-known-class : tie.Need-enum-known-class
-enum-known-class c = search needs
-
-enum-told : tie.Need-enum-told
-enum-told c = search needs
-
-consume-presentation-selectors-requires : tie.Need-consume-presentation-selectors-requires
-consume-presentation-selectors-requires c κs = search needs
-
-enum-told-2 : tie.Need-enum-told-2
-enum-told-2 c = search needs
-
 returns : tie.Need-returns
 returns c =
     let x = c .before .before .before .before .before .before .before .before .args in
@@ -45,11 +30,11 @@ pub consume-zwj-link-spec : {M : Type 1} → statement M
 consume-zwj-link-spec =
     tie.close
     (tie.spec
-    peek-requires
-    enum-known-class
-    enum-told
-    consume-presentation-selectors-requires
-    enum-told-2
+    (λ c κs. search needs)
+    (λ c. search needs)
+    (λ c. search needs)
+    (λ c κs. search needs)
+    (λ c. search needs)
     returns
     returns-2
     returns-3)

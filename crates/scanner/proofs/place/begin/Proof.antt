@@ -8,27 +8,6 @@ use Rattle.scanner.proofs.Arms.{class-arm}
 use Rattle.scanner.proofs.place.begin.Statement.{statement}
 use Rattle.scanner.proofs.place.begin.Tie as tie
 
-enum-told : tie.Need-enum-told
-enum-told c = search needs
-
-enum-told-2 : tie.Need-enum-told-2
-enum-told-2 c = search needs
-
-enum-told-3 : tie.Need-enum-told-3
-enum-told-3 c = search needs
-
-returns : tie.Need-returns
-unfolding begin
-returns c = cc
-
-returns-2 : tie.Need-returns-2
-unfolding begin
-returns-2 c = cc
-
-returns-3 : tie.Need-returns-3
-unfolding begin
-returns-3 c = cc
-
 returns-4 : tie.Need-returns-4
 unfolding begin
 returns-4 c = class-arm (3 ∷ 4 ∷ []) (λ (k : Class). unit ≡ begin k) (tt, tt, tt, refl, refl, tt, tt, tt) (c .before .args .k) (c .match .keys4)
@@ -38,6 +17,15 @@ unfolding begin
 returns-5 c = class-arm (5 ∷ 6 ∷ 7 ∷ []) (λ (k : Class). plain ≡ begin k) (tt, tt, tt, tt, tt, refl, refl, refl) (c .before .args .k) (c .match .keys5)
 
 pub begin-spec : {M : Type 1} → statement M
+unfolding begin
 begin-spec =
     tie.close
-    (tie.spec enum-told enum-told-2 enum-told-3 returns returns-2 returns-3 returns-4 returns-5)
+    (tie.spec
+    (λ c. search needs)
+    (λ c. search needs)
+    (λ c. search needs)
+    (λ c. cc)
+    (λ c. cc)
+    (λ c. cc)
+    returns-4
+    returns-5)

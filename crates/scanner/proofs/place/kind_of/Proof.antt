@@ -8,31 +8,19 @@ use Rattle.scanner.proofs.Arms.{place-arm}
 use Rattle.scanner.proofs.place.kind_of.Statement.{statement}
 use Rattle.scanner.proofs.place.kind_of.Tie as tie
 
-enum-told : tie.Need-enum-told
-enum-told c = search needs
-
-enum-told-2 : tie.Need-enum-told-2
-enum-told-2 c = search needs
-
-enum-told-3 : tie.Need-enum-told-3
-enum-told-3 c = search needs
-
-returns : tie.Need-returns
-unfolding kindOf
-returns c = cc
-
-returns-2 : tie.Need-returns-2
-unfolding kindOf
-returns-2 c = cc
-
-returns-3 : tie.Need-returns-3
-unfolding kindOf
-returns-3 c = cc
-
 returns-4 : tie.Need-returns-4
 unfolding kindOf
 returns-4 c = place-arm (3 ∷ 4 ∷ 5 ∷ 6 ∷ []) (λ (p : Place). EmojiHeaded ≡ kindOf p) (tt, tt, tt, refl, refl, refl, refl) (c .before .args .p) (c .match .keys4)
 
 pub kind-of-spec : {M : Type 1} → statement M
+unfolding kindOf
 kind-of-spec =
-    tie.close (tie.spec enum-told enum-told-2 enum-told-3 returns returns-2 returns-3 returns-4)
+    tie.close
+    (tie.spec
+    (λ c. search needs)
+    (λ c. search needs)
+    (λ c. search needs)
+    (λ c. cc)
+    (λ c. cc)
+    (λ c. cc)
+    returns-4)

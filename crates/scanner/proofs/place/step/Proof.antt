@@ -9,42 +9,6 @@ use Rattle.scanner.proofs.Arms.{class-arm, place-arm, step-arm}
 use Rattle.scanner.proofs.place.step.Statement.{statement}
 use Rattle.scanner.proofs.place.step.Tie as tie
 
-enum-told : tie.Need-enum-told
-enum-told c = search needs
-
-enum-told-2 : tie.Need-enum-told-2
-enum-told-2 c = search needs
-
-enum-told-3 : tie.Need-enum-told-3
-enum-told-3 c = search needs
-
-enum-told-4 : tie.Need-enum-told-4
-enum-told-4 c = search needs
-
-enum-told-5 : tie.Need-enum-told-5
-enum-told-5 c = search needs
-
-enum-told-6 : tie.Need-enum-told-6
-enum-told-6 c = search needs
-
-enum-told-7 : tie.Need-enum-told-7
-enum-told-7 c = search needs
-
-enum-told-8 : tie.Need-enum-told-8
-enum-told-8 c = search needs
-
-enum-told-9 : tie.Need-enum-told-9
-enum-told-9 c = search needs
-
-enum-told-10 : tie.Need-enum-told-10
-enum-told-10 c = search needs
-
-enum-told-11 : tie.Need-enum-told-11
-enum-told-11 c = search needs
-
-enum-told-12 : tie.Need-enum-told-12
-enum-told-12 c = search needs
-
 returns : tie.Need-returns
 unfolding step
 returns c = let x = c .before .before .before .args in step-arm (5 ∷ 6 ∷ 7 ∷ []) plain (On plain) (tt, tt, tt, tt, tt, refl, refl, refl) (x .p) (x .k) (c .before .enum-told .given .1) (c .match2 .keys1)
@@ -52,10 +16,6 @@ returns c = let x = c .before .before .before .args in step-arm (5 ∷ 6 ∷ 7 �
 returns-2 : tie.Need-returns-2
 unfolding step
 returns-2 c = let x = c .before .before .before .args in step-arm (0 ∷ 1 ∷ 2 ∷ 3 ∷ 4 ∷ []) plain Stop (refl, refl, refl, refl, refl, tt, tt, tt) (x .p) (x .k) (c .before .enum-told .given .1) (c .match2 .keys2)
-
-returns-3 : tie.Need-returns-3
-unfolding step
-returns-3 c = cc
 
 returns-4 : tie.Need-returns-4
 unfolding step
@@ -75,14 +35,6 @@ returns-6 c =
     let b = class-arm (2 ∷ 3 ∷ 4 ∷ 5 ∷ 6 ∷ 7 ∷ []) (λ (y : Class). (Stop ≡ nextOf (step links y)) × (Stop ≡ nextOf (step leftOver y))) (tt, tt, (refl, refl), (refl, refl), (refl, refl), (refl, refl), (refl, refl), (refl, refl)) (x .k) (c .match4 .keys2) in
     place-arm (2 ∷ 6 ∷ []) (λ (q : Place). Stop ≡ nextOf (step q (x .k))) (tt, tt, b .0, tt, tt, tt, b .1) (x .p) (c .before .match .keys3)
 
-returns-7 : tie.Need-returns-7
-unfolding step
-returns-7 c = cc
-
-returns-8 : tie.Need-returns-8
-unfolding step
-returns-8 c = cc
-
 returns-9 : tie.Need-returns-9
 unfolding step
 returns-9 c = let x = c .before .before .before .args in step-arm (2 ∷ 3 ∷ 5 ∷ 6 ∷ []) oneRi (On unit) (tt, tt, refl, refl, tt, refl, refl, tt) (x .p) (x .k) (c .before .enum-told4 .given .1) (c .match5 .keys3)
@@ -95,25 +47,9 @@ returns-11 : tie.Need-returns-11
 unfolding step
 returns-11 c = let x = c .before .before .before .args in step-arm (0 ∷ 3 ∷ 5 ∷ 6 ∷ []) unit (On unit) (refl, tt, tt, refl, tt, refl, refl, tt) (x .p) (x .k) (c .before .enum-told7 .given .1) (c .match6 .keys1)
 
-returns-12 : tie.Need-returns-12
-unfolding step
-returns-12 c = cc
-
 returns-13 : tie.Need-returns-13
 unfolding step
 returns-13 c = let x = c .before .before .before .args in step-arm (2 ∷ 4 ∷ 7 ∷ []) unit Stop (tt, tt, refl, tt, refl, tt, tt, refl) (x .p) (x .k) (c .before .enum-told7 .given .1) (c .match6 .keys3)
-
-returns-14 : tie.Need-returns-14
-unfolding step
-returns-14 c = cc
-
-returns-15 : tie.Need-returns-15
-unfolding step
-returns-15 c = cc
-
-returns-16 : tie.Need-returns-16
-unfolding step
-returns-16 c = cc
 
 returns-17 : tie.Need-returns-17
 unfolding step
@@ -124,36 +60,37 @@ unfolding step
 returns-18 c = let x = c .before .before .before .args in step-arm (5 ∷ 6 ∷ 7 ∷ []) joined Stop (tt, tt, tt, tt, tt, refl, refl, refl) (x .p) (x .k) (c .before .enum-told9 .given .1) (c .match7 .keys5)
 
 pub step-spec : {M : Type 1} → statement M
+unfolding step
 step-spec =
     tie.close
     (tie.spec
-    enum-told
-    enum-told-2
-    enum-told-3
-    enum-told-4
-    enum-told-5
-    enum-told-6
-    enum-told-7
-    enum-told-8
-    enum-told-9
-    enum-told-10
-    enum-told-11
-    enum-told-12
+    (λ c. search needs)
+    (λ c. search needs)
+    (λ c. search needs)
+    (λ c. search needs)
+    (λ c. search needs)
+    (λ c. search needs)
+    (λ c. search needs)
+    (λ c. search needs)
+    (λ c. search needs)
+    (λ c. search needs)
+    (λ c. search needs)
+    (λ c. search needs)
     returns
     returns-2
-    returns-3
+    (λ c. cc)
     returns-4
     returns-5
     returns-6
-    returns-7
-    returns-8
+    (λ c. cc)
+    (λ c. cc)
     returns-9
     returns-10
     returns-11
-    returns-12
+    (λ c. cc)
     returns-13
-    returns-14
-    returns-15
-    returns-16
+    (λ c. cc)
+    (λ c. cc)
+    (λ c. cc)
     returns-17
     returns-18)

@@ -1,21 +1,12 @@
--- `scanner::scanner::item_of` meets its contract.
+-- By what the answer is.
 use mathlib.Core.Path.{ap, sym}
 use borrow.Author.Needs.{needs}
 use Rattle.scanner.specs.Scanner.{itemOf}
 use Rattle.scanner.proofs.scanner.item_of.Statement.{statement}
 use Rattle.scanner.proofs.scanner.item_of.Tie as tie
 
-enum-known-step : tie.Need-enum-known-step
-enum-known-step c = search needs
-
-enum-told : tie.Need-enum-told
-enum-told c = search needs
-
-returns : tie.Need-returns
-returns c = search needs
-
 returns-2 : tie.Need-returns-2
 returns-2 c = sym (ap itemOf (c .enum-told .given .1))
 
 pub item-of-spec : {M : Type 1} → statement M
-item-of-spec = tie.close (tie.spec enum-known-step enum-told returns returns-2)
+item-of-spec = tie.close (tie.spec (λ c. search needs) (λ c. search needs) (λ c. search needs) returns-2)

@@ -1,4 +1,4 @@
--- `scanner::scanner::left_after` meets its contract.
+-- By what the answer is, and by whether a call is left.
 use mathlib.Core.Path.{_≡_, ap, sym, _∙_}
 use Prim.Native.Nat.{_-_}
 use native.Mathlib.Omega.{arith}
@@ -8,26 +8,21 @@ use Rattle.scanner.specs.declared.ScanStep.{ScanStep}
 use Rattle.scanner.proofs.scanner.left_after.Statement.{statement}
 use Rattle.scanner.proofs.scanner.left_after.Tie as tie
 
-enum-told : tie.Need-enum-told
-enum-told c = search needs
-
 returns : tie.Need-returns
 returns c =
     let n = c .before .before .before .args .left in
     let z : 0 ≡ n - 1 = omega arith in
     z ∙ sym (ap (λ (s : ScanStep). leftAfter s n) (c .before .enum-told .given .1))
 
-sub-result : tie.Need-sub-result
-sub-result c = search needs
-
-enum-told-2 : tie.Need-enum-told-2
-enum-told-2 c = search needs
-
 returns-2 : tie.Need-returns-2
 returns-2 c = sym (ap (λ (s : ScanStep). leftAfter s (c .before .before .before .args .left)) (c .before .enum-told .given .1))
 
-returns-3 : tie.Need-returns-3
-returns-3 c = search needs
-
 pub left-after-spec : {M : Type 1} → statement M
-left-after-spec = tie.close (tie.spec enum-told returns sub-result enum-told-2 returns-2 returns-3)
+left-after-spec = tie.close
+    (tie.spec
+    (λ c. search needs)
+    returns
+    (λ c. search needs)
+    (λ c. search needs)
+    returns-2
+    (λ c. search needs))

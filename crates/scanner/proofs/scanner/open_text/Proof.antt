@@ -1,17 +1,8 @@
--- `scanner::scanner::open_text` meets its contract.
+-- By the verdict on the text.
 use borrow.Author.Needs.{needs}
 use Rattle.scanner.proofs.Advancing.{open-passed, open-refused}
 use Rattle.scanner.proofs.scanner.open_text.Statement.{statement}
 use Rattle.scanner.proofs.scanner.open_text.Tie as tie
-
-check-text-requires : tie.Need-check-text-requires
-check-text-requires c κs = search needs
-
-enum-told : tie.Need-enum-told
-enum-told c = search needs
-
-enum-told-2 : tie.Need-enum-told-2
-enum-told-2 c = search needs
 
 returns : tie.Need-returns
 returns c = open-passed (c .before .before .before .before .args .text .now) (c .before .before .check-text .ensures) (c .enum-told .given .1)
@@ -20,4 +11,4 @@ returns-2 : tie.Need-returns-2
 returns-2 c = open-refused (c .before .before .before .before .args .text .now) (c .enum-told2 .given .0 .0) (c .before .before .check-text .ensures) (c .enum-told2 .given .1)
 
 pub open-text-spec : {M : Type 1} → statement M
-open-text-spec = tie.close (tie.spec check-text-requires enum-told enum-told-2 returns returns-2)
+open-text-spec = tie.close (tie.spec (λ c κs. search needs) (λ c. search needs) (λ c. search needs) returns returns-2)

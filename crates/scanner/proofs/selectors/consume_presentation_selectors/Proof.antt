@@ -5,29 +5,17 @@ use Rattle.scanner.proofs.SelectorRun.{no-selectors, selector-room, sel
 use Rattle.scanner.proofs.selectors.consume_presentation_selectors.Statement.{statement}
 use Rattle.scanner.proofs.selectors.consume_presentation_selectors.Tie as tie
 
-selectors-end-requires : tie.Need-selectors-end-requires
-selectors-end-requires c κs = search needs
-
 returns : tie.Need-returns
 returns c =
     let x = c .before .before .before .args in
     let r = c .before .selectors-end in
     no-selectors (x .text .now) (x .at) (r .result) (r .ensures) (c .if1 .taken)
 
-selector-at-requires : tie.Need-selector-at-requires
-selector-at-requires c κs = search needs
-
 add-selector-at : tie.Need-add-selector-at
 add-selector-at c =
     let x = c .before .before .before .before .args in
     let r = c .before .before .selectors-end in
     omega (arith, selector-room (x .text .now) (x .at) (r .result) (r .ensures) (c .before .if1 .left))
-
-selector-at-requires-2 : tie.Need-selector-at-requires-2
-selector-at-requires-2 c κs = search needs
-
-sub-count : tie.Need-sub-count
-sub-count c = search needs
 
 returns-2 : tie.Need-returns-2
 returns-2 c =
@@ -39,10 +27,10 @@ pub consume-presentation-selectors-spec : {M : Type 1} → statement M
 consume-presentation-selectors-spec =
     tie.close
     (tie.spec
-    selectors-end-requires
+    (λ c κs. search needs)
     returns
-    selector-at-requires
+    (λ c κs. search needs)
     add-selector-at
-    selector-at-requires-2
-    sub-count
+    (λ c κs. search needs)
+    (λ c. search needs)
     returns-2)

@@ -6,24 +6,15 @@ use borrow.Author.Needs.{needs}
 use Rattle.scanner.proofs.selectors.selector_at.Statement.{statement}
 use Rattle.scanner.proofs.selectors.selector_at.Tie as tie
 
-byte-at-requires : tie.Need-byte-at-requires
-byte-at-requires c κs = search needs
-
 returns : tie.Need-returns
 returns c =
     let x = c .before .before .before .args in
     no-selector-read (x .text .now) (x .at) (λ q e. c .if1 .taken (c .before .byte-at .ensures ∙ selector-bytes (x .text .now) (x .at) q e .0))
 
-byte-at-requires-2 : tie.Need-byte-at-requires-2
-byte-at-requires-2 c κs = search needs
-
 returns-2 : tie.Need-returns-2
 returns-2 c =
     let x = c .before .before .before .before .before .args in
     no-selector-read (x .text .now) (x .at) (λ q e. c .if2 .taken (c .before .byte-at2 .ensures ∙ selector-bytes (x .text .now) (x .at) q e .1))
-
-byte-at-requires-3 : tie.Need-byte-at-requires-3
-byte-at-requires-3 c κs = search needs
 
 returns-3 : tie.Need-returns-3
 returns-3 c =
@@ -44,11 +35,11 @@ pub selector-at-spec : {M : Type 1} → statement M
 selector-at-spec =
     tie.close
     (tie.spec
-    byte-at-requires
+    (λ c κs. search needs)
     returns
-    byte-at-requires-2
+    (λ c κs. search needs)
     returns-2
-    byte-at-requires-3
+    (λ c κs. search needs)
     returns-3
     returns-4
     returns-5)

@@ -21,12 +21,6 @@ abbrev μ-loop : tie.MeasureT-loop
 loop-holds : tie.Need-loop-holds Inv-loop μ-loop
 loop-holds c = refl
 
-selector-at-requires : tie.Need-selector-at-requires Inv-loop μ-loop
-selector-at-requires c κs = search needs
-
-enum-told : tie.Need-enum-told Inv-loop μ-loop
-enum-told c = search needs
-
 add-at : tie.Need-add-at Inv-loop μ-loop
 add-at c =
     let x = c .before .before .before .before .before .args in
@@ -48,9 +42,6 @@ loop-again c =
     let h = selector-here (x .text .now) (l .at) (c .enum-told .given .0 .0) (sym (c .before .before .selector-at .ensures) ∙ c .enum-told .given .1) in
     omega (arith, l .inv, h .runs-on)
 
-enum-told-2 : tie.Need-enum-told-2 Inv-loop μ-loop
-enum-told-2 c = search needs
-
 returns : tie.Need-returns Inv-loop μ-loop
 returns c =
     let x = c .before .before .before .before .before .args in
@@ -64,10 +55,10 @@ selectors-end-spec =
     Inv-loop
     μ-loop
     loop-holds
-    selector-at-requires
-    enum-told
+    (λ c κs. search needs)
+    (λ c. search needs)
     add-at
     loop-less
     loop-again
-    enum-told-2
+    (λ c. search needs)
     returns)

@@ -8,23 +8,6 @@ use Rattle.scanner.proofs.Arms.{class-arm}
 use Rattle.scanner.proofs.tag_report.tags_after.Statement.{statement}
 use Rattle.scanner.proofs.tag_report.tags_after.Tie as tie
 
-enum-told : tie.Need-enum-told
-enum-told c = search needs
-
-enum-told-2 : tie.Need-enum-told-2
-enum-told-2 c = search needs
-
-close-requires : tie.Need-close-requires
-close-requires c κs = search needs
-
-returns : tie.Need-returns
-unfolding tagsAfter
-returns c = cc
-
-returns-2 : tie.Need-returns-2
-unfolding tagsAfter
-returns-2 c = cc
-
 returns-3 : tie.Need-returns-3
 unfolding tagsAfter
 returns-3 c =
@@ -32,5 +15,13 @@ returns-3 c =
     c .close .ensures ∙ class-arm (1 ∷ 2 ∷ 3 ∷ 4 ∷ 5 ∷ 7 ∷ []) (λ (k : Class). closed (x .tags) ≡ tagsAfter (x .tags) k (x .ch)) (tt, refl, refl, refl, refl, refl, tt, refl) (x .k) (c .before .match .keys3)
 
 pub tags-after-spec : {M : Type 1} → statement M
+unfolding tagsAfter
 tags-after-spec =
-    tie.close (tie.spec enum-told enum-told-2 close-requires returns returns-2 returns-3)
+    tie.close
+    (tie.spec
+    (λ c. search needs)
+    (λ c. search needs)
+    (λ c κs. search needs)
+    (λ c. cc)
+    (λ c. cc)
+    returns-3)

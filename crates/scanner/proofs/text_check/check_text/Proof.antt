@@ -1,4 +1,4 @@
--- `scanner::text_check::check_text` meets its contract.
+-- By the length, and by how far the text is well-formed.
 use mathlib.Core.Path.{refl, sym, ap, _∙_}
 use Prim.Native.Nat.{ℕ}
 use native.Mathlib.Omega.{arith}
@@ -18,9 +18,6 @@ returns c =
     let t = c .before .before .args .text .now in
     sym (ap checked (text-is t (lt-leb (length t) 16777216 (omega arith)) refl))
 
-valid-up-to-requires : tie.Need-valid-up-to-requires
-valid-up-to-requires c κs = search needs
-
 returns-2 : tie.Need-returns-2
 returns-2 c =
     let t = c .before .before .before .before .args .text .now in
@@ -36,4 +33,4 @@ returns-3 c =
     sym (ap checked (text-is t (le-leb (length t) 16777216 (omega arith)) n))
 
 pub check-text-spec : {M : Type 1} → statement M
-check-text-spec = tie.close (tie.spec returns valid-up-to-requires returns-2 returns-3)
+check-text-spec = tie.close (tie.spec returns (λ c κs. search needs) returns-2 returns-3)

@@ -1,114 +1,35 @@
--- `tilghorz::answer_word::refusal_word` meets its contract.
+-- Case by case, the word of the refusal's row.
 use borrow.Author.Needs.{needs}
 use Rattle.base.specs.Refusals.{refusalRow}
 use Rattle.tilghorz.proofs.answer_word.refusal_word.Statement.{statement}
 use Rattle.tilghorz.proofs.answer_word.refusal_word.Tie as tie
 
-enum-told : tie.Need-enum-told
-enum-told c = search needs
-
-word-of-requires : tie.Need-word-of-requires
-word-of-requires c κs = search needs
-
-enum-told-2 : tie.Need-enum-told-2
-enum-told-2 c = search needs
-
-word-of-requires-2 : tie.Need-word-of-requires-2
-word-of-requires-2 c κs = search needs
-
-enum-known-refusal : tie.Need-enum-known-refusal
-enum-known-refusal c = search needs
-
-word-of-requires-3 : tie.Need-word-of-requires-3
-word-of-requires-3 c κs = search needs
-
-enum-told-3 : tie.Need-enum-told-3
-enum-told-3 c = search needs
-
-word-of-requires-4 : tie.Need-word-of-requires-4
-word-of-requires-4 c κs = search needs
-
-enum-known-refusal-2 : tie.Need-enum-known-refusal-2
-enum-known-refusal-2 c = search needs
-
-word-of-requires-5 : tie.Need-word-of-requires-5
-word-of-requires-5 c κs = search needs
-
-enum-known-refusal-3 : tie.Need-enum-known-refusal-3
-enum-known-refusal-3 c = search needs
-
-word-of-requires-6 : tie.Need-word-of-requires-6
-word-of-requires-6 c κs = search needs
-
-enum-known-refusal-4 : tie.Need-enum-known-refusal-4
-enum-known-refusal-4 c = search needs
-
-word-of-requires-7 : tie.Need-word-of-requires-7
-word-of-requires-7 c κs = search needs
-
-enum-known-refusal-5 : tie.Need-enum-known-refusal-5
-enum-known-refusal-5 c = search needs
-
-word-of-requires-8 : tie.Need-word-of-requires-8
-word-of-requires-8 c κs = search needs
-
-returns : tie.Need-returns
-unfolding refusalRow
-returns c = simp (c .before .enum-told .given .1, c .word-of .ensures)
-
-returns-2 : tie.Need-returns-2
-unfolding refusalRow
-returns-2 c = simp (c .before .enum-told2 .given .1, c .word-of2 .ensures)
-
-returns-3 : tie.Need-returns-3
-unfolding refusalRow
-returns-3 c = simp (c .before .before .refusal .given .1, c .word-of3 .ensures)
-
-returns-4 : tie.Need-returns-4
-unfolding refusalRow
-returns-4 c = simp (c .before .enum-told3 .given .1, c .word-of4 .ensures)
-
-returns-5 : tie.Need-returns-5
-unfolding refusalRow
-returns-5 c = simp (c .before .before .refusal2 .given .1, c .word-of5 .ensures)
-
-returns-6 : tie.Need-returns-6
-unfolding refusalRow
-returns-6 c = simp (c .before .before .refusal3 .given .1, c .word-of6 .ensures)
-
-returns-7 : tie.Need-returns-7
-unfolding refusalRow
-returns-7 c = simp (c .before .before .refusal4 .given .1, c .word-of7 .ensures)
-
-returns-8 : tie.Need-returns-8
-unfolding refusalRow
-returns-8 c = simp (c .before .before .refusal5 .given .1, c .word-of8 .ensures)
-
 pub refusal-word-spec : {M : Type 1} → statement M
+unfolding refusalRow
 refusal-word-spec =
     tie.close
     (tie.spec
-    enum-told
-    word-of-requires
-    enum-told-2
-    word-of-requires-2
-    enum-known-refusal
-    word-of-requires-3
-    enum-told-3
-    word-of-requires-4
-    enum-known-refusal-2
-    word-of-requires-5
-    enum-known-refusal-3
-    word-of-requires-6
-    enum-known-refusal-4
-    word-of-requires-7
-    enum-known-refusal-5
-    word-of-requires-8
-    returns
-    returns-2
-    returns-3
-    returns-4
-    returns-5
-    returns-6
-    returns-7
-    returns-8)
+    (λ c. search needs)
+    (λ c κs. search needs)
+    (λ c. search needs)
+    (λ c κs. search needs)
+    (λ c. search needs)
+    (λ c κs. search needs)
+    (λ c. search needs)
+    (λ c κs. search needs)
+    (λ c. search needs)
+    (λ c κs. search needs)
+    (λ c. search needs)
+    (λ c κs. search needs)
+    (λ c. search needs)
+    (λ c κs. search needs)
+    (λ c. search needs)
+    (λ c κs. search needs)
+    (λ c. simp (c .before .enum-told .given .1, c .word-of .ensures))
+    (λ c. simp (c .before .enum-told2 .given .1, c .word-of2 .ensures))
+    (λ c. simp (c .before .before .refusal .given .1, c .word-of3 .ensures))
+    (λ c. simp (c .before .enum-told3 .given .1, c .word-of4 .ensures))
+    (λ c. simp (c .before .before .refusal2 .given .1, c .word-of5 .ensures))
+    (λ c. simp (c .before .before .refusal3 .given .1, c .word-of6 .ensures))
+    (λ c. simp (c .before .before .refusal4 .given .1, c .word-of7 .ensures))
+    (λ c. simp (c .before .before .refusal5 .given .1, c .word-of8 .ensures)))

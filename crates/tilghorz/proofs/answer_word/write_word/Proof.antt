@@ -1,36 +1,18 @@
--- `tilghorz::answer_word::write_word` meets its contract.
+-- Case by case, the word of the answer's row.
 use borrow.Author.Needs.{needs}
+use Rattle.base.specs.Refusals.{refusalRow}
 use Rattle.tilghorz.specs.AnswerWord.{writeRow}
 use Rattle.tilghorz.proofs.answer_word.write_word.Statement.{statement}
 use Rattle.tilghorz.proofs.answer_word.write_word.Tie as tie
 
-enum-known-answer : tie.Need-enum-known-answer
-enum-known-answer c = search needs
-
-word-of-requires : tie.Need-word-of-requires
-word-of-requires c κs = search needs
-
-enum-known-answer-2 : tie.Need-enum-known-answer-2
-enum-known-answer-2 c = search needs
-
-word-of-requires-2 : tie.Need-word-of-requires-2
-word-of-requires-2 c κs = search needs
-
-returns : tie.Need-returns
-unfolding writeRow
-returns c = simp (c .before .before .answer .given .1, c .word-of .ensures)
-
-returns-2 : tie.Need-returns-2
-unfolding writeRow
-returns-2 c = simp (c .before .before .answer2 .given .1, c .word-of2 .ensures)
-
 pub write-word-spec : {M : Type 1} → statement M
+unfolding writeRow refusalRow
 write-word-spec =
     tie.close
     (tie.spec
-    enum-known-answer
-    word-of-requires
-    enum-known-answer-2
-    word-of-requires-2
-    returns
-    returns-2)
+    (λ c. search needs)
+    (λ c κs. search needs)
+    (λ c. search needs)
+    (λ c κs. search needs)
+    (λ c. simp (c .before .before .answer .given .1, c .word-of .ensures))
+    (λ c. simp (c .before .before .answer2 .given .1, c .word-of2 .ensures)))

@@ -35,30 +35,18 @@ module _ (k : ℕ) where
   unfolding middleBlocks allBefore
   past-middle = search-past 0x7C0 middleBlocks pictographBlocks refl k
 
-low-block-requires : tie.Need-low-block-requires
-low-block-requires c κs = search needs
-
 returns : tie.Need-returns
 returns c = c .low-block .ensures ∙ sym (stops-low (c .before .before .args .k) (c .before .if1 .taken))
-
-symbol-block-requires : tie.Need-symbol-block-requires
-symbol-block-requires c κs = search needs
 
 returns-2 : tie.Need-returns-2
 returns-2 c =
     let k = c .before .before .before .args .k in
     c .symbol-block .ensures ∙ sym (past-low k (omega arith) ∙ stops-symbol k (omega arith))
 
-middle-block-requires : tie.Need-middle-block-requires
-middle-block-requires c κs = search needs
-
 returns-3 : tie.Need-returns-3
 returns-3 c =
     let k = c .before .before .before .before .args .k in
     c .middle-block .ensures ∙ sym (past-low k (omega arith) ∙ past-symbol k (omega arith) ∙ stops-middle k (omega arith))
-
-pictograph-block-requires : tie.Need-pictograph-block-requires
-pictograph-block-requires c κs = search needs
 
 returns-4 : tie.Need-returns-4
 returns-4 c =
@@ -69,11 +57,11 @@ pub block-of-spec : {M : Type 1} → statement M
 block-of-spec =
     tie.close
     (tie.spec
-    low-block-requires
+    (λ c κs. search needs)
     returns
-    symbol-block-requires
+    (λ c κs. search needs)
     returns-2
-    middle-block-requires
+    (λ c κs. search needs)
     returns-3
-    pictograph-block-requires
+    (λ c κs. search needs)
     returns-4)

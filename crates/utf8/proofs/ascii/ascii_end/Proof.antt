@@ -18,26 +18,11 @@ Inv-loop s from last at₀ at = AsciiRun s from at
 abbrev μ-loop : tie.MeasureT-loop
 μ-loop s from last at₀ at = length s - at
 
-run-end-requires : tie.Need-run-end-requires Inv-loop μ-loop
-run-end-requires c κs = search needs
-
 returns : tie.Need-returns Inv-loop μ-loop
 returns c = c .run-end .ensures
 
-sub-last : tie.Need-sub-last Inv-loop μ-loop
-sub-last c = search needs
-
 loop-holds : tie.Need-loop-holds Inv-loop μ-loop
 loop-holds c = run-none (c .before .before .args .s .now) (c .before .before .args .from)
-
-read-word-requires : tie.Need-read-word-requires Inv-loop μ-loop
-read-word-requires c κs = search needs
-
-zero-bytes-requires : tie.Need-zero-bytes-requires Inv-loop μ-loop
-zero-bytes-requires c κs = search needs
-
-add-result : tie.Need-add-result Inv-loop μ-loop
-add-result c = omega arith
 
 returns-2 : tie.Need-returns-2 Inv-loop μ-loop
 returns-2 c =
@@ -47,12 +32,6 @@ returns-2 c =
     let n = c .zero-bytes .result in
     let front = front-bytes (y .before .args .s .now) (x .loop .at) (w .ensures) (λ j. y .shared-slice-known .given j .fits) in
     run-on 0x7F n (x .loop .inv) (front n (omega arith)) (omega arith) (omega arith)
-
-add-at : tie.Need-add-at Inv-loop μ-loop
-add-at c = omega arith
-
-loop-less : tie.Need-loop-less Inv-loop μ-loop
-loop-less c = omega arith
 
 loop-again : tie.Need-loop-again Inv-loop μ-loop
 loop-again c =
@@ -65,15 +44,6 @@ loop-again c =
 
 returns-3 : tie.Need-returns-3 Inv-loop μ-loop
 returns-3 c = c .before .before .loop .inv
-
-sub-ascii-in-word : tie.Need-sub-ascii-in-word Inv-loop μ-loop
-sub-ascii-in-word c = omega arith
-
-ascii-in-word-requires : tie.Need-ascii-in-word-requires Inv-loop μ-loop
-ascii-in-word-requires c κs = omega arith
-
-add-result-2 : tie.Need-add-result-2 Inv-loop μ-loop
-add-result-2 c = omega arith
 
 returns-4 : tie.Need-returns-4 Inv-loop μ-loop
 returns-4 c =
@@ -90,19 +60,19 @@ ascii-end-spec =
     (tie.spec
     Inv-loop
     μ-loop
-    run-end-requires
+    (λ c κs. search needs)
     returns
-    sub-last
+    (λ c. search needs)
     loop-holds
-    read-word-requires
-    zero-bytes-requires
-    add-result
+    (λ c κs. search needs)
+    (λ c κs. search needs)
+    (λ c. omega arith)
     returns-2
-    add-at
-    loop-less
+    (λ c. omega arith)
+    (λ c. omega arith)
     loop-again
     returns-3
-    sub-ascii-in-word
-    ascii-in-word-requires
-    add-result-2
+    (λ c. omega arith)
+    (λ c κs. omega arith)
+    (λ c. omega arith)
     returns-4)

@@ -6,21 +6,6 @@ use Rattle.utf8.proofs.AsciiWords.{low-bytes}
 use Rattle.utf8.proofs.ascii.ascii_in_word.Statement.{statement}
 use Rattle.utf8.proofs.ascii.ascii_in_word.Tie as tie
 
-read-word-requires : tie.Need-read-word-requires
-read-word-requires c κs = search needs
-
-mul-high : tie.Need-mul-high
-mul-high c = search needs
-
-shr-high : tie.Need-shr-high
-shr-high c = search needs
-
-sub-left : tie.Need-sub-left
-sub-left c = search needs
-
-zero-bytes-requires : tie.Need-zero-bytes-requires
-zero-bytes-requires c κs = search needs
-
 returns : tie.Need-returns
 returns c =
     let x = c .before .before .before in
@@ -39,4 +24,12 @@ returns-2 c =
 
 pub ascii-in-word-spec : {M : Type 1} → statement M
 ascii-in-word-spec =
-    tie.close (tie.spec read-word-requires mul-high shr-high sub-left zero-bytes-requires returns returns-2)
+    tie.close
+    (tie.spec
+    (λ c κs. search needs)
+    (λ c. search needs)
+    (λ c. search needs)
+    (λ c. search needs)
+    (λ c κs. search needs)
+    returns
+    returns-2)

@@ -8,27 +8,12 @@ use borrow.Author.Needs.{needs}
 use Rattle.policy_key_set.proofs.char_set.CharSet.contains.Statement.{statement}
 use Rattle.policy_key_set.proofs.char_set.CharSet.contains.Tie as tie
 
-variation-sequence-index-requires : tie.Need-variation-sequence-index-requires
-variation-sequence-index-requires c κs = search needs
-
-enum-known-index : tie.Need-enum-known-index
-enum-known-index c = search needs
-
-mul-has-bit : tie.Need-mul-has-bit
-mul-has-bit c = search needs
-
 array-read-has-bit : tie.Need-array-read-has-bit
 array-read-has-bit c =
     let x = c .before .before .before in
     let h = index-has-place (x .before .before .args .ch) (c .before .index .given .0 .0)
     (sym (x .variation-sequence-index .ensures) ∙ c .before .index .given .1) .0 in
     omega (arith, entry-count)
-
-has-bit-requires : tie.Need-has-bit-requires
-has-bit-requires c κs = search needs
-
-enum-told : tie.Need-enum-told
-enum-told c = search needs
 
 returns : tie.Need-returns
 unfolding contains memberAt member
@@ -49,11 +34,11 @@ pub contains-spec : {M : Type 1} → statement M
 contains-spec =
     tie.close
     (tie.spec
-    variation-sequence-index-requires
-    enum-known-index
-    mul-has-bit
+    (λ c κs. search needs)
+    (λ c. search needs)
+    (λ c. search needs)
     array-read-has-bit
-    has-bit-requires
-    enum-told
+    (λ c κs. search needs)
+    (λ c. search needs)
     returns
     returns-2)

@@ -9,12 +9,6 @@ use Rattle.policy_key_set.proofs.Members.{held}
 use Rattle.policy_key_set.proofs.char_set.CharSet.eq.Statement.{statement}
 use Rattle.policy_key_set.proofs.char_set.CharSet.eq.Tie as tie
 
-bitxor-requires : tie.Need-bitxor-requires
-bitxor-requires c κs = search needs
-
-size-requires : tie.Need-size-requires
-size-requires c κs = search needs
-
 returns : tie.Need-returns
 unfolding sizeOf sameEntries
 returns c =
@@ -25,4 +19,4 @@ returns c =
     ∙ none-differ entryCount (λ (i : ℕ). member i (a .self .bits)) (λ (i : ℕ). member i (a .rhs .bits))
 
 pub eq-spec : {M : Type 1} → statement M
-eq-spec = tie.close (tie.spec bitxor-requires size-requires returns)
+eq-spec = tie.close (tie.spec (λ c κs. search needs) (λ c κs. search needs) returns)

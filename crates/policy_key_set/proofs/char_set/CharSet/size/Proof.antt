@@ -17,33 +17,9 @@ Inv-loop words n₀ i₀ n i = (i ≤ 6) × (n ≤ i * 64) × (n ≡ countBelow 
 abbrev μ-loop : tie.MeasureT-loop
 μ-loop words n₀ i₀ n i = 6 - i
 
-all-requires : tie.Need-all-requires Inv-loop μ-loop
-all-requires c κs = omega arith
-
-bitand-requires : tie.Need-bitand-requires Inv-loop μ-loop
-bitand-requires c κs = omega arith
-
 loop-holds : tie.Need-loop-holds Inv-loop μ-loop
 unfolding countBelow
 loop-holds c = (omega arith, omega arith, refl)
-
-mul-count-ones : tie.Need-mul-count-ones Inv-loop μ-loop
-mul-count-ones c = omega arith
-
-array-read-count-ones : tie.Need-array-read-count-ones Inv-loop μ-loop
-array-read-count-ones c = omega arith
-
-count-ones-requires : tie.Need-count-ones-requires Inv-loop μ-loop
-count-ones-requires c κs = omega arith
-
-add-n : tie.Need-add-n Inv-loop μ-loop
-add-n c = omega arith
-
-add-i : tie.Need-add-i Inv-loop μ-loop
-add-i c = omega arith
-
-loop-less : tie.Need-loop-less Inv-loop μ-loop
-loop-less c = omega arith
 
 loop-again : tie.Need-loop-again Inv-loop μ-loop
 loop-again c =
@@ -68,14 +44,14 @@ size-spec =
     (tie.spec
     Inv-loop
     μ-loop
-    all-requires
-    bitand-requires
+    (λ c κs. omega arith)
+    (λ c κs. omega arith)
     loop-holds
-    mul-count-ones
-    array-read-count-ones
-    count-ones-requires
-    add-n
-    add-i
-    loop-less
+    (λ c. omega arith)
+    (λ c. omega arith)
+    (λ c κs. omega arith)
+    (λ c. omega arith)
+    (λ c. omega arith)
+    (λ c. omega arith)
     loop-again
     returns)

@@ -4,12 +4,6 @@ use Rattle.unicode.specs.Presentation.{asSelector}
 use Rattle.unicode.proofs.presentation.Presentation.as_selector.Statement.{statement}
 use Rattle.unicode.proofs.presentation.Presentation.as_selector.Tie as tie
 
-enum-told : tie.Need-enum-told
-enum-told c = search needs
-
-enum-told-2 : tie.Need-enum-told-2
-enum-told-2 c = search needs
-
 returns : tie.Need-returns
 unfolding asSelector
 returns c = search needs
@@ -19,4 +13,4 @@ unfolding asSelector
 returns-2 c = search needs
 
 pub as-selector-spec : {M : Type 1} → statement M
-as-selector-spec = tie.close (tie.spec enum-told enum-told-2 returns returns-2)
+as-selector-spec = tie.close (tie.spec (λ c. search needs) (λ c. search needs) returns returns-2)

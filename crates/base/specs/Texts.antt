@@ -1,0 +1,9 @@
+-- Texts one behind the other.
+use mathlib.Core.List.{List, [], _∷_, _++_}
+use Prim.Native.Nat.{ℕ}
+
+-- texts with one byte between each two of them
+unfoldable pub parted : ℕ → List (List ℕ) → List ℕ
+parted b [] = []
+parted b (t ∷ []) = t
+parted b (t ∷ u ∷ ts) = t ++ (b ∷ parted b (u ∷ ts))
