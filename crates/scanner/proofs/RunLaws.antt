@@ -216,7 +216,7 @@ links-derived (c ∷ t) = go (eqb c 0x200D) refl
 -- ---- one by one
 
 -- A run that takes in what another takes in goes on behind it.
-run-over : {f g : ℕ → Bool} {s : List ℕ} → ((c : ℕ) → f c ≡ true → g c ≡ true) → Passes f s → (t : List ℕ) → run g (s ++ t) ≡ s ++ run g t
+pub run-over : {f g : ℕ → Bool} {s : List ℕ} → ((c : ℕ) → f c ≡ true → g c ≡ true) → Passes f s → (t : List ℕ) → run g (s ++ t) ≡ s ++ run g t
 run-over {f} {g} {s} i all-pass t = refl
 run-over {f} {g} {s} i (pass-and {c = c} {s = u} e h) t = run-true g c (u ++ t) (i c e) ∙ ap (λ (l : List ℕ). c ∷ l) (run-over i h t)
 
