@@ -61,7 +61,7 @@ use Rattle.analysis.specs.Theorems.{
   WorkedChoices,
   WorkedDecisions,
   WorkedRules,
-  WorkedTexts,
+  WorkedItemsAnalysed,
 }
 use Rattle.analysis.proofs.ChoiceWalk.{walk-item}
 use Rattle.analysis.proofs.Choices.{choices-counted, decisions-defaults, replacement-defaults}
@@ -203,9 +203,9 @@ choices-by-structure p t x m o =
     let h = item-says p o (item-derives t x m) .chooses in
     of-structured (λ k. choicesOf p k (x .chars)) (choicesIn (elements p (structure (x .chars)))) o h h
 
-pub worked-texts : WorkedTexts
-unfolding WorkedTexts
-worked-texts = computed .0
+pub worked-items-analysed : WorkedItemsAnalysed
+unfolding WorkedItemsAnalysed
+worked-items-analysed = computed .0
 
 pub worked-rules : WorkedRules
 unfolding WorkedRules

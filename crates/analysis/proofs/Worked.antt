@@ -58,10 +58,10 @@ use Rattle.analysis.specs.Rules.{
   textFirst,
   withoutSelector,
 }
-use Rattle.analysis.specs.Theorems.{WorkedChoices, WorkedDecisions, WorkedRules, WorkedTexts}
+use Rattle.analysis.specs.Theorems.{WorkedChoices, WorkedDecisions, WorkedRules, WorkedItemsAnalysed}
 
-pub computed : WorkedTexts × WorkedRules × WorkedChoices × WorkedDecisions
-unfolding WorkedTexts WorkedRules WorkedChoices WorkedDecisions classOf isSelector isTag isRi isEmojiModifier isEmoji inRanges member emojiModifiers emojiRanges riRanges step begin kindOf cut items asSelector fromSelector addChar split following hasVariationSequence isEmojiDefault isEmojiModifierBase isEmojiPresentation emojiModifierBases emojiPresentationRanges variationEntries variationSequenceIndex indexOf next Sets.contains Sets.memberAt Sets.member one holdsBase ruleOf singletonRule preferBare preferBareKeycap bareAsText bareAsTextKeycap defaultPolicy byFirst byKeycap byModifier byTags isBareSide outcome rule1 rule2 rule3 rule4 rule5 rule6 textFirst withoutSelector countCells countsOf nonCanonicality render renew replacement replacementOf upToLink choicesOfCells choicesOf choices
+pub computed : WorkedItemsAnalysed × WorkedRules × WorkedChoices × WorkedDecisions
+unfolding WorkedItemsAnalysed WorkedRules WorkedChoices WorkedDecisions classOf isSelector isTag isRi isEmojiModifier isEmoji inRanges member emojiModifiers emojiRanges riRanges step begin kindOf cut items asSelector fromSelector addChar split following hasVariationSequence isEmojiDefault isEmojiModifierBase isEmojiPresentation emojiModifierBases emojiPresentationRanges variationEntries variationSequenceIndex indexOf next Sets.contains Sets.memberAt Sets.member one holdsBase ruleOf singletonRule preferBare preferBareKeycap bareAsText bareAsTextKeycap defaultPolicy byFirst byKeycap byModifier byTags isBareSide outcome rule1 rule2 rule3 rule4 rule5 rule6 textFirst withoutSelector countCells countsOf nonCanonicality render renew replacement replacementOf upToLink choicesOfCells choicesOf choices
 computed = (
   (refl, refl, refl, refl, refl, refl, refl, refl, refl, refl, refl, refl, refl, refl),
   (refl, refl, refl, refl, refl, refl),

@@ -224,9 +224,9 @@ ChoicesByStructure =
 
 -- ---- worked texts
 
--- Document 01's worked texts that concern counts and replacements, by its numbers.
-unfoldable pub WorkedTexts : Type 0
-WorkedTexts =
+-- The items of document 01's worked texts, by its numbers, each with its counts and its replacement by default.
+unfoldable pub WorkedItemsAnalysed : Type 0
+WorkedItemsAnalysed =
     -- 1
     (workedItems [] ≡ [])
     -- 2

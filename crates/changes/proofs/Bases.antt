@@ -7,7 +7,7 @@ use native.Mathlib.Omega.{arith}
 use lib.Dec.{eqb, leb}
 use lib.ListN.{drop, length, take}
 use borrow.Author.Tests.{eq-eqb, eqb-true, le-leb, leb-true, not-false}
-use Rattle.base.proofs.Tests.{and-both, both-true}
+use Rattle.base.proofs.Tests.{and-both, both-true, same-test}
 use Rattle.utf8.specs.Rfc3629.{chars, encode, encodeAll, validUpTo}
 use Rattle.utf8.proofs.Places.{Step}
 use Rattle.unicode.specs.Presentation.{asSelector, fromSelector, isSelector}
@@ -20,7 +20,6 @@ use Rattle.unicode.specs.declared.presentation.Presentation.{Presentation}
 use Rattle.unicode.specs.declared.presentation.Presentation.the-variants.{Emoji, Text}
 use Rattle.unicode.proofs.Claims.{no-index-no-entry, variation-entries-are-emoji}
 use Rattle.policy.specs.declared.Policy.{Policy}
-use Rattle.policy.proofs.Unused.{same-truth}
 use Rattle.scanner.specs.Runs.{behindSelectors, selectorsAt}
 use Rattle.scanner.specs.Spans.{size, width}
 use Rattle.scanner.specs.declared.char_class.Class.{Class}
@@ -77,7 +76,7 @@ few-are (Selector q) = omega arith
 -- Nothing is counted exactly where the selector that stays is all there was.
 pub no-change : (p : Policy) (c : ℕ) (k : Class) (s : List Presentation) (a : FromSelector) → runWith a 1 ≡ chosen (outcome p c k s .slot) []
     → (eqb (selectorNumber (firstOf s)) (selectorNumber a) && leb (3 * length s) 3) ≡ eqb (total (outcome p c k s .counts)) 0
-no-change p c k s a h = same-truth _ _ quiet loud
+no-change p c k s a h = same-test _ _ quiet loud
   where
     quiet : (eqb (selectorNumber (firstOf s)) (selectorNumber a) && leb (3 * length s) 3) ≡ true → eqb (total (outcome p c k s .counts)) 0 ≡ true
     quiet t =

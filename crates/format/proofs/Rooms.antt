@@ -11,8 +11,6 @@ use lib.Seq.{take-append-seam}
 use borrow.Author.Tests.{le-leb}
 use Rattle.base.specs.Refusals.{After}
 use Rattle.base.specs.declared.Refusal.{Refusal}
-use Rattle.policy.specs.DefaultPolicy.{defaultPolicy}
-use Rattle.policy.specs.PolicyBytes.{policyBytes}
 use Rattle.formatter.specs.Format.{format, formatted, sameBytes}
 use Rattle.formatter.specs.Intake.{intakeRefusal}
 use Rattle.formatter.specs.Theorems.{IntakeComesFirst}
@@ -21,20 +19,17 @@ use Rattle.formatter.proofs.FormattedClaim.{formatted-claim}
 use Rattle.formatter.proofs.Formatting.{format-is, formatTests, same-true}
 use Rattle.formatter.proofs.Outcomes.{comes-first}
 use Rattle.formatter.proofs.Passing.{passed-accepted}
-use Rattle.format.specs.Answers.{Answers}
+use Rattle.format.specs.Answers.{Told, policy}
 
 module _ (message : List ℕ) where
-  abbrev policy : List ℕ
-  policy = policyBytes defaultPolicy
-
   -- What a call leaves is an answer.
   abbrev pub IsAnswer : After FormatAnswer ℕ → Type 0
-  IsAnswer a = Answers message (a .answer) (a .buffer)
+  IsAnswer a = Told message (a .answer) (a .buffer)
 
-  tested : (out : List ℕ) (same : Bool) → sameBytes (formatted message policy) message ≡ same
+  tested : (out : List ℕ) (same : Bool) → intakeRefusal message policy ≡ none → sameBytes (formatted message policy) message ≡ same
       → IsAnswer (formatTests same true (formatted message policy) out)
-  tested out true e = sym (same-true (formatted message policy) message e)
-  tested out false e = take-append-seam (formatted message policy) (drop (length (formatted message policy)) out)
+  tested out true passed e = (passed, sym (same-true (formatted message policy) message e))
+  tested out false passed e = (passed, take-append-seam (formatted message policy) (drop (length (formatted message policy)) out))
 
   pub answers : (out : List ℕ) → 4 * length message ≤ length out → IsAnswer (format message policy out)
   unfolding IntakeComesFirst
@@ -50,4 +45,4 @@ module _ (message : List ℕ) where
           let f : length F ≤ length out = omega (arith, h, formatted-claim policy message a .four-times) in
           subst IsAnswer
           (sym (format-is policy message out a ∙ ap (λ (fits : Bool). formatTests (sameBytes F message) fits F out) (le-leb (length F) (length out) f)))
-          (tested out (sameBytes F message) refl)
+          (tested out (sameBytes F message) e refl)

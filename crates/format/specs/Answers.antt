@@ -1,19 +1,30 @@
--- What formatting a message answers where the output has room for four times its length: refusal 8 is none of it.
+-- What formatting a message answers where the output has room for four times its length: what `format` says, and never refusal 8.
 use mathlib.Core.Path.{_≡_}
 use mathlib.Core.List.{List}
-use mathlib.Core.Option.{some}
+use mathlib.Core.Option.{none, some}
 use Prim.Native.Nat.{ℕ}
 use lib.ListN.{take}
 use Rattle.policy.specs.DefaultPolicy.{defaultPolicy}
 use Rattle.policy.specs.PolicyBytes.{policyBytes}
-use Rattle.formatter.specs.Format.{formatted}
+use Rattle.base.specs.Refusals.{After}
+use Rattle.formatter.specs.Format.{format, formatted}
 use Rattle.formatter.specs.Intake.{intakeRefusal}
 use Rattle.formatter.specs.declared.FormatAnswer.{FormatAnswer}
 use Rattle.formatter.specs.declared.FormatAnswer.the-variants.{Changed, Refused, Unchanged}
 
--- The message is the formatted text itself; or the formatted text is the front of the output; or the message was turned back by a
--- test that comes before any other. The policy is the default.
-abbrev pub Answers : List ℕ → FormatAnswer → List ℕ → Type 0
-Answers message Unchanged out = message ≡ formatted message (policyBytes defaultPolicy)
-Answers message (Changed n) out = take n out ≡ formatted message (policyBytes defaultPolicy)
-Answers message (Refused r) out = intakeRefusal message (policyBytes defaultPolicy) ≡ some r
+-- The policy is the default.
+abbrev pub policy : List ℕ
+policy = policyBytes defaultPolicy
+
+-- What the answer means: all tests passed, and the message is the formatted text itself, or the formatted text is the front of the
+-- output; or the message was turned back by a test that comes before any other. So no message that is not well-formed is answered
+-- by a text, and refusal 8 is no answer.
+abbrev pub Told : List ℕ → FormatAnswer → List ℕ → Type 0
+Told message Unchanged out = (intakeRefusal message policy ≡ none) × (message ≡ formatted message policy)
+Told message (Changed n) out = (intakeRefusal message policy ≡ none) × (take n out ≡ formatted message policy)
+Told message (Refused r) out = intakeRefusal message policy ≡ some r
+
+-- The answer and the output are what `format` says of the message, and mean that.
+pub record Answers (message before : List ℕ) (answered : FormatAnswer) (after : List ℕ) : Type 0 where
+  pub as-format : _≡_ {A = After FormatAnswer ℕ} (record { answer = answered; buffer = after }) (format message policy before)
+  pub told : Told message answered after

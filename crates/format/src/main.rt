@@ -35,7 +35,7 @@ fn say_refusal(refusal: Refusal) {
 // of room.
 fn format_message(message: &[u8], out: &mut [u8]) -> FormatAnswer
     requires { ⌜ 4 * length (now message) ≤ length (now out) ⌝ }
-    ensures { λ r. ⌜ Answers (now (message .entry)) r (now (out .exit)) ⌝ }
+    ensures { λ r. ⌜ Answers (now (message .entry)) (now (out .entry)) r (now (out .exit)) ⌝ }
 {
     let mut policy = [0u8; POLICY_BYTES];
     message_io::put_default_policy(&mut policy);

@@ -31,7 +31,9 @@ use Rattle.formatter.specs.declared.FormatAnswer.{FormatAnswer}
 use Rattle.formatter.specs.declared.FormatAnswer.the-variants.{Unchanged}
 use Rattle.formatter.proofs.Books.{balance-book, strip-book}
 use Rattle.formatter.proofs.Formatting.{all-chars, all-items, all-none, all-right, format-is, format-none, formatTests, same-self, same-true, says-unchanged}
-use Rattle.formatter.proofs.Listing.{list-is, listRows, room-rows}
+use Rattle.formatter.specs.List.{fillTable, rowNumbers}
+use Rattle.formatter.proofs.Listing.{list-bytes-is, list-is, listRows, room-rows}
+use Rattle.formatter.proofs.RowBytes.{none-filled}
 use Rattle.formatter.proofs.Marks.{foundTotals, split-totals}
 use Rattle.formatter.proofs.Calls.{InRow, decoded-book, findings-book, formed-book, four-book, row-same}
 use Rattle.formatter.proofs.Splicing.{fresh-items}
@@ -130,6 +132,9 @@ module _ (policy : List ℕ) where
       none-listed = λ table h.
           list-is policy F table (short-all h) ∙ ap (λ (l : List Found). listRows (map (findingRow P) l) table) none-all
           ∙ room-rows [] table 0 refl (omega arith);
+      none-listed-bytes = λ table h.
+          list-bytes-is policy F table (short-all h) ∙ ap (λ (l : List Found). fillTable rowNumbers 80 (map (findingRow P) l) table) none-all
+          ∙ none-filled table;
       again = again-all;
       again-unchanged = λ out h. kept-none F out (short-all h) none-all;
       eight-totals = totals-all;

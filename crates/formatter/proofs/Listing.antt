@@ -21,7 +21,7 @@ use Rattle.analysis.specs.Analysis.{choices, isFinding, nonCanonicality, replac
 use Rattle.formatter.specs.Book.{Entry, Mark, Opening, atFirst, atPlace, bookChars, bookText, entryChars, isOpen, itemsOf, mended, openings, openingsFrom, place, putBy, takenBy, untouched}
 use Rattle.formatter.specs.Demand3.{Accepted, Seen, openRow, seen}
 use Rattle.formatter.specs.Findings.{findingRow, findings}
-use Rattle.formatter.specs.List.{list}
+use Rattle.formatter.specs.List.{fillTable, list, listBytes, rowNumbers}
 use Rattle.base.specs.Refusals.{After, kept, orElse, written}
 use Rattle.analysis.specs.declared.types.Finding.{Finding}
 use Rattle.formatter.specs.declared.ListAnswer.{ListAnswer}
@@ -30,6 +30,7 @@ use Rattle.base.specs.declared.Refusal.{Refusal}
 use Rattle.base.specs.declared.Refusal.the-variants.{TableTooShort}
 use Rattle.formatter.proofs.Mending.{openFound}
 use Rattle.formatter.proofs.Calls.{InRow, Sound, accepted-book, findings-book, findings-open, pass-intake}
+use Rattle.formatter.proofs.RowBytes.{list-passed}
 use Rattle.formatter.proofs.Splicing.{openings-are}
 
 -- ---- rows
@@ -53,6 +54,9 @@ pub list-is : (policy b : List ℕ) (table : List Finding) → Accepted policy b
 unfolding list
 list-is policy b table a =
     ap (λ (o : Option Refusal). orElse o (λ (r : Refusal). kept (Refused r) table) (listRows (map (findingRow (policyOf policy)) (findings b policy)) table)) (pass-intake policy b a)
+
+pub list-bytes-is : (policy b table : List ℕ) → Accepted policy b → listBytes b policy table ≡ fillTable rowNumbers 80 (map (findingRow (policyOf policy)) (findings b policy)) table
+list-bytes-is policy b table a = sym (list-passed b policy table (pass-intake policy b a))
 
 row-open : (p : Policy) (os : List Opening) → map (findingRow p) (map atPlace os) ≡ map (openRow p) os
 unfolding findingRow
@@ -180,11 +184,19 @@ module _ (p : Policy) where
       go (mended ds) f ih h = skip f (ih h)
 
 module _ (policy : List ℕ) (ok : isPolicy policy ≡ true) where
+  rows-book : (es : List Entry) → Sound policy es
+      → map (findingRow (policyOf policy)) (findings (bookText policy es) policy) ≡ map (openRow (policyOf policy)) (openings policy es)
+  rows-book es h = ap (map (findingRow (policyOf policy))) (findings-open policy ok es (h .base)) ∙ row-open (policyOf policy) (openings policy es)
+
   pub list-book : (es : List Entry) (table : List Finding) → Sound policy es → list (bookText policy es) policy table ≡ listRows (map (openRow (policyOf policy)) (openings policy es)) table
   list-book es table h =
-      list-is policy (bookText policy es) table (accepted-book policy ok es h)
-      ∙ ap (λ (rows : List Finding). listRows rows table)
-      (ap (map (findingRow (policyOf policy))) (findings-open policy ok es (h .base)) ∙ row-open (policyOf policy) (openings policy es))
+      list-is policy (bookText policy es) table (accepted-book policy ok es h) ∙ ap (λ (rows : List Finding). listRows rows table) (rows-book es h)
+
+  pub list-book-bytes : (es : List Entry) (table : List ℕ) → Sound policy es
+      → listBytes (bookText policy es) policy table ≡ fillTable rowNumbers 80 (map (openRow (policyOf policy)) (openings policy es)) table
+  list-book-bytes es table h =
+      list-bytes-is policy (bookText policy es) table (accepted-book policy ok es h)
+      ∙ ap (λ (rows : List Finding). fillTable rowNumbers 80 rows table) (rows-book es h)
 
   pub seen-same : (es : List Entry) → InRow policy es
       → map (seen (policyOf policy) (bookText policy es)) (findings (bookText policy es) policy) ≡ map (seen (policyOf policy) (encodeAll (join (itemsOf es)))) (map atFirst (openings policy es))

@@ -4,12 +4,12 @@ use mathlib.Core.Bool.{Bool, true, false, cond}
 use mathlib.Core.List.{List, [], _∷_, _++_, append-assoc, map}
 use mathlib.Core.Option.{Option, none, some}
 use Prim.Native.Nat.{ℕ, zero, suc, _+_, _*_, _/_, _≤_, _<_}
-use native.Mathlib.Nat.{le-div-iff-mul-le, suc-mul, zero-add, zero-mul}
+use native.Mathlib.Nat.{div-lt-iff-lt-mul, le-div-iff-mul-le, suc-mul, zero-add, zero-mul}
 use native.Mathlib.Omega.{arith}
 use lib.Dec.{leb}
 use lib.ListN.{drop, length, length-append}
-use lib.Seq.{drop-append-add, drop-nil, sets-eq}
-use borrow.Author.Tests.{le-leb, lt-leb}
+use lib.Seq.{drop-append-add, drop-append-le, drop-nil, sets-eq}
+use borrow.Author.Tests.{le-leb, leb-true, lt-leb}
 use Rattle.base.specs.Output.{PutAt}
 use Rattle.base.specs.Refusals.{After, kept, orElse, written}
 use Rattle.base.specs.declared.Refusal.{Refusal}
@@ -66,6 +66,23 @@ module _ {A : Type 0} (numbers : A → List ℕ) (k : ℕ) (each : (x : A) → l
         p .bytes ∙ sets-eq b table 0 (omega (arith, rows-room h)) ∙ ap (λ (k : ℕ). b ++ drop k table) (zero-add (length b)) in
         ap₂ (λ (m : ℕ) (o : List ℕ). record { answer = Listed m; buffer = o }) e w ∙ simp (le-leb (length rows) (length table / k) (omega arith))
 
+    -- What filling leaves, by the number of rows.
+    pub filled : n * k ≤ length table → fillTable numbers k rows table ≡ record { answer = Listed n; buffer = rowsBytes numbers rows ++ drop (n * k) table }
+    unfolding fillTable
+    filled h =
+        let b = rowsBytes numbers rows in
+        let l : length b ≡ n * k = length-rows rows ∙ ap (λ (m : ℕ). m * k) (sym e) in
+        simp (le-leb (length rows) (length table / k) (subst (λ (m : ℕ). m ≤ length table / k) e (le-div-iff-mul-le some-bytes .1 h)))
+        (ap₂ (λ (m d : ℕ). record { answer = Listed m; buffer = b ++ drop d table }) (sym e) l)
+
+    pub not-filled : length table < n * k → fillTable numbers k rows table ≡ record { answer = Refused (TableTooShort n); buffer = table }
+    not-filled h = sym (rows-refused (div-lt-iff-lt-mul some-bytes .1 h))
+
+-- Without a row nothing is written.
+pub none-filled : (table : List ℕ) → fillTable rowNumbers 80 [] table ≡ record { answer = Listed 0; buffer = table }
+unfolding rowsBytes
+none-filled table = filled rowNumbers 80 length-row (omega arith) [] table refl (omega arith)
+
 -- ---- the call on a table of bytes, behind the intake
 
 pub list-passed : (text policy table : List ℕ) → intakeRefusal text policy ≡ none
@@ -98,37 +115,43 @@ rows-drop (suc n) (f ∷ fs) =
     let k : suc n * 80 ≡ length b + n * 80 = omega (arith, length-row f) in
     ap (λ (m : ℕ). drop m (b ++ rowsBytes rowNumbers fs)) k ∙ drop-append-add b (rowsBytes rowNumbers fs) (n * 80) ∙ rows-drop n fs
 
--- What listing leaves in a table of rows, as bytes.
-abbrev asBytes : After ListAnswer Finding → After ListAnswer ℕ
-asBytes a = record { answer = a .answer; buffer = rowsBytes rowNumbers (a .buffer) }
+-- What listing leaves in a table of rows, as bytes, with further bytes behind the last place.
+abbrev asBytesAnd : List ℕ → After ListAnswer Finding → After ListAnswer ℕ
+asBytesAnd rest a = record { answer = a .answer; buffer = rowsBytes rowNumbers (a .buffer) ++ rest }
 
-rows-as : (rows table : List Finding) (b : Bool)
-    → cond b (written (Listed (length rows)) (rowsBytes rowNumbers rows) (rowsBytes rowNumbers table)) (kept (Refused (TableTooShort (length rows))) (rowsBytes rowNumbers table))
-    ≡ asBytes (cond b (written (Listed (length rows)) rows table) (kept (Refused (TableTooShort (length rows))) table))
-rows-as rows table true =
-    let w : rowsBytes rowNumbers rows ++ drop (length (rowsBytes rowNumbers rows)) (rowsBytes rowNumbers table) ≡ rowsBytes rowNumbers (rows ++ drop (length rows) table) =
-    ap (λ (n : ℕ). rowsBytes rowNumbers rows ++ drop n (rowsBytes rowNumbers table)) (length-rows rowNumbers 80 length-row rows) ∙ ap (λ (l : List ℕ). rowsBytes rowNumbers rows ++ l) (rows-drop (length rows) table)
-    ∙ sym (rows-append rows (drop (length rows) table)) in
+rows-as : (rows table : List Finding) (rest : List ℕ) (b : Bool) → leb (length rows) (length table) ≡ b
+    → cond b (written (Listed (length rows)) (rowsBytes rowNumbers rows) (rowsBytes rowNumbers table ++ rest)) (kept (Refused (TableTooShort (length rows))) (rowsBytes rowNumbers table ++ rest))
+    ≡ asBytesAnd rest (cond b (written (Listed (length rows)) rows table) (kept (Refused (TableTooShort (length rows))) table))
+rows-as rows table rest true e =
+    let R = rowsBytes rowNumbers rows in
+    let T = rowsBytes rowNumbers table in
+    let l = length-rows rowNumbers 80 length-row rows in
+    let h : length R ≤ length T = omega (arith, l, length-rows rowNumbers 80 length-row table, leb-true (length rows) (length table) e) in
+    let w : R ++ drop (length R) (T ++ rest) ≡ rowsBytes rowNumbers (rows ++ drop (length rows) table) ++ rest =
+    ap (λ (l : List ℕ). R ++ l)
+    (drop-append-le (length R) T rest h ∙ ap (λ (n : ℕ). drop n T ++ rest) l ∙ ap (λ (l : List ℕ). l ++ rest) (rows-drop (length rows) table))
+    ∙ sym (append-assoc R (rowsBytes rowNumbers (drop (length rows) table)) rest)
+    ∙ ap (λ (l : List ℕ). l ++ rest) (sym (rows-append rows (drop (length rows) table))) in
     ap (λ (o : List ℕ). record { answer = Listed (length rows); buffer = o }) w
-rows-as rows table false = refl
+rows-as rows table rest false e = refl
 
 pub listed-as : ListedAsBytes
 unfolding ListedAsBytes listBytes fillTable list
-listed-as text policy table = go (intakeRefusal text policy)
+listed-as text policy table rest few = go (intakeRefusal text policy)
   where
     R : List Finding
     R = map (findingRow (policyOf policy)) (findings text policy)
 
     B : List ℕ
-    B = rowsBytes rowNumbers table
+    B = rowsBytes rowNumbers table ++ rest
 
     places : length B / 80 ≡ length table
-    places = omega (arith, length-rows rowNumbers 80 length-row table)
+    places = omega (arith, length-rows rowNumbers 80 length-row table, length-append (rowsBytes rowNumbers table) rest, few)
 
     go : (o : Option Refusal)
         → orElse o (λ (r : Refusal). kept (Refused r) B) (fillTable rowNumbers 80 R B)
-        ≡ asBytes (orElse o (λ (r : Refusal). kept (Refused r) table) (cond (leb (length R) (length table)) (written (Listed (length R)) R table) (kept (Refused (TableTooShort (length R))) table)))
+        ≡ asBytesAnd rest (orElse o (λ (r : Refusal). kept (Refused r) table) (cond (leb (length R) (length table)) (written (Listed (length R)) R table) (kept (Refused (TableTooShort (length R))) table)))
     go (some r) = refl
     go none =
         ap (λ (n : ℕ). cond (leb (length R) n) (written (Listed (length R)) (rowsBytes rowNumbers R) B) (kept (Refused (TableTooShort (length R))) B)) places
-        ∙ rows-as R table (leb (length R) (length table))
+        ∙ rows-as R table rest (leb (length R) (length table)) refl

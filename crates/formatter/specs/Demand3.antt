@@ -1,6 +1,6 @@
 -- Demand 3: one claim about a list of mending calls as a whole, `ListClaim`, and the same of a formatted text, `FormattedClaim` (document 01, "Mending in sequence").
--- It is about the code: `mend`, `list` and `format` here are the definitions that the contracts of src/mend.rt, src/list.rt (by `listBytes`, specs/Theorems.antt,
--- ListedAsBytes) and src/format.rt cite for the answer and the buffer of every call; there is no second model of a call.
+-- It is about the code: `mend`, `listBytes`, `list` and `format` here are the definitions that the contracts of src/mend.rt, src/list.rt, src/table.rt and
+-- src/format.rt cite for the answer and the buffer of every call; there is no second model of a call.
 use mathlib.Core.Path.{_≡_}
 use mathlib.Core.Logic.{_↔_}
 use mathlib.Core.Bool.{Bool, true, false, cond}
@@ -40,7 +40,7 @@ use Rattle.formatter.specs.Book.{
 use Rattle.analysis.specs.Findings.{totals}
 use Rattle.formatter.specs.Findings.{findings, textTotals}
 use Rattle.formatter.specs.Format.{format, formatted}
-use Rattle.formatter.specs.List.{list}
+use Rattle.formatter.specs.List.{list, listBytes, rowNumbers, rowsBytes}
 use Rattle.analysis.specs.Decisions.{meaning}
 use Rattle.formatter.specs.Mend.{Call, mend, nextText, outcomes, textAfter}
 use Rattle.base.specs.Refusals.{After}
@@ -231,6 +231,14 @@ module _ (policy : List ℕ) where
           }
       pub unlisted : (table : List Finding) → length table < length (open-after cs)
           → list (text cs) policy table ≡ record { answer = Listing.Refused (TableTooShort (length (open-after cs))); buffer = table }
+      -- The same into any table of bytes, 80 to a row: their rows' bytes at the front, the bytes behind as they were.
+      pub listed-bytes : (table : List ℕ) → length (open-after cs) * 80 ≤ length table
+          → listBytes (text cs) policy table ≡ record {
+            answer = Listing.Listed (length (open-after cs));
+            buffer = rowsBytes rowNumbers (map (openRow (policyOf policy)) (open-after cs)) ++ drop (length (open-after cs) * 80) table;
+          }
+      pub unlisted-bytes : (table : List ℕ) → length table < length (open-after cs) * 80
+          → listBytes (text cs) policy table ≡ record { answer = Listing.Refused (TableTooShort (length (open-after cs))); buffer = table }
       pub were-findings : (o : Opening) → List·Memᴰ o (open-after cs) → List·Memᴰ (atFirst o) (findings first policy)
       -- Their bytes, counts and choices are as at first.
       pub unaltered : map (seen (policyOf policy) (text cs)) (findings (text cs) policy) ≡ map (seen (policyOf policy) first) (map atFirst (open-after cs))
@@ -270,6 +278,7 @@ module _ (policy : List ℕ) where
       -- No finding is left, of whatever length the text is, and formatting again changes nothing.
       pub none-left : findings result policy ≡ []
       pub none-listed : (table : List Finding) → length result ≤ 16777216 → list result policy table ≡ record { answer = Listing.Listed 0; buffer = table }
+      pub none-listed-bytes : (table : List ℕ) → length result ≤ 16777216 → listBytes result policy table ≡ record { answer = Listing.Listed 0; buffer = table }
       pub again : formatted result policy ≡ result
       pub again-unchanged : (out : List ℕ) → length result ≤ 16777216 → format result policy out ≡ record { answer = Format.Unchanged; buffer = out }
       -- Each of the eight totals is that at first less all findings' own.

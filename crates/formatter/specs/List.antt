@@ -61,7 +61,8 @@ countNumbers n =
 unfoldable pub rowNumbers : Finding → List ℕ
 rowNumbers f = f .start ∷ f .end ∷ countNumbers (f .counts)
 
--- The call on a table of bytes: the rows of `list`, and its refusals in their order. That the two are one: specs/Theorems.antt, ListedAsBytes.
+-- The call on a table of bytes: the rows of `list` as bytes, and its refusals in their order. Where the table's bytes are rows, and fewer than
+-- 80 behind them, the two leave the same: specs/Theorems.antt, ListedAsBytes.
 unfoldable pub listBytes : List ℕ → List ℕ → List ℕ → After ListAnswer ℕ
 listBytes text policy table =
     orElse (intakeRefusal text policy) (λ (r : Refusal). kept (Refused r) table)

@@ -2,8 +2,8 @@
 use mathlib.Core.Path.{_≡_}
 use mathlib.Core.Bool.{true, false}
 use mathlib.Core.Option.{some, none}
-use mathlib.Core.List.{List}
-use Prim.Native.Nat.{ℕ, _≤_}
+use mathlib.Core.List.{List, _++_}
+use Prim.Native.Nat.{ℕ, _≤_, _<_}
 use lib.ListN.{length}
 use Rattle.utf8.specs.Rfc3629.{WellFormed, chars, encodeAll, validUpTo}
 use Rattle.policy.specs.PolicyBytes.{isPolicy, policyOf}
@@ -44,11 +44,14 @@ IntakeComesFirst =
 
 -- ---- listing
 
--- Listing into a table of bytes that are rows leaves the bytes of the rows that listing into the table of those rows leaves.
+-- Listing into a table of bytes that are rows, and fewer bytes behind them than a row has, leaves the bytes of the rows that listing
+-- into the table of those rows leaves, and the bytes behind. What listing leaves in any table of bytes: `listed-bytes` and
+-- `unlisted-bytes` of `ListClaim`.
 unfoldable pub ListedAsBytes : Type 0
 ListedAsBytes =
-    (text policy : List ℕ) (table : List Finding)
-    → listBytes text policy (rowsBytes rowNumbers table) ≡ record { answer = list text policy table .answer; buffer = rowsBytes rowNumbers (list text policy table .buffer) }
+    (text policy : List ℕ) (table : List Finding) (rest : List ℕ) → length rest < 80
+    → listBytes text policy (rowsBytes rowNumbers table ++ rest)
+    ≡ record { answer = list text policy table .answer; buffer = rowsBytes rowNumbers (list text policy table .buffer) ++ rest }
 
 -- ---- the filed text
 

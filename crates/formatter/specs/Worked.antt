@@ -45,9 +45,11 @@ finding start end n = record { start = start; end = end; counts = n }
 abbrev pub blank : Finding
 blank = finding 0 0 empty
 
--- A worked text: its characters, what formatting it leaves, what listing it leaves, and its eight totals.
+-- A worked text: its characters, the starts and ends of its items, what formatting it leaves, what listing it leaves, and its
+-- eight totals.
 pub record WorkedText : Type 0 where
   pub text : List ℕ
+  pub items : List (ℕ × ℕ)
   pub formatting : After FormatAnswer ℕ
   pub listing : After ListAnswer Finding
   pub totals : NonCanonicality
@@ -56,24 +58,27 @@ pub record WorkedText : Type 0 where
 unfoldable pub workedText : List ℕ → WorkedText
 workedText t = record {
   text = t;
+  items = map (λ (x : ScanItem). (x .start, x .end)) (scan (encodeAll t));
   formatting = format (encodeAll t) theDefault room;
   listing = list (encodeAll t) theDefault (blank ∷ blank ∷ []);
   totals = textTotals (encodeAll t) theDefault;
 }
 
--- A text that is one finding, up to the byte, becomes the other under formatting.
+-- A text that is one item and one finding, up to the byte, becomes the other under formatting.
 abbrev pub becomes : List ℕ → ℕ → List ℕ → NonCanonicality → WorkedText
 becomes t end r n = record {
   text = t;
+  items = (0, end) ∷ [];
   formatting = record { answer = Format.Changed (length (encodeAll r)); buffer = encodeAll r ++ drop (length (encodeAll r)) room };
   listing = record { answer = Listed 1; buffer = finding 0 end n ∷ blank ∷ [] };
   totals = n;
 }
 
--- A text that is unchanged.
-abbrev pub stays : List ℕ → WorkedText
-stays t = record {
+-- A text of such items that is unchanged.
+abbrev pub stays : List ℕ → List (ℕ × ℕ) → WorkedText
+stays t spans = record {
   text = t;
+  items = spans;
   formatting = record { answer = Format.Unchanged; buffer = room };
   listing = record { answer = Listed 0; buffer = blank ∷ blank ∷ [] };
   totals = empty;
@@ -83,7 +88,7 @@ stays t = record {
 unfoldable pub workedTable : List WorkedText
 workedTable =
     -- 1
-    stays []
+    stays [] []
     -- 2
     ∷ becomes (0x31 ∷ 0xFE0E ∷ []) 4 (0x31 ∷ []) (eight 0 0 0 0 0 0 1 0)
     -- 3
@@ -97,7 +102,7 @@ workedTable =
     -- 7
     ∷ becomes (0x261D ∷ 0xFE0F ∷ 0x1F3FB ∷ []) 10 (0x261D ∷ 0x1F3FB ∷ []) (eight 0 1 0 0 0 0 0 0)
     -- 8
-    ∷ stays (0x261D ∷ 0xFE0E ∷ 0x1F3FB ∷ [])
+    ∷ stays (0x261D ∷ 0xFE0E ∷ 0x1F3FB ∷ []) ((0, 10) ∷ [])
     -- 9
     ∷ becomes (0x2764 ∷ 0xFE0F ∷ 0x1F3FB ∷ []) 10 (0x2764 ∷ 0x1F3FB ∷ []) (eight 0 0 1 0 0 0 0 0)
     -- 10
@@ -105,7 +110,7 @@ workedTable =
     -- 11
     ∷ becomes (0x1F1E6 ∷ 0xFE0F ∷ 0x1F1E7 ∷ []) 11 (0x1F1E6 ∷ 0x1F1E7 ∷ []) (eight 1 0 0 0 0 0 0 0)
     -- 12
-    ∷ stays (0x231A ∷ 0x200D ∷ 0x200D ∷ 0x231A ∷ [])
+    ∷ stays (0x231A ∷ 0x200D ∷ 0x200D ∷ 0x231A ∷ []) ((0, 9) ∷ (9, 12) ∷ [])
     ∷ []
 
 -- "Input bytes 31 EF B8 8E 20 E2 9D A4"
@@ -116,12 +121,11 @@ exampleBytes = 0x31 ∷ 0xEF ∷ 0xB8 ∷ 0x8E ∷ 0x20 ∷ 0xE2 ∷ 0x9D ∷ 0x
 abbrev pub exampleRows : List Finding
 exampleRows = finding 0 4 (eight 0 0 0 0 0 0 1 0) ∷ finding 5 8 (eight 0 0 0 0 0 0 0 1) ∷ []
 
--- The starred texts are as the table says, through the definitions of the calls; text 12 has the items 0 to 9 and 9 to 12; and
--- the example of "Programs" gives its two rows and its totals, by listing, formatting and mending.
+-- The starred texts are as the table says, through the definitions of items and of the calls; and the example of "Programs" gives
+-- its two rows and its totals, by listing, formatting and mending.
 unfoldable pub WorkedTexts : Type 0
 WorkedTexts =
     (map workedText (map (λ (w : WorkedText). w .text) workedTable) ≡ workedTable)
-    × (map {B = ℕ × ℕ} (λ (x : ScanItem). (x .start, x .end)) (scan (encodeAll (0x231A ∷ 0x200D ∷ 0x200D ∷ 0x231A ∷ []))) ≡ (0, 9) ∷ (9, 12) ∷ [])
     × (list exampleBytes theDefault (blank ∷ blank ∷ blank ∷ []) ≡ record { answer = Listed 2; buffer = exampleRows ++ blank ∷ [] })
     × (list exampleBytes theDefault (blank ∷ []) ≡ record { answer = Refused (TableTooShort 2); buffer = blank ∷ [] })
     × (textTotals exampleBytes theDefault ≡ eight 0 0 0 0 0 0 1 1)

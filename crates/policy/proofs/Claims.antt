@@ -20,15 +20,15 @@ use Rattle.policy_key_set.proofs.Contains.{contains-chars}
 use Rattle.policy_key_set.proofs.Entries.{right-words}
 use Rattle.policy.specs.Policy.{holdsBase, ruleOf, singletonRule}
 use Rattle.policy.specs.DefaultPolicy.{bareAsText, bareAsTextKeycap, defaultPolicy, preferBare, preferBareKeycap}
-use Rattle.policy.specs.PolicyBytes.{PolicyValue, bytesOf, isPolicy, keyWords, noUnusedBits, policyBytes, policyOf, policyRefusal, policyWords, readPolicy, wordCount, wordsFrom}
+use Rattle.policy.specs.PolicyBytes.{PolicyValue, bytesOf, isPolicy, keyWords, noUnusedBits, policyBytes, policyOf, policyWords, wordCount, wordsFrom}
 use Rattle.policy.specs.declared.Policy.{Policy}
 use Rattle.policy.specs.declared.SingletonRule.the-variants.{BareToText, EmojiToBare, TextToBare}
 use Rattle.policy.specs.Theorems.{
   AsciiBasesBare,
   DefaultPolicyHolds,
   DefaultRules,
+  NoPolicyMeans,
   ReadWritten,
-  RefusedByTwo,
   RuleByEntry,
   RuleWithoutEntry,
   SameWordsSamePolicy,
@@ -37,6 +37,7 @@ use Rattle.policy.specs.Theorems.{
 use Rattle.policy.proofs.ByEntry.{ascii-rule-bare, rule-by-entry}
 use Rattle.policy.proofs.Bytes.{length-bytesOf}
 use Rattle.policy.proofs.RoundTrips.{Sixes, append-below, many-words, read-words, same-words, sixes-of, words-of, write-words}
+use Rattle.policy.proofs.Unused.{refused-by, refused-for}
 
 -- what each of the default policy's sets holds, by one computed test
 holds-prefer-bare : rightWords (λ (c : ℕ). isAscii c || isEmojiDefault c) preferBare ≡ true
@@ -145,6 +146,6 @@ pub write-read : WriteRead
 unfolding WriteRead policyBytes wordCount entryCount variationEntries
 write-read bs t l = ap bytesOf (words-of bs) ∙ write-words 24 bs l t
 
-pub refused-by-two : RefusedByTwo
-unfolding RefusedByTwo policyRefusal readPolicy refusalRow
-refused-by-two bs = ((λ e. simp e), (λ e. simp e))
+pub no-policy-means : NoPolicyMeans
+unfolding NoPolicyMeans
+no-policy-means bs = (refused-for bs, refused-by bs)

@@ -1,23 +1,20 @@
--- The unused bits of a set: all of them stand in its last word.
-use mathlib.Core.Path.{_≡_, sym, ap, ap₂, _∙_}
-use mathlib.Core.Logic.{⊎-elim}
-use mathlib.Core.Bool.{Bool, true, not, _||_}
+-- The unused bits of a set: all of them stand in its last word. Bytes are no policy for their length or for such a bit.
+use mathlib.Core.Path.{_≡_, refl, sym, ap, ap₂, _∙_}
+use mathlib.Core.Logic.{_⊎_, inl, inr, ⊎-elim}
+use mathlib.Core.Bool.{Bool, true, false, not, _&&_, _||_, true≢false}
 use mathlib.Core.List.{List}
-use Prim.Native.Nat.{ℕ, suc, _+_, _-_, _*_, _/_, _%_, _^_, _<_, _≤_}
+use Prim.Native.Nat.{ℕ, zero, suc, _+_, _-_, _*_, _/_, _%_, _^_, _<_, _≤_}
 use native.Mathlib.Omega.{arith}
-use lib.Dec.{leb, ltb}
-use lib.ListN.{getD}
+use lib.Dec.{eqb, leb, ltb}
+use lib.ListN.{getD, length}
 use lib.Pow.{pow-pos}
-use borrow.Author.Tests.{le-leb, le-ltb, leb-true, lt-ltb, not-true}
+use borrow.Author.Tests.{eqb-false, le-leb, le-ltb, leb-true, lt-ltb, ltb-false, ne-eqb, not-false, not-true}
 use Rattle.base.proofs.Tests.{le-or-lt, same-test}
 use Rattle.base.specs.Bits.{one}
-use Rattle.policy_key_set.specs.Sets.{allBelow, member}
+use Rattle.policy_key_set.specs.Sets.{allBelow, entryCount, member}
 use Rattle.policy_key_set.proofs.Below.{all-below, below-all}
+use Rattle.policy.specs.PolicyBytes.{NoPolicy, UnusedOne, isPolicy, noUnusedBit, noUnusedBits, not-4W-words, policyOf, setOf, unused-bit, wordCount}
 use Rattle.policy.proofs.Bounds.{high-bits, low-word}
-
--- two tests that pass together are the same
-pub same-truth : (a b : Bool) → (a ≡ true → b ≡ true) → (b ≡ true → a ≡ true) → a ≡ b
-same-truth = same-test
 
 -- a bit that is no entry's, and a test of it
 unused : (n i : ℕ) (b : Bool) → n ≤ i → (ltb i n || not b) ≡ not b
@@ -72,3 +69,84 @@ small-word n base u w e l h =
   where
     test : ℕ → Bool
     test k = ltb (base + k) n || not (one k w)
+
+-- ---- bytes that are no policy
+
+-- a number below n that fails a test
+record Fails (n : ℕ) (p : ℕ → Bool) : Type 0 where
+  at : ℕ
+  below : at < n
+  fails : p at ≡ false
+
+not-all : (n : ℕ) (p : ℕ → Bool) → allBelow n p ≡ false → Fails n p
+unfolding allBelow
+not-all zero p e = absurd (true≢false e)
+not-all (suc n) p e = go (p n) refl (not-all n p) e
+  where
+    go : (b : Bool) → p n ≡ b → (allBelow n p ≡ false → Fails n p) → (b && allBelow n p) ≡ false → Fails (suc n) p
+    go false t ih f = record { at = n; below = omega arith; fails = t }
+    go true t ih f = let r = ih f in record { at = r .at; below = omega (arith, r .below); fails = r .fails }
+
+both-false : (x y : Bool) → (x || y) ≡ false → (x ≡ false) × (y ≡ false)
+both-false true y e = absurd (true≢false e)
+both-false false y e = (refl, e)
+
+unused-one : (ws : List ℕ) → noUnusedBit ws ≡ false → UnusedOne ws
+unfolding noUnusedBit
+unused-one ws e =
+    let r = not-all (wordCount * 64) (λ (i : ℕ). ltb i entryCount || not (member i ws)) e in
+    let f = both-false (ltb (r .at) entryCount) (not (member (r .at) ws)) (r .fails) in
+    record { bit = r .at; no-entry = ltb-false (r .at) entryCount (f .0); in-words = r .below; is-one = not-false (member (r .at) ws) (f .1) }
+
+one-unused : (ws : List ℕ) → UnusedOne ws → noUnusedBit ws ≡ false
+unfolding noUnusedBit
+one-unused ws u = go (noUnusedBit ws) refl
+  where
+    test : ℕ → Bool
+    test i = ltb i entryCount || not (member i ws)
+
+    go : (b : Bool) → noUnusedBit ws ≡ b → b ≡ false
+    go false e = refl
+    go true e = sym (sym (unused entryCount (u .bit) (member (u .bit) ws) (u .no-entry) ∙ ap not (u .is-one)) ∙ all-below (wordCount * 64) test e (u .bit) (u .in-words))
+
+-- one of four sets
+one-of : (a b c d : Bool) → ((a && b) && (c && d)) ≡ false → (a ≡ false) ⊎ ((b ≡ false) ⊎ ((c ≡ false) ⊎ (d ≡ false)))
+one-of false b c d e = inl refl
+one-of true false c d e = inr (inl refl)
+one-of true true false d e = inr (inr (inl refl))
+one-of true true true d e = inr (inr (inr e))
+
+module _ (bs : List ℕ) where
+  -- whether a set has no unused bit
+  abbrev clean : ℕ → Bool
+  clean k = noUnusedBit (setOf k bs .bits)
+
+  pub refused-for : isPolicy bs ≡ false → NoPolicy bs
+  unfolding isPolicy noUnusedBits policyOf
+  refused-for e = go (eqb (length bs) (4 * (wordCount * 8))) refl e
+    where
+      in-set : (k : ℕ) → k < 4 → clean k ≡ false → NoPolicy bs
+      in-set k l f = unused-bit k l (unused-one (setOf k bs .bits) f)
+
+      go : (b : Bool) → eqb (length bs) (4 * (wordCount * 8)) ≡ b → (b && noUnusedBits (policyOf bs)) ≡ false → NoPolicy bs
+      go false t f = not-4W-words (eqb-false (length bs) (4 * (wordCount * 8)) t)
+      go true t f =
+          ⊎-elim (in-set 0 (omega arith))
+          (⊎-elim (in-set 1 (omega arith)) (⊎-elim (in-set 2 (omega arith)) (in-set 3 (omega arith))))
+          (one-of (clean 0) (clean 1) (clean 2) (clean 3) f)
+
+  and-false : (x y : Bool) → y ≡ false → (x && y) ≡ false
+  and-false true y e = e
+  and-false false y e = refl
+
+  pub refused-by : NoPolicy bs → isPolicy bs ≡ false
+  unfolding isPolicy noUnusedBits policyOf
+  refused-by (not-4W-words h) = ap (λ (b : Bool). b && noUnusedBits (policyOf bs)) (ne-eqb (length bs) (4 * (wordCount * 8)) h)
+  refused-by (unused-bit k l u) = and-false (eqb (length bs) (4 * (wordCount * 8))) (noUnusedBits (policyOf bs)) (go k l (one-unused (setOf k bs .bits) u))
+    where
+      go : (k : ℕ) → k < 4 → clean k ≡ false → ((clean 0 && clean 1) && (clean 2 && clean 3)) ≡ false
+      go zero l f = ap (λ (b : Bool). (b && clean 1) && (clean 2 && clean 3)) f
+      go (suc zero) l f = ap (λ (b : Bool). b && (clean 2 && clean 3)) (and-false (clean 0) (clean 1) f)
+      go (suc (suc zero)) l f = and-false (clean 0 && clean 1) (clean 2 && clean 3) (ap (λ (b : Bool). b && clean 3) f)
+      go (suc (suc (suc zero))) l f = and-false (clean 0 && clean 1) (clean 2 && clean 3) (and-false (clean 2) (clean 3) f)
+      go (suc (suc (suc (suc k)))) l f = absurd (omega arith)

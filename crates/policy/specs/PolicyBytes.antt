@@ -1,14 +1,11 @@
 -- A policy as bytes: document 01, "A policy is 4W words: prefer_bare ordinary, prefer_bare keycap, then bare_as_text
 -- likewise", a word being 8 bytes, lowest first; and the test of a policy handed in (refusal 2).
 use mathlib.Core.Path.{_≡_}
-use mathlib.Core.Bool.{Bool, cond, _&&_, _||_, not}
+use mathlib.Core.Bool.{Bool, true, _&&_, _||_, not}
 use mathlib.Core.List.{List, [], _∷_, _++_}
-use Prim.Native.Nat.{ℕ, zero, suc, _+_, _*_, _/_, _^_, _<_}
+use Prim.Native.Nat.{ℕ, zero, suc, _+_, _*_, _/_, _^_, _≤_, _<_}
 use lib.Dec.{eqb, ltb}
 use lib.ListN.{drop, getD, length, take}
-use mathlib.Core.Option.{Option, none, some}
-use Rattle.base.specs.Refusals.{RefusalRow, refusalRow}
-use Rattle.base.specs.declared.Refusal.the-variants.{NotAPolicy}
 use Rattle.base.specs.Words.{number, wordBytes}
 use Rattle.unicode.specs.UnicodeData.{variationEntries}
 use Rattle.policy_key_set.specs.Sets.{allBelow, entryCount, member}
@@ -69,9 +66,17 @@ isPolicy bs = eqb (length bs) (4 * (wordCount * 8)) && noUnusedBits (policyOf bs
 unfoldable pub readPolicy : List ℕ → ReadPolicy
 readPolicy bs = record { accepted = isPolicy bs; policy = policyOf bs }
 
--- "policy not 4W words, or an unused bit set | 2 | nothing more"
-unfoldable pub policyRefusal : ReadPolicy → Option RefusalRow
-policyRefusal r = cond (r .accepted) none (some (refusalRow NotAPolicy))
+-- a one among the unused bits of a set: a bit of its W words that is no entry's
+pub record UnusedOne (ws : List ℕ) : Type 0 where
+  pub bit : ℕ
+  pub no-entry : entryCount ≤ bit
+  pub in-words : bit < wordCount * 64
+  pub is-one : member bit ws ≡ true
+
+-- "policy not 4W words, or an unused bit set", in one of the four sets
+pub data NoPolicy (bs : List ℕ) : Type 0 where
+  not-4W-words : (length bs ≡ 4 * (wordCount * 8) → ⊥) → NoPolicy bs
+  unused-bit : (k : ℕ) → k < 4 → UnusedOne (setOf k bs .bits) → NoPolicy bs
 
 -- the policy that bytes say has every ASCII entry among the ordinary keys of `prefer_bare`. Then such a base, where it
 -- has no selector and rule 6 holds, stays as it is: `AsciiBasesBare`

@@ -1,9 +1,8 @@
 -- What is claimed of policies. The proofs are in proofs/Claims.antt.
 use mathlib.Core.Path.{_≡_}
-use mathlib.Core.Logic.{_⊎_}
+use mathlib.Core.Logic.{_↔_, _⊎_}
 use mathlib.Core.Bool.{Bool, true, false, cond, _||_}
 use mathlib.Core.List.{List}
-use mathlib.Core.Option.{none, some}
 use Prim.Native.Nat.{ℕ, _*_}
 use lib.ListN.{getD, length}
 use Rattle.base.specs.Words.{allBytes}
@@ -14,15 +13,14 @@ use Rattle.policy_key_set.specs.KeySets.{HoldsKeys, isAscii}
 use Rattle.policy.specs.Policy.{entryRule, singletonRule}
 use Rattle.policy.specs.DefaultPolicy.{defaultPolicy}
 use Rattle.policy.specs.PolicyBytes.{
+  NoPolicy,
   PolicyValue,
   asciiKeysBare,
   isPolicy,
   noUnusedBits,
   policyBytes,
   policyOf,
-  policyRefusal,
   policyWords,
-  readPolicy,
   wordCount,
 }
 use Rattle.policy.specs.declared.Policy.{Policy}
@@ -75,9 +73,6 @@ unfoldable pub WriteRead : Type 0
 WriteRead =
     (bs : List ℕ) → allBytes bs ≡ true → length bs ≡ 4 * (wordCount * 8) → policyBytes (policyOf bs) ≡ bs
 
--- Bytes are refused, by number 2, exactly when they are not 4W words or have an unused bit set.
-unfoldable pub RefusedByTwo : Type 0
-RefusedByTwo =
-    (bs : List ℕ)
-    → (isPolicy bs ≡ true → policyRefusal (readPolicy bs) ≡ none)
-    × (isPolicy bs ≡ false → policyRefusal (readPolicy bs) ≡ some (record { number = 2; value = 0 }))
+-- Bytes are no policy, which is refusal 2, exactly when they are not 4W words or have an unused bit set.
+unfoldable pub NoPolicyMeans : Type 0
+NoPolicyMeans = (bs : List ℕ) → (isPolicy bs ≡ false) ↔ NoPolicy bs

@@ -37,7 +37,7 @@ use Rattle.scanner.specs.Structure.{
 use Rattle.scanner.specs.Scanner.{HandsOutItems, MadeHandsOut, RawSpells, RawsJoin}
 use Rattle.scanner.specs.Spans.{firstOf, scan, scanAt, scanFrom, size, spans, width}
 use Rattle.scanner.specs.Tags.{allComplete, complete, tagModifications, tagRuns, tagsComplete, withTags}
-use Rattle.scanner.specs.Theorems.{CursorAtItemEnd, CursorAtStart, CursorEnds, CursorInsideCharacter, CursorPastEnd, FirstItemByRuns, ItemAlone, ItemsAfresh, ItemsAreAReading, ItemsTile, NoItemIsEmpty, OnlyReading, RestByRuns, RunsByClass, RunsAreDerived, SelectorsMoveNothing, SpansAfresh, SpansCover, SpansSpellItems, SpansTile, SpansTileFrom, Spells, span, StructureFlattens, StructureIsDerived, Structured, TagReportTells, TagsAreInStructure, TagsCompleteMeans, Tiles, WorkedItems, WorkedStructure, WorkedTags}
+use Rattle.scanner.specs.Theorems.{CursorAtItemEnd, CursorAtStart, CursorEnds, CursorInsideCharacter, CursorPastEnd, FirstItemByRuns, ItemAlone, ItemsAfresh, ItemsAreAReading, ItemsTile, NoItemIsEmpty, OnlyReading, RestByRuns, RunsAreDerived, RunsAreLongest, RunsByClass, SelectorsMoveNothing, SpansAfresh, SpansCover, SpansSpellItems, SpansTile, SpansTileFrom, Spells, span, StructureFlattens, StructureIsDerived, Structured, TagReportTells, TagsAreInStructure, TagsCompleteMeans, Tiles, WorkedItems, WorkedStructure, WorkedTags}
 use Rattle.scanner.specs.Walks.{SequenceWalk, StructureIsWalked}
 use Rattle.scanner.specs.declared.ScanKind.{ScanKind}
 use Rattle.scanner.specs.declared.ScanItem.{ScanItem}
@@ -50,6 +50,7 @@ use Rattle.scanner.proofs.EmojiRuns.{unit-item}
 use Rattle.scanner.proofs.RestRuns.{unit-ends, unit-joins, unit-left}
 use Rattle.scanner.proofs.ItemRuns.{item-links, item-passthrough, item-selectors}
 use Rattle.scanner.proofs.ItemWalks.{structure-walk}
+use Rattle.scanner.proofs.LongestRuns.{longest-link, longest-links, longest-modification, longest-modifications, longest-selectors, longest-stem, longest-unit}
 use Rattle.scanner.proofs.RunLaws.{
   link-derived,
   links-derived,
@@ -98,6 +99,10 @@ selectors-move-nothing k c s t o e d = derives-alike c s t (derive-inner c s o d
 pub runs-are-derived : RunsAreDerived
 unfolding RunsAreDerived
 runs-are-derived = (selectors-derived, modification-derived, modifications-derived, stem-derived, unit-derived, link-derived, links-derived)
+
+pub runs-are-longest : RunsAreLongest
+unfolding RunsAreLongest
+runs-are-longest = (longest-selectors, longest-modification, longest-modifications, longest-stem, longest-unit, longest-link, longest-links)
 
 pub first-item-by-runs : FirstItemByRuns
 unfolding FirstItemByRuns items

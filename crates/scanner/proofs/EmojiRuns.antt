@@ -128,7 +128,7 @@ stem-second c t b u e f g h = record {
   derived = flag c b e (passes-S (run-passes isSelector t)) g (passes-S (run-passes isSelector u));
 }
 
-stem-emoji : (c : ℕ) (t : List ℕ) → isEmoji c ≡ true → stemAt (c ∷ t) ≡ c ∷ (selectorsAt t ++ cond (isRi c) (secondRiAt (behindSelectors t)) [])
+pub stem-emoji : (c : ℕ) (t : List ℕ) → isEmoji c ≡ true → stemAt (c ∷ t) ≡ c ∷ (selectorsAt t ++ cond (isRi c) (secondRiAt (behindSelectors t)) [])
 unfolding stemAt
 stem-emoji c t e = ap (λ (b : Bool). cond b (c ∷ (selectorsAt t ++ cond (isRi c) (secondRiAt (behindSelectors t)) [])) []) e
 

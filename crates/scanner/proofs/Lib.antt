@@ -28,6 +28,7 @@ pub mod ItemRuns
 pub mod EmojiRuns
 pub mod RestRuns
 pub mod RunLaws
+pub mod LongestRuns
 pub mod ClassTests
 pub mod RunsAt
 pub mod TagRuns

@@ -149,3 +149,10 @@ links-derived (c ∷ t) = go (eqb c 0x200D) refl
     go : (b : Bool) → eqb c 0x200D ≡ b → Links (cond b (run inLinks (c ∷ t)) [])
     go true e = subst Links (sym (run-true inLinks c t (either-left (eqb c 0x200D) (isSelector c) e))) (link-before e (links-passes (run-passes inLinks t)))
     go false e = no-links
+
+-- ---- one run in another
+
+-- A run that takes in what another takes in goes on behind it.
+pub run-over : {f g : ℕ → Bool} {s : List ℕ} → ((c : ℕ) → f c ≡ true → g c ≡ true) → Passes f s → (t : List ℕ) → run g (s ++ t) ≡ s ++ run g t
+run-over {f} {g} {s} i all-pass t = refl
+run-over {f} {g} {s} i (pass-and {c = c} {s = u} e h) t = run-true g c (u ++ t) (i c e) ∙ ap (λ (l : List ℕ). c ∷ l) (run-over i h t)

@@ -107,6 +107,22 @@ RunsAreDerived =
     × ((t : List ℕ) → Link (linkAt (0x200D ∷ t)))
     × ((t : List ℕ) → Links (linksAt t))
 
+-- What a function gives of any characters stands at their front, and no front of them that is this part is longer.
+pub record LongestAt (Part : List ℕ → Type 0) (at : List ℕ → List ℕ) : Type 0 where
+  pub front : (t : List ℕ) → take (length (at t)) t ≡ at t
+  pub longest : (s r : List ℕ) → Part s → length s ≤ length (at (s ++ r))
+
+-- "Each choice takes the longest run": so do S, a modification, all modifications, a stem, a unit, a link and all links.
+unfoldable pub RunsAreLongest : Type 0
+RunsAreLongest =
+    LongestAt S selectorsAt
+    × LongestAt Modification modificationAt
+    × LongestAt Modifications modificationsAt
+    × LongestAt Stem stemAt
+    × LongestAt EmojiUnit unitAt
+    × LongestAt Link linkAt
+    × LongestAt Links linksAt
+
 -- The first item of a text: at a selector, at 200D and otherwise it is the run there; at an emoji it is the unit there and the
 -- rest of the item behind that.
 unfoldable pub FirstItemByRuns : Type 0

@@ -1,5 +1,5 @@
 -- Runs of ASCII: how a run goes on, and each byte of a run is a character of its own.
-use mathlib.Core.Path.{_≡_, sym, ap, _∙_, subst}
+use mathlib.Core.Path.{_≡_, refl, sym, ap, _∙_, subst}
 use mathlib.Core.Logic.{⊎-elim}
 use mathlib.Core.Bool.{true}
 use mathlib.Core.List.{List}
@@ -16,7 +16,7 @@ use Rattle.utf8.proofs.Places.{Step, step}
 -- ---- a run and how it goes on
 
 pub run-none : (s : List ℕ) (from : ℕ) → AsciiRun s from from
-run-none s from = record { from-le = omega arith; inside = λ h. h; ascii = λ k l h. absurd (omega arith) }
+run-none s from = record { from-le = omega arith; inside = λ h. h; behind = λ h. refl; ascii = λ k l h. absurd (omega arith) }
 
 pub up-to-one : (s : List ℕ) (at : ℕ) → AllUpTo (getD s at 0) s at 1
 up-to-one s at = record {
@@ -27,6 +27,7 @@ pub run-on : {s : List ℕ} {from at : ℕ} (top n : ℕ) → AsciiRun s from at
 run-on {s} {from} {at} top n r u t h = record {
   from-le = let l = r .from-le in omega arith;
   inside = λ l. h;
+  behind = λ b. let l = r .from-le in omega arith;
   ascii = λ k l j. ⊎-elim (λ b. omega (arith, u .each k b j)) (λ b. r .ascii k l b) (le-or-lt at k);
 }
 

@@ -14,7 +14,8 @@ returns c =
     let m = x .args .message .now in
     let out = x .args .out .now in
     let d = c .before .before .before .before .before .put-default-policy .ensures .1 in
-    subst (IsAnswer m) (sym (c .before .before .format-text .ensures ∙ ap (λ (p : List ℕ). format m p out) d)) (answers m out (x .pre))
+    let e = c .before .before .format-text .ensures ∙ ap (λ (p : List ℕ). format m p out) d in
+    record { as-format = e; told = subst (IsAnswer m) (sym e) (answers m out (x .pre)) }
 
 pub format-message-spec : {M : Type 1} → statement M
 format-message-spec =
