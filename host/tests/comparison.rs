@@ -1,6 +1,7 @@
 //! The comparison itself: it finds nothing in the reading of document 01, and every planted fault.
 
 use std::path::{Path, PathBuf};
+use std::{env, fs, process};
 
 use tilghorz_comparison::Random;
 use tilghorz_comparison::calls::{Calls, Reference};
@@ -220,9 +221,37 @@ fn lines_of_the_published_lists_are_read() {
 
 #[test]
 fn lists_that_are_not_there_are_named() {
-    let (texts, missing) = texts(Path::new("no such folder"));
-    assert!(texts.is_empty());
-    assert_eq!(missing, LISTS);
+    let read = texts(Path::new("no such folder"));
+    assert!(read.texts.is_empty() && read.empty.is_empty());
+    assert_eq!(read.missing, LISTS);
+}
+
+#[test]
+fn lists_without_a_text_are_named() {
+    let folder = env::temp_dir().join(format!("tilghorz-lists-{}", process::id()));
+    fs::create_dir_all(&folder).expect("a folder");
+    fs::write(folder.join(LISTS[0]), "231A ; Basic_Emoji\n").expect("written");
+    fs::write(folder.join(LISTS[1]), "# nothing\n").expect("written");
+    let read = texts(&folder);
+    fs::remove_dir_all(&folder).expect("removed");
+    assert_eq!(read.texts, ["\u{231A}".to_owned()].into());
+    assert_eq!((read.missing, read.empty), (vec![LISTS[2]], vec![LISTS[1]]));
+}
+
+#[test]
+fn a_run_that_tries_nothing_does_not_pass() {
+    let no_time = Options {
+        seconds: 0,
+        ..SHORT
+    };
+    let (is_same, text) = printed(&Reference, &no_time);
+    assert!(!is_same, "{text}");
+    assert!(
+        text.ends_with("nothing was tried: texts of 0 characters, in --seconds\n"),
+        "{text}"
+    );
+    let nothing_drawn = Options { cases: 0, ..SHORT };
+    assert!(printed(&Reference, &nothing_drawn).0);
 }
 
 #[test]

@@ -14,7 +14,7 @@ pub const USAGE: &str = "\
 usage: compare [--cases N] [--seconds S] [--seed N] [--length N] [--without-limits] [--without-published]
                [--programs FORMAT REPORT] [--fault NAME | --faults]
   --cases N            at most N drawn texts, damaged ones and lists of calls each
-  --seconds S          begin no further case after S seconds
+  --seconds S          begin no further case after S seconds; a kind of which no case was begun fails the run
   --seed N             the seed of what is drawn
   --length N           try every text of up to N characters, one of each kind
   --without-limits     leave out the texts around the limits
