@@ -22,6 +22,8 @@ fn main() {
             println!("cargo::rerun-if-changed={}", folder.join(FILE).display());
             println!("cargo::rustc-link-search=native={}", folder.display());
             println!("cargo::rustc-link-lib=static=tilghorz");
+            // For the test of the C header.
+            println!("cargo::rustc-env=TILGHORZ_FOLDER={}", folder.display());
         }
         Err(fault) => {
             for line in fault.lines() {
