@@ -9,6 +9,7 @@ Each finding is a line on standard error; the exit status is 1 if there is one. 
 that is a finding too.
 
 - crates:     every folder of crates/ is listed in crates.txt, and every library has a must-fail edit.
+- misfits:    every must-fail edit fits the file that it changes (edit_checks.py).
 - contracts:  no public function has a `requires`, and each has an `ensures`.
 - audit:      docs/AUDIT.md has a row for every public function of a library, in the part of its crate, with what its
               contract rules out; and every must-fail edit that it names is there.
@@ -17,14 +18,15 @@ that is a finding too.
               `pub name : Statement` of Claims.antt, in no section, so with no further hypothesis; the statement
               is imported under its own name from the file that makes it.
 - counts:     the last line of rt ci counts every crate and every must-fail edit.
-- edits:      the first error of a refused must-fail edit is that a fact no longer holds, and not that the edit
-              made a definition ill-formed (rt takes that for a refusal) or the proof file unfit for the code.
+- edits:      the first error of a refused must-fail edit is that a fact no longer holds (edit_checks.py).
 - axioms:     no library rests on an axiom. A program counts the C functions of the kit that it calls.
 """
 
 import pathlib
 import re
 import sys
+
+from edit_checks import misfits, must_fail_edits, telling_nothing
 
 CLAUSE = re.compile(r"\s*(requires|ensures|ghost)\b[^{]*\{")
 PUBLIC_FUNCTION = re.compile(r'\bpub\s+(?:const\s+)?(?:extern\s+"C"\s+)?fn\s+(\w+)')
@@ -38,7 +40,6 @@ NAMED_EDITS = re.compile(rf"\b[Ee]dits? {NAMES}")
 # In the table whose last column is of edits, these stand in brackets.
 EDITS_OF_ROWS = re.compile(r"^\|.*with the edit that shows it \|\n((?:\|.*\n)+)", re.M)
 BRACKETED_EDITS = re.compile(rf"\((?:\w+: )?{NAMES}(?:\.\.)?\)")
-UNFIT = re.compile(r"that can be named from here|is not in scope")
 
 # Where comments begin and end.
 RATTLE = ("//", "/*", "*/")
@@ -53,10 +54,6 @@ def listed(root):
 
 def libraries(root):
     return [name for name in listed(root) if (root / "crates" / name / "src" / "lib.rt").is_file()]
-
-
-def must_fail_edits(root):
-    return sorted(root.glob("crates/*/must-fail/*.edit"))
 
 
 def unlisted_crates(root):
@@ -222,35 +219,10 @@ def unproved_statements(root):
             yield f"crates/{name}/proofs/Lib.antt: no line `pub mod Claims`"
 
 
-def first_error(log):
-    """The first error of a log, or its first note with a place, where it has no error."""
-    for pattern in (r"^\S+: error.*$", r"^note: \S+:\d+:\d+:.*$"):
-        if found := re.search(pattern, log, re.M):
-            return found[0]
-    return ""
-
-
 def miscounted(root, last_line):
     wanted = f"{len(listed(root)) + len(must_fail_edits(root))} passed, 0 failed"
     if last_line != wanted:
         yield f"rt ci: its last line is `{last_line}`; the crates and the must-fail edits make `{wanted}`"
-
-
-def telling_nothing(root):
-    for edit in must_fail_edits(root):
-        crate, label = edit.parent.parent.name, edit.stem
-        log = root / "target" / "must-fail" / crate / label / ".log"
-        where = f"crates/{crate}/must-fail/{label}.edit"
-        if not log.is_file():
-            yield f"{where}: it was not tried"
-            continue
-        error = first_error(log.read_text(encoding="utf-8", errors="replace"))
-        if not error:
-            yield f"{where}: its log has no error"
-        elif f"/{crate}/{label}/specs/" in error.partition(": ")[0]:
-            yield f"{where}: it only made a definition ill-formed: {error[:200]}"
-        elif UNFIT.search(error):
-            yield f"{where}: it only made the proof file unfit: {error[:200]}"
 
 
 def rests_on_axioms(root):
@@ -266,7 +238,7 @@ def rests_on_axioms(root):
             yield f"crates/{name}: a library that rests on an axiom: {verdict[-1]}"
 
 
-SOURCE = (unlisted_crates, weak_contracts, unaudited_functions, unproved_statements)
+SOURCE = (unlisted_crates, misfits, weak_contracts, unaudited_functions, unproved_statements)
 PRODUCTS = (telling_nothing, rests_on_axioms)
 
 

@@ -67,7 +67,7 @@ same = refl
 pub whole : Whole
 whole = record { part = same }
 """,
-    "crates/one/must-fail/wrong.edit": "file: src/lib.rt\nold: x\nnew: y\n",
+    "crates/one/must-fail/wrong.edit": "file: src/lib.rt\nold: [x, x]\nnew: [x, 0]\n",
     "crates/two/src/main.rt": "fn main() {}\n",
     "docs/AUDIT.md": """
 Each of `same`, `twice` and `part` has a row below.
@@ -213,23 +213,6 @@ class Checks(unittest.TestCase):
         self.assertEqual(self.findings(of("3 passed, 0 failed")), [])
         for line in ("0 passed, 0 failed", "2 passed, 0 failed", "3 passed, 1 failed", ""):
             self.finds("the crates and the must-fail edits make `3 passed, 0 failed`", of(line))
-
-    def test_edit_that_shows_nothing(self):
-        self.finds(
-            "unfit",
-            checks.telling_nothing,
-            _log=("the two types differ", "`tie` has no `Need-add-x` that can be named from here"),
-        )
-        self.finds("unfit", checks.telling_nothing, _log=("the two types differ", "`x` is not in scope"))
-
-    def test_edit_that_is_no_definition(self):
-        self.finds("ill-formed", checks.telling_nothing, _log=("proofs/same/Proof", "specs/Theorems"))
-
-    def test_log_without_error(self):
-        self.finds("its log has no error", checks.telling_nothing, _log=("error: ", "no "))
-
-    def test_edit_not_tried(self):
-        self.finds("not tried", checks.telling_nothing, removed=["target/must-fail/one/wrong/.log"])
 
     def test_library_on_an_axiom(self):
         self.finds("rests on an axiom", checks.rests_on_axioms, one_say=("sum=0", "sum=0 axioms=1"))
