@@ -179,6 +179,22 @@ fn a_fault_that_is_not_reported_is_told() {
 }
 
 #[test]
+fn a_run_that_tries_nothing_reports_no_fault() {
+    let command = parsed("--seconds 0 --without-limits --without-published --faults");
+    let mut out = Vec::new();
+    let are_reported = command
+        .expect("a command")
+        .execute(&Reference, &mut out)
+        .expect("printed");
+    let text = String::from_utf8(out).expect("a text");
+    assert!(!are_reported, "{text}");
+    assert!(
+        text.contains("keycap-rule          NOT REPORTED\n"),
+        "{text}"
+    );
+}
+
+#[test]
 fn every_byte_of_a_lent_buffer_counts() {
     let draft = Draft::bytes(b"abc".to_vec());
     let call = |spoil: fn(&mut [u8])| {
