@@ -1,4 +1,5 @@
-/* The C functions of the library tilghorz (target/staticlib/libtilghorz.a, made by: rt staticlib tilghorz).
+/* The C functions of the library tilghorz (target/staticlib/libtilghorz.a, made by: rt staticlib tilghorz). example.c beside
+ * this file calls two of them.
  *
  * A slice is a pointer and a length in bytes; with a length of 0 the pointer may be any that is not null.
  * Bytes that are read must not overlap bytes that are written.

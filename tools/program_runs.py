@@ -4,7 +4,8 @@ are what the two are to write. And the stored lines of the program findings_tabl
 write, in its stdout.
 
     tools/program_runs.py run [FOLDER]   run FOLDER/format and FOLDER/report (target/bin) on each NAME.in, and
-                                         FOLDER/findings_table on the texts of evfmt's stored answers
+                                         FOLDER/findings_table on the texts of evfmt's stored answers; and the examples
+                                         of README.md that call ./tilghorz
     tools/program_runs.py check          NAME.in and the lines are what this script makes, and nothing else is stored
     tools/program_runs.py make           write these, and by the host's stored-answers what the programs are to write
 
@@ -13,10 +14,12 @@ crate evfmt. `stored-answers check` and the host's tests hold the stored files t
 
 Each input goes to a program twice: as a file, and through a pipe in pieces, so that reads are short. A read that fails
 (standard input is a folder) must give nothing on standard output and a line on standard error. Each difference is a line
-on standard error; the exit status is 1 if there is one.
+on standard error, and so is a program that ends with another status than 0, and a check that has nothing to run; the exit
+status is 1 if there is one.
 """
 
 import pathlib
+import re
 import subprocess
 import sys
 import tempfile
@@ -124,7 +127,7 @@ def make_outputs():
 def from_file(program, path):
     with path.open("rb") as source:
         answer = subprocess.run([program], stdin=source, capture_output=True, timeout=SECONDS, check=False)
-    return answer.stdout
+    return answer.stdout, answer.returncode
 
 
 def in_pieces(program, text):
@@ -137,9 +140,9 @@ def in_pieces(program, text):
                 process.stdin.close()
             except BrokenPipeError:
                 pass  # a program need not read what is too long
-            process.wait(timeout=SECONDS)
+            status = process.wait(timeout=SECONDS)
         output.seek(0)
-        return output.read()
+        return output.read(), status
 
 
 def difference(expected, found):
@@ -162,9 +165,11 @@ def wrong_runs(folder, programs):
             source = folder / f"{name}.in"
             expected = (folder / f"{name}.{program}").read_bytes()
             runs = {"as a file": from_file(path, source), "in pieces": in_pieces(path, source.read_bytes())}
-            for way, found in runs.items():
+            for way, (found, status) in runs.items():
                 if found != expected:
                     yield f"{program} {name}, {way}: {difference(expected, found)}"
+                if status != 0:
+                    yield f"{program} {name}, {way}: exit status {status}"
         yield from wrong_failure(path, folder)
 
 
@@ -186,7 +191,8 @@ def in_messages(texts):
             yield message, count
             message, count = b"", 0
         message, count = message + text + b"\n", count + 1
-    yield message, count
+    if count:
+        yield message, count
 
 
 def wrong_tables(program, texts):
@@ -194,10 +200,33 @@ def wrong_tables(program, texts):
     if not program.is_file():
         yield f"{program}: is not built"
         return
-    for message, count in in_messages(texts):
-        found = subprocess.run([program], input=message, capture_output=True, timeout=SECONDS, check=False).stdout.decode()
-        if not (found.startswith(f"{count} lines, ") and found.endswith(" 0 refused, 0 different\n")):
-            yield f"{program.name}: {found!r} for {count} lines that begin with {message[:16].hex(' ')}"
+    messages = list(in_messages(texts))
+    if not messages:
+        yield f"{program.name}: no stored text"
+    for message, count in messages:
+        answer = subprocess.run([program], input=message, capture_output=True, timeout=SECONDS, check=False)
+        found = answer.stdout.decode()
+        is_whole = found.startswith(f"{count} lines, ") and found.endswith(" 0 refused, 0 different\n")
+        if answer.returncode != 0 or not is_whole:
+            yield f"{program.name}: {found!r}, exit status {answer.returncode}, for {count} lines that begin with {message[:16].hex(' ')}"
+
+
+def examples(readme):
+    """The commands of the blocks `console` that call ./tilghorz, each with what stands below it."""
+    blocks = "".join(re.findall(r"^```console\n(.*?)^```$", readme, re.M | re.S))
+    commands = re.findall(r"^\$ (.*)\n((?:(?!\$ ).*\n)*)", blocks, re.M)
+    return [(command, output) for command, output in commands if "./tilghorz " in command]
+
+
+def wrong_examples(root):
+    """The examples of README.md that do not write what it says. Those of tilghorz-host are run by its own test."""
+    shown = examples((root / "README.md").read_text(encoding="utf-8"))
+    if not shown:
+        yield "README.md: no example of ./tilghorz"
+    for command, expected in shown:
+        answer = subprocess.run(["sh", "-c", f"exec 2>&1; {command}"], cwd=root, stdin=subprocess.DEVNULL, capture_output=True, timeout=SECONDS, check=False)
+        if answer.stdout.decode() != expected:
+            yield f"README.md: {command}: {answer.stdout.decode()!r}"
 
 
 def wrong_failure(program, folder):
@@ -223,7 +252,7 @@ def main(arguments):
         found = [*wrong_files(folder), *wrong_lines(table)]
     elif arguments[:1] == ["run"] and len(arguments) <= 2:
         programs = pathlib.Path(arguments[1]) if arguments[1:] else ROOT / "target" / "bin"
-        found = [*wrong_runs(folder, programs), *wrong_tables(programs / "findings_table", answered_texts())]
+        found = [*wrong_runs(folder, programs), *wrong_tables(programs / "findings_table", answered_texts()), *wrong_examples(ROOT)]
     else:
         print(__doc__, file=sys.stderr)
         return 2

@@ -1,27 +1,32 @@
 #!/usr/bin/env python3
 """The gate's own checks of the repository, beside what `rt ci` proves.
 
-    tools/repository_checks.py source     before rt ci: the crates, the contracts, the theorems
-    tools/repository_checks.py products   after rt ci: the must-fail edits' logs, the axioms
+    tools/repository_checks.py source         before rt ci: the crates, the contracts, the theorems
+    tools/repository_checks.py products LINE  after rt ci, with its last line: what it counted, the must-fail edits' logs,
+                                              the axioms
 
-Each finding is a line on standard error; the exit status is 1 if there is one.
+Each finding is a line on standard error; the exit status is 1 if there is one. Where a check finds nothing to look at,
+that is a finding too.
 
-- crates:     every folder of crates/ is listed in crates.txt.
+- crates:     every folder of crates/ is listed in crates.txt, and every library has a must-fail edit.
+- misfits:    every must-fail edit fits the file that it changes (edit_checks.py).
 - contracts:  no public function has a `requires`, and each has an `ensures`.
-- audit:      docs/AUDIT.md names every public function of a library, in the part of its crate, with what its contract
-              rules out; and every must-fail edit that it names is there.
+- audit:      docs/AUDIT.md has a row for every public function of a library, in the part of its crate, with what its
+              contract rules out; and every must-fail edit that it names is there.
 - theorems:   every statement of a crate's specs/ has its proof in proofs/Claims.antt. A statement is a closed
               definition whose type is `Type N`, or a closed record in a file Theorems.antt. A claim is a line
               `pub name : Statement` of Claims.antt, in no section, so with no further hypothesis; the statement
               is imported under its own name from the file that makes it.
-- edits:      the first error of a refused must-fail edit is that a fact no longer holds, and not that the edit
-              made the proof file unfit for the code.
+- counts:     the last line of rt ci counts every crate and every must-fail edit.
+- edits:      the first error of a refused must-fail edit is that a fact no longer holds (edit_checks.py).
 - axioms:     no library rests on an axiom. A program counts the C functions of the kit that it calls.
 """
 
 import pathlib
 import re
 import sys
+
+from edit_checks import misfits, must_fail_edits, telling_nothing
 
 CLAUSE = re.compile(r"\s*(requires|ensures|ghost)\b[^{]*\{")
 PUBLIC_FUNCTION = re.compile(r'\bpub\s+(?:const\s+)?(?:extern\s+"C"\s+)?fn\s+(\w+)')
@@ -30,8 +35,15 @@ CLOSED_RECORD = re.compile(r"^pub record (\S+) : Type \d+ where$", re.M)
 HIDDEN_STATEMENT = re.compile(r"^(?:[ \t]+.*|(?!.*\bpub ).*)\s?(\S+) : Type \d+$", re.M)
 USE = re.compile(r"^use (\S+?)\.\{(.*?)\}", re.M | re.S)
 RULED_OUT = "## What each contract rules out\n"
-NAMED_EDITS = re.compile(r"\b[Ee]dits? ((?:`\w+`(?:, | and )?)+)")
-UNFIT = re.compile(r"has no `Need-\S*` that can be named from here|that can be named from here")
+NAMES = r"((?:`\w+`(?:, | and )?)+)"
+NAMED_EDITS = re.compile(rf"\b[Ee]dits? {NAMES}")
+# In the table whose last column is of edits, these stand in brackets.
+EDITS_OF_ROWS = re.compile(r"^\|.*with the edit that shows it \|\n((?:\|.*\n)+)", re.M)
+BRACKETED_EDITS = re.compile(rf"\((?:\w+: )?{NAMES}(?:\.\.)?\)")
+
+# Where comments begin and end.
+RATTLE = ("//", "/*", "*/")
+ANTT = (r"(?<![^\s(){}.;,@])--", "{-", "-}")
 
 
 def listed(root):
@@ -40,15 +52,45 @@ def listed(root):
     return [line.split(":", 1)[0].strip() for line in lines if ":" in line]
 
 
+def libraries(root):
+    return [name for name in listed(root) if (root / "crates" / name / "src" / "lib.rt").is_file()]
+
+
 def unlisted_crates(root):
     names = set(listed(root))
     for folder in sorted((root / "crates").iterdir()):
         if folder.is_dir() and folder.name not in names:
             yield f"crates/{folder.name}: crates.txt does not list it"
+    if not libraries(root):
+        yield "crates.txt: it lists no library"
+    tried = {edit.parent.parent.name for edit in must_fail_edits(root)}
+    for name in libraries(root):
+        if name not in tried:
+            yield f"crates/{name}: a library without a must-fail edit"
 
 
-def without_comments(text):
-    return re.sub(r'(b?"(?:\\.|[^"\\])*")|//[^\n]*', lambda m: m[1] or "", text)
+def without_comments(text, marks=RATTLE):
+    """The text without its comments, with its lines where they were."""
+    line, opens, closes = marks
+    outside = re.compile(rf"""b'(?:\\.|[^'\\])'|b?"(?:\\.|[^"\\])*"|(?P<line>{line}[^\n]*)|(?P<block>{re.escape(opens)})""", re.S)
+    inside = re.compile(f"{re.escape(opens)}|{re.escape(closes)}|\n|\\Z")
+    kept, at = [], 0
+    while found := outside.search(text, at):
+        depth = 1 if found["block"] else 0
+        kept.append(text[at : found.start() if depth or found["line"] else found.end()])
+        at = found.end()
+        while depth and at < len(text):
+            mark = inside.search(text, at)
+            depth += (mark[0] == opens) - (mark[0] == closes)
+            kept.append("\n" if mark[0] == "\n" else "")
+            at = mark.end()
+    return "".join(kept) + text[at:]
+
+
+def antt(path):
+    """The text of a file of antt, without its comments and without blanks at the ends of lines."""
+    text = without_comments(path.read_text(encoding="utf-8"), ANTT)
+    return re.sub(r"[ \t]+$", "", text, flags=re.M)
 
 
 def closing(text, at, opening, closes):
@@ -62,7 +104,7 @@ def closing(text, at, opening, closes):
 
 
 def clauses(text, at):
-    """The clauses of the function whose name ends at `at`."""
+    """The clauses of the function whose name ends at `at`, and what stands behind them."""
     at = closing(text, text.index("(", at), "(", ")")
     result = re.compile(r"\s*->\s*(?:\[[^]]*\]|[^{])*?(?=\s*(?:\brequires\b|\bensures\b|\bghost\b|\{|;))").match(text, at)
     if result:
@@ -71,34 +113,53 @@ def clauses(text, at):
     while clause := CLAUSE.match(text, at):
         found.append(clause[1])
         at = closing(text, clause.end() - 1, "{", "}")
-    return found
+    return found, text[at:].lstrip()
+
+
+def public_functions(root, name):
+    """Of each public function of a crate: its file, the file's text without comments, and its match there."""
+    for path in sorted((root / "crates" / name).glob("src/**/*.rt")):
+        text = without_comments(path.read_text(encoding="utf-8"))
+        for function in PUBLIC_FUNCTION.finditer(text):
+            yield path, text, function
 
 
 def weak_contracts(root):
-    for path in sorted(root.glob("crates/*/src/**/*.rt")):
-        text = without_comments(path.read_text(encoding="utf-8"))
-        for function in PUBLIC_FUNCTION.finditer(text):
-            found = clauses(text, function.end())
+    for name in listed(root):
+        for path, text, function in public_functions(root, name):
+            found, rest = clauses(text, function.end())
             where = f"{path.relative_to(root)}: {function[1]}"
             if "requires" in found:
                 yield f"{where}: a public function has a `requires`"
             if "ensures" not in found:
                 yield f"{where}: a public function has no `ensures`"
+            if not rest.startswith(("{", ";")):
+                yield f"{where}: what stands behind its clauses is not understood: {rest[:20]!r}"
+    for name in libraries(root):
+        if not any(public_functions(root, name)):
+            yield f"crates/{name}: a library without a public function"
+
+
+def rows_named(part):
+    """The names in the first column of the tables of a part."""
+    cells = " ".join(line.split("|")[1] for line in part.splitlines() if line.startswith("|"))
+    return set(re.findall(r"\w+", " ".join(re.findall(r"`([^`]*)`", cells))))
 
 
 def unaudited_functions(root):
     audit = (root / "docs" / "AUDIT.md").read_text(encoding="utf-8")
     parts = re.split(r"^### ", audit.partition(RULED_OUT)[2], flags=re.M)
-    named = {part.partition("\n")[0].strip(): set(re.findall(r"\w+", " ".join(re.findall(r"`([^`]*)`", part)))) for part in parts}
-    for name in listed(root):
-        if not (root / "crates" / name / "src" / "lib.rt").is_file():
-            continue
-        for path in sorted(root.glob(f"crates/{name}/src/**/*.rt")):
-            for function in PUBLIC_FUNCTION.finditer(without_comments(path.read_text(encoding="utf-8"))):
-                if function[1] not in named.get(name, ()):
-                    yield f"docs/AUDIT.md: {name}: {function[1]} has no row of what its contract rules out"
-    edits = {path.stem for path in root.glob("crates/*/must-fail/*.edit")}
-    for names in NAMED_EDITS.findall(audit):
+    named = {part.partition("\n")[0].strip(): rows_named(part) for part in parts}
+    for name in libraries(root):
+        for _, _, function in public_functions(root, name):
+            if function[1] not in named.get(name, ()):
+                yield f"docs/AUDIT.md: {name}: {function[1]} has no row of what its contract rules out"
+    edits = {path.stem for path in must_fail_edits(root)}
+    lists = NAMED_EDITS.findall(audit)
+    for table in EDITS_OF_ROWS.findall(audit):
+        last_cells = (row.split(" | ")[-1] for row in table.splitlines())
+        lists += BRACKETED_EDITS.findall("\n".join(last_cells))
+    for names in lists:
         for edit in re.findall(r"`(\w+)`", names):
             if edit not in edits:
                 yield f"docs/AUDIT.md: there is no must-fail edit {edit}"
@@ -108,11 +169,13 @@ def statements(crate):
     """Of each statement of the crate's specs/, the module that makes it."""
     found, faults = {}, []
     for path in sorted(crate.glob("specs/**/*.antt")):
-        text = path.read_text(encoding="utf-8")
+        text = antt(path)
         module = f"Rattle.{crate.name}.specs." + ".".join(path.relative_to(crate).with_suffix("").parts)
         names = STATEMENT.findall(text)
         if path.name == "Theorems.antt":
             names += CLOSED_RECORD.findall(text)
+            if not names:
+                faults.append(f"{crate.name}/{path.relative_to(crate)}: no statement is found in it")
         for name in names:
             if name in found:
                 faults.append(f"crates/{crate.name}/specs: {name} is stated twice")
@@ -133,7 +196,7 @@ def unproved_statements(root):
             for statement in stated:
                 yield f"{where}: missing, so nothing proves {statement}"
             continue
-        text = path.read_text(encoding="utf-8")
+        text = antt(path)
         if re.search(r"^\s*module\b", text, re.M):
             yield f"{where}: a section could give a claim further hypotheses"
         imported = {}
@@ -152,31 +215,14 @@ def unproved_statements(root):
             if statement not in claims:
                 yield f"{where}: nothing proves {statement}"
         root_file = crate / "proofs" / "Lib.antt"
-        if not root_file.is_file() or not re.search(r"^pub mod Claims$", root_file.read_text(encoding="utf-8"), re.M):
+        if not root_file.is_file() or not re.search(r"^pub mod Claims$", antt(root_file), re.M):
             yield f"crates/{name}/proofs/Lib.antt: no line `pub mod Claims`"
 
 
-def first_error(log):
-    """The first error of a log, or its first note with a place, where it has no error."""
-    for pattern in (r"^\S+: error.*$", r"^note: \S+:\d+:\d+:.*$"):
-        if found := re.search(pattern, log, re.M):
-            return found[0]
-    return ""
-
-
-def telling_nothing(root):
-    for edit in sorted(root.glob("crates/*/must-fail/*.edit")):
-        crate, label = edit.parent.parent.name, edit.stem
-        log = root / "target" / "must-fail" / crate / label / ".log"
-        where = f"crates/{crate}/must-fail/{label}.edit"
-        if not log.is_file():
-            yield f"{where}: it was not tried"
-            continue
-        error = first_error(log.read_text(encoding="utf-8", errors="replace"))
-        if not error:
-            yield f"{where}: its log has no error"
-        elif UNFIT.search(error):
-            yield f"{where}: it only made the proof file unfit: {error[:200]}"
+def miscounted(root, last_line):
+    wanted = f"{len(listed(root)) + len(must_fail_edits(root))} passed, 0 failed"
+    if last_line != wanted:
+        yield f"rt ci: its last line is `{last_line}`; the crates and the must-fail edits make `{wanted}`"
 
 
 def rests_on_axioms(root):
@@ -192,18 +238,19 @@ def rests_on_axioms(root):
             yield f"crates/{name}: a library that rests on an axiom: {verdict[-1]}"
 
 
-STAGES = {
-    "source": (unlisted_crates, weak_contracts, unaudited_functions, unproved_statements),
-    "products": (telling_nothing, rests_on_axioms),
-}
+SOURCE = (unlisted_crates, misfits, weak_contracts, unaudited_functions, unproved_statements)
+PRODUCTS = (telling_nothing, rests_on_axioms)
 
 
 def main(arguments):
-    if len(arguments) != 1 or arguments[0] not in STAGES:
+    root = pathlib.Path(__file__).resolve().parent.parent
+    if arguments == ["source"]:
+        findings = [finding for check in SOURCE for finding in check(root)]
+    elif arguments[:1] == ["products"] and len(arguments) == 2:
+        findings = [*miscounted(root, arguments[1]), *(finding for check in PRODUCTS for finding in check(root))]
+    else:
         print(__doc__, file=sys.stderr)
         return 2
-    root = pathlib.Path(__file__).resolve().parent.parent
-    findings = [finding for check in STAGES[arguments[0]] for finding in check(root)]
     for finding in findings:
         print(finding, file=sys.stderr)
     return 1 if findings else 0

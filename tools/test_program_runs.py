@@ -46,6 +46,12 @@ class Runs(unittest.TestCase):
         self.assertIn("report a, as a file: 3 bytes for 3, other from byte 2 on: 63 for 64", found[0])
         self.assertIn("in pieces", found[1])
 
+    def test_another_status(self):
+        self.store("a", b"abc", b"abc", b"abc")
+        self.program("format", FAILS)
+        self.program("report", FAILS + "exit 3\n")
+        self.assertEqual(self.wrong(), ["report a, as a file: exit status 3", "report a, in pieces: exit status 3"])
+
     def test_a_short_read_taken_for_the_end(self):
         text = b"x" * (200 * program_runs.PIECE)
         self.store("long", text, text, text)
@@ -66,6 +72,12 @@ class Runs(unittest.TestCase):
         self.program("table", "#!/bin/sh\necho $(wc -l) lines, 0 findings, 0 refused, 1 different\n")
         self.assertEqual(len(list(program_runs.wrong_tables(self.programs / "table", texts))), 2)
 
+    def test_tables_of_no_text(self):
+        self.program("table", "#!/bin/sh\necho $(wc -l) lines, 0 findings, 0 refused, 0 different\n")
+        self.assertEqual(list(program_runs.wrong_tables(self.programs / "table", [])), ["table: no stored text"])
+        self.program("table", "#!/bin/sh\necho $(wc -l) lines, 0 findings, 0 refused, 0 different\nexit 3\n")
+        self.assertEqual(len(list(program_runs.wrong_tables(self.programs / "table", [b"x"]))), 1)
+
     def test_other_lines(self):
         (self.runs / "stdin").write_bytes(program_runs.lines())
         self.assertEqual(list(program_runs.wrong_lines(self.runs)), [])
@@ -83,6 +95,25 @@ class Runs(unittest.TestCase):
         self.assertEqual(len(found), 3)
         self.assertIn("no stored run", found[0])
         self.assertIn("format: is not built", found[1])
+
+
+class Examples(unittest.TestCase):
+    def wrong(self, readme):
+        with tempfile.TemporaryDirectory() as name:
+            folder = pathlib.Path(name)
+            (folder / "README.md").write_text(readme, encoding="utf-8")
+            (folder / "tilghorz").write_text('#!/bin/sh\necho "$1"; cat\n', encoding="utf-8")
+            (folder / "tilghorz").chmod(0o755)
+            return list(program_runs.wrong_examples(folder))
+
+    def test_as_shown(self):
+        shown = "```console\n$ other ./tilghorz-host\nx\n$ printf 'a\\nb\\n' | ./tilghorz format\nformat\na\nb\n```\n"
+        self.assertEqual(len(program_runs.examples(shown)), 1)
+        self.assertEqual(self.wrong(shown), [])
+
+    def test_other_output_or_none(self):
+        self.assertEqual(len(self.wrong("```console\n$ ./tilghorz report\nreported\n```\n")), 1)
+        self.assertEqual(self.wrong("    ./tilghorz report\n"), ["README.md: no example of ./tilghorz"])
 
 
 class Files(unittest.TestCase):

@@ -67,10 +67,14 @@ same = refl
 pub whole : Whole
 whole = record { part = same }
 """,
-    "crates/one/must-fail/wrong.edit": "file: src/lib.rt\nold: x\nnew: y\n",
+    "crates/one/must-fail/wrong.edit": "file: src/lib.rt\nold: [x, x]\nnew: [x, 0]\n",
     "crates/two/src/main.rt": "fn main() {}\n",
     "docs/AUDIT.md": """
 Each of `same`, `twice` and `part` has a row below.
+
+| demand | excludes, with the edit that shows it |
+|---|---|
+| `Any` | another letter (one: `wrong`, ..) |
 
 ## What each contract rules out
 
@@ -79,9 +83,9 @@ Each of `same`, `twice` and `part` has a row below.
 | function | what excludes wrong programs |
 |---|---|
 | `same`, `thing::twice` | edit `wrong` |
-| `Thing::part` | `ensures` |
+| `Thing::part` | `ensures`; not as `same` |
 """,
-    "target/must-fail/one/wrong/.log": "a/proofs/same/Proof.antt:1:2: error: `returns`: the two types differ\n",
+    "target/must-fail/one/wrong/.log": "/r/target/must-fail/one/wrong/proofs/same/Proof.antt:1:2: error: `returns`: the two types differ\n",
     "target/log/one.say": "fn one::same: proved\nlogic=proved functions=2 sum=0\n",
     "target/log/two.say": "logic=proved functions=1 sum=0 axioms=2\n",
 }
@@ -108,12 +112,17 @@ class Checks(unittest.TestCase):
         self.assertTrue(any(words in finding for finding in findings), findings)
 
     def test_sound(self):
-        for stage in checks.STAGES.values():
-            for check in stage:
-                self.assertEqual(self.findings(check), [], check.__name__)
+        for check in checks.SOURCE + checks.PRODUCTS:
+            self.assertEqual(self.findings(check), [], check.__name__)
 
     def test_unlisted_crate(self):
         self.finds("crates/three", checks.unlisted_crates, folders=["crates/three"])
+
+    def test_no_library(self):
+        self.finds("it lists no library", checks.unlisted_crates, crates_txt=("one:", "# one:"))
+
+    def test_library_without_edit(self):
+        self.finds("one: a library without a must-fail edit", checks.unlisted_crates, removed=["crates/one/must-fail/wrong.edit"])
 
     def test_public_requires(self):
         self.finds("part: a public function has a `requires`", checks.weak_contracts, lib_rt=("ensures first", "requires first"))
@@ -128,14 +137,33 @@ class Checks(unittest.TestCase):
             lib_rt=("impl Thing {", '#[no_mangle]\npub extern "C" fn cross(x: u64) -> u64 {\n    x\n}\n\nimpl Thing {'),
         )
 
+    def test_ensures_in_a_comment(self):
+        self.finds(
+            "same: a public function has no `ensures`",
+            checks.weak_contracts,
+            lib_rt=("    ensures { λ r. ⌜ r ≡ x ⌝ }\n", "/* /* nested */ ensures { λ r. ⌜ r ≡ x ⌝ } */\n"),
+        )
+
+    def test_clause_that_is_not_known(self):
+        self.finds("is not understood: 'promises", checks.weak_contracts, lib_rt=("ensures second", "promises { } requires"))
+
+    def test_library_without_public_function(self):
+        self.finds("without a public function", checks.weak_contracts, lib_rt=("pub fn", "pub(crate) fn"))
+
     def test_function_without_row(self):
-        self.finds("one: part has no row", checks.unaudited_functions, AUDIT_md=("| `Thing::part` | `ensures` |\n", ""))
+        self.finds("one: part has no row", checks.unaudited_functions, AUDIT_md=("| `Thing::part` | `ensures`; not as `same` |\n", ""))
+
+    def test_function_in_the_row_of_another(self):
+        self.finds("one: same has no row", checks.unaudited_functions, AUDIT_md=("`same`, `thing::twice`", "`thing::twice`"))
 
     def test_row_in_the_part_of_another_crate(self):
         self.finds("one: same has no row", checks.unaudited_functions, AUDIT_md=("### one", "### two"))
 
     def test_edit_that_is_not_there(self):
         self.finds("no must-fail edit right", checks.unaudited_functions, AUDIT_md=("edit `wrong`", "edits `wrong`, `right`"))
+
+    def test_edit_in_brackets_that_is_not_there(self):
+        self.finds("no must-fail edit right", checks.unaudited_functions, AUDIT_md=("(one: `wrong`, ..)", "(one: `right`, ..)"))
 
     def test_statement_without_claim(self):
         self.finds("nothing proves Same", checks.unproved_statements, Claims_antt=("pub same : Same\n", "same : Same\n"))
@@ -148,6 +176,19 @@ class Checks(unittest.TestCase):
 
     def test_claim_with_hypothesis(self):
         self.finds("is no statement", checks.unproved_statements, Claims_antt=("pub same : Same", "pub same : (x : ⊥) → Same"))
+
+    def test_claim_in_a_comment(self):
+        self.finds("nothing proves Same", checks.unproved_statements, Claims_antt=("pub same : Same\n", "{-\npub same : Same\n-}\n"))
+
+    def test_statement_with_a_comment(self):
+        self.finds(
+            "nothing proves Other",
+            checks.unproved_statements,
+            Theorems_antt=("pub record Whole", "pub Other : Type 0 -- words\nOther = Same\n\npub record Whole"),
+        )
+
+    def test_no_statement(self):
+        self.finds("no statement is found", checks.unproved_statements, Theorems_antt=(": Type 0", ": Type zero"))
 
     def test_claim_in_section(self):
         self.finds("further hypotheses", checks.unproved_statements, Claims_antt=("pub same", "module _ (x : ⊥) where\npub same"))
@@ -163,19 +204,21 @@ class Checks(unittest.TestCase):
 
     def test_claims_not_reached(self):
         self.finds("no line `pub mod Claims`", checks.unproved_statements, Lib_antt=("pub mod ", "mod "))
+        self.finds("no line `pub mod Claims`", checks.unproved_statements, Lib_antt=("pub mod ", "{-\npub mod "))
 
-    def test_edit_that_shows_nothing(self):
-        self.finds(
-            "unfit",
-            checks.telling_nothing,
-            _log=("the two types differ", "`tie` has no `Need-add-x` that can be named from here"),
-        )
+    def test_what_rt_ci_counted(self):
+        def of(line):
+            return lambda root: checks.miscounted(root, line)
 
-    def test_edit_not_tried(self):
-        self.finds("not tried", checks.telling_nothing, removed=["target/must-fail/one/wrong/.log"])
+        self.assertEqual(self.findings(of("3 passed, 0 failed")), [])
+        for line in ("0 passed, 0 failed", "2 passed, 0 failed", "3 passed, 1 failed", ""):
+            self.finds("the crates and the must-fail edits make `3 passed, 0 failed`", of(line))
 
     def test_library_on_an_axiom(self):
         self.finds("rests on an axiom", checks.rests_on_axioms, one_say=("sum=0", "sum=0 axioms=1"))
+
+    def test_crate_not_checked(self):
+        self.finds("no log of its check", checks.rests_on_axioms, removed=["target/log/two.say"])
 
     def test_crate_not_proved(self):
         self.finds("does not say that it is proved", checks.rests_on_axioms, one_say=("logic=proved", "logic=not-proved"))

@@ -1,5 +1,9 @@
 """Tests of unused_imports.py."""
 
+import contextlib
+import io
+import pathlib
+import tempfile
 import unittest
 
 import unused_imports
@@ -31,6 +35,23 @@ class Cleaned(unittest.TestCase):
         text = "use a.B.{the-type as the-class}\n\nx : the-class\n"
         self.assertEqual(unused_imports.cleaned(text), (text, []))
         self.assertEqual(unused_imports.cleaned("use a.B.{the-type as the-class}\n\nx : y\n")[1], ["the-type as the-class"])
+
+
+class Status(unittest.TestCase):
+    def run_on(self, files):
+        with tempfile.TemporaryDirectory() as name, contextlib.redirect_stderr(io.StringIO()) as said:
+            for path, text in files.items():
+                file = pathlib.Path(name, path)
+                file.parent.mkdir(parents=True)
+                file.write_text(text, encoding="utf-8")
+            return unused_imports.main([], pathlib.Path(name)), said.getvalue()
+
+    def test_sound_unused_and_nothing_to_look_at(self):
+        self.assertEqual(self.run_on({"crates/a/specs/Lib.antt": "use a.B.{f}\n\ng = f\n"}), (0, ""))
+        status, said = self.run_on({"crates/a/specs/Lib.antt": "use a.B.{f}\n\ng = g\n"})
+        self.assertEqual(status, 1)
+        self.assertIn("crates/a/specs/Lib.antt: imported and not used: f", said)
+        self.assertEqual(self.run_on({}), (1, "unused_imports: there is no file to look at\n"))
 
 
 if __name__ == "__main__":

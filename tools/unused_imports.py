@@ -52,12 +52,21 @@ def cleaned(text):
     return AS.sub(keep_module, text), unused
 
 
-def main(arguments):
+def files(root):
+    """The files of a repository that import for statements and proofs."""
+    patterns = ("crates/*/specs/**/*.antt", "crates/*/proofs/**/*.antt", "crates/*/src/**/*.rt")
+    return sorted(path for pattern in patterns for path in root.glob(pattern))
+
+
+def main(arguments, root=ROOT):
     if arguments not in ([], ["--remove"]):
         print(__doc__, file=sys.stderr)
         return 2
     status = 0
-    for path in sorted([*ROOT.glob("crates/*/specs/**/*.antt"), *ROOT.glob("crates/*/proofs/**/*.antt"), *ROOT.glob("crates/*/src/**/*.rt")]):
+    if not files(root):
+        print("unused_imports: there is no file to look at", file=sys.stderr)
+        return 1
+    for path in files(root):
         text = path.read_text(encoding="utf-8")
         if path.suffix == ".rt":
             ghost = re.sub(r"^use .*\n", "", text, flags=re.M)
@@ -70,7 +79,7 @@ def main(arguments):
         if unused and arguments:
             path.write_text(made, encoding="utf-8")
         elif unused:
-            print(f"{path.relative_to(ROOT)}: imported and not used: {', '.join(unused)}", file=sys.stderr)
+            print(f"{path.relative_to(root)}: imported and not used: {', '.join(unused)}", file=sys.stderr)
             status = 1
     return status
 

@@ -1,6 +1,7 @@
 //! The comparison itself: it finds nothing in the reading of document 01, and every planted fault.
 
 use std::path::{Path, PathBuf};
+use std::{env, fs, process};
 
 use tilghorz_comparison::Random;
 use tilghorz_comparison::calls::{Calls, Reference};
@@ -178,6 +179,22 @@ fn a_fault_that_is_not_reported_is_told() {
 }
 
 #[test]
+fn a_run_that_tries_nothing_reports_no_fault() {
+    let command = parsed("--seconds 0 --without-limits --without-published --faults");
+    let mut out = Vec::new();
+    let are_reported = command
+        .expect("a command")
+        .execute(&Reference, &mut out)
+        .expect("printed");
+    let text = String::from_utf8(out).expect("a text");
+    assert!(!are_reported, "{text}");
+    assert!(
+        text.contains("keycap-rule          NOT REPORTED\n"),
+        "{text}"
+    );
+}
+
+#[test]
 fn every_byte_of_a_lent_buffer_counts() {
     let draft = Draft::bytes(b"abc".to_vec());
     let call = |spoil: fn(&mut [u8])| {
@@ -220,9 +237,37 @@ fn lines_of_the_published_lists_are_read() {
 
 #[test]
 fn lists_that_are_not_there_are_named() {
-    let (texts, missing) = texts(Path::new("no such folder"));
-    assert!(texts.is_empty());
-    assert_eq!(missing, LISTS);
+    let read = texts(Path::new("no such folder"));
+    assert!(read.texts.is_empty() && read.empty.is_empty());
+    assert_eq!(read.missing, LISTS);
+}
+
+#[test]
+fn lists_without_a_text_are_named() {
+    let folder = env::temp_dir().join(format!("tilghorz-lists-{}", process::id()));
+    fs::create_dir_all(&folder).expect("a folder");
+    fs::write(folder.join(LISTS[0]), "231A ; Basic_Emoji\n").expect("written");
+    fs::write(folder.join(LISTS[1]), "# nothing\n").expect("written");
+    let read = texts(&folder);
+    fs::remove_dir_all(&folder).expect("removed");
+    assert_eq!(read.texts, ["\u{231A}".to_owned()].into());
+    assert_eq!((read.missing, read.empty), (vec![LISTS[2]], vec![LISTS[1]]));
+}
+
+#[test]
+fn a_run_that_tries_nothing_does_not_pass() {
+    let no_time = Options {
+        seconds: 0,
+        ..SHORT
+    };
+    let (is_same, text) = printed(&Reference, &no_time);
+    assert!(!is_same, "{text}");
+    assert!(
+        text.ends_with("nothing was tried: texts of 0 characters, in --seconds\n"),
+        "{text}"
+    );
+    let nothing_drawn = Options { cases: 0, ..SHORT };
+    assert!(printed(&Reference, &nothing_drawn).0);
 }
 
 #[test]

@@ -7,7 +7,7 @@ use std::path::{Path, PathBuf};
 use std::process::{Command, Output, Stdio};
 
 /// The variable that names the folder of the library. A relative name counts from the repository root.
-const VARIABLE: &str = "TILGHORZ_LIBRARY";
+pub const VARIABLE: &str = "TILGHORZ_LIBRARY";
 /// Where the library is without the variable, from the repository root.
 const MADE_HERE: &str = "target/staticlib";
 /// The file.
@@ -22,6 +22,8 @@ fn main() {
             println!("cargo::rerun-if-changed={}", folder.join(FILE).display());
             println!("cargo::rustc-link-search=native={}", folder.display());
             println!("cargo::rustc-link-lib=static=tilghorz");
+            // For the test of the C header.
+            println!("cargo::rustc-env=TILGHORZ_FOLDER={}", folder.display());
         }
         Err(fault) => {
             for line in fault.lines() {
@@ -33,32 +35,55 @@ fn main() {
 
 /// The folder in which the library is.
 fn library_folder() -> Result<PathBuf, String> {
-    let root = repository_root()?;
     let named = env::var_os(VARIABLE).filter(|name| !name.is_empty());
-    let folder = root.join(named.clone().unwrap_or_else(|| OsString::from(MADE_HERE)));
-    if !folder.join(FILE).is_file() {
-        if named.is_some() {
-            let file = folder.join(FILE);
-            return Err(format!(
-                "{VARIABLE} names a folder without the library: {} is missing",
-                file.display()
-            ));
+    match place(named, repository_root())? {
+        Place::Named(folder) if folder.join(FILE).is_file() => Ok(folder),
+        Place::Named(folder) => Err(format!(
+            "{VARIABLE} names a folder without the library: {} is missing",
+            folder.join(FILE).display()
+        )),
+        Place::Made(root) => {
+            let folder = root.join(MADE_HERE);
+            if !folder.join(FILE).is_file() {
+                make(&root)?;
+            }
+            Ok(folder)
         }
-        make(&root)?;
     }
-    Ok(folder)
+}
+
+/// Where the library is to be.
+#[derive(Debug, PartialEq, Eq)]
+pub enum Place {
+    /// In the folder that the variable names.
+    Named(PathBuf),
+    /// Where the repository with this root makes it.
+    Made(PathBuf),
+}
+
+/// Where the library is to be, by the variable and the repository root, if there are such. An absolute name needs no
+/// repository.
+pub fn place(named: Option<OsString>, root: Option<PathBuf>) -> Result<Place, String> {
+    const OUTSIDE: &str = "this package does not stand at host/tilghorz of its repository";
+    match (named.map(PathBuf::from), root) {
+        (Some(folder), _) if folder.is_absolute() => Ok(Place::Named(folder)),
+        (Some(folder), Some(root)) => Ok(Place::Named(root.join(folder))),
+        (None, Some(root)) => Ok(Place::Made(root)),
+        (Some(folder), None) => Err(format!(
+            "{OUTSIDE}, from whose root {VARIABLE}={} would count; name the folder of {FILE} by an absolute path",
+            folder.display()
+        )),
+        (None, None) => Err(format!(
+            "{OUTSIDE}; set {VARIABLE} to the folder of {FILE}, by an absolute path"
+        )),
+    }
 }
 
 /// The repository root: the parent of `host/`, in which this package stands.
-fn repository_root() -> Result<PathBuf, String> {
-    let package = env::var_os("CARGO_MANIFEST_DIR").map(PathBuf::from);
-    let root = package
-        .as_deref()
-        .and_then(|package| package.ancestors().nth(2));
-    let root = root.filter(|root| root.join("crates.txt").is_file());
-    root.map(Path::to_owned).ok_or(format!(
-        "this package does not stand at host/tilghorz of its repository; set {VARIABLE} to the folder of {FILE}"
-    ))
+fn repository_root() -> Option<PathBuf> {
+    let package = env::var_os("CARGO_MANIFEST_DIR").map(PathBuf::from)?;
+    let root = package.ancestors().nth(2)?;
+    root.join("crates.txt").is_file().then(|| root.to_owned())
 }
 
 /// Makes the library.

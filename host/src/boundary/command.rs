@@ -55,7 +55,7 @@ impl Options {
 type Kind<'a> = fn(&mut Boundary<'a>) -> Result<(), Difference>;
 
 /// Makes all calls and prints how many of each kind there were. True if there was no difference; the first one is
-/// printed, with a reduced text.
+/// printed, with a reduced text. It is not true where a kind that was asked for made no call.
 pub fn run(calls: &dyn Calls, options: &Options, out: &mut dyn Write) -> io::Result<bool> {
     writeln!(out, "seed {}", options.seed)?;
     let start = Instant::now();
@@ -78,6 +78,10 @@ pub fn run(calls: &dyn Calls, options: &Options, out: &mut dyn Write) -> io::Res
             }
         }
         let (made, seconds) = (boundary.made - before, start.elapsed().as_secs_f32());
+        if made == 0 && times > 0 {
+            writeln!(out, "nothing was tried: {name}")?;
+            return Ok(false);
+        }
         writeln!(out, "{name:<15}{made:>9} calls ({seconds:.1} s)")?;
     }
     writeln!(out, "no difference")?;

@@ -14,7 +14,7 @@ pub const USAGE: &str = "\
 usage: compare [--cases N] [--seconds S] [--seed N] [--length N] [--without-limits] [--without-published]
                [--programs FORMAT REPORT] [--fault NAME | --faults]
   --cases N            at most N drawn texts, damaged ones and lists of calls each
-  --seconds S          begin no further case after S seconds
+  --seconds S          begin no further case after S seconds; a kind of which no case was begun fails the run
   --seed N             the seed of what is drawn
   --length N           try every text of up to N characters, one of each kind
   --without-limits     leave out the texts around the limits
@@ -93,19 +93,19 @@ impl Command {
         }
     }
 
-    /// Whether each planted fault is reported.
+    /// Whether each planted fault is reported: a run that fails for another reason, as that it tried nothing, is no report.
     fn plant_each(&self, calls: &dyn Calls, out: &mut dyn Write) -> io::Result<bool> {
         let mut are_reported = true;
         for (name, fault) in FAULTS {
             let mut report = Vec::new();
-            if run(&Faulty::new(calls, fault), &self.options, &mut report)? {
-                are_reported = false;
-                writeln!(out, "{name:<20} NOT REPORTED")?;
-                out.write_all(&report)?;
-            } else {
-                let report = String::from_utf8_lossy(&report);
-                let line = report.lines().find(|line| line.starts_with("difference"));
-                writeln!(out, "{name:<20} {}", line.unwrap_or_default())?;
+            let is_same = run(&Faulty::new(calls, fault), &self.options, &mut report)?;
+            let report = String::from_utf8_lossy(&report);
+            match report.lines().find(|line| line.starts_with("difference")) {
+                Some(line) if !is_same => writeln!(out, "{name:<20} {line}")?,
+                _ => {
+                    are_reported = false;
+                    writeln!(out, "{name:<20} NOT REPORTED\n{report}")?;
+                }
             }
         }
         Ok(are_reported)

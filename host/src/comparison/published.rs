@@ -25,18 +25,34 @@ pub fn folder() -> PathBuf {
     named.map_or_else(|| PathBuf::from(FOLDER), PathBuf::from)
 }
 
-/// The texts of the lists of a folder, and the lists that cannot be read there.
+/// What was read of the lists.
+#[derive(Debug, Default)]
+pub struct Read {
+    /// The texts.
+    pub texts: BTreeSet<String>,
+    /// The lists that cannot be read.
+    pub missing: Vec<&'static str>,
+    /// The lists that have no text.
+    pub empty: Vec<&'static str>,
+}
+
+/// Reads the lists of a folder.
 #[must_use]
-pub fn texts(folder: &Path) -> (BTreeSet<String>, Vec<&'static str>) {
-    let mut texts = BTreeSet::new();
-    let mut missing = Vec::new();
+pub fn texts(folder: &Path) -> Read {
+    let mut read = Read::default();
     for list in LISTS {
         match fs::read_to_string(folder.join(list)) {
-            Ok(file) => texts.extend(file.lines().flat_map(line_texts)),
-            Err(_) => missing.push(list),
+            Err(_) => read.missing.push(list),
+            Ok(file) => {
+                let texts: Vec<String> = file.lines().flat_map(line_texts).collect();
+                if texts.is_empty() {
+                    read.empty.push(list);
+                }
+                read.texts.extend(texts);
+            }
         }
     }
-    (texts, missing)
+    read
 }
 
 /// The texts of a line such as `1F44B 1F3FB ; fully-qualified # ..` or `231A..231B ; Basic_Emoji ; ..`.

@@ -43,9 +43,11 @@ impl Default for Options {
     }
 }
 
-/// Why a run ended early: a difference, told in lines, or a line that could not be printed.
+/// Why a run ended early: a difference, told in lines; cases that were asked for and of which none was tried; or a line
+/// that could not be printed.
 enum Stop {
     Difference(String),
+    Nothing(String),
     Output(io::Error),
 }
 
@@ -56,7 +58,7 @@ impl From<io::Error> for Stop {
 }
 
 /// Runs the comparison and prints how many cases of each kind there were. True if there was no difference; the first
-/// one is printed, with a reduced text.
+/// one is printed, with a reduced text. It is not true where nothing was tried of a kind that was asked for.
 pub fn run(calls: &dyn Calls, options: &Options, out: &mut dyn Write) -> io::Result<bool> {
     let mut run = Run::new(calls, *options, out);
     match run.all() {
@@ -66,6 +68,10 @@ pub fn run(calls: &dyn Calls, options: &Options, out: &mut dyn Write) -> io::Res
         }
         Err(Stop::Difference(report)) => {
             writeln!(out, "{report}")?;
+            Ok(false)
+        }
+        Err(Stop::Nothing(kind)) => {
+            writeln!(out, "nothing was tried: {kind}")?;
             Ok(false)
         }
         Err(Stop::Output(error)) => Err(error),
@@ -179,11 +185,19 @@ impl<'a> Run<'a> {
     /// The texts of Unicode's lists in their forms, each under the default policy and, by turns, one of the others.
     fn published(&mut self) -> Result<(), Stop> {
         let folder = published::folder();
-        let (texts, missing) = published::texts(&folder);
+        let published::Read {
+            texts,
+            missing,
+            empty,
+        } = published::texts(&folder);
         for list in missing {
             let (folder, variable) = (folder.display(), published::VARIABLE);
             let line = format!("published   {list} is not in {folder} ({variable}): passed over");
             writeln!(self.out, "{line}")?;
+        }
+        if let Some(list) = empty.first() {
+            let path = folder.join(list);
+            return Err(Stop::Nothing(format!("{} has no text", path.display())));
         }
         let mut cases = 0;
         let mut before = "";
@@ -222,6 +236,10 @@ impl<'a> Run<'a> {
                 .iter()
                 .try_for_each(|policy| self.text("every text", text.as_bytes(), policy))
         })?;
+        if texts == 0 {
+            let what = format!("texts of {length} characters, in --seconds");
+            return Err(Stop::Nothing(what));
+        }
         let number = policies.len();
         let stopped = self.stopped();
         let what = format!("texts of {length} characters, {number} policies{stopped}");
@@ -238,6 +256,9 @@ impl<'a> Run<'a> {
             self.damaged_text(&mut random)?;
             calls += self.drawn_list(&mut random)?;
             cases += 1;
+        }
+        if cases == 0 && self.options.cases > 0 {
+            return Err(Stop::Nothing("drawn texts, in --seconds".to_owned()));
         }
         let stopped = self.stopped();
         self.told("random", cases, &format!("texts{stopped}"))?;

@@ -65,7 +65,9 @@ pub fn parse(words: impl IntoIterator<Item = OsString>) -> Result<Command, Wrong
     let asks_for_help = words.iter().take_while(|word| *word != "--").any(is_help);
     match (name.as_str(), Topic::of(&name)) {
         ("help" | "--help" | "-h", _) => help(&words).map_err(wrong),
-        ("version" | "--version" | "-V", _) => Ok(Command::Version),
+        ("version" | "--version" | "-V", _) if words.is_empty() => Ok(Command::Version),
+        ("version", _) if asks_for_help => Ok(Command::Help(Topic::All)),
+        ("version" | "--version" | "-V", _) => Err(wrong("version: takes nothing".to_owned())),
         (_, Some(topic)) if asks_for_help => Ok(Command::Help(topic)),
         (_, Some(topic)) => command(topic, Words::new(words)).map_err(|message| Wrong {
             topic: Some(name),
@@ -75,13 +77,18 @@ pub fn parse(words: impl IntoIterator<Item = OsString>) -> Result<Command, Wrong
     }
 }
 
-/// Help on a topic that may be named.
+/// Help on a topic that may be named. That of `help` and `version` is the help on all.
 fn help(words: &[OsString]) -> Result<Command, String> {
-    let Some(name) = words.first() else {
-        return Ok(Command::Help(Topic::All));
+    let name = match words {
+        [] => return Ok(Command::Help(Topic::All)),
+        [name] => name.to_string_lossy(),
+        _ => return Err("help: one command at a time".to_owned()),
     };
-    let name = name.to_string_lossy();
-    let topic = Topic::of(&name).ok_or(format!("{name}: not a command"))?;
+    let topic = match name.as_ref() {
+        "help" | "version" => Some(Topic::All),
+        name => Topic::of(name),
+    };
+    let topic = topic.ok_or(format!("{name}: not a command"))?;
     Ok(Command::Help(topic))
 }
 

@@ -20,6 +20,9 @@ fn help_and_version_go_to_standard_output() {
         (&["fix", "-h"], "usage: tilghorz-host fix "),
         (&["help", "show"], "usage: tilghorz-host show "),
         (&["help", "policy"], "usage: tilghorz-host policy "),
+        (&["help", "help"], "Puts the emoji selectors"),
+        (&["help", "version"], "Puts the emoji selectors"),
+        (&["version", "--help"], "Puts the emoji selectors"),
         (&["--version"], "tilghorz-host 0."),
     ] {
         let ran = folder.run(arguments);
@@ -36,6 +39,8 @@ fn wrong_command_lines_are_told_on_standard_error() {
         (&[][..], "no command"),
         (&["fromat"], "fromat: not a command"),
         (&["help", "fromat"], "fromat: not a command"),
+        (&["help", "format", "fix"], "help: one command at a time"),
+        (&["version", "format"], "version: takes nothing"),
         (&["format", "--chek"], "format: --chek: not an option"),
         (
             &["format", "--check=yes"],

@@ -1,4 +1,5 @@
-//! The examples of README.md: each line behind `$ ` is run as it stands, and must write what stands below it.
+//! The examples of README.md: each line behind `$ ` is run as it stands, and must write what stands below it. Those that call
+//! `./tilghorz` are run by tools/program_runs.py, which has the programs at hand.
 
 mod support;
 
@@ -22,6 +23,7 @@ fn examples(readme: &str) -> Vec<(String, String)> {
             }
         }
     }
+    examples.retain(|(command, _)| !command.contains("./tilghorz "));
     examples
 }
 

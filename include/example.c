@@ -1,0 +1,34 @@
+/* Formats a text under the default policy. In the repository root, after rt staticlib tilghorz:
+ *
+ *     cc -Iinclude include/example.c -Ltarget/staticlib -ltilghorz -o example
+ *     ./example
+ */
+#include <stdio.h>
+#include <string.h>
+
+#include "tilghorz.h"
+
+int main(void)
+{
+    const char *text = "1\xEF\xB8\x8E \xE2\x9D\xA4";
+    uint8_t policy[TILGHORZ_POLICY_BYTES];
+    uint8_t out[64]; /* four times the text's bytes are always enough */
+    uint64_t word;
+
+    tilghorz_default_policy(policy, sizeof policy);
+    word = tilghorz_format((const uint8_t *)text, strlen(text), policy, sizeof policy, out, sizeof out);
+    switch (TILGHORZ_NUMBER(word)) {
+    case 0:
+        printf("changed:");
+        for (uint64_t i = 0; i < TILGHORZ_VALUE(word); i++)
+            printf(" %02X", out[i]);
+        printf("\n");
+        return 0;
+    case 255:
+        printf("unchanged\n");
+        return 0;
+    default:
+        printf("refused %d\n", (int)TILGHORZ_NUMBER(word));
+        return 1;
+    }
+}

@@ -1,0 +1,104 @@
+#!/usr/bin/env python3
+"""The gate's checks of what README.md and docs/ say.
+
+    tools/document_checks.py
+
+Each finding is a line on standard error; the exit status is 1 if there is one. Where a check finds nothing to look at,
+that is a finding too.
+
+- links:    every link of README.md and docs/ to a file of the repository, and to a heading of it, leads there.
+- stages:   the numbered list of README.md, "Testing", has the stages of .ci/run, in their order and words.
+- data:     the data files of crates/published_data have the SHA-256 that docs/UNICODE.md gives, and it gives it of each.
+- tests:    every script of tools/ has a file of tests.
+"""
+
+import hashlib
+import pathlib
+import re
+import sys
+
+LINK = re.compile(r"\[[^\]]*\]\(([^)\s]+)\)")
+STAGE = re.compile(r"""^ *stage (?:'([^']*)'|"([^"$`]*)")$""", re.M)
+DIGEST = re.compile(r"^\| (\S+) \| ([0-9a-f]{64}) \|$", re.M)
+
+
+def without_blocks(text):
+    """The text without its blocks of code."""
+    return re.sub(r"^```.*?^```$", "", text, flags=re.M | re.S)
+
+
+def anchors(text):
+    """What links to the headings of a text end in."""
+    headings = re.findall(r"^#+ (.*)$", without_blocks(text), re.M)
+    return {re.sub(r"[^\w\- ]", "", heading.lower()).replace(" ", "-") for heading in headings}
+
+
+def broken_links(root):
+    seen = 0
+    for path in [root / "README.md", *sorted((root / "docs").glob("*.md"))]:
+        for link in LINK.findall(without_blocks(path.read_text(encoding="utf-8"))):
+            if "://" in link:
+                continue
+            seen += 1
+            name, _, anchor = link.partition("#")
+            target = path.parent / name if name else path
+            if not target.exists():
+                yield f"{path.relative_to(root)}: {link}: there is no such file"
+            elif anchor and anchor not in anchors(target.read_text(encoding="utf-8")):
+                yield f"{path.relative_to(root)}: {link}: there is no such heading"
+    if not seen:
+        yield "README.md, docs/: no link is found"
+
+
+def other_stages(root):
+    stages = [one or other for one, other in STAGE.findall((root / ".ci" / "run").read_text(encoding="utf-8"))]
+    called = len(re.findall(r"^ *stage\b", (root / ".ci" / "run").read_text(encoding="utf-8"), re.M)) - 1
+    if not stages or len(stages) != called:
+        yield f".ci/run: {len(stages)} stages are read and {called} called"
+    part = (root / "README.md").read_text(encoding="utf-8").partition("\n## Testing\n")[2].partition("\n## ")[0]
+    items = [" ".join(item.split()) for item in re.findall(r"^\d+\. (.*(?:\n   .*)*)", part, re.M)]
+    for number in range(max(len(stages), len(items))):
+        stage = stages[number] if number < len(stages) else "none"
+        item = items[number] if number < len(items) else "none"
+        if not re.match(re.escape(stage) + r"(?:\.|:|$)", item):
+            yield f"README.md, Testing, {number + 1}: `{item[:60]}`; the stage of .ci/run is `{stage}`"
+
+
+def other_data(root):
+    told = dict(DIGEST.findall((root / "docs" / "UNICODE.md").read_text(encoding="utf-8")))
+    data = root / "crates" / "published_data" / "data"
+    for name in sorted({*told, *(path.name for path in data.glob("*.txt"))}):
+        path = data / name
+        found = hashlib.sha256(path.read_bytes()).hexdigest() if path.is_file() else "missing"
+        if told.get(name) != found:
+            yield f"{path.relative_to(root)}: its SHA-256 is {found}, and docs/UNICODE.md says {told.get(name, 'nothing')}"
+    if not told:
+        yield "docs/UNICODE.md: no SHA-256 is found"
+
+
+def untested_tools(root):
+    scripts = [path for path in sorted((root / "tools").glob("*.py")) if not path.name.startswith("test_")]
+    if not scripts:
+        yield "tools/: no script is found"
+    for script in scripts:
+        tests = script.with_name(f"test_{script.name}")
+        if not tests.is_file() or not re.search(r"^    def test_", tests.read_text(encoding="utf-8"), re.M):
+            yield f"tools/{script.name}: tools/{tests.name} has no test of it"
+
+
+CHECKS = (broken_links, other_stages, other_data, untested_tools)
+
+
+def main(arguments):
+    if arguments:
+        print(__doc__, file=sys.stderr)
+        return 2
+    root = pathlib.Path(__file__).resolve().parent.parent
+    findings = [finding for check in CHECKS for finding in check(root)]
+    for finding in findings:
+        print(finding, file=sys.stderr)
+    return 1 if findings else 0
+
+
+if __name__ == "__main__":
+    sys.exit(main(sys.argv[1:]))

@@ -1,0 +1,106 @@
+"""Tests of document_checks.py: each check finds what it is to find, and nothing in sound documents."""
+
+import hashlib
+import pathlib
+import tempfile
+import unittest
+
+import document_checks as checks
+
+DATA = "0023 ; Emoji\n"
+SOUND = {
+    "README.md": """# A name
+
+[the crates](#the-crates-of-it), [the data](docs/UNICODE.md#data), [elsewhere](https://example.org/none)
+
+## The crates of it
+
+    [no link](nowhere.md)
+
+## Testing
+
+1. what it needs
+2. the gate's own checks: they
+   find what they are to find
+3. rt ci. It proves
+
+## Next
+
+1. another list
+""",
+    "docs/UNICODE.md": f"""# Data
+
+[back](../README.md)
+
+| file | SHA-256 |
+|---|---|
+| emoji.txt | {hashlib.sha256(DATA.encode()).hexdigest()} |
+""",
+    "crates/published_data/data/emoji.txt": DATA,
+    ".ci/run": """
+stage() { printf '%s' "$1"; }
+stage 'what it needs'
+stage "the gate's own checks"
+    stage 'rt ci'
+""",
+    "tools/one.py": "",
+    "tools/test_one.py": "class One:\n    def test_it(self):\n        pass\n",
+}
+
+
+class Checks(unittest.TestCase):
+    def findings(self, check, changed=None, old="", new="", removed=()):
+        with tempfile.TemporaryDirectory() as folder:
+            root = pathlib.Path(folder)
+            for name, text in SOUND.items():
+                if name == changed:
+                    self.assertIn(old, text)
+                    text = text.replace(old, new)
+                if name not in removed:
+                    (root / name).parent.mkdir(parents=True, exist_ok=True)
+                    (root / name).write_text(text, encoding="utf-8")
+            return list(check(root))
+
+    def finds(self, words, check, *change, **removed):
+        findings = self.findings(check, *change, **removed)
+        self.assertTrue(any(words in finding for finding in findings), findings)
+
+    def test_sound(self):
+        for check in checks.CHECKS:
+            change = ("README.md", "    [no link](nowhere.md)\n", "```\n[no link](nowhere.md)\n```\n")
+            self.assertEqual(self.findings(check, *change), [], check.__name__)
+
+    def test_broken_links(self):
+        self.finds("docs/NONE.md#data: there is no such file", checks.broken_links, "README.md", "UNICODE", "NONE")
+        self.finds("docs/UNICODE.md#date: there is no such heading", checks.broken_links, "README.md", "#data", "#date")
+        self.finds("docs/UNICODE.md: ../READ.md: there is no such file", checks.broken_links, "docs/UNICODE.md", "README", "READ")
+
+    def test_no_link(self):
+        with tempfile.TemporaryDirectory() as folder:
+            pathlib.Path(folder, "README.md").write_text("# A name\n", encoding="utf-8")
+            self.assertEqual(list(checks.broken_links(pathlib.Path(folder))), ["README.md, docs/: no link is found"])
+
+    def test_other_stages(self):
+        self.finds("Testing, 3: `none`", checks.other_stages, "README.md", "3. rt ci. It proves\n", "")
+        self.finds("Testing, 2: `the checks", checks.other_stages, "README.md", "the gate's own checks", "the checks")
+        self.finds("Testing, 3: `rt cities`", checks.other_stages, "README.md", "rt ci. It proves", "rt cities")
+        self.finds("Testing, 4: `more`", checks.other_stages, "README.md", "It proves\n", "It proves\n4. more\n")
+        self.finds("2 stages are read and 3 called", checks.other_stages, ".ci/run", "    stage 'rt ci'", 'stage "$rt"')
+
+    def test_no_stage(self):
+        self.finds("0 stages are read", checks.other_stages, ".ci/run", "stage ", "print ")
+
+    def test_other_data(self):
+        self.finds("its SHA-256 is", checks.other_data, "crates/published_data/data/emoji.txt", "0023", "0024")
+        self.finds("its SHA-256 is missing", checks.other_data, removed=["crates/published_data/data/emoji.txt"])
+        self.finds("says nothing", checks.other_data, "docs/UNICODE.md", "| emoji.txt |", "| other.txt |")
+        self.finds("no SHA-256 is found", checks.other_data, "docs/UNICODE.md", "| emoji.txt |", "|")
+
+    def test_untested_tools(self):
+        self.finds("test_one.py has no test", checks.untested_tools, removed=["tools/test_one.py"])
+        self.finds("test_one.py has no test", checks.untested_tools, "tools/test_one.py", "def test_", "def ")
+        self.finds("no script", checks.untested_tools, removed=["tools/one.py"])
+
+
+if __name__ == "__main__":
+    unittest.main()
