@@ -6,7 +6,6 @@ use Prim.Native.Nat.{ℕ, _^_, _<_}
 use native.Mathlib.Omega.{arith}
 use lib.ListN.{getD, length}
 use borrow.Author.Tests.{eq-eqb, ltb-true}
-use Rattle.base.specs.Refusals.{refusalRow}
 use Rattle.unicode.specs.Tables.{inRanges, member as Tables·member}
 use Rattle.unicode.specs.Unicode.{hasVariationSequence, isEmojiDefault, isEmojiPresentation, isTextDefault}
 use Rattle.unicode.specs.UnicodeData.{emojiPresentationRanges, variationEntries}

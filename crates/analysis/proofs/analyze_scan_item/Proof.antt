@@ -6,22 +6,10 @@ use Rattle.analysis.proofs.ItemsAt.{analysis-canonical, analysis-end, a
 use Rattle.analysis.proofs.analyze_scan_item.Statement.{statement}
 use Rattle.analysis.proofs.analyze_scan_item.Tie as tie
 
-next-item-requires : tie.Need-next-item-requires
-next-item-requires c κs = search needs
-
-enum-known-item : tie.Need-enum-known-item
-enum-known-item c = search needs
-
-enum-told : tie.Need-enum-told
-enum-told c = search needs
-
 returns : tie.Need-returns
 returns c =
     let x = c .before .before .before .before .args in
     analysis-end (x .policy) (x .text .now) (x .at) (sym (c .before .before .next-item .ensures) ∙ c .enum-told .given .1)
-
-enum-told-2 : tie.Need-enum-told-2
-enum-told-2 c = search needs
 
 returns-2 : tie.Need-returns-2
 returns-2 c =
@@ -51,12 +39,6 @@ part-measure-cells-end c =
     let h = item-at (x .text .now) (x .at) (g .0 .0) (sym (c .before .before .before .before .next-item .ensures) ∙ g .1) in
     omega (arith, h .end-is, item-within (x .text .now) (x .at) (h .item) (h .behind) (h .items-are))
 
-measure-cells-requires : tie.Need-measure-cells-requires
-measure-cells-requires c κs = search needs
-
-is-empty-requires : tie.Need-is-empty-requires
-is-empty-requires c κs = search needs
-
 returns-3 : tie.Need-returns-3
 returns-3 c =
     let x = c .before .before .before .before .before .before .before .before .before .before .before .args in
@@ -77,16 +59,16 @@ pub analyze-scan-item-spec : {M : Type 1} → statement M
 analyze-scan-item-spec =
     tie.close
     (tie.spec
-    next-item-requires
-    enum-known-item
-    enum-told
+    (λ c κs. search needs)
+    (λ c. search needs)
+    (λ c. search needs)
     returns
-    enum-told-2
+    (λ c. search needs)
     returns-2
     sub-measure-cells
     part-measure-cells-start
     part-measure-cells-end
-    measure-cells-requires
-    is-empty-requires
+    (λ c κs. search needs)
+    (λ c κs. search needs)
     returns-3
     returns-4)

@@ -20,17 +20,8 @@ Inv-loop text policy from bare at₀ at = Stays (policyOf policy) text from at
 abbrev μ-loop : tie.MeasureT-loop
 μ-loop text policy from bare at₀ at = length text - at
 
-ascii-keys-bare-requires : tie.Need-ascii-keys-bare-requires Inv-loop μ-loop
-ascii-keys-bare-requires c κs = search needs
-
 loop-holds : tie.Need-loop-holds Inv-loop μ-loop
 loop-holds c = stays-here _
-
-skip-plain-requires : tie.Need-skip-plain-requires Inv-loop μ-loop
-skip-plain-requires c κs = search needs
-
-decode-requires : tie.Need-decode-requires Inv-loop μ-loop
-decode-requires c κs = search needs
 
 returns : tie.Need-returns Inv-loop μ-loop
 returns c =
@@ -39,9 +30,6 @@ returns c =
     let s = stays-on (c .before .before .before .loop .inv) (c .before .before .skip-plain .ensures (policyOf (x .policy .now)) h) in
     let z = packed-stop (x .text .now) (c .before .before .skip-plain .result) (c .before .decode .result) (c .before .decode .ensures) (c .if1 .taken) in
     (λ f. absurd (true≢false (sym f)), λ _. record { stays = s; ends = z .chars-none; all-kept = refl; no-selector = refl })
-
-cast-width : tie.Need-cast-width Inv-loop μ-loop
-cast-width c = search needs
 
 change-at-requires : tie.Need-change-at-requires Inv-loop μ-loop
 change-at-requires c κs =
@@ -78,12 +66,12 @@ next-change-spec =
     (tie.spec
     Inv-loop
     μ-loop
-    ascii-keys-bare-requires
+    (λ c κs. search needs)
     loop-holds
-    skip-plain-requires
-    decode-requires
+    (λ c κs. search needs)
+    (λ c κs. search needs)
     returns
-    cast-width
+    (λ c. search needs)
     change-at-requires
     returns-2
     loop-less

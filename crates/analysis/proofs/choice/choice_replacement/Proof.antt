@@ -26,18 +26,6 @@ returns-2 c =
     let x = c .before .before .before .before .args in
     replace-none (x .policy) (x .raw .now) (x .at) (x .decision) (x .out .now) (c .before .if1 .left) (c .if2 .taken)
 
-unit-end-requires : tie.Need-unit-end-requires
-unit-end-requires c κs = search needs
-
-enum-told : tie.Need-enum-told
-enum-told c = search needs
-
-sub-write-cells : tie.Need-sub-write-cells
-sub-write-cells c = search needs
-
-part-write-cells-start : tie.Need-part-write-cells-start
-part-write-cells-start c = search needs
-
 part-write-cells-end : tie.Need-part-write-cells-end
 part-write-cells-end c =
     let x = c .before .before .before .before .before .before .before .args in
@@ -45,36 +33,12 @@ part-write-cells-end c =
     let h = c .before .before .before .if2 .left in
     unit-room (x .raw .now) (x .at) (u .result) (u .ensures) (omega arith)
 
-slice-aggregate-write-cells : tie.Need-slice-aggregate-write-cells
-slice-aggregate-write-cells c = search needs
-
-write-cells-requires : tie.Need-write-cells-requires
-write-cells-requires c κs = search needs
-
-enum-told-2 : tie.Need-enum-told-2
-enum-told-2 c = search needs
-
-sub-write-cells-2 : tie.Need-sub-write-cells-2
-sub-write-cells-2 c = search needs
-
-part-write-cells-start-2 : tie.Need-part-write-cells-start-2
-part-write-cells-start-2 c = search needs
-
 part-write-cells-end-2 : tie.Need-part-write-cells-end-2
 part-write-cells-end-2 c =
     let x = c .before .before .before .before .before .before .before .args in
     let u = c .before .before .unit-end in
     let h = c .before .before .before .if2 .left in
     unit-room (x .raw .now) (x .at) (u .result) (u .ensures) (omega arith)
-
-slice-aggregate-write-cells-2 : tie.Need-slice-aggregate-write-cells-2
-slice-aggregate-write-cells-2 c = search needs
-
-write-cells-requires-2 : tie.Need-write-cells-requires-2
-write-cells-requires-2 c κs = search needs
-
-same-length : tie.Need-same-length
-same-length c = search needs
 
 returns-3 : tie.Need-returns-3
 returns-3 c =
@@ -85,9 +49,6 @@ returns-3 c =
     replace-unit (x .policy) (x .raw .now) (x .at) Text (x .out .now) l
     (part-written (x .raw .now) (x .out .now) (x .at) (u .result) l (c .before .before .write-cells .ensures) ∙ ap (λ (xs : List Cell). writeOut (encodeAll (render (x .policy) xs (Text ∷ []))) (x .out .now)) e)
     ∙ ap (λ (q : Presentation). replaceUnit (x .policy) (x .raw .now) (x .at) q (x .out .now)) (sym (c .before .before .before .before .before .before .enum-told .given .1))
-
-same-length-2 : tie.Need-same-length-2
-same-length-2 c = search needs
 
 returns-4 : tie.Need-returns-4
 returns-4 c =
@@ -105,20 +66,20 @@ choice-replacement-spec =
     (tie.spec
     returns
     returns-2
-    unit-end-requires
-    enum-told
-    sub-write-cells
-    part-write-cells-start
+    (λ c κs. search needs)
+    (λ c. search needs)
+    (λ c. search needs)
+    (λ c. search needs)
     part-write-cells-end
-    slice-aggregate-write-cells
-    write-cells-requires
-    enum-told-2
-    sub-write-cells-2
-    part-write-cells-start-2
+    (λ c. search needs)
+    (λ c κs. search needs)
+    (λ c. search needs)
+    (λ c. search needs)
+    (λ c. search needs)
     part-write-cells-end-2
-    slice-aggregate-write-cells-2
-    write-cells-requires-2
-    same-length
+    (λ c. search needs)
+    (λ c κs. search needs)
+    (λ c. search needs)
     returns-3
-    same-length-2
+    (λ c. search needs)
     returns-4)

@@ -26,15 +26,6 @@ abbrev μ-loop : tie.MeasureT-loop
 loop-holds : tie.Need-loop-holds Inv-loop μ-loop
 loop-holds c = refl
 
-peek-requires : tie.Need-peek-requires Inv-loop μ-loop
-peek-requires c κs = search needs
-
-enum-known-class : tie.Need-enum-known-class Inv-loop μ-loop
-enum-known-class c = search needs
-
-enum-told : tie.Need-enum-told Inv-loop μ-loop
-enum-told c = search needs
-
 returns : tie.Need-returns Inv-loop μ-loop
 returns c =
     let x = c .before .before .before .before .before .before .before .before .args in
@@ -53,9 +44,6 @@ loop-again c =
     let e = ap not (link-test _ ∙ ap forLink (sym (k .class)) ∙ seen-arm k forLink false (0 ∷ 2 ∷ 3 ∷ 4 ∷ 5 ∷ 6 ∷ 7 ∷ []) (refl, tt, refl, refl, refl, refl, refl, refl) (c .match2 .keys2)) in
     c .before .before .before .before .before .loop .inv ∙ run-on offLink k e
 
-enum-told-2 : tie.Need-enum-told-2 Inv-loop μ-loop
-enum-told-2 c = search needs
-
 returns-2 : tie.Need-returns-2 Inv-loop μ-loop
 returns-2 c =
     let x = c .before .before .before .before .before .args in
@@ -68,11 +56,11 @@ end-before-link-spec =
     Inv-loop
     μ-loop
     loop-holds
-    peek-requires
-    enum-known-class
-    enum-told
+    (λ c κs. search needs)
+    (λ c. search needs)
+    (λ c. search needs)
     returns
     loop-less
     loop-again
-    enum-told-2
+    (λ c. search needs)
     returns-2)

@@ -21,15 +21,6 @@ abbrev μ-loop : tie.MeasureT-loop
 loop-holds : tie.Need-loop-holds Inv-loop μ-loop
 loop-holds c = refl
 
-peek-requires : tie.Need-peek-requires Inv-loop μ-loop
-peek-requires c κs = search needs
-
-enum-known-value : tie.Need-enum-known-value Inv-loop μ-loop
-enum-known-value c = search needs
-
-enum-told : tie.Need-enum-told Inv-loop μ-loop
-enum-told c = search needs
-
 loop-less : tie.Need-loop-less Inv-loop μ-loop
 loop-less c =
     let x = c .before .before .before .before .before .before .before .before .args in
@@ -43,15 +34,6 @@ loop-again c =
     let l = c .before .before .before .before .before .before .loop in
     let k = seen (x .raw .now) (l .start) (sym (c .before .before .before .before .before .peek .ensures) ∙ c .before .before .before .value .given .1) in
     l .inv ∙ choice-selector (x .policy) (x .raw .now) (l .start) k (is-selector k (c .enum-told .given .1))
-
-cell-outcome-requires : tie.Need-cell-outcome-requires Inv-loop μ-loop
-cell-outcome-requires c κs = search needs
-
-enum-known-slot : tie.Need-enum-known-slot Inv-loop μ-loop
-enum-known-slot c = search needs
-
-end-before-link-requires : tie.Need-end-before-link-requires Inv-loop μ-loop
-end-before-link-requires c κs = search needs
 
 returns : tie.Need-returns Inv-loop μ-loop
 returns c =
@@ -79,9 +61,6 @@ loop-again-2 c =
     let o = c .before .before .cell-outcome in
     l .inv ∙ choice-passed (x .policy) (x .raw .now) (l .start) k e (o .result .outcome) (o .result .end) (o .ensures .0) (o .ensures .1) (undecided (o .result .outcome .slot) (c .match3 .keys2))
 
-enum-told-2 : tie.Need-enum-told-2 Inv-loop μ-loop
-enum-told-2 c = search needs
-
 returns-2 : tie.Need-returns-2 Inv-loop μ-loop
 returns-2 c =
     let x = c .before .before .before .before .before .args in
@@ -95,16 +74,16 @@ next-choice-spec =
     Inv-loop
     μ-loop
     loop-holds
-    peek-requires
-    enum-known-value
-    enum-told
+    (λ c κs. search needs)
+    (λ c. search needs)
+    (λ c. search needs)
     loop-less
     loop-again
-    cell-outcome-requires
-    enum-known-slot
-    end-before-link-requires
+    (λ c κs. search needs)
+    (λ c. search needs)
+    (λ c κs. search needs)
     returns
     loop-less-2
     loop-again-2
-    enum-told-2
+    (λ c. search needs)
     returns-2)

@@ -6,21 +6,6 @@ use Rattle.analysis.proofs.ChoicePlaces.{first-cell, unit-none, unit-on
 use Rattle.analysis.proofs.choice.unit_end.Statement.{statement}
 use Rattle.analysis.proofs.choice.unit_end.Tie as tie
 
-run-end-requires : tie.Need-run-end-requires
-run-end-requires c κs = search needs
-
-peek-requires : tie.Need-peek-requires
-peek-requires c κs = search needs
-
-enum-known-next : tie.Need-enum-known-next
-enum-known-next c = search needs
-
-end-before-link-requires : tie.Need-end-before-link-requires
-end-before-link-requires c κs = search needs
-
-enum-told : tie.Need-enum-told
-enum-told c = search needs
-
 returns : tie.Need-returns
 returns c =
     let x = c .before .before .before .before .before .before .before .args in
@@ -39,10 +24,10 @@ pub unit-end-spec : {M : Type 1} → statement M
 unit-end-spec =
     tie.close
     (tie.spec
-    run-end-requires
-    peek-requires
-    enum-known-next
-    end-before-link-requires
-    enum-told
+    (λ c κs. search needs)
+    (λ c κs. search needs)
+    (λ c. search needs)
+    (λ c κs. search needs)
+    (λ c. search needs)
     returns
     returns-2)

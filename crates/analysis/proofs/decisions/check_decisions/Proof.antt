@@ -9,12 +9,9 @@ returns : tie.Need-returns
 unfolding decisionsRefusal
 returns c = simp (ne-eqb _ _ (c .if1 .taken))
 
-check-bytes-requires : tie.Need-check-bytes-requires
-check-bytes-requires c κs = search needs
-
 returns-2 : tie.Need-returns-2
 unfolding decisionsRefusal
 returns-2 c = simp (c .check-bytes .ensures, eq-eqb _ _ (c .before .if1 .left))
 
 pub check-decisions-spec : {M : Type 1} → statement M
-check-decisions-spec = tie.close (tie.spec returns check-bytes-requires returns-2)
+check-decisions-spec = tie.close (tie.spec returns (λ c κs. search needs) returns-2)

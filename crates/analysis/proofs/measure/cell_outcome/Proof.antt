@@ -4,15 +4,6 @@ use Rattle.analysis.proofs.CellsAt.{cell-read}
 use Rattle.analysis.proofs.measure.cell_outcome.Statement.{statement}
 use Rattle.analysis.proofs.measure.cell_outcome.Tie as tie
 
-consume-presentation-selectors-requires : tie.Need-consume-presentation-selectors-requires
-consume-presentation-selectors-requires c κs = search needs
-
-class-at-requires : tie.Need-class-at-requires
-class-at-requires c κs = search needs
-
-analyze-singleton-base-selectors-requires : tie.Need-analyze-singleton-base-selectors-requires
-analyze-singleton-base-selectors-requires c κs = search needs
-
 returns : tie.Need-returns
 returns c =
     let x = c .before .before .before .before .args in
@@ -23,9 +14,4 @@ returns c =
 
 pub cell-outcome-spec : {M : Type 1} → statement M
 cell-outcome-spec =
-    tie.close
-    (tie.spec
-    consume-presentation-selectors-requires
-    class-at-requires
-    analyze-singleton-base-selectors-requires
-    returns)
+    tie.close (tie.spec (λ c κs. search needs) (λ c κs. search needs) (λ c κs. search needs) returns)

@@ -6,15 +6,6 @@ use Rattle.analysis.specs.CellView.{classInFront}
 use Rattle.analysis.proofs.measure.class_at.Statement.{statement}
 use Rattle.analysis.proofs.measure.class_at.Tie as tie
 
-peek-requires : tie.Need-peek-requires
-peek-requires c κs = search needs
-
-enum-known-class : tie.Need-enum-known-class
-enum-known-class c = search needs
-
-enum-told : tie.Need-enum-told
-enum-told c = search needs
-
 returns : tie.Need-returns
 unfolding classInFront
 returns c =
@@ -31,10 +22,4 @@ returns-2 c =
 
 pub class-at-spec : {M : Type 1} → statement M
 class-at-spec =
-    tie.close
-    (tie.spec
-    peek-requires
-    enum-known-class
-    enum-told
-    returns
-    returns-2)
+    tie.close (tie.spec (λ c κs. search needs) (λ c. search needs) (λ c. search needs) returns returns-2)

@@ -18,28 +18,16 @@ Inv-loop text policy count start counts₀ len₀ at₀ counts len at = Measurin
 abbrev μ-loop : tie.MeasureT-loop
 μ-loop text policy count start counts₀ len₀ at₀ counts len at = length text - at
 
-consume-presentation-selectors-requires : tie.Need-consume-presentation-selectors-requires Inv-loop μ-loop
-consume-presentation-selectors-requires c κs = search needs
-
-unsanctioned-requires : tie.Need-unsanctioned-requires Inv-loop μ-loop
-unsanctioned-requires c κs = search needs
-
 loop-holds : tie.Need-loop-holds Inv-loop μ-loop
 loop-holds c =
     let r = c .before .consume-presentation-selectors in
     measuring-begin (r .result) (r .ensures) (c .unsanctioned .ensures)
-
-decode-requires : tie.Need-decode-requires Inv-loop μ-loop
-decode-requires c κs = search needs
 
 returns : tie.Need-returns Inv-loop μ-loop
 returns c =
     let l = c .before .before .loop in
     let d = c .before .decode in
     measuring-done (l .inv) (packed-stop (c .before .before .before .before .before .before .args .text .now) (l .at) (d .result) (d .ensures) (c .if1 .taken))
-
-cast-width : tie.Need-cast-width Inv-loop μ-loop
-cast-width c = search needs
 
 add-cell-outcome : tie.Need-add-cell-outcome Inv-loop μ-loop
 add-cell-outcome c =
@@ -48,20 +36,8 @@ add-cell-outcome c =
     let k = packed-step (c .before .before .before .before .before .before .args .text .now) (l .at) (d .result) (d .ensures) (c .if1 .left) in
     omega (arith, k .room)
 
-cell-outcome-requires : tie.Need-cell-outcome-requires Inv-loop μ-loop
-cell-outcome-requires c κs = search needs
-
-add-requires : tie.Need-add-requires Inv-loop μ-loop
-add-requires c κs = search needs
-
-slot-len-requires : tie.Need-slot-len-requires Inv-loop μ-loop
-slot-len-requires c κs = search needs
-
 add-add-count : tie.Need-add-add-count Inv-loop μ-loop
 add-add-count c = omega (arith, c .slot-len .ensures, slot-few (c .before .before .before .cell-outcome .result .outcome .slot))
-
-add-count-requires : tie.Need-add-count-requires Inv-loop μ-loop
-add-count-requires c κs = search needs
 
 loop-less : tie.Need-loop-less Inv-loop μ-loop
 loop-less c =
@@ -86,17 +62,17 @@ measure-cells-spec =
     (tie.spec
     Inv-loop
     μ-loop
-    consume-presentation-selectors-requires
-    unsanctioned-requires
+    (λ c κs. search needs)
+    (λ c κs. search needs)
     loop-holds
-    decode-requires
+    (λ c κs. search needs)
     returns
-    cast-width
+    (λ c. search needs)
     add-cell-outcome
-    cell-outcome-requires
-    add-requires
-    slot-len-requires
+    (λ c κs. search needs)
+    (λ c κs. search needs)
+    (λ c κs. search needs)
     add-add-count
-    add-count-requires
+    (λ c κs. search needs)
     loop-less
     loop-again)

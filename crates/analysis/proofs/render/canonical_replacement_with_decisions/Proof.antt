@@ -11,26 +11,11 @@ returns c =
     let x = c .before .before .before .before .args in
     replace-long (x .policy) (x .text .now) (x .at) (x .decisions .now) (x .out .now) (c .if1 .taken)
 
-analyze-scan-item-requires : tie.Need-analyze-scan-item-requires
-analyze-scan-item-requires c κs = search needs
-
-enum-known-finding : tie.Need-enum-known-finding
-enum-known-finding c = search needs
-
 returns-2 : tie.Need-returns-2
 returns-2 c =
     let x = c .before .before .before .before .before .before .args in
     let a = c .before .analyze-scan-item in
     replace-none (x .policy) (x .text .now) (x .at) (x .decisions .now) (x .out .now) (c .before .before .if1 .left) (none-found (x .policy) (x .text .now) (x .at) (a .result) (c .match .keys2) (a .ensures))
-
-check-decisions-requires : tie.Need-check-decisions-requires
-check-decisions-requires c κs = search needs
-
-enum-known-refusal : tie.Need-enum-known-refusal
-enum-known-refusal c = search needs
-
-enum-told : tie.Need-enum-told
-enum-told c = search needs
 
 sub-write-cells : tie.Need-sub-write-cells
 sub-write-cells c =
@@ -53,9 +38,6 @@ part-write-cells-end c =
     let h = found-at (x .policy) (x .text .now) (x .at) (g .0 .0) (sym (c .before .before .before .before .before .before .before .analyze-scan-item .ensures) ∙ g .1) in
     omega (arith, found-within (x .policy) (x .text .now) (x .at) h)
 
-write-cells-requires : tie.Need-write-cells-requires
-write-cells-requires c κs = search needs
-
 returns-3 : tie.Need-returns-3
 returns-3 c =
     let x = c .before .before .before .before .before .before .before .before .before .before .before .before .before .args in
@@ -63,9 +45,6 @@ returns-3 c =
     let h = found-at (x .policy) (x .text .now) (x .at) (g .0 .0) (sym (c .before .before .before .before .before .before .before .before .analyze-scan-item .ensures) ∙ g .1) in
     let k = c .before .before .before .check-decisions in
     replace-refused (x .policy) (x .text .now) (x .at) (x .decisions .now) (x .out .now) (c .before .before .before .before .before .before .before .before .before .if1 .left) h _ (k .result) (k .ensures) (c .before .refusal .given .1)
-
-same-length : tie.Need-same-length
-same-length c = search needs
 
 returns-4 : tie.Need-returns-4
 returns-4 c =
@@ -80,16 +59,16 @@ canonical-replacement-with-decisions-spec =
     tie.close
     (tie.spec
     returns
-    analyze-scan-item-requires
-    enum-known-finding
+    (λ c κs. search needs)
+    (λ c. search needs)
     returns-2
-    check-decisions-requires
-    enum-known-refusal
-    enum-told
+    (λ c κs. search needs)
+    (λ c. search needs)
+    (λ c. search needs)
     sub-write-cells
     part-write-cells-start
     part-write-cells-end
-    write-cells-requires
+    (λ c κs. search needs)
     returns-3
-    same-length
+    (λ c. search needs)
     returns-4)

@@ -15,9 +15,6 @@ returns c =
     let x = c .before .args in
     decide-default (x .default) (x .decisions .now) (x .i) (omega arith)
 
-shared-slice-read-if2 : tie.Need-shared-slice-read-if2
-shared-slice-read-if2 c = search needs
-
 returns-2 : tie.Need-returns-2
 returns-2 c =
     let x = c .before .before .before .args in
@@ -31,4 +28,4 @@ returns-3 c =
     ap (λ (b : Bool). cond b Text Emoji) (sym (ne-eqb d 0 (c .if2 .left))) ∙ decide-at (x .default) (x .decisions .now) (x .i) (omega arith)
 
 pub decision-at-spec : {M : Type 1} → statement M
-decision-at-spec = tie.close (tie.spec returns shared-slice-read-if2 returns-2 returns-3)
+decision-at-spec = tie.close (tie.spec returns (λ c. search needs) returns-2 returns-3)

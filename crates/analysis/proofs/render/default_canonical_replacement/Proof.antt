@@ -11,12 +11,6 @@ returns c =
     let x = c .before .before .before .args in
     default-long (x .policy) (x .text .now) (x .at) (x .out .now) (c .if1 .taken)
 
-analyze-scan-item-requires : tie.Need-analyze-scan-item-requires
-analyze-scan-item-requires c κs = search needs
-
-enum-known-finding : tie.Need-enum-known-finding
-enum-known-finding c = search needs
-
 returns-2 : tie.Need-returns-2
 returns-2 c =
     let x = c .before .before .before .before .before .args in
@@ -44,15 +38,6 @@ part-write-cells-end c =
     let h = found-at (x .policy) (x .text .now) (x .at) (g .0 .0) (sym (c .before .before .before .analyze-scan-item .ensures) ∙ g .1) in
     omega (arith, found-within (x .policy) (x .text .now) (x .at) h)
 
-slice-aggregate-write-cells : tie.Need-slice-aggregate-write-cells
-slice-aggregate-write-cells c = search needs
-
-write-cells-requires : tie.Need-write-cells-requires
-write-cells-requires c κs = search needs
-
-same-length : tie.Need-same-length
-same-length c = search needs
-
 returns-3 : tie.Need-returns-3
 returns-3 c =
     let x = c .before .before .before .before .before .before .before .before .before .before .before .before .before .args in
@@ -65,13 +50,13 @@ default-canonical-replacement-spec =
     tie.close
     (tie.spec
     returns
-    analyze-scan-item-requires
-    enum-known-finding
+    (λ c κs. search needs)
+    (λ c. search needs)
     returns-2
     sub-write-cells
     part-write-cells-start
     part-write-cells-end
-    slice-aggregate-write-cells
-    write-cells-requires
-    same-length
+    (λ c. search needs)
+    (λ c κs. search needs)
+    (λ c. search needs)
     returns-3)

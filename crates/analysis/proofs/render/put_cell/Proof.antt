@@ -14,9 +14,6 @@ use Rattle.analysis.specs.Decisions.{meaning}
 use Rattle.analysis.proofs.render.put_cell.Statement.{statement}
 use Rattle.analysis.proofs.render.put_cell.Tie as tie
 
-selector-of-requires : tie.Need-selector-of-requires
-selector-of-requires c κs = search needs
-
 put-char-requires : tie.Need-put-char-requires
 put-char-requires c κs =
     let s = c .before .before .before .before in
@@ -39,14 +36,10 @@ put-selector-requires c κs =
       ap (λ (l : List Presentation). length (encodeAll (map asSelector l))) (c .before .before .before .before .before .selector-of .ensures),
     )
 
-same-length : tie.Need-same-length
-same-length c = search needs
-
 returns : tie.Need-returns
 returns c =
     put-then (c .before .before .before .before .before .before .put-char .ensures) (put-as _ (ap (λ (l : List Presentation). encodeAll (map asSelector l)) (c .before .before .before .before .before .before .before .before .selector-of .ensures)) (c .before .before .put-selector .ensures))
 
 pub put-cell-spec : {M : Type 1} → statement M
 put-cell-spec =
-    tie.close
-    (tie.spec selector-of-requires put-char-requires put-selector-requires same-length returns)
+    tie.close (tie.spec (λ c κs. search needs) put-char-requires put-selector-requires (λ c. search needs) returns)

@@ -24,9 +24,6 @@ Inv-loop text policy decisions out₀ start at₀ to₀ used₀ out at to used =
 abbrev μ-loop : tie.MeasureT-loop
 μ-loop text policy decisions out₀ start at₀ to₀ used₀ out at to used = length text - at
 
-consume-presentation-selectors-requires : tie.Need-consume-presentation-selectors-requires Inv-loop μ-loop
-consume-presentation-selectors-requires c κs = search needs
-
 loop-holds : tie.Need-loop-holds Inv-loop μ-loop
 loop-holds c =
     let s = c .before .before .before .before in
@@ -38,9 +35,6 @@ loop-holds c =
       pass _ _ _ _ _ (begin _ _ _ (let h = s .pre in omega arith)) (left-leading (x .policy) (x .text .now) (x .decisions .now) 0 0 e),
     )
 
-decode-requires : tie.Need-decode-requires Inv-loop μ-loop
-decode-requires c κs = search needs
-
 same-length : tie.Need-same-length Inv-loop μ-loop
 same-length c = c .before .before .loop .inv .2 .same
 
@@ -51,9 +45,6 @@ returns c =
     let d = c .before .decode in
     finish _ _ _ _ (l .inv .2) (left-none (x .policy) (x .text .now) (x .decisions .now) (l .at) (l .used) (packed-stop (x .text .now) (l .at) (d .result) (d .ensures) (c .if1 .taken)))
 
-cast-width : tie.Need-cast-width Inv-loop μ-loop
-cast-width c = search needs
-
 add-cell-outcome : tie.Need-add-cell-outcome Inv-loop μ-loop
 add-cell-outcome c =
     let x = c .before .before .before .before .before .before .before .args in
@@ -61,9 +52,6 @@ add-cell-outcome c =
     let d = c .before .decode in
     let k = packed-step (x .text .now) (l .at) (d .result) (d .ensures) (c .if1 .left) in
     omega (arith, k .room)
-
-cell-outcome-requires : tie.Need-cell-outcome-requires Inv-loop μ-loop
-cell-outcome-requires c κs = search needs
 
 put-cell-requires : tie.Need-put-cell-requires Inv-loop μ-loop
 put-cell-requires c κs =
@@ -74,9 +62,6 @@ put-cell-requires c κs =
     let o = c .before .before .cell-outcome in
     let f = left-cell (x .policy) (x .text .now) (x .decisions .now) (l .at) (l .used) k (l .inv .1) (o .result .outcome) (o .result .end) (o .ensures .0) (o .ensures .1) in
     (k .is-scalar, room _ _ _ _ (cellBytes (d .result / 8) (o .result .outcome .slot) (map meaning (drop (l .used) (x .decisions .now)))) _ (l .inv .2) f)
-
-decisions-used-requires : tie.Need-decisions-used-requires Inv-loop μ-loop
-decisions-used-requires c κs = search needs
 
 add-used : tie.Need-add-used Inv-loop μ-loop
 add-used c =
@@ -114,16 +99,16 @@ put-cells-spec =
     (tie.spec
     Inv-loop
     μ-loop
-    consume-presentation-selectors-requires
+    (λ c κs. search needs)
     loop-holds
-    decode-requires
+    (λ c κs. search needs)
     same-length
     returns
-    cast-width
+    (λ c. search needs)
     add-cell-outcome
-    cell-outcome-requires
+    (λ c κs. search needs)
     put-cell-requires
-    decisions-used-requires
+    (λ c κs. search needs)
     add-used
     loop-less
     loop-again)

@@ -5,12 +5,6 @@ use Rattle.analysis.proofs.Rendering.{char-put, not-refused, not-short,
 use Rattle.analysis.proofs.render.put_char.Statement.{statement}
 use Rattle.analysis.proofs.render.put_char.Tie as tie
 
-write-char-requires : tie.Need-write-char-requires
-write-char-requires c κs = search needs
-
-enum-known-width : tie.Need-enum-known-width
-enum-known-width c = search needs
-
 add-result : tie.Need-add-result
 add-result c =
     let s = c .before .before .before .before .before .before .before .before in
@@ -20,15 +14,6 @@ add-result c =
     let r = s .pre .1 in
     omega (arith, width-is (x .ch) (x .out .now) (x .at) (s .pre .0) r (w .result) (w .ensures .0) (g .0 .0) (g .1))
 
-enum-told : tie.Need-enum-told
-enum-told c = search needs
-
-enum-told-2 : tie.Need-enum-told-2
-enum-told-2 c = search needs
-
-same-length : tie.Need-same-length
-same-length c = search needs
-
 returns : tie.Need-returns
 returns c =
     let s = c .before .before .before .before .before .before .before .before in
@@ -37,18 +22,12 @@ returns c =
     let g = c .before .width .given in
     char-put (x .ch) (x .out .now) (x .at) (s .pre .0) (s .pre .1) (w .result) (w .ensures .0) (g .0 .0) _ (g .1) (w .ensures .1)
 
-same-length-2 : tie.Need-same-length-2
-same-length-2 c = search needs
-
 returns-2 : tie.Need-returns-2
 returns-2 c =
     let s = c .before .before .before .before .before .before .before in
     let x = s .args in
     let w = c .before .before .before .before .write-char in
     absurd (not-short (x .ch) (x .out .now) (x .at) (s .pre .0) (s .pre .1) (w .result) (w .ensures .0) _ (c .enum-told .given .1))
-
-same-length-3 : tie.Need-same-length-3
-same-length-3 c = search needs
 
 returns-3 : tie.Need-returns-3
 returns-3 c =
@@ -61,14 +40,14 @@ pub put-char-spec : {M : Type 1} → statement M
 put-char-spec =
     tie.close
     (tie.spec
-    write-char-requires
-    enum-known-width
+    (λ c κs. search needs)
+    (λ c. search needs)
     add-result
-    enum-told
-    enum-told-2
-    same-length
+    (λ c. search needs)
+    (λ c. search needs)
+    (λ c. search needs)
     returns
-    same-length-2
+    (λ c. search needs)
     returns-2
-    same-length-3
+    (λ c. search needs)
     returns-3)

@@ -9,12 +9,6 @@ use Rattle.analysis.proofs.Rendering.{bytes-none, bytes-selector, selec
 use Rattle.analysis.proofs.render.put_selector.Statement.{statement}
 use Rattle.analysis.proofs.render.put_selector.Tie as tie
 
-enum-known-selector : tie.Need-enum-known-selector
-enum-known-selector c = search needs
-
-as-selector-requires : tie.Need-as-selector-requires
-as-selector-requires c κs = search needs
-
 put-char-requires : tie.Need-put-char-requires
 put-char-requires c κs =
     let s = c .before .before .before .before .before .before in
@@ -24,12 +18,6 @@ put-char-requires c κs =
       ap isScalar (a .ensures) ∙ selector-scalar (g .0 .0),
       omega (arith, ap length (bytes-selector (s .args .selector) (g .0 .0) (a .result) (g .1) (a .ensures))),
     )
-
-enum-told : tie.Need-enum-told
-enum-told c = search needs
-
-same-length : tie.Need-same-length
-same-length c = search needs
 
 returns : tie.Need-returns
 returns c =
@@ -47,10 +35,10 @@ pub put-selector-spec : {M : Type 1} → statement M
 put-selector-spec =
     tie.close
     (tie.spec
-    enum-known-selector
-    as-selector-requires
+    (λ c. search needs)
+    (λ c κs. search needs)
     put-char-requires
-    enum-told
-    same-length
+    (λ c. search needs)
+    (λ c. search needs)
     returns
     returns-2)

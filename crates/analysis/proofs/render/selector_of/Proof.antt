@@ -10,18 +10,6 @@ use Rattle.analysis.specs.Rules.{Slot, runWith}
 use Rattle.analysis.proofs.render.selector_of.Statement.{statement}
 use Rattle.analysis.proofs.render.selector_of.Tie as tie
 
-enum-told : tie.Need-enum-told
-enum-told c = search needs
-
-enum-known-slot : tie.Need-enum-known-slot
-enum-known-slot c = search needs
-
-enum-known-slot-2 : tie.Need-enum-known-slot-2
-enum-known-slot-2 c = search needs
-
-decision-at-requires : tie.Need-decision-at-requires
-decision-at-requires c κs = search needs
-
 returns : tie.Need-returns
 unfolding runWith
 returns c =
@@ -45,10 +33,10 @@ pub selector-of-spec : {M : Type 1} → statement M
 selector-of-spec =
     tie.close
     (tie.spec
-    enum-told
-    enum-known-slot
-    enum-known-slot-2
-    decision-at-requires
+    (λ c. search needs)
+    (λ c. search needs)
+    (λ c. search needs)
+    (λ c κs. search needs)
     returns
     returns-2
     returns-3)

@@ -20,9 +20,6 @@ result p raw decisions = encodeAll (render p (cells (chars raw)) (map meaning de
 returns : tie.Need-returns
 returns c = let x = c .before .before .before .before .args in too-long (x .raw .now) (x .out .now) _ (c .if1 .taken)
 
-measure-cells-requires : tie.Need-measure-cells-requires
-measure-cells-requires c κs = search needs
-
 returns-2 : tie.Need-returns-2
 returns-2 c =
     let x = c .before .before .before .before .before .before .args in
@@ -38,9 +35,6 @@ put-cells-requires c κs =
     let h = c .before .if2 .left in
     omega (arith, m .ensures .1 ∙ measured (x .policy) (x .raw .now) (map meaning (x .decisions .now)) (c .before .before .before .if1 .left))
 
-same-length : tie.Need-same-length
-same-length c = search needs
-
 returns-3 : tie.Need-returns-3
 returns-3 c =
     let x = c .before .before .before .before .before .before .before .before .before .before .args in
@@ -51,4 +45,4 @@ returns-3 c =
 
 pub write-cells-spec : {M : Type 1} → statement M
 write-cells-spec =
-    tie.close (tie.spec returns measure-cells-requires returns-2 put-cells-requires same-length returns-3)
+    tie.close (tie.spec returns (λ c κs. search needs) returns-2 put-cells-requires (λ c. search needs) returns-3)

@@ -13,47 +13,11 @@ use borrow.Author.Needs.{needs}
 use Rattle.analysis.proofs.singleton.analyze_singleton_base_selectors.Statement.{statement}
 use Rattle.analysis.proofs.singleton.analyze_singleton_base_selectors.Tie as tie
 
-has-variation-sequence-requires : tie.Need-has-variation-sequence-requires
-has-variation-sequence-requires c κs = search needs
-
-without-entry-requires : tie.Need-without-entry-requires
-without-entry-requires c κs = search needs
-
 returns : tie.Need-returns
 returns c =
     let x = c .before .before .before .args in
     let v = c .before .before .has-variation-sequence in
     c .without-entry .ensures ∙ sym (outcome-no-entry (x .policy) (x .base) (x .next) _ (sym (v .ensures) ∙ not-true (v .result) (c .before .if1 .taken)))
-
-enum-told : tie.Need-enum-told
-enum-told c = search needs
-
-before-modifier-requires : tie.Need-before-modifier-requires
-before-modifier-requires c κs = search needs
-
-enum-told-2 : tie.Need-enum-told-2
-enum-told-2 c = search needs
-
-is-emoji-default-requires : tie.Need-is-emoji-default-requires
-is-emoji-default-requires c κs = search needs
-
-before-tags-requires : tie.Need-before-tags-requires
-before-tags-requires c κs = search needs
-
-enum-told-3 : tie.Need-enum-told-3
-enum-told-3 c = search needs
-
-singleton-rule-requires : tie.Need-singleton-rule-requires
-singleton-rule-requires c κs = search needs
-
-by-policy-requires : tie.Need-by-policy-requires
-by-policy-requires c κs = search needs
-
-singleton-rule-requires-2 : tie.Need-singleton-rule-requires-2
-singleton-rule-requires-2 c κs = search needs
-
-by-policy-requires-2 : tie.Need-by-policy-requires-2
-by-policy-requires-2 c κs = search needs
 
 returns-2 : tie.Need-returns-2
 returns-2 c =
@@ -97,19 +61,19 @@ pub analyze-singleton-base-selectors-spec : {M : Type 1} → statement M
 analyze-singleton-base-selectors-spec =
     tie.close
     (tie.spec
-    has-variation-sequence-requires
-    without-entry-requires
+    (λ c κs. search needs)
+    (λ c κs. search needs)
     returns
-    enum-told
-    before-modifier-requires
-    enum-told-2
-    is-emoji-default-requires
-    before-tags-requires
-    enum-told-3
-    singleton-rule-requires
-    by-policy-requires
-    singleton-rule-requires-2
-    by-policy-requires-2
+    (λ c. search needs)
+    (λ c κs. search needs)
+    (λ c. search needs)
+    (λ c κs. search needs)
+    (λ c κs. search needs)
+    (λ c. search needs)
+    (λ c κs. search needs)
+    (λ c κs. search needs)
+    (λ c κs. search needs)
+    (λ c κs. search needs)
     returns-2
     returns-3
     returns-4

@@ -6,30 +6,6 @@ use borrow.Author.Needs.{needs}
 use Rattle.analysis.proofs.singleton.before_modifier.Statement.{statement}
 use Rattle.analysis.proofs.singleton.before_modifier.Tie as tie
 
-rest-of-requires : tie.Need-rest-of-requires
-rest-of-requires c κs = search needs
-
-unsanctioned-requires : tie.Need-unsanctioned-requires
-unsanctioned-requires c κs = search needs
-
-enum-told : tie.Need-enum-told
-enum-told c = search needs
-
-empty-requires : tie.Need-empty-requires
-empty-requires c κs = search needs
-
-enum-known-first : tie.Need-enum-known-first
-enum-known-first c = search needs
-
-enum-told-2 : tie.Need-enum-told-2
-enum-told-2 c = search needs
-
-enum-told-3 : tie.Need-enum-told-3
-enum-told-3 c = search needs
-
-is-emoji-modifier-base-requires : tie.Need-is-emoji-modifier-base-requires
-is-emoji-modifier-base-requires c κs = search needs
-
 returns : tie.Need-returns
 unfolding textFirst rule3 byFirst runWith
 returns c = simp (c .before .enum-told .given .1, c .empty .ensures)
@@ -47,14 +23,14 @@ pub before-modifier-spec : {M : Type 1} → statement M
 before-modifier-spec =
     tie.close
     (tie.spec
-    rest-of-requires
-    unsanctioned-requires
-    enum-told
-    empty-requires
-    enum-known-first
-    enum-told-2
-    enum-told-3
-    is-emoji-modifier-base-requires
+    (λ c κs. search needs)
+    (λ c κs. search needs)
+    (λ c. search needs)
+    (λ c κs. search needs)
+    (λ c. search needs)
+    (λ c. search needs)
+    (λ c. search needs)
+    (λ c κs. search needs)
     returns
     returns-2
     returns-3

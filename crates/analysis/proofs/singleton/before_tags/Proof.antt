@@ -3,18 +3,12 @@ use borrow.Author.Needs.{needs}
 use Rattle.analysis.proofs.singleton.before_tags.Statement.{statement}
 use Rattle.analysis.proofs.singleton.before_tags.Tie as tie
 
-before-tags-bare-requires : tie.Need-before-tags-bare-requires
-before-tags-bare-requires c κs = search needs
-
 returns : tie.Need-returns
 returns c = simp (c .before-tags-bare .ensures, c .before .if1 .taken)
-
-before-tags-emoji-requires : tie.Need-before-tags-emoji-requires
-before-tags-emoji-requires c κs = search needs
 
 returns-2 : tie.Need-returns-2
 returns-2 c = simp (c .before-tags-emoji .ensures, c .before .if1 .left)
 
 pub before-tags-spec : {M : Type 1} → statement M
 before-tags-spec =
-    tie.close (tie.spec before-tags-bare-requires returns before-tags-emoji-requires returns-2)
+    tie.close (tie.spec (λ c κs. search needs) returns (λ c κs. search needs) returns-2)

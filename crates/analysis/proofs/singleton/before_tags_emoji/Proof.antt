@@ -5,27 +5,6 @@ use borrow.Author.Needs.{needs}
 use Rattle.analysis.proofs.singleton.before_tags_emoji.Statement.{statement}
 use Rattle.analysis.proofs.singleton.before_tags_emoji.Tie as tie
 
-empty-requires : tie.Need-empty-requires
-empty-requires c κs = search needs
-
-enum-told : tie.Need-enum-told
-enum-told c = search needs
-
-enum-known-first : tie.Need-enum-known-first
-enum-known-first c = search needs
-
-rest-of-requires : tie.Need-rest-of-requires
-rest-of-requires c κs = search needs
-
-unsanctioned-requires : tie.Need-unsanctioned-requires
-unsanctioned-requires c κs = search needs
-
-enum-told-2 : tie.Need-enum-told-2
-enum-told-2 c = search needs
-
-enum-told-3 : tie.Need-enum-told-3
-enum-told-3 c = search needs
-
 returns : tie.Need-returns
 unfolding rule5 runWith
 returns c = simp (c .enum-told .given .1, c .before .before .empty .ensures)
@@ -40,13 +19,13 @@ pub before-tags-emoji-spec : {M : Type 1} → statement M
 before-tags-emoji-spec =
     tie.close
     (tie.spec
-    empty-requires
-    enum-told
-    enum-known-first
-    rest-of-requires
-    unsanctioned-requires
-    enum-told-2
-    enum-told-3
+    (λ c κs. search needs)
+    (λ c. search needs)
+    (λ c. search needs)
+    (λ c κs. search needs)
+    (λ c κs. search needs)
+    (λ c. search needs)
+    (λ c. search needs)
     returns
     returns-2
     returns-3)

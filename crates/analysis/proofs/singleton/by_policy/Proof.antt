@@ -6,24 +6,6 @@ use borrow.Author.Needs.{needs}
 use Rattle.analysis.proofs.singleton.by_policy.Statement.{statement}
 use Rattle.analysis.proofs.singleton.by_policy.Tie as tie
 
-enum-told : tie.Need-enum-told
-enum-told c = search needs
-
-without-selector-requires : tie.Need-without-selector-requires
-without-selector-requires c κs = search needs
-
-enum-known-first : tie.Need-enum-known-first
-enum-known-first c = search needs
-
-rest-of-requires : tie.Need-rest-of-requires
-rest-of-requires c κs = search needs
-
-unsanctioned-requires : tie.Need-unsanctioned-requires
-unsanctioned-requires c κs = search needs
-
-is-bare-side-requires : tie.Need-is-bare-side-requires
-is-bare-side-requires c κs = search needs
-
 returns : tie.Need-returns
 returns c = simp (c .before .before .before .before .before .first .given .1, c .before .before .unsanctioned .ensures, c .before .before .before .rest-of .ensures, first-6, sym (c .before .is-bare-side .ensures) ∙ c .if1 .taken)
 
@@ -38,12 +20,12 @@ pub by-policy-spec : {M : Type 1} → statement M
 by-policy-spec =
     tie.close
     (tie.spec
-    enum-told
-    without-selector-requires
-    enum-known-first
-    rest-of-requires
-    unsanctioned-requires
-    is-bare-side-requires
+    (λ c. search needs)
+    (λ c κs. search needs)
+    (λ c. search needs)
+    (λ c κs. search needs)
+    (λ c κs. search needs)
+    (λ c κs. search needs)
     returns
     returns-2
     returns-3)

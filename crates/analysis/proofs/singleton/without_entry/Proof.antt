@@ -5,24 +5,6 @@ use borrow.Author.Needs.{needs}
 use Rattle.analysis.proofs.singleton.without_entry.Statement.{statement}
 use Rattle.analysis.proofs.singleton.without_entry.Tie as tie
 
-enum-told : tie.Need-enum-told
-enum-told c = search needs
-
-empty-requires : tie.Need-empty-requires
-empty-requires c κs = search needs
-
-enum-told-2 : tie.Need-enum-told-2
-enum-told-2 c = search needs
-
-rest-of-requires : tie.Need-rest-of-requires
-rest-of-requires c κs = search needs
-
-add-unsanctioned : tie.Need-add-unsanctioned
-add-unsanctioned c = search needs
-
-unsanctioned-requires : tie.Need-unsanctioned-requires
-unsanctioned-requires c κs = search needs
-
 returns : tie.Need-returns
 unfolding rule1 runWith
 returns c = simp (c .before .enum-told .given .1, c .empty .ensures)
@@ -34,11 +16,11 @@ pub without-entry-spec : {M : Type 1} → statement M
 without-entry-spec =
     tie.close
     (tie.spec
-    enum-told
-    empty-requires
-    enum-told-2
-    rest-of-requires
-    add-unsanctioned
-    unsanctioned-requires
+    (λ c. search needs)
+    (λ c κs. search needs)
+    (λ c. search needs)
+    (λ c κs. search needs)
+    (λ c. search needs)
+    (λ c κs. search needs)
     returns
     returns-2)

@@ -4,21 +4,6 @@ use borrow.Author.Needs.{needs}
 use Rattle.analysis.proofs.singleton.without_selector.Statement.{statement}
 use Rattle.analysis.proofs.singleton.without_selector.Tie as tie
 
-empty-requires : tie.Need-empty-requires
-empty-requires c κs = search needs
-
-enum-told : tie.Need-enum-told
-enum-told c = search needs
-
-enum-told-2 : tie.Need-enum-told-2
-enum-told-2 c = search needs
-
-enum-told-3 : tie.Need-enum-told-3
-enum-told-3 c = search needs
-
-enum-told-4 : tie.Need-enum-told-4
-enum-told-4 c = search needs
-
 returns : tie.Need-returns
 unfolding withoutSelector
 returns c = simp (c .enum-told .given .1, c .before .before .empty .ensures)
@@ -39,11 +24,11 @@ pub without-selector-spec : {M : Type 1} → statement M
 without-selector-spec =
     tie.close
     (tie.spec
-    empty-requires
-    enum-told
-    enum-told-2
-    enum-told-3
-    enum-told-4
+    (λ c κs. search needs)
+    (λ c. search needs)
+    (λ c. search needs)
+    (λ c. search needs)
+    (λ c. search needs)
     returns
     returns-2
     returns-3

@@ -4,18 +4,6 @@ use borrow.Author.Needs.{needs}
 use Rattle.changes.proofs.base_selectors.before_modifier.Statement.{statement}
 use Rattle.changes.proofs.base_selectors.before_modifier.Tie as tie
 
-enum-told : tie.Need-enum-told
-enum-told c = search needs
-
-enum-known-first : tie.Need-enum-known-first
-enum-known-first c = search needs
-
-enum-told-2 : tie.Need-enum-told-2
-enum-told-2 c = search needs
-
-enum-told-3 : tie.Need-enum-told-3
-enum-told-3 c = search needs
-
 returns : tie.Need-returns
 unfolding rule2 rule3 byFirst textFirst runWith
 returns c = λ b n. cc
@@ -31,4 +19,11 @@ returns-3 c = λ b n. cc
 pub before-modifier-spec : {M : Type 1} → statement M
 before-modifier-spec =
     tie.close
-    (tie.spec enum-told enum-known-first enum-told-2 enum-told-3 returns returns-2 returns-3)
+    (tie.spec
+    (λ c. search needs)
+    (λ c. search needs)
+    (λ c. search needs)
+    (λ c. search needs)
+    returns
+    returns-2
+    returns-3)

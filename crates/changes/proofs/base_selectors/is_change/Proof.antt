@@ -7,12 +7,6 @@ use native.Mathlib.Omega.{arith}
 use Rattle.changes.proofs.base_selectors.is_change.Statement.{statement}
 use Rattle.changes.proofs.base_selectors.is_change.Tie as tie
 
-number-of-requires : tie.Need-number-of-requires
-number-of-requires c κs = search needs
-
-number-of-requires-2 : tie.Need-number-of-requires-2
-number-of-requires-2 c κs = search needs
-
 returns : tie.Need-returns
 returns c = simp (ne-eqb _ _ (λ e. c .if1 .taken (c .before .before .number-of .ensures ∙ e ∙ sym (c .before .number-of2 .ensures))))
 
@@ -23,4 +17,4 @@ returns-3 : tie.Need-returns-3
 returns-3 c = simp (eq-eqb _ _ (sym (c .before .before .before .number-of .ensures) ∙ c .before .if1 .left ∙ c .before .before .number-of2 .ensures), le-leb (c .before .before .before .before .args .bytes) 3 (omega (arith, c .if2 .left)))
 
 pub is-change-spec : {M : Type 1} → statement M
-is-change-spec = tie.close (tie.spec number-of-requires number-of-requires-2 returns returns-2 returns-3)
+is-change-spec = tie.close (tie.spec (λ c κs. search needs) (λ c κs. search needs) returns returns-2 returns-3)

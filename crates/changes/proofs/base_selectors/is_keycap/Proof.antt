@@ -9,9 +9,6 @@ use Rattle.analysis.specs.Rules.{byKeycap}
 use Rattle.changes.proofs.base_selectors.is_keycap.Statement.{statement}
 use Rattle.changes.proofs.base_selectors.is_keycap.Tie as tie
 
-enum-told : tie.Need-enum-told
-enum-told c = search needs
-
 returns : tie.Need-returns
 unfolding byKeycap
 returns c = sym (ap byKeycap (c .enum-told .given .1))
@@ -22,4 +19,4 @@ returns-2 c =
     class-arm (0 ∷ 1 ∷ 2 ∷ 3 ∷ 4 ∷ 6 ∷ 7 ∷ []) (λ (k : Class). false ≡ byKeycap k) (refl, refl, refl, refl, refl, tt, refl, refl) (c .before .args .class) (c .match .keys2)
 
 pub is-keycap-spec : {M : Type 1} → statement M
-is-keycap-spec = tie.close (tie.spec enum-told returns returns-2)
+is-keycap-spec = tie.close (tie.spec (λ c. search needs) returns returns-2)

@@ -5,30 +5,6 @@ use borrow.Author.Needs.{needs}
 use Rattle.changes.proofs.base_selectors.kept_selector.Statement.{statement}
 use Rattle.changes.proofs.base_selectors.kept_selector.Tie as tie
 
-enum-told : tie.Need-enum-told
-enum-told c = search needs
-
-before-modifier-requires : tie.Need-before-modifier-requires
-before-modifier-requires c κs = search needs
-
-enum-told-2 : tie.Need-enum-told-2
-enum-told-2 c = search needs
-
-is-emoji-default-requires : tie.Need-is-emoji-default-requires
-is-emoji-default-requires c κs = search needs
-
-before-tags-requires : tie.Need-before-tags-requires
-before-tags-requires c κs = search needs
-
-is-keycap-requires : tie.Need-is-keycap-requires
-is-keycap-requires c κs = search needs
-
-rule-at-requires : tie.Need-rule-at-requires
-rule-at-requires c κs = search needs
-
-by-policy-requires : tie.Need-by-policy-requires
-by-policy-requires c κs = search needs
-
 returns : tie.Need-returns
 returns c =
     let x = c .before .before .before .before .args in
@@ -51,14 +27,14 @@ pub kept-selector-spec : {M : Type 1} → statement M
 kept-selector-spec =
     tie.close
     (tie.spec
-    enum-told
-    before-modifier-requires
-    enum-told-2
-    is-emoji-default-requires
-    before-tags-requires
-    is-keycap-requires
-    rule-at-requires
-    by-policy-requires
+    (λ c. search needs)
+    (λ c κs. search needs)
+    (λ c. search needs)
+    (λ c κs. search needs)
+    (λ c κs. search needs)
+    (λ c κs. search needs)
+    (λ c κs. search needs)
+    (λ c κs. search needs)
     returns
     returns-2
     returns-3)

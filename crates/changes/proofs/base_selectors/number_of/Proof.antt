@@ -4,18 +4,6 @@ use borrow.Author.Needs.{needs}
 use Rattle.changes.proofs.base_selectors.number_of.Statement.{statement}
 use Rattle.changes.proofs.base_selectors.number_of.Tie as tie
 
-enum-told : tie.Need-enum-told
-enum-told c = search needs
-
-enum-known-selector : tie.Need-enum-known-selector
-enum-known-selector c = search needs
-
-enum-told-2 : tie.Need-enum-told-2
-enum-told-2 c = search needs
-
-enum-told-3 : tie.Need-enum-told-3
-enum-told-3 c = search needs
-
 returns : tie.Need-returns
 unfolding selectorNumber
 returns c = search needs
@@ -31,4 +19,11 @@ returns-3 c = search needs
 pub number-of-spec : {M : Type 1} → statement M
 number-of-spec =
     tie.close
-    (tie.spec enum-told enum-known-selector enum-told-2 enum-told-3 returns returns-2 returns-3)
+    (tie.spec
+    (λ c. search needs)
+    (λ c. search needs)
+    (λ c. search needs)
+    (λ c. search needs)
+    returns
+    returns-2
+    returns-3)

@@ -13,14 +13,8 @@ returns c = rules-before _ (c .if1 .taken)
 returns-2 : tie.Need-returns-2
 returns-2 c = rules-as (is-keycap (c .if2 .taken))
 
-is-emoji-modifier-requires : tie.Need-is-emoji-modifier-requires
-is-emoji-modifier-requires c κs = search needs
-
 returns-3 : tie.Need-returns-3
 returns-3 c = rules-as (is-modifier (sym (c .before .is-emoji-modifier .ensures) ∙ c .if3 .taken))
-
-is-tag-requires : tie.Need-is-tag-requires
-is-tag-requires c κs = search needs
 
 returns-4 : tie.Need-returns-4
 returns-4 c = rules-as (is-tag (sym (c .before .is-tag .ensures) ∙ c .if4 .taken))
@@ -30,12 +24,4 @@ returns-5 c = rules-other _ (ne-eqb _ _ (c .before .before .before .before .if2 
 
 pub rule-class-spec : {M : Type 1} → statement M
 rule-class-spec =
-    tie.close
-    (tie.spec
-    returns
-    returns-2
-    is-emoji-modifier-requires
-    returns-3
-    is-tag-requires
-    returns-4
-    returns-5)
+    tie.close (tie.spec returns returns-2 (λ c κs. search needs) returns-3 (λ c κs. search needs) returns-4 returns-5)

@@ -4,16 +4,10 @@ use borrow.Author.Needs.{needs}
 use Rattle.changes.proofs.base_selectors.rule_class_at.Statement.{statement}
 use Rattle.changes.proofs.base_selectors.rule_class_at.Tie as tie
 
-decode-requires : tie.Need-decode-requires
-decode-requires c κs = search needs
-
-rule-class-requires : tie.Need-rule-class-requires
-rule-class-requires c κs = search needs
-
 returns : tie.Need-returns
 returns c =
     let x = c .before .before .before .args in
     class-in-front (x .text .now) (x .at) (c .before .decode .result) (c .rule-class .result) (c .before .decode .ensures) (c .rule-class .ensures)
 
 pub rule-class-at-spec : {M : Type 1} → statement M
-rule-class-at-spec = tie.close (tie.spec decode-requires rule-class-requires returns)
+rule-class-at-spec = tie.close (tie.spec (λ c κs. search needs) (λ c κs. search needs) returns)

@@ -7,17 +7,8 @@ use Rattle.changes.proofs.Walking.{entry-changes, no-entry-changes}
 use Rattle.changes.proofs.findings.cell_changes.Statement.{statement}
 use Rattle.changes.proofs.findings.cell_changes.Tie as tie
 
-enum-known-index : tie.Need-enum-known-index
-enum-known-index c = search needs
-
 kept-selector-requires : tie.Need-kept-selector-requires
 kept-selector-requires c κs = c .before .before .before .before .pre ∙ c .before .index .given .1
-
-is-change-requires : tie.Need-is-change-requires
-is-change-requires c κs = search needs
-
-enum-told : tie.Need-enum-told
-enum-told c = search needs
 
 returns : tie.Need-returns
 returns c =
@@ -33,9 +24,9 @@ pub cell-changes-spec : {M : Type 1} → statement M
 cell-changes-spec =
     tie.close
     (tie.spec
-    enum-known-index
+    (λ c. search needs)
     kept-selector-requires
-    is-change-requires
-    enum-told
+    (λ c κs. search needs)
+    (λ c. search needs)
     returns
     returns-2)

@@ -22,17 +22,8 @@ Inv-loop text policy from bare at₀ at = Passes (policyOf policy) text from at
 abbrev μ-loop : tie.MeasureT-loop
 μ-loop text policy from bare at₀ at = length text - at
 
-ascii-keys-bare-requires : tie.Need-ascii-keys-bare-requires Inv-loop μ-loop
-ascii-keys-bare-requires c κs = search needs
-
 loop-holds : tie.Need-loop-holds Inv-loop μ-loop
 loop-holds c = passes-here _
-
-skip-bare-ascii-requires : tie.Need-skip-bare-ascii-requires Inv-loop μ-loop
-skip-bare-ascii-requires c κs = search needs
-
-decode-requires : tie.Need-decode-requires Inv-loop μ-loop
-decode-requires c κs = search needs
 
 returns : tie.Need-returns Inv-loop μ-loop
 returns c =
@@ -42,18 +33,6 @@ returns c =
     let z = packed-stop (x .text .now) (c .before .before .skip-bare-ascii .result) (c .before .decode .result) (c .before .decode .ensures) (c .if1 .taken) in
     (a, λ f. absurd (true≢false (sym f)), λ _. (z .chars-none, refl))
 
-cast-width : tie.Need-cast-width Inv-loop μ-loop
-cast-width c = search needs
-
-classify-requires : tie.Need-classify-requires Inv-loop μ-loop
-classify-requires c κs = search needs
-
-begin-requires : tie.Need-begin-requires Inv-loop μ-loop
-begin-requires c κs = search needs
-
-enum-told : tie.Need-enum-told Inv-loop μ-loop
-enum-told c = search needs
-
 add-skip-letters : tie.Need-add-skip-letters Inv-loop μ-loop
 add-skip-letters c =
     let x = c .before .before .before .before .before .before .before .before .before .before .before .args in
@@ -61,9 +40,6 @@ add-skip-letters c =
     let a = passes-skip (x .policy .now) (x .text .now) (c .before .before .before .before .before .before .before .before .ascii-keys-bare .ensures) (c .before .before .before .before .before .before .before .loop .inv) (c .before .before .before .before .before .before .skip-bare-ascii .ensures) in
     let s = packed-step (x .text .now) (c .before .before .before .before .before .before .skip-bare-ascii .result) (c .before .before .before .before .before .decode .result) (c .before .before .before .before .before .decode .ensures) (c .before .before .before .before .if1 .left) in
     omega (arith, s .room, c .before .before .before .before .before .before .before .before .before .before .before .good .0 .0)
-
-skip-letters-requires : tie.Need-skip-letters-requires Inv-loop μ-loop
-skip-letters-requires c κs = search needs
 
 loop-less : tie.Need-loop-less Inv-loop μ-loop
 loop-less c =
@@ -82,12 +58,6 @@ loop-again c =
     let s = packed-step (x .text .now) (c .before .before .before .before .before .before .before .skip-bare-ascii .result) (c .before .before .before .before .before .before .decode .result) (c .before .before .before .before .before .before .decode .ensures) (c .before .before .before .before .before .if1 .left) in
     let b = ap begin (sym (c .before .before .before .before .classify .ensures .0)) ∙ sym (c .before .before .before .begin .ensures) ∙ c .before .enum-told .given .1 in
     passes-on (passes-on a (passes-plain p s b)) (c .skip-letters .ensures p .1)
-
-enum-told-2 : tie.Need-enum-told-2 Inv-loop μ-loop
-enum-told-2 c = search needs
-
-selectors-end-requires : tie.Need-selectors-end-requires Inv-loop μ-loop
-selectors-end-requires c κs = search needs
 
 returns-2 : tie.Need-returns-2 Inv-loop μ-loop
 returns-2 c =
@@ -142,21 +112,21 @@ next-finding-spec =
     (tie.spec
     Inv-loop
     μ-loop
-    ascii-keys-bare-requires
+    (λ c κs. search needs)
     loop-holds
-    skip-bare-ascii-requires
-    decode-requires
+    (λ c κs. search needs)
+    (λ c κs. search needs)
     returns
-    cast-width
-    classify-requires
-    begin-requires
-    enum-told
+    (λ c. search needs)
+    (λ c κs. search needs)
+    (λ c κs. search needs)
+    (λ c. search needs)
     add-skip-letters
-    skip-letters-requires
+    (λ c κs. search needs)
     loop-less
     loop-again
-    enum-told-2
-    selectors-end-requires
+    (λ c. search needs)
+    (λ c κs. search needs)
     returns-2
     walk-items-requires
     returns-3

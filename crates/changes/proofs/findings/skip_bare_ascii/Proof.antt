@@ -12,9 +12,6 @@ returns c = λ p _. skips-here _
 returns-2 : tie.Need-returns-2
 returns-2 c = λ p _. skips-here _
 
-shared-slice-read-if3 : tie.Need-shared-slice-read-if3
-shared-slice-read-if3 c = search needs
-
 returns-3 : tie.Need-returns-3
 returns-3 c = λ p _. skips-here _
 
@@ -26,5 +23,4 @@ returns-4 c = λ p h. c .skip-ascii .ensures .1 p (h (not-false _ (c .before .be
 
 pub skip-bare-ascii-spec : {M : Type 1} → statement M
 skip-bare-ascii-spec =
-    tie.close
-    (tie.spec returns returns-2 shared-slice-read-if3 returns-3 skip-ascii-requires returns-4)
+    tie.close (tie.spec returns returns-2 (λ c. search needs) returns-3 skip-ascii-requires returns-4)

@@ -41,18 +41,6 @@ loop-holds c =
 read-cell-requires : tie.Need-read-cell-requires Inv-loop μ-loop
 read-cell-requires c κs = c .loop .inv .entry
 
-step-requires : tie.Need-step-requires Inv-loop μ-loop
-step-requires c κs = search needs
-
-enum-known-next : tie.Need-enum-known-next Inv-loop μ-loop
-enum-known-next c = search needs
-
-enum-told : tie.Need-enum-told Inv-loop μ-loop
-enum-told c = search needs
-
-begin-requires : tie.Need-begin-requires Inv-loop μ-loop
-begin-requires c κs = search needs
-
 returns : tie.Need-returns Inv-loop μ-loop
 returns c =
     let l = c .before .before .before .before .before .before .before .loop .inv in
@@ -61,9 +49,6 @@ returns c =
     let e = sym (c .before .before .before .before .step .ensures) ∙ c .before .before .enum-told .given .1 in
     (l .passed, λ _. walking-finds l r d e (c .if2 .taken), λ f. absurd (true≢false f))
 
-enum-told-2 : tie.Need-enum-told-2 Inv-loop μ-loop
-enum-told-2 c = search needs
-
 returns-2 : tie.Need-returns-2 Inv-loop μ-loop
 returns-2 c =
     let l = c .before .before .before .before .before .before .before .before .before .loop .inv in
@@ -71,9 +56,6 @@ returns-2 c =
     let d = ⊎-elim (λ w. now-changed (c .before .before .before .before .before .before .before .before .before .loop .changed) (w .0 .taken) (w .1)) (λ w. as-changed (c .before .before .before .before .before .before .before .before .before .loop .changed) (w .0 .left) (w .1)) (c .before .before .before .before .before .before .before .if1 .came) in
     let e = sym (c .before .before .before .before .before .before .step .ensures) ∙ c .before .before .before .before .enum-told .given .1 in
     (walking-passes l r d e (c .before .before .if2 .left), λ f. absurd (true≢false (sym f)), λ _. omega (arith, l .passed .on, further l r))
-
-cast-at : tie.Need-cast-at Inv-loop μ-loop
-cast-at c = search needs
 
 add-at-2 : tie.Need-add-at-2 Inv-loop μ-loop
 add-at-2 c =
@@ -115,14 +97,14 @@ walk-items-spec =
     add-at
     loop-holds
     read-cell-requires
-    step-requires
-    enum-known-next
-    enum-told
-    begin-requires
+    (λ c κs. search needs)
+    (λ c. search needs)
+    (λ c. search needs)
+    (λ c κs. search needs)
     returns
-    enum-told-2
+    (λ c. search needs)
     returns-2
-    cast-at
+    (λ c. search needs)
     add-at-2
     loop-less
     loop-again)

@@ -12,9 +12,6 @@ use borrow.Author.Needs.{needs}
 use Rattle.changes.proofs.plain.is_plain_at.Statement.{statement}
 use Rattle.changes.proofs.plain.is_plain_at.Tie as tie
 
-shared-slice-read-first : tie.Need-shared-slice-read-first
-shared-slice-read-first c = search needs
-
 returns : tie.Need-returns
 returns c = λ e v w r. absurd (true≢false (sym e))
 
@@ -23,9 +20,6 @@ returns-2 c = λ e v w r. absurd (true≢false (sym e))
 
 returns-3 : tie.Need-returns-3
 returns-3 c = λ e v w r. absurd (true≢false (sym e))
-
-byte-at-requires : tie.Need-byte-at-requires
-byte-at-requires c κs = search needs
 
 returns-4 : tie.Need-returns-4
 returns-4 c = λ e v w r. absurd (true≢false (sym e))
@@ -47,11 +41,11 @@ pub is-plain-at-spec : {M : Type 1} → statement M
 is-plain-at-spec =
     tie.close
     (tie.spec
-    shared-slice-read-first
+    (λ c. search needs)
     returns
     returns-2
     returns-3
-    byte-at-requires
+    (λ c κs. search needs)
     returns-4
     returns-5
     returns-6)

@@ -22,14 +22,8 @@ abbrev μ-loop : tie.MeasureT-loop
 loop-holds : tie.Need-loop-holds Inv-loop μ-loop
 loop-holds c = λ p. skips-here _
 
-is-plain-at-requires : tie.Need-is-plain-at-requires Inv-loop μ-loop
-is-plain-at-requires c κs = search needs
-
 returns : tie.Need-returns Inv-loop μ-loop
 returns c = c .before .before .before .loop .inv
-
-char-len-requires : tie.Need-char-len-requires Inv-loop μ-loop
-char-len-requires c κs = search needs
 
 returns-2 : tie.Need-returns-2 Inv-loop μ-loop
 returns-2 c = c .before .before .before .before .before .loop .inv
@@ -69,9 +63,9 @@ skip-letters-spec =
     Inv-loop
     μ-loop
     loop-holds
-    is-plain-at-requires
+    (λ c κs. search needs)
     returns
-    char-len-requires
+    (λ c κs. search needs)
     returns-2
     add-at
     loop-less

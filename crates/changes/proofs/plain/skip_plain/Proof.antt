@@ -21,17 +21,11 @@ Inv-loop text bare from at₀ at = (p : Policy) → (bare ≡ true → AsciiBare
 abbrev μ-loop : tie.MeasureT-loop
 μ-loop text bare from at₀ at = length text - at
 
-skip-letters-requires : tie.Need-skip-letters-requires Inv-loop μ-loop
-skip-letters-requires c κs = search needs
-
 loop-holds : tie.Need-loop-holds Inv-loop μ-loop
 loop-holds c = λ p _. c .skip-letters .ensures p .0
 
 returns : tie.Need-returns Inv-loop μ-loop
 returns c = c .before .before .loop .inv
-
-shared-slice-read-if2 : tie.Need-shared-slice-read-if2 Inv-loop μ-loop
-shared-slice-read-if2 c = search needs
 
 returns-2 : tie.Need-returns-2 Inv-loop μ-loop
 returns-2 c = c .before .before .before .before .loop .inv
@@ -41,9 +35,6 @@ skip-ascii-requires c κs = (search needs, omega (arith, c .if2 .left))
 
 returns-3 : tie.Need-returns-3 Inv-loop μ-loop
 returns-3 c = c .before .before .before .before .before .before .loop .inv
-
-skip-letters-requires-2 : tie.Need-skip-letters-requires-2 Inv-loop μ-loop
-skip-letters-requires-2 c κs = search needs
 
 loop-less : tie.Need-loop-less Inv-loop μ-loop
 loop-less c =
@@ -69,14 +60,14 @@ skip-plain-spec =
     (tie.spec
     Inv-loop
     μ-loop
-    skip-letters-requires
+    (λ c κs. search needs)
     loop-holds
     returns
-    shared-slice-read-if2
+    (λ c. search needs)
     returns-2
     skip-ascii-requires
     returns-3
-    skip-letters-requires-2
+    (λ c κs. search needs)
     loop-less
     loop-again
     returns-4)

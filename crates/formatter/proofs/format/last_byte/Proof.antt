@@ -8,12 +8,6 @@ use borrow.Author.Needs.{needs}
 use Rattle.formatter.proofs.format.last_byte.Statement.{statement}
 use Rattle.formatter.proofs.format.last_byte.Tie as tie
 
-enum-told : tie.Need-enum-told
-enum-told c = search needs
-
-enum-told-2 : tie.Need-enum-told-2
-enum-told-2 c = search needs
-
 returns : tie.Need-returns
 returns c = ap (λ (q : Presentation). selectorBytes (Selector q)) (c .enum-told .given .1) ∙ text-bytes
 
@@ -21,4 +15,4 @@ returns-2 : tie.Need-returns-2
 returns-2 c = ap (λ (q : Presentation). selectorBytes (Selector q)) (c .enum-told2 .given .1) ∙ emoji-bytes
 
 pub last-byte-spec : {M : Type 1} → statement M
-last-byte-spec = tie.close (tie.spec enum-told enum-told-2 returns returns-2)
+last-byte-spec = tie.close (tie.spec (λ c. search needs) (λ c. search needs) returns returns-2)

@@ -10,21 +10,12 @@ use borrow.Author.Needs.{needs}
 use Rattle.formatter.proofs.format.put_selector.Statement.{statement}
 use Rattle.formatter.proofs.format.put_selector.Tie as tie
 
-enum-told : tie.Need-enum-told
-enum-told c = search needs
-
-enum-known-selector : tie.Need-enum-known-selector
-enum-known-selector c = search needs
-
 slice-write-out : tie.Need-slice-write-out
 slice-write-out c =
     let x = c .before .before .before .before .args in
     let q = c .before .before .before .before .pre in
     let n = three-bytes (x .selector) _ (c .before .selector .given .1) in
     omega (arith, q, n)
-
-add-out : tie.Need-add-out
-add-out c = search needs
 
 slice-write-out-2 : tie.Need-slice-write-out-2
 slice-write-out-2 c =
@@ -33,12 +24,6 @@ slice-write-out-2 c =
     let n = three-bytes (x .selector) _ (c .before .selector .given .1) in
     omega (arith, q, n, length-set (x .out .now) (x .at) 0xEF)
 
-last-byte-requires : tie.Need-last-byte-requires
-last-byte-requires c κs = search needs
-
-add-out-2 : tie.Need-add-out-2
-add-out-2 c = search needs
-
 slice-write-out-3 : tie.Need-slice-write-out-3
 slice-write-out-3 c =
     let x = c .before .before .before .before .before .args in
@@ -46,17 +31,11 @@ slice-write-out-3 c =
     let n = three-bytes (x .selector) _ (c .before .before .selector .given .1) in
     omega (arith, q, n, length-set (x .out .now) (x .at) 0xEF, length-set (set (x .out .now) (x .at) 0xEF) (x .at + 1) 0xB8)
 
-add-result : tie.Need-add-result
-add-result c = search needs
-
 returns : tie.Need-returns
 returns c =
     let x = c .before .before .before .args in
     let n = no-bytes (x .selector) (c .enum-told .given .1) in
     record { ends = omega (arith, ap length n); bytes = ap (sets (x .out .now) (x .at)) n }
-
-same-length : tie.Need-same-length
-same-length c = search needs
 
 returns-2 : tie.Need-returns-2
 returns-2 c =
@@ -67,15 +46,15 @@ pub put-selector-spec : {M : Type 1} → statement M
 put-selector-spec =
     tie.close
     (tie.spec
-    enum-told
-    enum-known-selector
+    (λ c. search needs)
+    (λ c. search needs)
     slice-write-out
-    add-out
+    (λ c. search needs)
     slice-write-out-2
-    last-byte-requires
-    add-out-2
+    (λ c κs. search needs)
+    (λ c. search needs)
     slice-write-out-3
-    add-result
+    (λ c. search needs)
     returns
-    same-length
+    (λ c. search needs)
     returns-2)

@@ -6,12 +6,6 @@ use borrow.Author.Needs.{needs}
 use Rattle.formatter.proofs.format.selector_len.Statement.{statement}
 use Rattle.formatter.proofs.format.selector_len.Tie as tie
 
-enum-told : tie.Need-enum-told
-enum-told c = search needs
-
-enum-told-2 : tie.Need-enum-told-2
-enum-told-2 c = search needs
-
 returns : tie.Need-returns
 returns c = ap length (no-bytes _ (c .enum-told .given .1))
 
@@ -19,4 +13,4 @@ returns-2 : tie.Need-returns-2
 returns-2 c = sym (three-bytes _ _ (c .enum-told2 .given .1))
 
 pub selector-len-spec : {M : Type 1} → statement M
-selector-len-spec = tie.close (tie.spec enum-told enum-told-2 returns returns-2)
+selector-len-spec = tie.close (tie.spec (λ c. search needs) (λ c. search needs) returns returns-2)

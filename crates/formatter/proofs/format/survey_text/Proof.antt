@@ -27,9 +27,6 @@ sub-len c =
     let l = c .before .loop in
     passed p (x .text .now) (l .inv .0 .inside) (l .inv .1) .on
 
-selector-len-requires : tie.Need-selector-len-requires Inv-loop μ-loop
-selector-len-requires c κs = search needs
-
 add-len : tie.Need-add-len Inv-loop μ-loop
 add-len c =
     let x = c .before .before .before .before .before .args in
@@ -53,9 +50,6 @@ returns c =
     let e = l .inv .1 .1 (not-true _ (c .if1 .taken)) .ends in
     (survey-valid p (x .text .now) s e, survey-length p (x .text .now) s e)
 
-next-change-requires : tie.Need-next-change-requires Inv-loop μ-loop
-next-change-requires c κs = search needs
-
 loop-less : tie.Need-loop-less Inv-loop μ-loop
 loop-less c =
     let x = c .before .before .before .before .before .before .before .before .args in
@@ -78,10 +72,10 @@ survey-text-spec =
     μ-loop
     loop-holds
     sub-len
-    selector-len-requires
+    (λ c κs. search needs)
     add-len
     add-len-2
     returns
-    next-change-requires
+    (λ c κs. search needs)
     loop-less
     loop-again)

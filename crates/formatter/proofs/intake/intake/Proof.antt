@@ -19,18 +19,12 @@ returns c =
     let t = x .text .now in
     sym (ap checked (intake-is t (x .policy .now) (lt-leb (length t) 16777216 (omega arith)) refl refl))
 
-is-policy-requires : tie.Need-is-policy-requires
-is-policy-requires c κs = search needs
-
 returns-2 : tie.Need-returns-2
 returns-2 c =
     let x = c .before .before .before .before .before .args in
     let t = x .text .now in
     let p = sym (c .before .is-policy .ensures) ∙ not-true (c .before .is-policy .result) (c .if2 .taken) in
     sym (ap checked (intake-is t (x .policy .now) (le-leb (length t) 16777216 (omega arith)) p refl))
-
-valid-up-to-requires : tie.Need-valid-up-to-requires
-valid-up-to-requires c κs = search needs
 
 returns-3 : tie.Need-returns-3
 returns-3 c =
@@ -53,5 +47,4 @@ returns-4 c =
 
 pub intake-spec : {M : Type 1} → statement M
 intake-spec =
-    tie.close
-    (tie.spec returns is-policy-requires returns-2 valid-up-to-requires returns-3 returns-4)
+    tie.close (tie.spec returns (λ c κs. search needs) returns-2 (λ c κs. search needs) returns-3 returns-4)

@@ -19,15 +19,6 @@ abbrev μ-loop : tie.MeasureT-loop
 loop-holds : tie.Need-loop-holds Inv-loop μ-loop
 loop-holds c = (omega arith, omega arith, omega arith)
 
-next-item-requires : tie.Need-next-item-requires Inv-loop μ-loop
-next-item-requires c κs = search needs
-
-enum-known-item : tie.Need-enum-known-item Inv-loop μ-loop
-enum-known-item c = search needs
-
-add-items : tie.Need-add-items Inv-loop μ-loop
-add-items c = omega arith
-
 loop-less : tie.Need-loop-less Inv-loop μ-loop
 loop-less c =
     let x = c .before .before .before .before .before .before .args in
@@ -41,9 +32,6 @@ loop-again c =
     let l = c .before .before .before .before .loop in
     let s = cursor-goes (x .text .now) (l .at) (sym (c .before .item .given .1) ∙ c .before .before .before .next-item .ensures) in
     (omega arith, omega arith, omega (arith, l .inv .2, ap length (s .1)))
-
-enum-told : tie.Need-enum-told Inv-loop μ-loop
-enum-told c = search needs
 
 returns : tie.Need-returns Inv-loop μ-loop
 unfolding scan
@@ -60,10 +48,10 @@ count-items-spec =
     Inv-loop
     μ-loop
     loop-holds
-    next-item-requires
-    enum-known-item
-    add-items
+    (λ c κs. search needs)
+    (λ c. search needs)
+    (λ c. omega arith)
     loop-less
     loop-again
-    enum-told
+    (λ c. search needs)
     returns)

@@ -4,18 +4,6 @@ use Rattle.formatter.specs.List.{kindNumber}
 use Rattle.formatter.proofs.items.kind_number.Statement.{statement}
 use Rattle.formatter.proofs.items.kind_number.Tie as tie
 
-enum-told : tie.Need-enum-told
-enum-told c = search needs
-
-enum-told-2 : tie.Need-enum-told-2
-enum-told-2 c = search needs
-
-enum-told-3 : tie.Need-enum-told-3
-enum-told-3 c = search needs
-
-enum-told-4 : tie.Need-enum-told-4
-enum-told-4 c = search needs
-
 returns : tie.Need-returns
 unfolding kindNumber
 returns c = simp (c .enum-told .given .1)
@@ -35,4 +23,12 @@ returns-4 c = simp (c .enum-told4 .given .1)
 pub kind-number-spec : {M : Type 1} → statement M
 kind-number-spec =
     tie.close
-    (tie.spec enum-told enum-told-2 enum-told-3 enum-told-4 returns returns-2 returns-3 returns-4)
+    (tie.spec
+    (λ c. search needs)
+    (λ c. search needs)
+    (λ c. search needs)
+    (λ c. search needs)
+    returns
+    returns-2
+    returns-3
+    returns-4)

@@ -10,24 +10,12 @@ use Rattle.formatter.proofs.RowBytes.{items-by, length-item, rows-refus
 use Rattle.formatter.proofs.items.list_items.Statement.{statement}
 use Rattle.formatter.proofs.items.list_items.Tie as tie
 
-check-text-requires : tie.Need-check-text-requires
-check-text-requires c κs = search needs
-
-enum-known-refusal : tie.Need-enum-known-refusal
-enum-known-refusal c = search needs
-
 returns : tie.Need-returns
 returns c =
     let x = c .before .before .before .before .before .before .args in
     let t = x .text .now in
     let g = c .before .refusal .given in
     items-by t (x .table .now) (checked-refused (textRefusal t) (g .0 .0) (sym (c .before .before .before .check-text .ensures) ∙ g .1))
-
-enum-told : tie.Need-enum-told
-enum-told c = search needs
-
-count-items-requires : tie.Need-count-items-requires
-count-items-requires c κs = search needs
 
 returns-2 : tie.Need-returns-2
 returns-2 c =
@@ -42,9 +30,6 @@ put-items-requires c κs =
     let x = c .before .before .before .before .before .before .before .before .args in
     rows-room itemNumbers 32 length-item (omega arith) (scan (x .text .now)) (x .table .now) (c .before .before .count-items .ensures) (omega arith)
 
-same-length : tie.Need-same-length
-same-length c = search needs
-
 returns-3 : tie.Need-returns-3
 returns-3 c =
     let x = c .before .before .before .before .before .before .before .before .before .before .before .args in
@@ -57,12 +42,12 @@ pub list-items-spec : {M : Type 1} → statement M
 list-items-spec =
     tie.close
     (tie.spec
-    check-text-requires
-    enum-known-refusal
+    (λ c κs. search needs)
+    (λ c. search needs)
     returns
-    enum-told
-    count-items-requires
+    (λ c. search needs)
+    (λ c κs. search needs)
     returns-2
     put-items-requires
-    same-length
+    (λ c. search needs)
     returns-3)

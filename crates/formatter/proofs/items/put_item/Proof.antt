@@ -9,21 +9,6 @@ use Rattle.formatter.specs.List.{itemNumbers}
 use Rattle.formatter.proofs.items.put_item.Statement.{statement}
 use Rattle.formatter.proofs.items.put_item.Tie as tie
 
-kind-number-requires : tie.Need-kind-number-requires
-kind-number-requires c κs = search needs
-
-flag-number-requires : tie.Need-flag-number-requires
-flag-number-requires c κs = search needs
-
-slice-aggregate-put-numbers : tie.Need-slice-aggregate-put-numbers
-slice-aggregate-put-numbers c = search needs
-
-put-numbers-requires : tie.Need-put-numbers-requires
-put-numbers-requires c κs = search needs
-
-same-length : tie.Need-same-length
-same-length c = search needs
-
 returns : tie.Need-returns
 unfolding itemNumbers
 returns c =
@@ -36,9 +21,9 @@ pub put-item-spec : {M : Type 1} → statement M
 put-item-spec =
     tie.close
     (tie.spec
-    kind-number-requires
-    flag-number-requires
-    slice-aggregate-put-numbers
-    put-numbers-requires
-    same-length
+    (λ c κs. search needs)
+    (λ c κs. search needs)
+    (λ c. search needs)
+    (λ c κs. search needs)
+    (λ c. search needs)
     returns)

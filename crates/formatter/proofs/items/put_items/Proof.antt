@@ -26,12 +26,6 @@ loop-holds c =
     let x = c .before .before .args in
     (omega arith, begin (rowsBytes itemNumbers (scan (x .text .now))) 0 (x .table .now) (omega (arith, c .before .before .pre)))
 
-next-item-requires : tie.Need-next-item-requires Inv-loop μ-loop
-next-item-requires c κs = search needs
-
-enum-known-item : tie.Need-enum-known-item Inv-loop μ-loop
-enum-known-item c = search needs
-
 put-item-requires : tie.Need-put-item-requires Inv-loop μ-loop
 unfolding rowsBytes
 put-item-requires c κs =
@@ -67,9 +61,6 @@ loop-again c =
           (ap (rowsBytes itemNumbers) (s .1)),
     )
 
-enum-told : tie.Need-enum-told Inv-loop μ-loop
-enum-told c = search needs
-
 same-length : tie.Need-same-length Inv-loop μ-loop
 same-length c = c .before .before .before .loop .inv .1 .same
 
@@ -89,11 +80,11 @@ put-items-spec =
     Inv-loop
     μ-loop
     loop-holds
-    next-item-requires
-    enum-known-item
+    (λ c κs. search needs)
+    (λ c. search needs)
     put-item-requires
     loop-less
     loop-again
-    enum-told
+    (λ c. search needs)
     same-length
     returns)

@@ -24,9 +24,6 @@ abbrev μ-loop : tie.MeasureT-loop
 loop-holds : tie.Need-loop-holds Inv-loop μ-loop
 loop-holds c = (omega arith, omega arith, omega arith, omega arith)
 
-next-finding-requires : tie.Need-next-finding-requires Inv-loop μ-loop
-next-finding-requires c κs = search needs
-
 returns : tie.Need-returns Inv-loop μ-loop
 returns c =
     let l = c .before .before .loop .inv in
@@ -56,13 +53,4 @@ loop-again c =
 
 pub count-findings-spec : {M : Type 1} → statement M
 count-findings-spec =
-    tie.close
-    (tie.spec
-    Inv-loop
-    μ-loop
-    loop-holds
-    next-finding-requires
-    returns
-    add-findings
-    loop-less
-    loop-again)
+    tie.close (tie.spec Inv-loop μ-loop loop-holds (λ c κs. search needs) returns add-findings loop-less loop-again)

@@ -28,9 +28,6 @@ put-findings-requires c κs =
     let n = c .before .before .before .before .before .pre ∙ sym (length-map (findingsFrom p t 0) (findingRow p)) in
     rows-room rowNumbers 80 length-row (omega arith) (rowsFrom p t 0) (x .table .now) n (omega arith)
 
-same-length : tie.Need-same-length
-same-length c = search needs
-
 returns-2 : tie.Need-returns-2
 returns-2 c =
     let x = c .before .before .before .before .before .before .before .before .args in
@@ -40,4 +37,4 @@ returns-2 c =
     rows-written rowNumbers 80 length-row (omega arith) (rowsFrom p t 0) (x .table .now) n (omega arith) (c .before .before .put-findings .ensures)
 
 pub fill-table-spec : {M : Type 1} → statement M
-fill-table-spec = tie.close (tie.spec returns put-findings-requires same-length returns-2)
+fill-table-spec = tie.close (tie.spec returns put-findings-requires (λ c. search needs) returns-2)

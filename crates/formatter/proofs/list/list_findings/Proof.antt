@@ -23,18 +23,12 @@ returns c =
     let t = x .text .now in
     sym (comes-first t (x .policy .now) TextTooLong (intake-is t (x .policy .now) (lt-leb (length t) textLimit (c .if1 .taken)) refl refl) .2 (x .table .now))
 
-is-policy-requires : tie.Need-is-policy-requires
-is-policy-requires c κs = search needs
-
 returns-2 : tie.Need-returns-2
 unfolding IntakeComesFirst
 returns-2 c =
     let x = c .before .before .before .before .before .before .args in
     let t = x .text .now in
     sym (comes-first t (x .policy .now) NotAPolicy (intake-is t (x .policy .now) (le-leb (length t) textLimit (omega (arith, c .before .before .if1 .left))) (sym (c .before .is-policy .ensures) ∙ not-true _ (c .if2 .taken)) refl) .2 (x .table .now))
-
-count-findings-requires : tie.Need-count-findings-requires
-count-findings-requires c κs = search needs
 
 returns-3 : tie.Need-returns-3
 unfolding IntakeComesFirst
@@ -46,12 +40,6 @@ returns-3 c =
     let fit = sym (c .before .before .before .is-policy .ensures) ∙ not-false _ (c .before .before .if2 .left) in
     let n = c .before .count-findings in
     sym (comes-first t p (NotWellFormed (n .result .«valid_up_to»)) (not-well-formed t p short fit (n .ensures .1) (c .if3 .taken)) .2 (x .table .now))
-
-fill-table-requires : tie.Need-fill-table-requires
-fill-table-requires c κs = search needs
-
-same-length : tie.Need-same-length
-same-length c = search needs
 
 returns-4 : tie.Need-returns-4
 unfolding findings
@@ -69,10 +57,10 @@ list-findings-spec =
     tie.close
     (tie.spec
     returns
-    is-policy-requires
+    (λ c κs. search needs)
     returns-2
-    count-findings-requires
+    (λ c κs. search needs)
     returns-3
-    fill-table-requires
-    same-length
+    (λ c κs. search needs)
+    (λ c. search needs)
     returns-4)

@@ -28,16 +28,10 @@ Inv-loop text policy table₀ read at₀ to₀ table at to =
 abbrev μ-loop : tie.MeasureT-loop
 μ-loop text policy table₀ read at₀ to₀ table at to = length text - at
 
-read-policy-requires : tie.Need-read-policy-requires Inv-loop μ-loop
-read-policy-requires c κs = search needs
-
 loop-holds : tie.Need-loop-holds Inv-loop μ-loop
 loop-holds c =
     let x = c .before .before .before .before .before .args in
     (omega arith, begin (rowsBytes rowNumbers (rowsFrom (policyOf (x .policy .now)) (x .text .now) 0)) 0 (x .table .now) (omega (arith, c .before .before .before .before .before .pre)))
-
-next-finding-requires : tie.Need-next-finding-requires Inv-loop μ-loop
-next-finding-requires c κs = search needs
 
 same-length : tie.Need-same-length Inv-loop μ-loop
 same-length c = c .before .before .loop .inv .1 .same
@@ -101,9 +95,9 @@ put-findings-spec =
     (tie.spec
     Inv-loop
     μ-loop
-    read-policy-requires
+    (λ c κs. search needs)
     loop-holds
-    next-finding-requires
+    (λ c κs. search needs)
     same-length
     returns
     finding-row-requires

@@ -4,19 +4,10 @@ use Rattle.base.proofs.Words.{word-put}
 use Rattle.formatter.proofs.list.put_number.Statement.{statement}
 use Rattle.formatter.proofs.list.put_number.Tie as tie
 
-write-word-requires : tie.Need-write-word-requires
-write-word-requires c κs = search needs
-
-add-result : tie.Need-add-result
-add-result c = search needs
-
-same-length : tie.Need-same-length
-same-length c = search needs
-
 returns : tie.Need-returns
 returns c =
     let x = c .before .before .before .before .before .args in
     word-put (x .table .now) _ (x .at) (x .n) (c .before .before .before .before .before .pre) (c .before .before .write-word .ensures .1)
 
 pub put-number-spec : {M : Type 1} → statement M
-put-number-spec = tie.close (tie.spec write-word-requires add-result same-length returns)
+put-number-spec = tie.close (tie.spec (λ c κs. search needs) (λ c. search needs) (λ c. search needs) returns)

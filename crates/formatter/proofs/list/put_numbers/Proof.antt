@@ -22,24 +22,12 @@ loop-holds c =
     let ws = x .numbers .now in
     (omega arith, begin (bytesOf ws) (x .start) (x .table .now) (omega (arith, c .before .before .pre, length-bytesOf ws)))
 
-mul-put-number : tie.Need-mul-put-number Inv-loop μ-loop
-mul-put-number c = omega arith
-
-shared-slice-read-put-number : tie.Need-shared-slice-read-put-number Inv-loop μ-loop
-shared-slice-read-put-number c = omega arith
-
 put-number-requires : tie.Need-put-number-requires Inv-loop μ-loop
 put-number-requires c κs =
     let l = c .before .before .before .loop in
     let x = c .before .before .before .before .before .before .args in
     let r = word-room (x .numbers .now) (x .table .now) (l .table) (x .start) (l .at) (l .i) (omega arith) (l .inv .1) in
     omega arith
-
-add-i : tie.Need-add-i Inv-loop μ-loop
-add-i c = omega arith
-
-loop-less : tie.Need-loop-less Inv-loop μ-loop
-loop-less c = omega arith
 
 loop-again : tie.Need-loop-again Inv-loop μ-loop
 loop-again c =
@@ -68,11 +56,11 @@ put-numbers-spec =
     Inv-loop
     μ-loop
     loop-holds
-    mul-put-number
-    shared-slice-read-put-number
+    (λ c. omega arith)
+    (λ c. omega arith)
     put-number-requires
-    add-i
-    loop-less
+    (λ c. omega arith)
+    (λ c. omega arith)
     loop-again
     same-length
     returns)

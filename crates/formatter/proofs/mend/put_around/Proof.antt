@@ -13,27 +13,6 @@ use Rattle.formatter.proofs.mend.put_around.Tie as tie
 slice-aggregate-write-bytes : tie.Need-slice-aggregate-write-bytes
 slice-aggregate-write-bytes c = sym (length-take-le (c .before .before .before .before .args .start) (c .before .before .before .before .args .text .now) (omega (arith, c .before .before .before .before .pre)))
 
-write-bytes-requires : tie.Need-write-bytes-requires
-write-bytes-requires c κs = search needs
-
-add-write-bytes : tie.Need-add-write-bytes
-add-write-bytes c = search needs
-
-sub-write-bytes : tie.Need-sub-write-bytes
-sub-write-bytes c = search needs
-
-part-write-bytes-start : tie.Need-part-write-bytes-start
-part-write-bytes-start c = search needs
-
-part-write-bytes-end : tie.Need-part-write-bytes-end
-part-write-bytes-end c = search needs
-
-write-bytes-requires-2 : tie.Need-write-bytes-requires-2
-write-bytes-requires-2 c κs = search needs
-
-same-length : tie.Need-same-length
-same-length c = search needs
-
 returns : tie.Need-returns
 returns c =
     let x = c .before .before .before .before .before .before .before .before .before .before .before .before .args in
@@ -54,11 +33,11 @@ put-around-spec =
     tie.close
     (tie.spec
     slice-aggregate-write-bytes
-    write-bytes-requires
-    add-write-bytes
-    sub-write-bytes
-    part-write-bytes-start
-    part-write-bytes-end
-    write-bytes-requires-2
-    same-length
+    (λ c κs. search needs)
+    (λ c. search needs)
+    (λ c. search needs)
+    (λ c. search needs)
+    (λ c. search needs)
+    (λ c κs. search needs)
+    (λ c. search needs)
     returns)

@@ -20,15 +20,6 @@ abbrev μ-loop : tie.MeasureT-loop
 loop-holds : tie.Need-loop-holds Inv-loop μ-loop
 loop-holds c = refl
 
-analyze-scan-item-requires : tie.Need-analyze-scan-item-requires Inv-loop μ-loop
-analyze-scan-item-requires c κs = search needs
-
-enum-told : tie.Need-enum-told Inv-loop μ-loop
-enum-told c = search needs
-
-no-finding-requires : tie.Need-no-finding-requires Inv-loop μ-loop
-no-finding-requires c κs = search needs
-
 returns : tie.Need-returns Inv-loop μ-loop
 returns c =
     let x = c .before .before .before .before .before .before .args in
@@ -37,9 +28,6 @@ returns c =
     let t = x .text .now in
     let s = analysis-says p t (l .at) (sym (c .before .enum-told .given .1) ∙ c .before .before .before .analyze-scan-item .ensures) in
     c .no-finding .ensures ∙ first-none p t (x .start) (l .inv ∙ ap (map (findingRow p)) s)
-
-enum-known-end : tie.Need-enum-known-end Inv-loop μ-loop
-enum-known-end c = search needs
 
 loop-less : tie.Need-loop-less Inv-loop μ-loop
 loop-less c =
@@ -55,9 +43,6 @@ loop-again c =
     let p = x .policy in
     let s = analysis-says p (x .text .now) (l .at) (sym (c .before .end .given .1) ∙ c .before .before .before .analyze-scan-item .ensures) in
     l .inv ∙ ap (map (findingRow p)) (s .1)
-
-enum-known-finding : tie.Need-enum-known-finding Inv-loop μ-loop
-enum-known-finding c = search needs
 
 returns-2 : tie.Need-returns-2 Inv-loop μ-loop
 returns-2 c =
@@ -75,12 +60,12 @@ first-finding-spec =
     Inv-loop
     μ-loop
     loop-holds
-    analyze-scan-item-requires
-    enum-told
-    no-finding-requires
+    (λ c κs. search needs)
+    (λ c. search needs)
+    (λ c κs. search needs)
     returns
-    enum-known-end
+    (λ c. search needs)
     loop-less
     loop-again
-    enum-known-finding
+    (λ c. search needs)
     returns-2)

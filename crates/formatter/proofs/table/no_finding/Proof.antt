@@ -6,9 +6,6 @@ use Rattle.analysis.specs.declared.types.NonCanonicality.{NonCanonicality}
 use Rattle.formatter.proofs.table.no_finding.Statement.{statement}
 use Rattle.formatter.proofs.table.no_finding.Tie as tie
 
-empty-requires : tie.Need-empty-requires
-empty-requires c κs = search needs
-
 returns : tie.Need-returns
 returns c =
     let at = c .before .args .at in
@@ -16,4 +13,4 @@ returns c =
     ap with-counts (c .empty .ensures)
 
 pub no-finding-spec : {M : Type 1} → statement M
-no-finding-spec = tie.close (tie.spec empty-requires returns)
+no-finding-spec = tie.close (tie.spec (λ c κs. search needs) returns)

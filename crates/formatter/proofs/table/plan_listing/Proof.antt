@@ -18,15 +18,6 @@ counted : (text policy : List ℕ) {n : ℕ} → n ≡ length (findingsFrom (pol
 unfolding findings
 counted text policy e = e ∙ sym (length-map (findingsFrom (policyOf policy) text 0) (findingRow (policyOf policy)))
 
-read-policy-requires : tie.Need-read-policy-requires
-read-policy-requires c κs = search needs
-
-intake-requires : tie.Need-intake-requires
-intake-requires c κs = search needs
-
-enum-known-refusal : tie.Need-enum-known-refusal
-enum-known-refusal c = search needs
-
 returns : tie.Need-returns
 returns c =
     let x = c .before .before .before .before .before .before .before .before .args in
@@ -35,12 +26,6 @@ returns c =
     let g = c .before .refusal .given in
     let e = checked-refused (intakeRefusal t p) (g .0 .0) (sym (c .before .before .before .intake .ensures) ∙ g .1) in
     plan-refused t p (x .room) (read-policy p (c .before .before .before .before .before .read-policy .ensures)) (g .0 .0) e
-
-enum-told : tie.Need-enum-told
-enum-told c = search needs
-
-count-findings-requires : tie.Need-count-findings-requires
-count-findings-requires c κs = search needs
 
 returns-2 : tie.Need-returns-2
 returns-2 c =
@@ -64,11 +49,11 @@ pub plan-listing-spec : {M : Type 1} → statement M
 plan-listing-spec =
     tie.close
     (tie.spec
-    read-policy-requires
-    intake-requires
-    enum-known-refusal
+    (λ c κs. search needs)
+    (λ c κs. search needs)
+    (λ c. search needs)
     returns
-    enum-told
-    count-findings-requires
+    (λ c. search needs)
+    (λ c κs. search needs)
     returns-2
     returns-3)

@@ -5,30 +5,6 @@ use borrow.Author.Needs.{needs}
 use Rattle.analysis.proofs.types.NonCanonicality.add.Statement.{statement}
 use Rattle.analysis.proofs.types.NonCanonicality.add.Tie as tie
 
-add-count-requires : tie.Need-add-count-requires
-add-count-requires c κs = search needs
-
-add-count-requires-2 : tie.Need-add-count-requires-2
-add-count-requires-2 c κs = search needs
-
-add-count-requires-3 : tie.Need-add-count-requires-3
-add-count-requires-3 c κs = search needs
-
-add-count-requires-4 : tie.Need-add-count-requires-4
-add-count-requires-4 c κs = search needs
-
-add-count-requires-5 : tie.Need-add-count-requires-5
-add-count-requires-5 c κs = search needs
-
-add-count-requires-6 : tie.Need-add-count-requires-6
-add-count-requires-6 c κs = search needs
-
-add-count-requires-7 : tie.Need-add-count-requires-7
-add-count-requires-7 c κs = search needs
-
-add-count-requires-8 : tie.Need-add-count-requires-8
-add-count-requires-8 c κs = search needs
-
 returns : tie.Need-returns
 unfolding cappedSum
 returns c =
@@ -46,12 +22,12 @@ pub add-spec : {M : Type 1} → statement M
 add-spec =
     tie.close
     (tie.spec
-    add-count-requires
-    add-count-requires-2
-    add-count-requires-3
-    add-count-requires-4
-    add-count-requires-5
-    add-count-requires-6
-    add-count-requires-7
-    add-count-requires-8
+    (λ c κs. search needs)
+    (λ c κs. search needs)
+    (λ c κs. search needs)
+    (λ c κs. search needs)
+    (λ c κs. search needs)
+    (λ c κs. search needs)
+    (λ c κs. search needs)
+    (λ c κs. search needs)
     returns)
