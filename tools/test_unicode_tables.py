@@ -58,6 +58,16 @@ class Committed(unittest.TestCase):
         self.assertNotEqual(committed, maker.source(version, changed))
 
 
+    def test_every_file_that_differs_or_is_missing_shows(self):
+        made = maker.files()
+        self.assertEqual(len(made), 11)
+        self.assertEqual(maker.differing(made), [])
+        for path, text in made:
+            self.assertEqual(maker.differing([(path, text + "\n")]), [path])
+            missing = path.with_name("missing")
+            self.assertEqual(maker.differing([(missing, text)]), [missing])
+
+
 class Blocks(unittest.TestCase):
     def test_words_and_ranks(self):
         ranges = [0x23, 0x24, 0x3F, 0x41]

@@ -376,17 +376,10 @@ def default_policy_specs(numbered, tables):
     return "\n".join(out) + "\n"
 
 
-def main(arguments):
-    if arguments not in ([], ["--check"]):
-        print(__doc__, file=sys.stderr)
-        return 2
-    try:
-        made = tables()
-    except (Malformed, OSError, KeyError) as error:
-        print(f"unicode_tables: {error}", file=sys.stderr)
-        return 1
-    status = 0
-    files = [
+def files():
+    """Every file that is made, with its text."""
+    made = tables()
+    makers = [
         (SOURCE, source),
         (SPECS, specs),
         (BLOCKS, block_source),
@@ -396,14 +389,31 @@ def main(arguments):
         (DEFAULT_POLICY, default_policy),
         (DEFAULT_POLICY_SPECS, default_policy_specs),
     ]
-    for path, make in files:
-        text = make(*made)
-        if not arguments:
+    return [(path, make(*made)) for path, make in makers]
+
+
+def differing(made):
+    """The files that do not have their text."""
+    return [path for path, text in made if not path.is_file() or path.read_text(encoding="utf-8") != text]
+
+
+def main(arguments):
+    if arguments not in ([], ["--check"]):
+        print(__doc__, file=sys.stderr)
+        return 2
+    try:
+        made = files()
+    except (Malformed, OSError, KeyError) as error:
+        print(f"unicode_tables: {error}", file=sys.stderr)
+        return 1
+    if not arguments:
+        for path, text in made:
             path.write_text(text, encoding="utf-8")
-        elif not path.is_file() or path.read_text(encoding="utf-8") != text:
-            print(f"unicode_tables: {path.relative_to(ROOT)} is not what the data files give", file=sys.stderr)
-            status = 1
-    return status
+        return 0
+    wrong = differing(made)
+    for path in wrong:
+        print(f"unicode_tables: {path.relative_to(ROOT)} is not what the data files give", file=sys.stderr)
+    return 1 if wrong else 0
 
 
 if __name__ == "__main__":
