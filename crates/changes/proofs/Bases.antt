@@ -37,8 +37,9 @@ use Rattle.analysis.specs.declared.singleton.Outcome.{Outcome}
 use Rattle.analysis.proofs.Cells.{split-selector, split-whole}
 use Rattle.analysis.proofs.CellsAt.{behind-at, selectors-end, selectors-room, split-behind}
 use Rattle.analysis.proofs.RuleLaws.{keeps, settles}
-use Rattle.changes.specs.Changes.{BaseChange, ChangeAt, Changes, Plain, SameRules, Stays, formattedFrom, outcomeFrom, selectorNumber, totalFrom}
+use Rattle.changes.specs.Changes.{BaseChange, ChangeAt, Changes, SameRules, Stays, formattedFrom, outcomeFrom, selectorNumber, totalFrom}
 use Rattle.changes.specs.declared.Change.{Change}
+use Rattle.changes.proofs.PlainText.{StaysAlone}
 use Rattle.changes.proofs.Kept.{has-entry, outcome-read}
 use Rattle.changes.proofs.Staying.{between, step-bytes, step-formatted, step-total}
 
@@ -249,6 +250,6 @@ pub entry-no-selector : (c i : ℕ) → variationSequenceIndex c ≡ At i → is
 unfolding VariationEntriesAreEmoji
 entry-no-selector c i e = emoji-no-selector c (variation-entries-are-emoji c (has-entry c i e))
 
-pub plain-char : (c : ℕ) → variationSequenceIndex c ≡ NoEntry → fromSelector c ≡ NoSelector → Plain c
+pub plain-char : (c : ℕ) → variationSequenceIndex c ≡ NoEntry → fromSelector c ≡ NoSelector → StaysAlone c
 unfolding NoIndexNoEntry
 plain-char c e f = record { no-entry = no-index-no-entry c .0 e; no-selector = other-value c f }

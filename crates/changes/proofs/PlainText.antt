@@ -28,8 +28,13 @@ use Rattle.analysis.specs.Analysis.{following}
 use Rattle.analysis.specs.Cells.{cells, leading}
 use Rattle.analysis.specs.Rules.{rule1}
 use Rattle.analysis.proofs.Rules.{outcome-no-entry}
-use Rattle.changes.specs.Changes.{Plain, Stays, outcomeFrom}
+use Rattle.changes.specs.Changes.{Stays, outcomeFrom}
 use Rattle.changes.proofs.Staying.{stays-char}
+
+-- A character that has no variation entry and is no selector: it stays, whatever stands behind it.
+pub record StaysAlone (c : ℕ) : Type 0 where
+  pub no-entry : hasVariationSequence c ≡ false
+  pub no-selector : isSelector c ≡ false
 
 -- ---- where the emoji are
 
@@ -98,14 +103,14 @@ ascii-other c ascii hash star digit =
     go false m = refl
 
 -- A character whose class is neither emoji nor selector has no entry and is no selector.
-class-plain : (c : ℕ) {k : Class} → classOf c ≡ k → (k ≡ emoji → ⊥) → forSelector k ≡ false → Plain c
+class-plain : (c : ℕ) {k : Class} → classOf c ≡ k → (k ≡ emoji → ⊥) → forSelector k ≡ false → StaysAlone c
 class-plain c e never s = record { no-entry = entry (hasVariationSequence c) refl; no-selector = selector-test c ∙ ap forSelector e ∙ s }
   where
     entry : (b : Bool) → hasVariationSequence c ≡ b → b ≡ false
     entry true v = absurd (never (sym e ∙ entry-class c v))
     entry false v = refl
 
-pub other-plain : (c : ℕ) → classOf c ≡ other → Plain c
+pub other-plain : (c : ℕ) → classOf c ≡ other → StaysAlone c
 other-plain c e = class-plain c e (λ z. let n : _≡_ {A = ℕ} 0 1 = cc in omega arith) refl
 
 -- ---- by the first bytes
@@ -135,7 +140,7 @@ plain-lead {text} {at} {v} {w} h a e low high two three =
 
 -- ---- such characters stay
 
-pub stays-plain : (p : Policy) {text : List ℕ} {at v w : ℕ} → Step text at v w → Plain v → Stays p text at (at + w)
+pub stays-plain : (p : Policy) {text : List ℕ} {at v w : ℕ} → Step text at v w → StaysAlone v → Stays p text at (at + w)
 unfolding rule1
 stays-plain p {text} {at} {v} {w} h c =
     let t = chars (drop (at + w) text) in
@@ -148,7 +153,7 @@ stays-plain p {text} {at} {v} {w} h c =
 pub record PlainAt (text : List ℕ) (at w : ℕ) : Type 0 where
   pub value : ℕ
   pub read : Step text at value w
-  pub plain : Plain value
+  pub plain : StaysAlone value
 
 pub stays-at : (p : Policy) {text : List ℕ} {at w : ℕ} → PlainAt text at w → Stays p text at (at + w)
 stays-at p h = stays-plain p (h .read) (h .plain)

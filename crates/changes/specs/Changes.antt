@@ -8,7 +8,7 @@ use Prim.Native.Nat.{ℕ, _+_, _*_, _-_, _<_, _≤_}
 use lib.Dec.{eqb}
 use lib.ListN.{drop, length, take}
 use Rattle.utf8.specs.Rfc3629.{chars, encodeAll, validUpTo}
-use Rattle.unicode.specs.Presentation.{asSelector, isSelector}
+use Rattle.unicode.specs.Presentation.{asSelector}
 use Rattle.unicode.specs.Unicode.{hasVariationSequence}
 use Rattle.unicode.specs.declared.presentation.FromSelector.{FromSelector}
 use Rattle.unicode.specs.declared.presentation.FromSelector.the-variants.{NoSelector, Selector}
@@ -72,11 +72,6 @@ module _ (p : Policy) (text : List ℕ) where
   NextChange from c = (c .more ≡ true → Changes from c) × (c .more ≡ false → Unchanged from c)
 
 -- ---- plain text
-
--- A character that has no variation entry and is no selector: it stays, whatever stands behind it.
-pub record Plain (c : ℕ) : Type 0 where
-  pub no-entry : hasVariationSequence c ≡ false
-  pub no-selector : isSelector c ≡ false
 
 -- The policy keeps the ASCII bases bare.
 abbrev pub AsciiBare : Policy → Type 0

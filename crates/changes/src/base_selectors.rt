@@ -1,5 +1,5 @@
 // What becomes of the selectors behind a base that has a variation entry (document 01, "Counts and finding", rules 2 to 6): the
-// selector that stays, and whether that is a change. `base_change` equals `BaseChange` of specs/Changes.antt.
+// selector that stays, and whether that is a change. `base_change` meets `BaseChange` of specs/Changes.antt.
 ghost use mathlib.Core.Path.{_≡_};
 ghost use mathlib.Core.Bool.{Bool, _&&_, cond, not};
 ghost use mathlib.Core.List.{List, []};

@@ -1,6 +1,6 @@
 // The next finding of a text from an offset on: the items are gone through cell by cell, each character is read once, and of each cell
 // it is only asked whether something is counted of it (document 01, "Item", "Counts and finding"; analysis.rs of the crate evfmt
-// counts every item instead). `next_finding` equals `NextFinding` of specs/Findings.antt for every text, policy and offset.
+// counts every item instead). `next_finding` meets `NextFinding` of specs/Findings.antt for every text, policy and offset.
 ghost use mathlib.Core.Path.{_≡_};
 ghost use mathlib.Core.Bool.{true, not};
 ghost use mathlib.Core.List.{List};

@@ -1,6 +1,6 @@
 // Where formatting changes a text: the next change from an offset on. Formatting asks for one change after the other and copies what
 // lies between them (document 01, "Replacement and text"; formatter.rs of the crate evfmt builds each item instead). `next_change`
-// equals `NextChange` of specs/Changes.antt for every text, policy and offset.
+// meets `NextChange` of specs/Changes.antt for every text, policy and offset.
 mod base_selectors;
 pub mod findings;
 mod plain;
