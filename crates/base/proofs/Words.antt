@@ -6,8 +6,8 @@ use Prim.Native.Nat.{ℕ, zero, suc, _+_, _*_, _/_, _%_, _^_, _<_, _≤_}
 use native.Mathlib.Nat.{add-zero, pow-suc}
 use native.Mathlib.Omega.{arith}
 use lib.Dec.{leb}
-use lib.ListN.{drop, getD, length, take}
-use lib.Seq.{getD-drop, sets}
+use lib.ListN.{drop, getD, length, length-drop, take}
+use lib.Seq.{getD-drop, length-take-le, sets}
 use borrow.Author.Tests.{le-leb, leb-true}
 use Rattle.base.proofs.Tests.{and-both, both-true}
 use Rattle.base.proofs.Writer.{sets-append}
@@ -95,3 +95,16 @@ unfolding allBytes
 allBytes-drop zero bs t = t
 allBytes-drop (suc n) [] t = refl
 allBytes-drop (suc n) (b ∷ bs) t = allBytes-drop n bs (both-true (leb b 255) (allBytes bs) t .1)
+
+pub bytes-all : (bs : List ℕ) → ((j : ℕ) → getD bs j 0 ≤ 255) → allBytes bs ≡ true
+unfolding allBytes
+bytes-all [] h = refl
+bytes-all (b ∷ bs) h = and-both (leb b 255) (allBytes bs) (le-leb b 255 (h 0)) (bytes-all bs (λ j. h (suc j)))
+
+-- eight bytes of a list are those of the word that they make
+pub word-read : (bs : List ℕ) (i : ℕ) → allBytes bs ≡ true → i + 8 ≤ length bs → wordBytes (number (take 8 (drop i bs))) ≡ take 8 (drop i bs)
+unfolding wordBytes
+word-read bs i t h =
+    let w = take 8 (drop i bs) in
+    let e : length w ≡ 8 = length-take-le 8 (drop i bs) (omega (arith, length-drop i bs)) in
+    ap (λ (k : ℕ). littleEndian k (number w)) (sym e) ∙ littleEndian-number w (allBytes-take 8 (drop i bs) (allBytes-drop i bs t))

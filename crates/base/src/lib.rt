@@ -8,7 +8,7 @@ ghost use Prim.Native.Nat.{_+_, _*_, _%_, _≤_};
 ghost use lib.ListN.{drop, getD, length, take};
 ghost use lib.Seq.{sets};
 ghost use Rattle.base.specs.Bits.{one};
-ghost use Rattle.base.specs.Output.{PutAt, roomFor};
+ghost use Rattle.base.specs.Output.{roomFor};
 ghost use Rattle.base.specs.Words.{hasRoom, littleEndian, number, wordBytes};
 
 pub const WORD_BYTES: usize = 8;
@@ -97,6 +97,15 @@ fn put_half(out: &mut [u8], at: usize, x: u64)
     out[at + 3] = (fourth % 256) as u8;
 }
 
+// Puts a number's eight bytes.
+fn put_word(out: &mut [u8], at: usize, x: u64)
+    requires { ⌜ at + 8 ≤ length (now out) ⌝ }
+    ensures { λ _. ⌜ now (out .exit) ≡ sets (now (out .entry)) at (wordBytes x) ⌝ }
+{
+    put_half(out, at, x);
+    put_half(out, at + 4, x / 0x1_0000_0000);
+}
+
 // Writes a number's eight bytes at a place and answers true, or leaves the buffer where it has no room for them.
 pub fn write_word(out: &mut [u8], at: usize, x: u64) -> bool
     ensures { λ r. ⌜ (r ≡ hasRoom (now (out .entry)) at) × (now (out .exit) ≡ cond (hasRoom (now (out .entry)) at) (sets (now (out .entry)) at (wordBytes x)) (now (out .entry))) ⌝ }
@@ -107,15 +116,14 @@ pub fn write_word(out: &mut [u8], at: usize, x: u64) -> bool
     if out.len() - WORD_BYTES < at {
         return false;
     }
-    put_half(out, at, x);
-    put_half(out, at + 4, x / 0x1_0000_0000);
+    put_word(out, at, x);
     true
 }
 
-// Puts bytes at a place, and says where they end.
-fn put_bytes(out: &mut [u8], start: usize, bytes: &[u8]) -> usize
+// Puts bytes at a place, one by one.
+fn put_each(out: &mut [u8], start: usize, bytes: &[u8])
     requires { ⌜ start + length (now bytes) ≤ length (now out) ⌝ }
-    ensures { λ r. ⌜ PutAt (now (out .entry)) start (now (bytes .entry)) (now (out .exit)) r ⌝ }
+    ensures { λ _. ⌜ now (out .exit) ≡ sets (now (out .entry)) start (now (bytes .entry)) ⌝ }
 {
     let mut at = start;
     let mut i = 0;
@@ -124,7 +132,24 @@ fn put_bytes(out: &mut [u8], start: usize, bytes: &[u8]) -> usize
         at += 1;
         i += 1;
     }
-    at
+}
+
+// Puts bytes at a place, eight at a time. The last eight end where the bytes end, so some of them may have been put.
+fn put_bytes(out: &mut [u8], start: usize, bytes: &[u8])
+    requires { ⌜ start + length (now bytes) ≤ length (now out) ⌝ }
+    ensures { λ _. ⌜ now (out .exit) ≡ sets (now (out .entry)) start (now (bytes .entry)) ⌝ }
+{
+    if bytes.len() < WORD_BYTES {
+        put_each(out, start, bytes);
+        return;
+    }
+    let last = bytes.len() - WORD_BYTES;
+    let mut i = 0;
+    while i < last {
+        put_word(out, start + i, read_word(bytes, i));
+        i += WORD_BYTES;
+    }
+    put_word(out, start + last, read_word(bytes, last));
 }
 
 // Writes bytes at a place and answers true, or leaves the buffer where it has no room for them.

@@ -6,9 +6,9 @@ use Prim.Native.Nat.{ℕ, zero, suc, _+_, _*_, _^_, _<_}
 use native.Mathlib.Nat.{suc-add, zero-add}
 use native.Mathlib.Omega.{arith}
 use lib.ListN.{drop, getD, length, length-append, length-drop, take, take-append-drop}
-use lib.Seq.{drop-at, drop-drop, length-take-le, take-at}
-use Rattle.base.specs.Words.{allBytes, littleEndian, number, wordBytes}
-use Rattle.base.proofs.Words.{allBytes-drop, allBytes-take, length-wordBytes, littleEndian-number, number-littleEndian}
+use lib.Seq.{drop-at, drop-drop, take-at}
+use Rattle.base.specs.Words.{allBytes, number, wordBytes}
+use Rattle.base.proofs.Words.{allBytes-drop, length-wordBytes, number-littleEndian, word-read}
 use Rattle.unicode.specs.UnicodeData.{variationEntries}
 use Rattle.policy_key_set.specs.Sets.{entryCount}
 use Rattle.policy_key_set.specs.declared.char_set.CharSet.{CharSet}
@@ -53,9 +53,7 @@ unfolding wordsFrom bytesOf wordBytes
 write-words zero [] e t = refl
 write-words zero (b ∷ bs) e t = absurd (omega arith)
 write-words (suc n) bs e t =
-    let eight = length-take-le 8 bs (omega arith) in
-    ap₂ (λ (x y : List ℕ). x ++ y)
-    (ap (λ (k : ℕ). littleEndian k (number (take 8 bs))) (sym eight) ∙ littleEndian-number (take 8 bs) (allBytes-take 8 bs t))
+    ap₂ (λ (x y : List ℕ). x ++ y) (word-read bs 0 t (omega arith))
     (ap bytesOf (wordsFrom-drop n 8 bs) ∙ write-words n (drop 8 bs) (omega (arith, length-drop 8 bs)) (allBytes-drop 8 bs t))
     ∙ take-append-drop 8 bs
 

@@ -27,7 +27,7 @@ returns-3 c =
     let x = c .before .before .before .before .before .before .before .before .args in
     let e = le-leb (x .at + length (x .bytes .now)) (length (x .out .now)) (omega arith) in (
       sym e,
-      c .before .before .put-bytes .ensures .bytes
+      c .before .before .put-bytes .ensures
           ∙ ap (λ (t : Bool). cond t (sets (x .out .now) (x .at) (x .bytes .now)) (x .out .now)) (sym e),
     )
 

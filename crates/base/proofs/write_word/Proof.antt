@@ -1,15 +1,13 @@
--- Without room nothing is written; with room the two halves are the word (`sets-word`).
+-- Without room nothing is written.
 use mathlib.Core.Path.{sym, ap, _∙_}
 use mathlib.Core.Bool.{Bool, cond}
-use mathlib.Core.List.{List}
-use Prim.Native.Nat.{ℕ, _+_, _/_}
+use Prim.Native.Nat.{_+_}
 use native.Mathlib.Omega.{arith}
 use lib.ListN.{length}
 use lib.Seq.{sets}
-use borrow.Author.Tests.{le-leb, lt-leb}
-use Rattle.base.specs.Words.{littleEndian, wordBytes}
-use Rattle.base.proofs.Words.{sets-word}
 use borrow.Author.Needs.{needs}
+use borrow.Author.Tests.{le-leb, lt-leb}
+use Rattle.base.specs.Words.{wordBytes}
 use Rattle.base.proofs.write_word.Statement.{statement}
 use Rattle.base.proofs.write_word.Tie as tie
 
@@ -27,24 +25,10 @@ returns-2 c =
 
 returns-3 : tie.Need-returns-3
 returns-3 c =
-    let x = c .before .before .before .before .before .before .before .before .before .before .before .args in
+    let x = c .before .before .before .before .before .before .before .args in
     let e = le-leb (x .at + 8) (length (x .out .now)) (omega arith) in
-    let first = c .before .before .before .before .before .before .put-half .ensures in
-    let second = c .before .before .put-half2 .ensures in (
-      sym e,
-      second ∙ ap (λ (o : List ℕ). sets o (x .at + 4) (littleEndian 4 (x .x / 0x100000000))) first ∙ sets-word (x .out .now) (x .at) (x .x)
-          ∙ ap (λ (t : Bool). cond t (sets (x .out .now) (x .at) (wordBytes (x .x))) (x .out .now)) (sym e),
-    )
+    (sym e, c .before .before .put-word .ensures ∙ ap (λ (t : Bool). cond t (sets (x .out .now) (x .at) (wordBytes (x .x))) (x .out .now)) (sym e))
 
 pub write-word-spec : {M : Type 1} → statement M
 write-word-spec =
-    tie.close
-    (tie.spec
-    returns
-    (λ c. search needs)
-    returns-2
-    (λ c κs. search needs)
-    (λ c. search needs)
-    (λ c κs. search needs)
-    (λ c. search needs)
-    returns-3)
+    tie.close (tie.spec returns (λ c. search needs) returns-2 (λ c κs. search needs) (λ c. search needs) returns-3)
