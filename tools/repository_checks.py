@@ -15,7 +15,7 @@ Each finding is a line on standard error; the exit status is 1 if there is one.
               `pub name : Statement` of Claims.antt, in no section, so with no further hypothesis; the statement
               is imported under its own name from the file that makes it.
 - edits:      the first error of a refused must-fail edit is that a fact no longer holds, and not that the edit
-              made the proof file unfit for the code.
+              made the proof file unfit for the code, or names what is not in scope.
 - axioms:     no library rests on an axiom. A program counts the C functions of the kit that it calls.
 """
 
@@ -31,7 +31,7 @@ HIDDEN_STATEMENT = re.compile(r"^(?:[ \t]+.*|(?!.*\bpub ).*)\s?(\S+) : Type \d+$
 USE = re.compile(r"^use (\S+?)\.\{(.*?)\}", re.M | re.S)
 RULED_OUT = "## What each contract rules out\n"
 NAMED_EDITS = re.compile(r"\b[Ee]dits? ((?:`\w+`(?:, | and )?)+)")
-UNFIT = re.compile(r"has no `Need-\S*` that can be named from here|that can be named from here")
+UNFIT = re.compile(r"that can be named from here|is not in scope")
 
 
 def listed(root):
@@ -176,7 +176,7 @@ def telling_nothing(root):
         if not error:
             yield f"{where}: its log has no error"
         elif UNFIT.search(error):
-            yield f"{where}: it only made the proof file unfit: {error[:200]}"
+            yield f"{where}: it only made a file unfit: {error[:200]}"
 
 
 def rests_on_axioms(root):

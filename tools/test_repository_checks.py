@@ -171,6 +171,9 @@ class Checks(unittest.TestCase):
             _log=("the two types differ", "`tie` has no `Need-add-x` that can be named from here"),
         )
 
+    def test_edit_that_names_what_is_not_there(self):
+        self.finds("unfit", checks.telling_nothing, _log=("the two types differ", "`empty` is not in scope"))
+
     def test_edit_not_tried(self):
         self.finds("not tried", checks.telling_nothing, removed=["target/must-fail/one/wrong/.log"])
 
