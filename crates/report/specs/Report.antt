@@ -44,9 +44,15 @@ reported message =
     (linesFrom defaultPolicy message 0 ++ totalLine (countNumbers (totalsAt defaultPolicy message))))
     (refusalLine TextTooLong)
 
--- A line, or none, and a place further on: the lines from the place on are this one and those from the next place on. So the lines
--- that are put from place 0 on up to the end are `linesFrom policy text 0`.
+-- A line, or none, and a place further on: the lines from the place on are this one and those from the next place on.
 pub record LineAt (policy : Policy) (text : List ℕ) (at : ℕ) (line : List ℕ) (r : Line) : Type 0 where
   pub lines : linesFrom policy text at ≡ take (r .len) line ++ linesFrom policy text (r .next)
   pub further : at < length text → at < r .next
   pub inside : r .next ≤ length text
+
+-- Answers of `next_line` one after the other, each of which meets this contract, from a place on until the end is reached, and the
+-- bytes that stand in their lines.
+pub data Walked (policy : Policy) (text : List ℕ) : ℕ → List ℕ → Type 0 where
+  end-reached : {at : ℕ} → length text ≤ at → Walked policy text at []
+  one-more : {at : ℕ} {line later : List ℕ} (r : Line) → LineAt policy text at line r → Walked policy text (r .next) later
+      → Walked policy text at (take (r .len) line ++ later)

@@ -1,4 +1,5 @@
-// The runs of characters in an item, each the longest, by loops; document 01, "Item".
+// The runs of characters in an item, each the longest, by loops: the consume functions of scanner.rs of the crate evfmt; document 01,
+// "Item".
 // Each function gives the offset of the run's end, and equals a run of specs/Runs.antt over the characters from the offset on,
 // for every slice and offset; nothing is read past the end or inside a character.
 ghost use mathlib.Core.Path.{_≡_};
