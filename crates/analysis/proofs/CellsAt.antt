@@ -29,7 +29,7 @@ use Rattle.scanner.proofs.char_class.Class.{the-type as the-class}
 use Rattle.analysis.specs.Analysis.{following}
 use Rattle.analysis.specs.CellView.{classInFront}
 use Rattle.analysis.specs.Cells.{Cell, cells, leading, split, unsplit}
-use Rattle.analysis.specs.Rules.{Outcome, firstOf, outcome, runWith}
+use Rattle.analysis.specs.Rules.{Outcome, firstAsked, outcome, runWith}
 use Rattle.analysis.proofs.Cells.{by-chars, clean-cells, split-char, split-selector, split-unsplit, split-whole}
 use Rattle.analysis.proofs.NumberRules.{by-numbers}
 
@@ -56,16 +56,16 @@ split-behind t = ap split (behind-are t) ∙ split-unsplit (clean-cells t)
 count-is : (t : List ℕ) → length (selectorsAt t) ≡ length (leading t)
 count-is t = ap length (selectors-are t) ∙ length-map (leading t) asSelector
 
-first-is : (t : List ℕ) → firstSelector (selectorsAt t) ≡ firstOf (leading t)
-unfolding firstSelector firstOf
+first-is : (t : List ℕ) → firstSelector (selectorsAt t) ≡ firstAsked (leading t)
+unfolding firstSelector firstAsked
 first-is t = ap firstSelector (selectors-are t) ∙ go (leading t)
   where
-    go : (s : List Presentation) → firstSelector (map asSelector s) ≡ firstOf s
+    go : (s : List Presentation) → firstSelector (map asSelector s) ≡ firstAsked s
     go [] = refl
     go (q ∷ s) = from-selector q
 
 -- What the first character asks for as a selector is the first of the leading ones.
-pub first-leads : (t : List ℕ) → firstSelector t ≡ firstOf (leading t)
+pub first-leads : (t : List ℕ) → firstSelector t ≡ firstAsked (leading t)
 first-leads t = first-in-run t ∙ first-is t
 
 following-is : (t : List ℕ) → following (cells t) ≡ classInFront (behindSelectors t)
@@ -121,7 +121,7 @@ module _ (text : List ℕ) (at : ℕ) where
     unfolding selectorRun
     read-count = ap (λ (x : PresentationSelectors). x .count) e ∙ count-is (chars (drop at text))
 
-    read-first : r .first ≡ firstOf (leading (chars (drop at text)))
+    read-first : r .first ≡ firstAsked (leading (chars (drop at text)))
     unfolding selectorRun
     read-first = ap (λ (x : PresentationSelectors). x .first) e ∙ first-is (chars (drop at text))
 

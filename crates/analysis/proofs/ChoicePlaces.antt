@@ -24,7 +24,7 @@ use Rattle.scanner.proofs.Runs.{run-true}
 use Rattle.scanner.proofs.SelectorChars.{CharIs, a-selector, char-is, no-selector, width-selector}
 use Rattle.analysis.specs.Analysis.{following, upToLink}
 use Rattle.analysis.specs.Cells.{Cell, cells, leading, split, unsplit}
-use Rattle.analysis.specs.ChoicesAt.{addChoiceAt, bytesOf, cellsFrom, cellsStart, choiceAt, choicesFrom, firstChoice, frontUnit}
+use Rattle.analysis.specs.ChoicesAt.{addChoiceAt, cellsLength, cellsFrom, cellsStart, choiceAt, choicesFrom, firstChoice, frontUnit}
 use Rattle.analysis.specs.Rules.{Outcome, Slot, bare, decided, fixed, outcome}
 use Rattle.analysis.specs.declared.choice.ChoiceStep.the-variants.{Choice, End}
 use Rattle.analysis.specs.declared.choice.ReplacementChoice.{ReplacementChoice}
@@ -70,7 +70,7 @@ up-to-link = by-chars P refl sel char
         go false = ap (λ (l : List ℕ). c ∷ l) h
 
 -- The end of the cells at an offset up to the next link.
-pub link-end : (raw : List ℕ) (at : ℕ) → at + size width (run offLink (chars (drop at raw))) ≡ cellsStart raw at + bytesOf (upToLink (cellsFrom raw at))
+pub link-end : (raw : List ℕ) (at : ℕ) → at + size width (run offLink (chars (drop at raw))) ≡ cellsStart raw at + cellsLength (upToLink (cellsFrom raw at))
 link-end raw at =
     let t = chars (drop at raw) in
     omega (arith, ap (size width) (up-to-link t), selectors-bytes (leading t) (unsplit (upToLink (cells t))))
@@ -112,23 +112,23 @@ module _ (raw : List ℕ) (at start : ℕ) (s : start ≡ cellsStart raw at) whe
   starts : split (chars (drop start raw)) ≡ ([], cellsFrom raw at)
   starts = ap (λ (n : ℕ). split (chars (drop n raw))) s ∙ cells-behind raw at
 
-  pub unit-none : Unseen raw start → start ≡ cellsStart raw at + bytesOf (frontUnit (cellsFrom raw at))
+  pub unit-none : Unseen raw start → start ≡ cellsStart raw at + cellsLength (frontUnit (cellsFrom raw at))
   unfolding frontUnit
   unit-none h =
       let e : cellsFrom raw at ≡ [] = ap (λ (a : List Presentation × List Cell). a .1) (sym starts ∙ cells-none raw start h) in
-      omega (arith, ap (λ (l : List Cell). bytesOf (frontUnit l)) e)
+      omega (arith, ap (λ (l : List Cell). cellsLength (frontUnit l)) e)
 
   -- .. and else it ends where the next link begins.
-  pub unit-on : {v : ℕ} {k : Class} {next : ℕ} (end : ℕ) → Seen raw start v k next → end ≡ cellsStart raw next + bytesOf (upToLink (cellsFrom raw next))
-      → end ≡ cellsStart raw at + bytesOf (frontUnit (cellsFrom raw at))
+  pub unit-on : {v : ℕ} {k : Class} {next : ℕ} (end : ℕ) → Seen raw start v k next → end ≡ cellsStart raw next + cellsLength (upToLink (cellsFrom raw next))
+      → end ≡ cellsStart raw at + cellsLength (frontUnit (cellsFrom raw at))
   unfolding frontUnit
   unit-on {v} {next = next} end h e = go (char-is v)
     where
-      go : CharIs v → end ≡ cellsStart raw at + bytesOf (frontUnit (cellsFrom raw at))
+      go : CharIs v → end ≡ cellsStart raw at + cellsLength (frontUnit (cellsFrom raw at))
       go (no-selector f) =
           let u = chars (drop next raw) in
           let r : cellsFrom raw at ≡ record { char = v; after = leading u } ∷ cells u = ap (λ (a : List Presentation × List Cell). a .1) (sym starts ∙ cells-char raw start h f) in
-          omega (arith, h .behind, ap (λ (l : List Cell). bytesOf (frontUnit l)) r, selectors-bytes (leading u) (unsplit (upToLink (cells u))))
+          omega (arith, h .behind, ap (λ (l : List Cell). cellsLength (frontUnit l)) r, selectors-bytes (leading u) (unsplit (upToLink (cells u))))
       go (a-selector q f) =
           let u = chars (drop next raw) in
           absurd (omega (arith, ap (λ (a : List Presentation × List Cell). length (a .0)) (sym starts ∙ ap split (h .chars-on ∙ ap (λ (x : ℕ). x ∷ u) f) ∙ split-selector q u)))
@@ -165,7 +165,7 @@ module _ (p : Policy) (raw : List ℕ) (at : ℕ) where
 
       -- The cell's own choice.
       abbrev own : Presentation → ReplacementChoice
-      own d = record { start = at; end = end + bytesOf (upToLink (cellsFrom raw next)); next = end; default = d }
+      own d = record { start = at; end = end + cellsLength (upToLink (cellsFrom raw next)); next = end; default = d }
 
       -- The choices from the cell on: its own, if its slot is decided, and those from its end on.
       from-cell : choiceAt p raw at ≡ firstChoice (addChoiceAt (o .slot) own (choicesFrom p (cellsStart raw end) (cellsFrom raw end)))
@@ -174,9 +174,9 @@ module _ (p : Policy) (raw : List ℕ) (at : ℕ) where
           let u = chars (drop next raw) in
           let x : Cell = record { char = v; after = leading u } in
           let b : at + 3 * 0 ≡ at = omega arith in
-          let n : at + 3 * 0 + bytesOf (x ∷ []) ≡ end = omega (arith, h .behind, he, selectors-bytes (leading u) []) in
-          let m : at + 3 * 0 + bytesOf (x ∷ upToLink (cells u)) ≡ end + bytesOf (upToLink (cells u)) = omega (arith, h .behind, he, selectors-bytes (leading u) (unsplit (upToLink (cells u)))) in
-          let z : at + 3 * 0 + bytesOf (x ∷ []) ≡ cellsStart raw end = omega (arith, n, behind .0) in
+          let n : at + 3 * 0 + cellsLength (x ∷ []) ≡ end = omega (arith, h .behind, he, selectors-bytes (leading u) []) in
+          let m : at + 3 * 0 + cellsLength (x ∷ upToLink (cells u)) ≡ end + cellsLength (upToLink (cells u)) = omega (arith, h .behind, he, selectors-bytes (leading u) (unsplit (upToLink (cells u)))) in
+          let z : at + 3 * 0 + cellsLength (x ∷ []) ≡ cellsStart raw end = omega (arith, n, behind .0) in
           let g : outcome p v (following (cells u)) (leading u) ≡ o = sym ho in
           let y : cells u ≡ cellsFrom raw end = sym (behind .1) in
           ap (λ (a : List Presentation × List Cell). firstChoice (choicesFrom p (at + 3 * length (a .0)) (a .1))) (cells-char raw at h e)
@@ -188,10 +188,10 @@ module _ (p : Policy) (raw : List ℕ) (at : ℕ) where
       choice-passed q = from-cell ∙ ap firstChoice (q own (choicesFrom p (cellsStart raw end) (cellsFrom raw end)))
 
       -- .. and a decided one is the choice, whose unit ends where the next link begins.
-      pub choice-found : (d : Presentation) (last : ℕ) → o .slot ≡ decided d → last ≡ cellsStart raw end + bytesOf (upToLink (cellsFrom raw end))
+      pub choice-found : (d : Presentation) (last : ℕ) → o .slot ≡ decided d → last ≡ cellsStart raw end + cellsLength (upToLink (cellsFrom raw end))
           → Choice (record { start = at; end = last; next = end; default = d }) ≡ choiceAt p raw at
       unfolding firstChoice
       choice-found d last q f =
-          let m : last ≡ end + bytesOf (upToLink (cellsFrom raw next)) = omega (arith, behind .0, ap (λ (l : List Cell). bytesOf (upToLink l)) (behind .1)) in
+          let m : last ≡ end + cellsLength (upToLink (cellsFrom raw next)) = omega (arith, behind .0, ap (λ (l : List Cell). cellsLength (upToLink l)) (behind .1)) in
           ap (λ (n : ℕ). Choice (record { start = at; end = n; next = end; default = d })) m
           ∙ sym (from-cell ∙ ap (λ (s : Slot). firstChoice (addChoiceAt s own (choicesFrom p (cellsStart raw end) (cellsFrom raw end)))) q)

@@ -21,7 +21,7 @@ use Rattle.scanner.proofs.Bytes.{size-chars, size-width, take-chars}
 use Rattle.scanner.proofs.Rescan.{size-append}
 use Rattle.analysis.specs.Analysis.{render, renew, upToLink}
 use Rattle.analysis.specs.Cells.{Cell, cells, leading, split, unsplit}
-use Rattle.analysis.specs.ChoicesAt.{bytesOf, cellsFrom, cellsStart, frontUnit, replaceUnit}
+use Rattle.analysis.specs.ChoicesAt.{cellsLength, cellsFrom, cellsStart, frontUnit, replaceUnit}
 use Rattle.analysis.specs.Decisions.{writeOut}
 use Rattle.analysis.specs.declared.types.MendAnswer.{MendAnswer}
 use Rattle.analysis.specs.declared.types.MendAnswer.the-variants.{Mended, Refused}
@@ -69,7 +69,7 @@ clean-unit (cell-and e h) = cell-and e (clean-up h)
 
 -- ---- its bytes
 
-module _ (raw : List ℕ) (at end : ℕ) (e : end ≡ cellsStart raw at + bytesOf (frontUnit (cellsFrom raw at))) where
+module _ (raw : List ℕ) (at end : ℕ) (e : end ≡ cellsStart raw at + cellsLength (frontUnit (cellsFrom raw at))) where
   abbrev t : List ℕ
   t = chars (drop at raw)
 

@@ -18,7 +18,7 @@ use Rattle.analysis.specs.ChoicesAt.{
   IsChoice,
   Meets,
   addChoiceAt,
-  bytesOf,
+  cellsLength,
   cellsFrom,
   cellsStart,
   choiceAt,
@@ -55,7 +55,7 @@ module _ (p : Policy) (raw : List ℕ) where
     choice-is = λ i. firstChoice (choicesFrom p (start-is i) (cells-are i))
 
   -- Behind the first cell stand the others.
-  others : (at : ℕ) (x : Cell) (xs : List Cell) → split (chars (drop at raw)) ≡ ([], x ∷ xs) → split (chars (drop (at + bytesOf (x ∷ [])) raw)) ≡ ([], xs)
+  others : (at : ℕ) (x : Cell) (xs : List Cell) → split (chars (drop at raw)) ≡ ([], x ∷ xs) → split (chars (drop (at + cellsLength (x ∷ [])) raw)) ≡ ([], xs)
   others at x xs e =
       let t = chars (drop at raw) in
       let w : t ≡ unsplit (x ∷ []) ++ unsplit xs =
@@ -68,16 +68,16 @@ module _ (p : Policy) (raw : List ℕ) where
 
   -- The choice at a decided cell.
   is-choice : (at : ℕ) (x : Cell) (xs : List Cell) (d : Presentation) → split (chars (drop at raw)) ≡ ([], x ∷ xs)
-      → IsChoice p raw (record { start = at; end = at + bytesOf (frontUnit (x ∷ xs)); next = at + bytesOf (x ∷ []); default = d })
+      → IsChoice p raw (record { start = at; end = at + cellsLength (frontUnit (x ∷ xs)); next = at + cellsLength (x ∷ []); default = d })
       (record { default = d; text = render p (x ∷ upToLink xs) (Text ∷ []); emoji = render p (x ∷ upToLink xs) (Emoji ∷ []) })
   unfolding frontUnit
   is-choice at x xs d e =
       let f = cells-are at (x ∷ xs) e in
-      let n : at + bytesOf (frontUnit (x ∷ xs)) ≡ cellsStart raw at + bytesOf (frontUnit (cellsFrom raw at)) =
-      omega (arith, start-is at (x ∷ xs) e, ap (λ (l : List Cell). bytesOf (frontUnit l)) f) in
+      let n : at + cellsLength (frontUnit (x ∷ xs)) ≡ cellsStart raw at + cellsLength (frontUnit (cellsFrom raw at)) =
+      omega (arith, start-is at (x ∷ xs) e, ap (λ (l : List Cell). cellsLength (frontUnit l)) f) in
       record {
         default-is = refl;
-        unit-is = unit-cells raw at (at + bytesOf (frontUnit (x ∷ xs))) n;
+        unit-is = unit-cells raw at (at + cellsLength (frontUnit (x ∷ xs))) n;
         text-is = ap (λ (l : List Cell). render p (frontUnit l) (Text ∷ [])) f;
         emoji-is = ap (λ (l : List Cell). render p (frontUnit l) (Emoji ∷ [])) f;
       }
@@ -85,17 +85,17 @@ module _ (p : Policy) (raw : List ℕ) where
   walk-cells : (xs : List Cell) (at : ℕ) → split (chars (drop at raw)) ≡ ([], xs) → Meets p raw at (choicesOfCells p xs)
   unfolding choicesOfCells choicesFrom firstChoice
   walk-cells [] at e = no-more (choice-is at [] e)
-  walk-cells (x ∷ xs) at e = go (outcomeAt p x xs .slot) refl (walk-cells xs (at + bytesOf (x ∷ [])) (others at x xs e))
+  walk-cells (x ∷ xs) at e = go (outcomeAt p x xs .slot) refl (walk-cells xs (at + cellsLength (x ∷ [])) (others at x xs e))
     where
       own : Presentation → ReplacementChoice
-      own d = record { start = at; end = at + bytesOf (frontUnit (x ∷ xs)); next = at + bytesOf (x ∷ []); default = d }
+      own d = record { start = at; end = at + cellsLength (frontUnit (x ∷ xs)); next = at + cellsLength (x ∷ []); default = d }
 
-      first : (s : Slot) → outcomeAt p x xs .slot ≡ s → choiceAt p raw at ≡ firstChoice (addChoiceAt s own (choicesFrom p (at + bytesOf (x ∷ [])) xs))
-      first s f = choice-is at (x ∷ xs) e ∙ ap (λ (s : Slot). firstChoice (addChoiceAt s own (choicesFrom p (at + bytesOf (x ∷ [])) xs))) f
+      first : (s : Slot) → outcomeAt p x xs .slot ≡ s → choiceAt p raw at ≡ firstChoice (addChoiceAt s own (choicesFrom p (at + cellsLength (x ∷ [])) xs))
+      first s f = choice-is at (x ∷ xs) e ∙ ap (λ (s : Slot). firstChoice (addChoiceAt s own (choicesFrom p (at + cellsLength (x ∷ [])) xs))) f
 
-      go : (s : Slot) → outcomeAt p x xs .slot ≡ s → Meets p raw (at + bytesOf (x ∷ [])) (choicesOfCells p xs) → Meets p raw at (addChoice p s (x ∷ upToLink xs) (choicesOfCells p xs))
-      go bare f m = meets-same (first bare f ∙ sym (choice-is (at + bytesOf (x ∷ [])) xs (others at x xs e))) m
-      go (fixed q) f m = meets-same (first (fixed q) f ∙ sym (choice-is (at + bytesOf (x ∷ [])) xs (others at x xs e))) m
+      go : (s : Slot) → outcomeAt p x xs .slot ≡ s → Meets p raw (at + cellsLength (x ∷ [])) (choicesOfCells p xs) → Meets p raw at (addChoice p s (x ∷ upToLink xs) (choicesOfCells p xs))
+      go bare f m = meets-same (first bare f ∙ sym (choice-is (at + cellsLength (x ∷ [])) xs (others at x xs e))) m
+      go (fixed q) f m = meets-same (first (fixed q) f ∙ sym (choice-is (at + cellsLength (x ∷ [])) xs (others at x xs e))) m
       go (decided d) f m = one-more (own d) (first (decided d) f) (is-choice at x xs d e) m
 
   -- From any offset on, the walk meets the choices of the cells.

@@ -13,7 +13,7 @@ use Rattle.policy.specs.declared.SingletonRule.{SingletonRule}
 use Rattle.scanner.specs.declared.char_class.Class.{Class}
 use Rattle.analysis.specs.Counts.{_⊕_, eight, unsanctioned}
 use Rattle.analysis.specs.declared.types.NonCanonicality.{NonCanonicality}
-use Rattle.analysis.specs.Rules.{Outcome, bare, byFirst, firstOf, fixed, gives, isBareSide, outcome, rule1, rule2, rule3, rule4, rule5, rule6, runWith, textFirst}
+use Rattle.analysis.specs.Rules.{Outcome, bare, byFirst, firstAsked, fixed, gives, isBareSide, outcome, rule1, rule2, rule3, rule4, rule5, rule6, runWith, textFirst}
 use Rattle.analysis.proofs.Counts.{counts-path}
 use Rattle.analysis.proofs.Rules.{by-rules, rule23}
 
@@ -47,8 +47,8 @@ numbers-6 r q s t e = rw e
 numbers : (p : Policy) (c : ℕ) (k : Class) → Numbers (outcome p c k)
 numbers = by-rules Numbers numbers-1 numbers-23 numbers-4 numbers-5 numbers-6
 
-pub by-numbers : (p : Policy) (c : ℕ) (k : Class) (s : List Presentation) → outcome p c k s ≡ outcome p c k (runWith (firstOf s) (length s))
-unfolding runWith firstOf
+pub by-numbers : (p : Policy) (c : ℕ) (k : Class) (s : List Presentation) → outcome p c k s ≡ outcome p c k (runWith (firstAsked s) (length s))
+unfolding runWith firstAsked
 by-numbers p c k [] = refl
 by-numbers p c k (q ∷ s) = numbers p c k q s _ (omega (arith, length-replicate (length (q ∷ s) - 1) q))
 

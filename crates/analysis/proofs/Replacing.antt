@@ -29,7 +29,7 @@ use Rattle.analysis.proofs.ItemAnalysis.{the-type as the-analysis}
 use Rattle.analysis.specs.Analysis.{isFinding, nonCanonicality, render, renew, replacement, replacementOf}
 use Rattle.analysis.specs.Cells.{Cell, cells}
 use Rattle.analysis.specs.Decisions.{decisionsRefusal, judge, meaning, withinLimit, writeOut}
-use Rattle.analysis.specs.ItemAt.{analysisAt, analysisOf, findingFrom, firstFinding, replaceAt, replaceByDefault, replacementBytes, writeFound}
+use Rattle.analysis.specs.ItemAt.{analysisAt, analysisOf, findingFrom, headFinding, replaceAt, replaceByDefault, replacementBytes, writeFound}
 use Rattle.analysis.specs.declared.ItemAnalysis.{ItemAnalysis}
 use Rattle.analysis.specs.declared.ItemAnalysis.the-variants.{Canonical, NonCanonical}
 use Rattle.analysis.specs.declared.types.Finding.{Finding}
@@ -112,13 +112,13 @@ module _ (p : Policy) (text : List ℕ) (at : ℕ) where
 
   -- The arm for the answers that are no finding.
   pub none-found : (a : ItemAnalysis) → OneOf (0 ∷ 1 ∷ []) (tagOf the-analysis a) → a ≡ analysisAt p text at → findingFrom p text at ≡ none
-  unfolding analysisAt analysisOf firstFinding
+  unfolding analysisAt analysisOf headFinding
   none-found a o e = go (items (chars (drop at text))) e
     where
       no : (f : Finding) → a ≡ NonCanonical f → ⊥
       no f g = miss (0 ∷ 1 ∷ []) 2 tt (subst (λ (y : ItemAnalysis). OneOf (0 ∷ 1 ∷ []) (tagOf the-analysis y)) g o)
 
-      go : (l : List Item) → a ≡ analysisOf p at l → firstFinding p l ≡ none
+      go : (l : List Item) → a ≡ analysisOf p at l → headFinding p l ≡ none
       go [] g = refl
       go (x ∷ xs) g = by (isFinding p x) refl g
         where
@@ -154,8 +154,8 @@ module _ (p : Policy) (text : List ℕ) (at : ℕ) where
     found-within = omega (arith, h .end-is, item-within text at (h .item) (h .behind) (h .items-are))
 
     finding-is : findingFrom p text at ≡ some (h .item)
-    unfolding firstFinding
-    finding-is = ap (firstFinding p) (h .items-are) ∙ ap (λ (b : Bool). cond b (some (h .item)) none) (h .found)
+    unfolding headFinding
+    finding-is = ap (headFinding p) (h .items-are) ∙ ap (λ (b : Bool). cond b (some (h .item)) none) (h .found)
 
     written-out : (ds : List Presentation) → cellsWritten p text at f ds ≡ encodeAll (replacement p (h .item) ds)
     written-out ds = item-written (h .items-are) (finding-no-passthrough p (h .item) (h .found)) (h .end-is) ds

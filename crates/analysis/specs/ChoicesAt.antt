@@ -20,8 +20,8 @@ use Rattle.analysis.specs.declared.choice.ReplacementChoice.{Replacement
 use Rattle.analysis.specs.declared.types.MendAnswer.{MendAnswer}
 
 -- The bytes of cells.
-abbrev pub bytesOf : List Cell → ℕ
-bytesOf xs = size width (unsplit xs)
+abbrev pub cellsLength : List Cell → ℕ
+cellsLength xs = size width (unsplit xs)
 
 -- The unit at the front of cells: the first, and those behind it up to the next link.
 unfoldable pub frontUnit : List Cell → List Cell
@@ -52,9 +52,9 @@ module _ (p : Policy) where
   unfoldable pub choicesFrom : ℕ → List Cell → List ReplacementChoice
   choicesFrom at [] = []
   choicesFrom at (x ∷ xs) =
-      let next = at + bytesOf (x ∷ []) in
+      let next = at + cellsLength (x ∷ []) in
       addChoiceAt (outcomeAt p x xs .slot)
-      (λ (d : Presentation). record { start = at; end = at + bytesOf (frontUnit (x ∷ xs)); next = next; default = d })
+      (λ (d : Presentation). record { start = at; end = at + cellsLength (frontUnit (x ∷ xs)); next = next; default = d })
       (choicesFrom next xs)
 
   -- The first choice of a slice from an offset on.

@@ -32,9 +32,9 @@ module _ (p : Policy) where
   analysisAt text at = analysisOf at (items (chars (drop at text)))
 
   -- The first of the items, if it is a finding.
-  unfoldable pub firstFinding : List Item → Option Item
-  firstFinding [] = none
-  firstFinding (x ∷ xs) = cond (isFinding p x) (some x) none
+  unfoldable pub headFinding : List Item → Option Item
+  headFinding [] = none
+  headFinding (x ∷ xs) = cond (isFinding p x) (some x) none
 
   -- The bytes of a finding's replacement under decisions.
   unfoldable pub replacementBytes : Option Item → List Presentation → List ℕ
@@ -43,7 +43,7 @@ module _ (p : Policy) where
 
   -- The finding of a text at an offset.
   abbrev pub findingFrom : List ℕ → ℕ → Option Item
-  findingFrom text at = firstFinding (items (chars (drop at text)))
+  findingFrom text at = headFinding (items (chars (drop at text)))
 
   -- The call that writes the replacement of the finding at an offset under decisions: refusals 1, 4, 5, 6 and 8 in this order.
   unfoldable pub replaceAt : List ℕ → ℕ → List ℕ → List ℕ → After MendAnswer ℕ

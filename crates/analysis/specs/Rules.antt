@@ -26,6 +26,8 @@ use Rattle.analysis.specs.Counts.{
   tagRedundant,
   unsanctioned,
 }
+-- What the rules say of a base: its counts, and its slot, which is what stands behind it in the replacement: no selector (`bare`), this one
+-- (`fixed`), or the one that a decision names, with this default (`decided`).
 pub use Rattle.analysis.specs.declared.singleton.Outcome.{Outcome}
 pub use Rattle.analysis.specs.declared.singleton.Slot.{Slot}
 pub use Rattle.analysis.specs.declared.singleton.Slot.the-variants.{Bare as bare, Fixed as fixed, Decided as decided}
@@ -143,9 +145,9 @@ outcome p c k s =
 -- ---- the selectors by numbers
 
 -- The first of selectors, if there is one.
-unfoldable pub firstOf : List Presentation → FromSelector
-firstOf [] = NoSelector
-firstOf (q ∷ s) = Selector q
+unfoldable pub firstAsked : List Presentation → FromSelector
+firstAsked [] = NoSelector
+firstAsked (q ∷ s) = Selector q
 
 -- Selectors of which the first and the number are known; a number of 0 behind a first selector counts as 1. The rules ask for nothing
 -- more: specs/Theorems.antt, RulesByNumbers.

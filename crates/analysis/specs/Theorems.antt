@@ -51,7 +51,7 @@ use Rattle.analysis.specs.Counts.{
   total,
   unsanctioned,
 }
-use Rattle.analysis.specs.Rules.{bare, byKeycap, decided, firstOf, fixed, gives, outcome, runWith}
+use Rattle.analysis.specs.Rules.{bare, byKeycap, decided, firstAsked, fixed, gives, outcome, runWith}
 use Rattle.analysis.specs.declared.types.NonCanonicality.{NonCanonicality}
 use Rattle.analysis.specs.Worked.{worked, workedItems}
 
@@ -110,7 +110,7 @@ ByPolicy =
 -- The rules ask only which selector is the first and how many there are.
 unfoldable pub RulesByNumbers : Type 0
 RulesByNumbers =
-    (p : Policy) (c : ℕ) (k : Class) (s : List Presentation) → outcome p c k s ≡ outcome p c k (runWith (firstOf s) (length s))
+    (p : Policy) (c : ℕ) (k : Class) (s : List Presentation) → outcome p c k s ≡ outcome p c k (runWith (firstAsked s) (length s))
 
 -- Where two totals together can be held, the sum that the code makes is the sum.
 unfoldable pub SumsAreWhole : Type 0

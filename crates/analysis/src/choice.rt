@@ -4,7 +4,7 @@
 ghost use mathlib.Core.Path.{_≡_};
 ghost use Prim.Native.Nat.{_+_};
 ghost use Rattle.analysis.specs.Analysis.{upToLink};
-ghost use Rattle.analysis.specs.ChoicesAt.{bytesOf, cellsFrom, cellsStart, choiceAt, frontUnit, replaceUnit};
+ghost use Rattle.analysis.specs.ChoicesAt.{cellsLength, cellsFrom, cellsStart, choiceAt, frontUnit, replaceUnit};
 use crate::measure::CellOutcome;
 use crate::measure::cell_outcome;
 use crate::render::write_cells;
@@ -34,7 +34,7 @@ pub enum ChoiceStep {
 
 // The end of the cells at an offset up to the next link; selectors before them are passed.
 fn end_before_link(raw: &[u8], at: usize) -> usize
-    ensures { λ r. ⌜ r ≡ cellsStart (now (raw .entry)) at + bytesOf (upToLink (cellsFrom (now (raw .entry)) at)) ⌝ }
+    ensures { λ r. ⌜ r ≡ cellsStart (now (raw .entry)) at + cellsLength (upToLink (cellsFrom (now (raw .entry)) at)) ⌝ }
 {
     let mut end = at;
     loop {
@@ -96,7 +96,7 @@ pub fn next_choice(raw: &[u8], at: usize, policy: Policy) -> ChoiceStep
 
 // The end of the unit at an offset: its first character that is no selector, and what follows up to the next link.
 fn unit_end(raw: &[u8], at: usize) -> usize
-    ensures { λ r. ⌜ r ≡ cellsStart (now (raw .entry)) at + bytesOf (frontUnit (cellsFrom (now (raw .entry)) at)) ⌝ }
+    ensures { λ r. ⌜ r ≡ cellsStart (now (raw .entry)) at + cellsLength (frontUnit (cellsFrom (now (raw .entry)) at)) ⌝ }
 {
     let start = scanner::consume::run_end(raw, at, scanner::consume::RunKind::Selectors);
     match peek(raw, start) {

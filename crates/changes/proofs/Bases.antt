@@ -32,7 +32,7 @@ use Rattle.analysis.specs.Analysis.{chosen, countCells, following, render}
 use Rattle.analysis.specs.CellView.{classInFront, formatCells, totalCells}
 use Rattle.analysis.specs.Cells.{Cell, cells, leading, unsplit}
 use Rattle.analysis.specs.Counts.{_⊕_, empty, total, unsanctioned}
-use Rattle.analysis.specs.Rules.{firstOf, outcome, runWith}
+use Rattle.analysis.specs.Rules.{firstAsked, outcome, runWith}
 use Rattle.analysis.specs.declared.singleton.Outcome.{Outcome}
 use Rattle.analysis.proofs.Cells.{split-selector, split-whole}
 use Rattle.analysis.proofs.CellsAt.{behind-at, selectors-end, selectors-room, split-behind}
@@ -58,14 +58,14 @@ number-tells (Selector Emoji) (Selector Text) e = absurd (omega arith)
 number-tells (Selector Emoji) (Selector Emoji) e = refl
 
 -- Selectors, at most one, are what their first tells.
-one-at-most : (s : List Presentation) → length s ≤ 1 → runWith (firstOf s) 1 ≡ s
-unfolding runWith firstOf
+one-at-most : (s : List Presentation) → length s ≤ 1 → runWith (firstAsked s) 1 ≡ s
+unfolding runWith firstAsked
 one-at-most [] h = refl
 one-at-most (q ∷ []) h = refl
 one-at-most (q ∷ r ∷ s) h = absurd (omega arith)
 
-first-is : (a : FromSelector) → firstOf (runWith a 1) ≡ a
-unfolding runWith firstOf
+first-is : (a : FromSelector) → firstAsked (runWith a 1) ≡ a
+unfolding runWith firstAsked
 first-is NoSelector = refl
 first-is (Selector q) = refl
 
@@ -76,22 +76,22 @@ few-are (Selector q) = omega arith
 
 -- Nothing is counted exactly where the selector that stays is all there was.
 pub no-change : (p : Policy) (c : ℕ) (k : Class) (s : List Presentation) (a : FromSelector) → runWith a 1 ≡ chosen (outcome p c k s .slot) []
-    → (eqb (selectorNumber (firstOf s)) (selectorNumber a) && leb (3 * length s) 3) ≡ eqb (total (outcome p c k s .counts)) 0
+    → (eqb (selectorNumber (firstAsked s)) (selectorNumber a) && leb (3 * length s) 3) ≡ eqb (total (outcome p c k s .counts)) 0
 no-change p c k s a h = same-test _ _ quiet loud
   where
-    quiet : (eqb (selectorNumber (firstOf s)) (selectorNumber a) && leb (3 * length s) 3) ≡ true → eqb (total (outcome p c k s .counts)) 0 ≡ true
+    quiet : (eqb (selectorNumber (firstAsked s)) (selectorNumber a) && leb (3 * length s) 3) ≡ true → eqb (total (outcome p c k s .counts)) 0 ≡ true
     quiet t =
-        let b = both-true (eqb (selectorNumber (firstOf s)) (selectorNumber a)) (leb (3 * length s) 3) t in
-        let f : firstOf s ≡ a = number-tells (firstOf s) a (eqb-true _ _ (b .0)) in
+        let b = both-true (eqb (selectorNumber (firstAsked s)) (selectorNumber a)) (leb (3 * length s) 3) t in
+        let f : firstAsked s ≡ a = number-tells (firstAsked s) a (eqb-true _ _ (b .0)) in
         let l : length s ≤ 1 = omega (arith, leb-true (3 * length s) 3 (b .1)) in
         let e : chosen (outcome p c k s .slot) [] ≡ s = sym h ∙ ap (λ (x : FromSelector). runWith x 1) (sym f) ∙ one-at-most s l in
         let z : outcome p c k s .counts ≡ empty = ap (λ (x : List Presentation). outcome p c k x .counts) (sym e) ∙ settles p c k s [] in
         eq-eqb _ 0 (ap total z)
 
-    loud : eqb (total (outcome p c k s .counts)) 0 ≡ true → (eqb (selectorNumber (firstOf s)) (selectorNumber a) && leb (3 * length s) 3) ≡ true
+    loud : eqb (total (outcome p c k s .counts)) 0 ≡ true → (eqb (selectorNumber (firstAsked s)) (selectorNumber a) && leb (3 * length s) 3) ≡ true
     loud t =
         let e : runWith a 1 ≡ s = h ∙ keeps p c k s (eqb-true _ 0 t) in
-        let f : firstOf s ≡ a = ap firstOf (sym e) ∙ first-is a in
+        let f : firstAsked s ≡ a = ap firstAsked (sym e) ∙ first-is a in
         and-both _ _ (eq-eqb _ _ (ap selectorNumber f)) (le-leb (3 * length s) 3 (omega (arith, ap length e, few-are a)))
 
 -- ---- the selectors behind a base
@@ -138,7 +138,7 @@ module _ (text : List ℕ) (at : ℕ) where
 -- ---- a base as the code reads it
 
 pub base-read : (p : Policy) (text : List ℕ) (base at : ℕ) (first : FromSelector) (end : ℕ) (k : Class) (a : FromSelector) (m : Bool)
-    → first ≡ firstOf (leading (chars (drop at text))) → end ≡ at + 3 * length (leading (chars (drop at text))) → SameRules k (classInFront (chars (drop end text)))
+    → first ≡ firstAsked (leading (chars (drop at text))) → end ≡ at + 3 * length (leading (chars (drop at text))) → SameRules k (classInFront (chars (drop end text)))
     → ((n : ℕ) → runWith a 1 ≡ chosen (outcome p base k (runWith first n) .slot) []) → m ≡ not (eqb (selectorNumber first) (selectorNumber a) && leb (end - at) 3)
     → BaseChange p text base at (record { kept = at; selector = a; end = end; more = m })
 base-read p text base at first end k a m f e h s q =

@@ -27,7 +27,7 @@ use Rattle.scanner.proofs.char_class.Class.{the-type as the-class}
 use Rattle.analysis.specs.Analysis.{chosen, following}
 use Rattle.analysis.specs.CellView.{classInFront}
 use Rattle.analysis.specs.Cells.{Cell, cells, leading, split}
-use Rattle.analysis.specs.Rules.{byKeycap, firstOf, outcome, rule4, rule5, rule6, runWith}
+use Rattle.analysis.specs.Rules.{byKeycap, firstAsked, outcome, rule4, rule5, rule6, runWith}
 use Rattle.analysis.specs.declared.singleton.Outcome.{Outcome}
 use Rattle.analysis.proofs.Cells.{front-char, split-char}
 use Rattle.analysis.proofs.CellsAt.{split-at}
@@ -110,7 +110,7 @@ module _ (p : Policy) (text : List ℕ) (base at : ℕ) where
       let s = split-at text at e in
       front-class (chars (drop end text)) (ap (λ (a : List Presentation × List Cell). a .0) s) ∙ ap (λ (a : List Presentation × List Cell). following (a .1)) s
 
-  pub outcome-read : (first : FromSelector) (end : ℕ) (k : Class) → first ≡ firstOf (leading T) → end ≡ at + 3 * length (leading T) → SameRules k (classInFront (chars (drop end text)))
+  pub outcome-read : (first : FromSelector) (end : ℕ) (k : Class) → first ≡ firstAsked (leading T) → end ≡ at + 3 * length (leading T) → SameRules k (classInFront (chars (drop end text)))
       → outcome p base k (runWith first (length (leading T))) ≡ outcomeFrom p text base at
   outcome-read first end k f e h =
       same-outcome p base (runWith first (length (leading T))) (subst (SameRules k) (follows end e) h)

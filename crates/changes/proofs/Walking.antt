@@ -48,7 +48,7 @@ use Rattle.analysis.specs.Analysis.{chosen}
 use Rattle.analysis.specs.CellView.{classInFront}
 use Rattle.analysis.specs.Cells.{leading}
 use Rattle.analysis.specs.Counts.{total}
-use Rattle.analysis.specs.Rules.{firstOf, outcome, rule1, runWith}
+use Rattle.analysis.specs.Rules.{firstAsked, outcome, rule1, runWith}
 use Rattle.analysis.specs.declared.singleton.Outcome.{Outcome}
 use Rattle.analysis.proofs.CellsAt.{behind-at, selectors-end, selectors-room}
 use Rattle.analysis.proofs.NumberRules.{by-numbers}
@@ -66,7 +66,7 @@ use Rattle.changes.proofs.Staying.{step-total}
 -- ---- whether something is counted of a cell
 
 pub entry-changes : (p : Policy) (c : ℕ) (k : Class) (s : List Presentation) (first a : FromSelector) (bytes : ℕ) (m : Bool)
-    → first ≡ firstOf s → bytes ≡ 3 * length s → ((n : ℕ) → runWith a 1 ≡ chosen (outcome p c k (runWith first n) .slot) [])
+    → first ≡ firstAsked s → bytes ≡ 3 * length s → ((n : ℕ) → runWith a 1 ≡ chosen (outcome p c k (runWith first n) .slot) [])
     → m ≡ not (eqb (selectorNumber first) (selectorNumber a) && leb bytes 3) → m ≡ not (eqb (total (outcome p c k s .counts)) 0)
 entry-changes p c k s first a bytes m f b h q =
     q ∙ ap₂ (λ (x : FromSelector) (n : ℕ). not (eqb (selectorNumber x) (selectorNumber a) && leb n 3)) f b
@@ -84,9 +84,9 @@ no-entry-changes p c k s bytes e b =
 
 -- The cell as the code reads it.
 pub read-end : (p : Policy) (text : List ℕ) (base at : ℕ) (first : FromSelector) (end n : ℕ) (k : Class) (i : VariationSequenceIndex) (m : Bool)
-    → first ≡ firstOf (leading (chars (drop at text))) → end ≡ at + 3 * length (leading (chars (drop at text))) → n ≡ packed (readChar (drop end text))
+    → first ≡ firstAsked (leading (chars (drop at text))) → end ≡ at + 3 * length (leading (chars (drop at text))) → n ≡ packed (readChar (drop end text))
     → k ≡ classOf (n / 8) → i ≡ variationSequenceIndex (n / 8)
-    → ((s : List Presentation) → first ≡ firstOf s → end - at ≡ 3 * length s → m ≡ not (eqb (total (outcome p base k s .counts)) 0))
+    → ((s : List Presentation) → first ≡ firstAsked s → end - at ≡ 3 * length s → m ≡ not (eqb (total (outcome p base k s .counts)) 0))
     → ReadsCell p text base at (record { end = end; changes = m; packed = n; class = k; index = i })
 read-end p text base at first end n k i m f e d c j h =
     let t = chars (drop at text) in

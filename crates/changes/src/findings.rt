@@ -17,7 +17,7 @@ ghost use Rattle.scanner.specs.Classes.{classOf};
 ghost use Rattle.scanner.specs.Items.{begin, kindOf};
 ghost use Rattle.scanner.specs.Theorems.{Structured};
 ghost use Rattle.analysis.specs.Counts.{total};
-ghost use Rattle.analysis.specs.Rules.{firstOf, outcome};
+ghost use Rattle.analysis.specs.Rules.{firstAsked, outcome};
 ghost use Rattle.changes.specs.Changes.{AsciiBare};
 ghost use Rattle.changes.specs.Findings.{NextFinding, ReadsCell, Skips, WalkedFrom};
 use crate::base_selectors::is_change;
@@ -62,7 +62,7 @@ fn cell_changes(
     bytes: usize,
 ) -> bool
     requires { ⌜ variationSequenceIndex base ≡ index ⌝ }
-    ensures { λ r. ⌜ ((s : List PresentationValue) → first ≡ firstOf s → bytes ≡ 3 * length s → r ≡ not (eqb (total (outcome (policyOf (now (policy .entry))) base next s .counts)) 0)) ⌝ }
+    ensures { λ r. ⌜ ((s : List PresentationValue) → first ≡ firstAsked s → bytes ≡ 3 * length s → r ≡ not (eqb (total (outcome (policyOf (now (policy .entry))) base next s .counts)) 0)) ⌝ }
 {
     match index {
         VariationSequenceIndex::At(i) => {

@@ -31,14 +31,14 @@ use Rattle.analysis.proofs.Lengths.{render-bytes}
 use Rattle.analysis.proofs.Replacing.{item-written, out-short, out-written, part, part-within, part-written}
 use Rattle.formatter.specs.Demand3.{Accepted}
 use Rattle.formatter.specs.Findings.{findings}
-use Rattle.formatter.specs.Mend.{Starts, cellsFrom, exchanged, findingAt, mend}
+use Rattle.formatter.specs.Mend.{Starts, cellsWritten, exchanged, findingAt, mend}
 use Rattle.formatter.proofs.Around.{between}
 use Rattle.formatter.proofs.Calls.{pass-intake}
 
 -- ---- the text that is put together
 
 -- A part's cells are written in at most four times the text's bytes.
-pub cells-few : (p : Policy) (text : List ℕ) (start end : ℕ) (ds : List Presentation) → length (cellsFrom p text start end ds) ≤ 4 * length text
+pub cells-few : (p : Policy) (text : List ℕ) (start end : ℕ) (ds : List Presentation) → length (cellsWritten p text start end ds) ≤ 4 * length text
 cells-few p text start end ds =
     let raw = part text start end in
     let t = chars raw in
@@ -46,9 +46,9 @@ cells-few p text start end ds =
 
 -- The text with the cells from start up to end written in their place, in n bytes.
 module _ (p : Policy) (text : List ℕ) (start : ℕ) (decisions : List ℕ) {end n : ℕ} (s : start ≤ end) (e : end ≤ length text)
-    (h : length text ≤ textLimit) (g : n ≡ length (cellsFrom p text start end (map meaning decisions))) (out : List ℕ) where
+    (h : length text ≤ textLimit) (g : n ≡ length (cellsWritten p text start end (map meaning decisions))) (out : List ℕ) where
   abbrev B : List ℕ
-  B = cellsFrom p text start end (map meaning decisions)
+  B = cellsWritten p text start end (map meaning decisions)
 
   abbrev R : List ℕ
   R = take start text ++ B ++ drop end text
@@ -126,7 +126,7 @@ module _ (policy text : List ℕ) (acc : Accepted policy text) (offset : ℕ) (d
   -- A finding starts at the offset, and ends at end; its bytes have these counts, and the decisions are tested for them.
   pub mend-tested : {end : ℕ} → Starts P text offset end → {q : Policy} → q ≡ P → {n : NonCanonicality} → n ≡ totalCells q (chars (part text offset end))
       → {t : Option Refusal} → decisionsRefusal (n .«presentation_decisions») decisions ≡ t → (out : List ℕ) {a : After MendAnswer ℕ}
-      → a ≡ orElse t (λ (r : Refusal). kept (Refused r) out) (writeOut (take offset text ++ cellsFrom q text offset end ds ++ drop end text) out)
+      → a ≡ orElse t (λ (r : Refusal). kept (Refused r) out) (writeOut (take offset text ++ cellsWritten q text offset end ds ++ drop end text) out)
       → a ≡ mend text policy offset decisions out
   unfolding judge
   mend-tested {end} s {q} r {n} c {t} d out e =
@@ -134,8 +134,8 @@ module _ (policy text : List ℕ) (acc : Accepted policy text) (offset : ℕ) (d
       let x = h .item in
       let o = finding-no-passthrough P x (h .is-finding) in
       let m : n ≡ nonCanonicality P x = c ∙ ap (λ (q : Policy). totalCells q (chars (part text offset end))) r ∙ item-totals P text offset (h .items-are) o (h .end-is) in
-      let w : cellsFrom q text offset end ds ≡ encodeAll (replacement P x ds) =
-      ap (λ (q : Policy). cellsFrom q text offset end ds) r ∙ item-written P text offset (h .items-are) o (h .end-is) ds in
+      let w : cellsWritten q text offset end ds ≡ encodeAll (replacement P x ds) =
+      ap (λ (q : Policy). cellsWritten q text offset end ds) r ∙ item-written P text offset (h .items-are) o (h .end-is) ds in
       let k : end ≡ offset + length (encodeAll (x .chars)) = omega (arith, h .end-is, size-width (x .chars)) in
       e ∙ ap₂ (λ (b : List ℕ) (k : ℕ). orElse t (λ (r : Refusal). kept (Refused r) out) (writeOut (take offset text ++ b ++ drop k text) out)) w k
       ∙ ap (λ (t : Option Refusal). orElse t (λ (r : Refusal). kept (Refused r) out) (writeOut (exchanged text P offset ds (some x)) out)) (sym d ∙ ap (λ (n : NonCanonicality). decisionsRefusal (n .«presentation_decisions») decisions) m)

@@ -59,8 +59,8 @@ FindingStarting p text offset r =
     (r .more ≡ true → Starts p text offset (r .end)) × (r .more ≡ false → findingAt offset (findingsFrom p text 0) ≡ none)
 
 -- The cells of a text from an offset up to another, written with the selectors that the rules and the decisions give them.
-abbrev pub cellsFrom : Policy → List ℕ → ℕ → ℕ → List Presentation → List ℕ
-cellsFrom p text start end ds = encodeAll (render p (cells (chars (take (end - start) (drop start text)))) ds)
+abbrev pub cellsWritten : Policy → List ℕ → ℕ → ℕ → List Presentation → List ℕ
+cellsWritten p text start end ds = encodeAll (render p (cells (chars (take (end - start) (drop start text)))) ds)
 
 -- ---- a list of calls
 

@@ -10,7 +10,7 @@ ghost use Rattle.utf8.specs.Rfc3629.{validUpTo};
 ghost use Rattle.policy.specs.PolicyBytes.{policyOf};
 ghost use Rattle.analysis.specs.Decisions.{meaning, writeOut};
 ghost use Rattle.formatter.specs.Demand3.{Accepted};
-ghost use Rattle.formatter.specs.Mend.{FindingStarting, Starts, cellsFrom, mend};
+ghost use Rattle.formatter.specs.Mend.{FindingStarting, Starts, cellsWritten, mend};
 use analysis::decisions::check_decisions;
 use analysis::measure::Measure;
 use analysis::measure::measure_cells;
@@ -69,8 +69,8 @@ fn exchange(
     decisions: &[u8],
     out: &mut [u8],
 ) -> MendAnswer
-    requires { ⌜ (start ≤ end) × (end ≤ length (now text)) × (length (now text) ≤ textLimit) × (len ≡ length (cellsFrom policy (now text) start end (map meaning (now decisions)))) ⌝ }
-    ensures { λ r. ⌜ record { answer = r; buffer = now (out .exit) } ≡ writeOut (take start (now (text .entry)) ++ cellsFrom policy (now (text .entry)) start end (map meaning (now (decisions .entry))) ++ drop end (now (text .entry))) (now (out .entry)) ⌝ }
+    requires { ⌜ (start ≤ end) × (end ≤ length (now text)) × (length (now text) ≤ textLimit) × (len ≡ length (cellsWritten policy (now text) start end (map meaning (now decisions)))) ⌝ }
+    ensures { λ r. ⌜ record { answer = r; buffer = now (out .exit) } ≡ writeOut (take start (now (text .entry)) ++ cellsWritten policy (now (text .entry)) start end (map meaning (now (decisions .entry))) ++ drop end (now (text .entry))) (now (out .entry)) ⌝ }
 {
     let stop = start + len;
     let wanted = stop + (text.len() - end);

@@ -47,8 +47,8 @@ findingLine numbers = line (map decimal numbers)
 unfoldable pub totalLine : List ℕ → List ℕ
 totalLine numbers = line ((0x74 ∷ 0x6F ∷ 0x74 ∷ 0x61 ∷ 0x6C ∷ []) ∷ map decimal numbers)
 
--- "Returned" of a cause in document 01's table: none where it says "nothing more". The programs give only 1 and 3, whose value is
--- the offset.
+-- "Returned" of a cause in document 01's table: none where it says "nothing more". The programs give only 1 and 3, of
+-- which 3 has a value, the offset.
 unfoldable pub returned : Refusal → List ℕ
 returned TextTooLong = []
 returned NotAPolicy = []

@@ -87,7 +87,7 @@ step leftOver keycap = none
 step leftOver tag = none
 step leftOver other = none
 
--- The code's answer for it.
+-- What `step` says, as the code's enum `Next`.
 abbrev pub nextOf : Option Place → Next
 nextOf (some q) = On q
 nextOf none = Stop

@@ -30,7 +30,7 @@ behindSelectors t = behindRun isSelector t
 abbrev pub inTags : ℕ → Bool
 inTags c = isTag c || isSelector c
 
--- "A tag modification ends at the first character that is neither tag nor selector."
+-- "A tag modification ends at the first character that is neither tag nor selector": what is left of one, from inside it on.
 unfoldable pub tagModificationAt : List ℕ → List ℕ
 tagModificationAt t = run inTags t
 

@@ -37,7 +37,7 @@ inRanges c [] = false
 inRanges c (first ∷ []) = false
 inRanges c (first ∷ last ∷ rs) = within first last c || inRanges c rs
 
--- "Every table is strictly ascending": a number, and each below the next
+-- "Every table is strictly ascending": each number is below the next, from one on that stands before them
 unfoldable pub ascendingFrom : ℕ → List ℕ → Bool
 ascendingFrom x [] = true
 ascendingFrom x (y ∷ ys) = ltb x y && ascendingFrom y ys

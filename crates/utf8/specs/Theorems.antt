@@ -1,4 +1,4 @@
--- What is claimed of UTF-8 as set out in Rfc3629. Each statement is proved in proofs/Claims, under the same name in lower case.
+-- What is claimed of UTF-8 as set out in Rfc3629. Each statement is proved in proofs/Claims, under the same name in lower case with hyphens.
 use mathlib.Core.Path.{_≡_}
 use mathlib.Core.Logic.{_↔_}
 use mathlib.Core.Bool.{true}
