@@ -6,5 +6,6 @@ pub mod PlainText
 pub mod Passing
 pub mod AsciiText
 pub mod Kept
+pub mod NumberedSelectors
 pub mod Bases
 pub mod Walking

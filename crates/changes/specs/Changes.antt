@@ -4,7 +4,7 @@ use mathlib.Core.Path.{_≡_}
 use mathlib.Core.Logic.{_⊎_}
 use mathlib.Core.Bool.{true, false, not}
 use mathlib.Core.List.{List, [], _++_, map}
-use Prim.Native.Nat.{ℕ, _+_, _*_, _-_, _<_, _≤_}
+use Prim.Native.Nat.{ℕ, zero, suc, _+_, _*_, _-_, _<_, _≤_}
 use lib.Dec.{eqb}
 use lib.ListN.{drop, length, take}
 use Rattle.utf8.specs.Rfc3629.{chars, encodeAll, validUpTo}
@@ -15,7 +15,8 @@ use Rattle.unicode.specs.declared.presentation.FromSelector.the-variants.{NoSel
 use Rattle.unicode.specs.declared.presentation.Presentation.the-variants.{Emoji, Text}
 use Rattle.policy.specs.Policy.{singletonRule}
 use Rattle.policy.specs.declared.Policy.{Policy}
-use Rattle.policy.specs.declared.SingletonRule.the-variants.{EmojiToBare, TextToBare}
+use Rattle.policy.specs.declared.SingletonRule.{SingletonRule}
+use Rattle.policy.specs.declared.SingletonRule.the-variants.{BareToEmoji, BareToText, EmojiToBare, TextToBare}
 use Rattle.scanner.specs.declared.char_class.Class.{Class}
 use Rattle.analysis.specs.Analysis.{chosen, following}
 use Rattle.analysis.specs.CellView.{formatCells, totalCells}
@@ -92,6 +93,19 @@ unfoldable pub selectorNumber : FromSelector → ℕ
 selectorNumber NoSelector = 0
 selectorNumber (Selector Text) = 1
 selectorNumber (Selector Emoji) = 2
+
+-- The selector, or none, of a number.
+unfoldable pub selectorOf : ℕ → FromSelector
+selectorOf zero = NoSelector
+selectorOf (suc zero) = Selector Text
+selectorOf (suc (suc n)) = Selector Emoji
+
+-- What rule 6 leaves, by the numbers of selectors in two bits each, lowest first: of none, of a first FE0E, and of a first FE0F.
+unfoldable pub keptWord : SingletonRule → ℕ
+keptWord TextToBare = 0x20
+keptWord EmojiToBare = 0x04
+keptWord BareToText = 0x25
+keptWord BareToEmoji = 0x26
 
 -- What the rules say of a base whose selectors begin at an offset.
 abbrev pub outcomeFrom : Policy → List ℕ → ℕ → ℕ → Outcome

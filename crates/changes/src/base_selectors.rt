@@ -1,15 +1,15 @@
 // What becomes of the selectors behind a base that has a variation entry (document 01, "Counts and finding", rules 2 to 6): the
 // selector that stays, and whether that is a change. `base_change` meets `BaseChange` of specs/Changes.antt.
 ghost use mathlib.Core.Path.{_≡_};
-ghost use mathlib.Core.Bool.{Bool, _&&_, cond, not};
-ghost use mathlib.Core.List.{List, []};
-ghost use Prim.Native.Nat.{ℕ, _+_};
+ghost use mathlib.Core.Bool.{_&&_, cond, not};
+ghost use mathlib.Core.List.{[]};
+ghost use Prim.Native.Nat.{ℕ, _+_, _*_, _/_, _%_, _^_, _≤_};
 ghost use lib.Dec.{eqb, leb};
 ghost use lib.ListN.{drop};
 ghost use Rattle.utf8.specs.Rfc3629.{chars};
 ghost use Rattle.unicode.specs.Unicode.{variationSequenceIndex};
 ghost use Rattle.unicode.specs.declared.VariationSequenceIndex.the-variants.{At};
-ghost use Rattle.unicode.specs.declared.presentation.Presentation.{Presentation as PresentationValue};
+ghost use Rattle.unicode.specs.declared.presentation.FromSelector.{FromSelector as FirstSelector};
 ghost use Rattle.policy.specs.PolicyBytes.{policyOf};
 ghost use Rattle.scanner.specs.Classes.{classOf};
 ghost use Rattle.scanner.specs.Runs.{selectorsAt};
@@ -17,8 +17,8 @@ ghost use Rattle.scanner.specs.SelectorRun.{firstSelector};
 ghost use Rattle.scanner.specs.Spans.{size, width};
 ghost use Rattle.analysis.specs.Analysis.{chosen};
 ghost use Rattle.analysis.specs.CellView.{classInFront};
-ghost use Rattle.analysis.specs.Rules.{byKeycap, outcome, rule2, rule3, rule4, rule5, rule6, runWith, textFirst};
-ghost use Rattle.changes.specs.Changes.{BaseChange, SameRules, selectorNumber};
+ghost use Rattle.analysis.specs.Rules.{byKeycap, outcome, runWith};
+ghost use Rattle.changes.specs.Changes.{BaseChange, SameRules, keptWord, selectorNumber, selectorOf};
 use crate::Change;
 use policy::SingletonRule;
 use scanner::char_class::Class;
@@ -55,57 +55,44 @@ fn rule_class_at(text: &[u8], at: usize) -> Class
     rule_class(utf8::decode(text, at) / 8)
 }
 
-// Rule 6: what stays of the selectors by what the policy says of the base.
-fn by_policy(rule: SingletonRule, first: FromSelector) -> FromSelector
-    ensures { λ r. ⌜ ((n : ℕ) → runWith r 1 ≡ chosen (rule6 rule (runWith first n) .slot) []) ⌝ }
+// What rule 6 leaves, by numbers in one word.
+fn kept_word(rule: SingletonRule) -> u32
+    ensures { λ r. ⌜ r ≡ keptWord rule ⌝ }
 {
     match rule {
-        SingletonRule::TextToBare => match first {
-            FromSelector::NoSelector => first,
-            FromSelector::Selector(presentation) => match presentation {
-                Presentation::Text => FromSelector::NoSelector,
-                Presentation::Emoji => first,
-            },
-        },
-        SingletonRule::EmojiToBare => match first {
-            FromSelector::NoSelector => first,
-            FromSelector::Selector(presentation) => match presentation {
-                Presentation::Text => first,
-                Presentation::Emoji => FromSelector::NoSelector,
-            },
-        },
-        SingletonRule::BareToText => match first {
-            FromSelector::NoSelector => FromSelector::Selector(Presentation::Text),
-            FromSelector::Selector(_) => first,
-        },
-        SingletonRule::BareToEmoji => match first {
-            FromSelector::NoSelector => FromSelector::Selector(Presentation::Emoji),
-            FromSelector::Selector(_) => first,
-        },
+        SingletonRule::TextToBare => 0x20,
+        SingletonRule::EmojiToBare => 0x04,
+        SingletonRule::BareToText => 0x25,
+        SingletonRule::BareToEmoji => 0x26,
     }
 }
 
-// Rules 2 and 3: what stays of the selectors before a modifier.
-fn before_modifier(first: FromSelector) -> FromSelector
-    ensures { λ r. ⌜ ((b : Bool) (n : ℕ) → runWith r 1 ≡ chosen (cond (textFirst (runWith first n)) (rule2 (runWith first n)) (rule3 b (runWith first n)) .slot) []) ⌝ }
+// Rule 6: the number of what stays, by what the policy says of the base and the number of the first selector.
+fn by_policy(rule: SingletonRule, first: u32) -> u32
+    requires { ⌜ first ≤ 2 ⌝ }
+    ensures { λ r. ⌜ r ≡ keptWord rule / 2 ^ (2 * first) % 4 ⌝ }
 {
-    match first {
-        FromSelector::NoSelector => first,
-        FromSelector::Selector(presentation) => match presentation {
-            Presentation::Text => first,
-            Presentation::Emoji => FromSelector::NoSelector,
-        },
-    }
+    (kept_word(rule) >> (2 * first)) % 4
 }
 
-// Rules 4 and 5: what stays of the selectors before tags.
-fn before_tags(is_emoji_default: bool) -> FromSelector
-    ensures { λ r. ⌜ ((s : List PresentationValue) → runWith r 1 ≡ chosen (cond «is_emoji_default» (rule4 s) (rule5 s) .slot) []) ⌝ }
+// Rules 2 and 3: the number of what stays of the selectors before a modifier.
+fn before_modifier(first: u32) -> u32
+    ensures { λ r. ⌜ r ≡ cond (eqb first 1) 1 0 ⌝ }
+{
+    if first == 1 {
+        return 1;
+    }
+    0
+}
+
+// Rules 4 and 5: the number of what stays of the selectors before tags.
+fn before_tags(is_emoji_default: bool) -> u32
+    ensures { λ r. ⌜ r ≡ cond «is_emoji_default» 0 2 ⌝ }
 {
     if is_emoji_default {
-        return FromSelector::NoSelector;
+        return 0;
     }
-    FromSelector::Selector(Presentation::Emoji)
+    2
 }
 
 // Whether a class is that of 20E3.
@@ -118,16 +105,11 @@ fn is_keycap(class: Class) -> bool
     }
 }
 
-// What stays of the selectors behind a base, by the class of what follows them and the first of them.
-pub(crate) fn kept_selector(
-    policy: &[u8],
-    base: u32,
-    index: usize,
-    next: Class,
-    first: FromSelector,
-) -> FromSelector
-    requires { ⌜ variationSequenceIndex base ≡ At index ⌝ }
-    ensures { λ r. ⌜ ((n : ℕ) → runWith r 1 ≡ chosen (outcome (policyOf (now (policy .entry))) base next (runWith first n) .slot) []) ⌝ }
+// The number of what stays of the selectors behind a base, by the class of what follows them and the number of the first of them.
+pub(crate) fn kept_number(policy: &[u8], base: u32, index: usize, next: Class, first: u32) -> u32
+    requires { ⌜ (variationSequenceIndex base ≡ At index) × (first ≤ 2) ⌝ }
+    ensures few { λ r. ⌜ r ≤ 2 ⌝ }
+    ensures kept { λ r. ⌜ ((f : FirstSelector) → first ≡ selectorNumber f → (n : ℕ) → runWith (selectorOf r) 1 ≡ chosen (outcome (policyOf (now (policy .entry))) base next (runWith f n) .slot) []) ⌝ }
 {
     match next {
         Class::Modifier => before_modifier(first),
@@ -140,8 +122,8 @@ pub(crate) fn kept_selector(
 }
 
 // A selector, or none, by number.
-fn number_of(selector: FromSelector) -> u8
-    ensures { λ r. ⌜ r ≡ selectorNumber selector ⌝ }
+pub(crate) fn number_of(selector: FromSelector) -> u32
+    ensures { λ r. ⌜ (r ≡ selectorNumber selector) × (r ≤ 2) ⌝ }
 {
     match selector {
         FromSelector::NoSelector => 0,
@@ -152,11 +134,24 @@ fn number_of(selector: FromSelector) -> u8
     }
 }
 
-// Whether selectors of so many bytes, of which the first is known, are other ones than the selector that stays.
-pub(crate) fn is_change(first: FromSelector, bytes: usize, selector: FromSelector) -> bool
-    ensures { λ r. ⌜ r ≡ not (eqb (selectorNumber first) (selectorNumber selector) && leb bytes 3) ⌝ }
+// The selector, or none, of a number.
+fn selector_of(number: u32) -> FromSelector
+    ensures { λ r. ⌜ r ≡ selectorOf number ⌝ }
 {
-    if number_of(first) != number_of(selector) {
+    if number == 0 {
+        return FromSelector::NoSelector;
+    }
+    if number == 1 {
+        return FromSelector::Selector(Presentation::Text);
+    }
+    FromSelector::Selector(Presentation::Emoji)
+}
+
+// Whether selectors of so many bytes, of which the first is known by its number, are other ones than the selector that stays.
+pub(crate) fn is_change(first: u32, bytes: usize, kept: u32) -> bool
+    ensures { λ r. ⌜ r ≡ not (eqb first kept && leb bytes 3) ⌝ }
+{
+    if first != kept {
         return true;
     }
     if SELECTOR_BYTES < bytes {
@@ -181,14 +176,16 @@ pub(crate) fn base_change(text: &[u8], policy: &[u8], base: u32, index: usize, a
     requires { ⌜ variationSequenceIndex base ≡ At index ⌝ }
     ensures { λ r. ⌜ BaseChange (policyOf (now (policy .entry))) (now (text .entry)) base at r ⌝ }
 {
-    let first = selector_at(text, at);
-    let end = selectors_behind(text, at, first);
+    let selector = selector_at(text, at);
+    let first = number_of(selector);
+    let end = selectors_behind(text, at, selector);
     let next = rule_class_at(text, end);
-    let selector = kept_selector(policy, base, index, next, first);
-    let more = is_change(first, end - at, selector);
+    let kept = kept_number(policy, base, index, next, first);
+    let more = is_change(first, end - at, kept);
+    let stays = selector_of(kept);
     Change {
         kept: at,
-        selector,
+        selector: stays,
         end,
         more,
     }

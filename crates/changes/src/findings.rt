@@ -21,7 +21,8 @@ ghost use Rattle.analysis.specs.Rules.{firstAsked, outcome};
 ghost use Rattle.changes.specs.Changes.{AsciiBare};
 ghost use Rattle.changes.specs.Findings.{NextFinding, ReadsCell, Skips, WalkedFrom};
 use crate::base_selectors::is_change;
-use crate::base_selectors::kept_selector;
+use crate::base_selectors::kept_number;
+use crate::base_selectors::number_of;
 use crate::base_selectors::selectors_behind;
 use crate::plain::skip_ascii;
 use crate::plain::skip_letters;
@@ -66,7 +67,8 @@ fn cell_changes(
 {
     match index {
         VariationSequenceIndex::At(i) => {
-            is_change(first, bytes, kept_selector(policy, base, i, next, first))
+            let number = number_of(first);
+            is_change(number, bytes, kept_number(policy, base, i, next, number))
         }
         VariationSequenceIndex::NoEntry => bytes != 0,
     }

@@ -1,19 +1,35 @@
--- `changes::base_selectors::base_change` meets its contract: what was read, put together (`Bases`, base-read).
-use Rattle.changes.proofs.Bases.{base-read}
-use Rattle.analysis.proofs.CellsAt.{first-leads, selectors-end}
-use Rattle.policy.specs.PolicyBytes.{policyOf}
-use Rattle.utf8.specs.Rfc3629.{chars}
+-- What was read, put together (`Bases`, base-read).
+use mathlib.Core.Path.{ap₂, sym, _∙_, subst}
+use mathlib.Core.Bool.{_&&_, not}
+use Prim.Native.Nat.{ℕ, _-_}
+use lib.Dec.{eqb, leb}
 use lib.ListN.{drop}
-use mathlib.Core.Path.{_∙_}
 use borrow.Author.Needs.{needs}
+use Rattle.utf8.specs.Rfc3629.{chars}
+use Rattle.unicode.specs.declared.presentation.FromSelector.{FromSelector}
+use Rattle.policy.specs.PolicyBytes.{policyOf}
+use Rattle.analysis.proofs.CellsAt.{first-leads, selectors-end}
+use Rattle.changes.specs.Changes.{BaseChange, selectorOf}
+use Rattle.changes.proofs.Bases.{base-read}
+use Rattle.changes.proofs.NumberedSelectors.{number-selector}
 use Rattle.changes.proofs.base_selectors.base_change.Statement.{statement}
 use Rattle.changes.proofs.base_selectors.base_change.Tie as tie
 
 returns : tie.Need-returns
 returns c =
-    let x = c .before .before .before .before .before .before .before .args in
-    base-read (policyOf (x .policy .now)) (x .text .now) (x .base) (x .at) (c .before .before .before .before .selector-at .result) (c .before .before .before .selectors-behind .result) (c .before .before .rule-class-at .result) (c .before .kept-selector .result) (c .is-change .result)
-    (c .before .before .before .before .selector-at .ensures ∙ first-leads (chars (drop (x .at) (x .text .now)))) (c .before .before .before .selectors-behind .ensures ∙ selectors-end (x .text .now) (x .at)) (c .before .before .rule-class-at .ensures) (c .before .kept-selector .ensures) (c .is-change .ensures)
+    let x = c .before .before .before .before .before .before .before .before .before .args in
+    let p = policyOf (x .policy .now) in
+    let t = x .text .now in
+    let f = c .before .before .before .before .before .before .selector-at in
+    let i = c .before .before .before .before .before .number-of in
+    let e = c .before .before .before .before .selectors-behind in
+    let k = c .before .before .before .rule-class-at in
+    let a = c .before .before .kept-number in
+    let m = c .before .is-change in
+    let q = m .ensures ∙ ap₂ (λ (u v : ℕ). not (eqb u v && leb (e .result - x .at) 3)) (i .ensures .0) (sym (number-selector (a .result) (a .ensures .0))) in
+    subst (λ (s : FromSelector). BaseChange p t (x .base) (x .at) (record { kept = x .at; selector = s; end = e .result; more = m .result })) (sym (c .selector-of .ensures))
+    (base-read p t (x .base) (x .at) (f .result) (e .result) (k .result) (selectorOf (a .result)) (m .result)
+    (f .ensures ∙ first-leads (chars (drop (x .at) t))) (e .ensures ∙ selectors-end t (x .at)) (k .ensures) (a .ensures .1 (f .result) (i .ensures .0)) q)
 
 pub base-change-spec : {M : Type 1} → statement M
 base-change-spec =
@@ -23,6 +39,8 @@ base-change-spec =
     (λ c κs. search needs)
     (λ c κs. search needs)
     (λ c κs. search needs)
+    (λ c κs. search needs)
     (λ c. search needs)
+    (λ c κs. search needs)
     (λ c κs. search needs)
     returns)
