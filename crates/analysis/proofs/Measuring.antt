@@ -1,15 +1,17 @@
 -- The totals and the length of a slice, cell by cell: what the loop that counts and measures goes by.
-use mathlib.Core.Path.{_≡_, refl, ap, sym, _∙_}
+use mathlib.Core.Path.{_≡_, refl, ap, sym, _∙_, subst}
 use mathlib.Core.Logic.{⊎-elim}
 use mathlib.Core.Bool.{Bool, true, false}
 use mathlib.Core.List.{List, [], _∷_, map}
-use Prim.Native.Nat.{ℕ, suc, _+_, _*_, _≤_}
+use Prim.Native.Nat.{ℕ, suc, _+_, _*_, _-_, _/_, _≤_}
+use native.Mathlib.Nat.{add-zero}
 use native.Mathlib.Omega.{arith}
 use lib.ListN.{drop, length}
 use Rattle.base.proofs.Tests.{le-or-lt}
 use Rattle.utf8.specs.Rfc3629.{chars}
 use Rattle.utf8.proofs.Places.{Step, Stop}
 use Rattle.unicode.specs.Presentation.{asSelector, isSelector}
+use Rattle.unicode.specs.Unicode.{hasVariationSequence}
 use Rattle.unicode.specs.declared.presentation.Presentation.{Presentation}
 use Rattle.unicode.specs.declared.presentation.Presentation.the-variants.{Emoji, Text}
 use Rattle.policy.specs.declared.Policy.{Policy}
@@ -31,7 +33,7 @@ use Rattle.analysis.proofs.Cells.{front-char, split-char}
 use Rattle.analysis.proofs.CellsAt.{read-count, read-end, selectors-room, split-at}
 use Rattle.analysis.proofs.Counts.{empty-plus, plus-assoc, plus-empty}
 use Rattle.analysis.proofs.Replacement.{remaining-none, render-cons, renewed}
-use Rattle.analysis.proofs.Rules.{by-rules, rule23}
+use Rattle.analysis.proofs.Rules.{by-rules, outcome-no-entry, rule23}
 use Rattle.analysis.proofs.Sums.{capped-held, capped-more, whole-sum}
 
 -- ---- a cell has at most one count more than selectors
@@ -205,3 +207,15 @@ module _ {p : Policy} {text : List ℕ} {at : ℕ} {counts : NonCanonicality} {l
         held = capped-most (len + (w + slotLength (o .slot)));
         none-leads = ap (λ (x : List Presentation × List Cell). x .0) s;
       }
+
+  -- A character without a variation entry, and its selectors, which are unsanctioned.
+  pub measuring-plain : {v w : ℕ} → Step text at v w → length text ≤ most → hasVariationSequence v ≡ false → (end n : ℕ)
+      → end ≡ at + w + 3 * length (leading (chars (drop (at + w) text))) → n ≡ (end - (at + w)) / 3
+      → Measuring p text end (cappedSum counts (unsanctioned n)) (capped (len + w))
+  unfolding rule1
+  measuring-plain {v} {w} h l e end n he hn =
+      let t = chars (drop (at + w) text) in
+      let i : n ≡ length (leading t) = omega arith in
+      let o : record { counts = unsanctioned n; slot = bare } ≡ outcome p v (following (cells t)) (leading t) =
+      ap (λ (k : ℕ). record { counts = unsanctioned k; slot = bare }) i ∙ sym (outcome-no-entry p v (following (cells t)) (leading t) e) in
+      subst (λ (k : ℕ). Measuring p text end (cappedSum counts (unsanctioned n)) (capped (len + k))) (add-zero w) (measuring-cell h l (record { counts = unsanctioned n; slot = bare }) end o he)

@@ -23,6 +23,7 @@ use scanner::char_class::peek;
 use scanner::selectors::PresentationSelectors;
 use scanner::selectors::SELECTOR_BYTES;
 use scanner::selectors::consume_presentation_selectors;
+use scanner::selectors::selectors_end;
 
 // What the rules say of a cell, and the offset of its end.
 pub struct CellOutcome {
@@ -77,7 +78,8 @@ fn slot_len(slot: Slot) -> usize
     }
 }
 
-// Counts and measures a slice: its cells, and the selectors before the first of them, which are unsanctioned.
+// Counts and measures a slice: its cells, and the selectors before the first of them, which are unsanctioned. A character without a
+// variation entry (rule 1) needs no look at what follows its selectors.
 pub fn measure_cells(text: &[u8], policy: Policy) -> Measure
     ensures counts { λ r. ⌜ r .counts ≡ totalCells policy (chars (now (text .entry))) ⌝ }
     ensures len { λ r. ⌜ r .len ≡ capped (size width (formatCells policy (chars (now (text .entry))))) ⌝ }
@@ -97,10 +99,18 @@ pub fn measure_cells(text: &[u8], policy: Policy) -> Measure
             return Measure { counts, len };
         }
         let width = (packed % 8) as usize;
-        let CellOutcome { outcome, end } = cell_outcome(text, at + width, packed / 8, policy);
-        let slot = outcome.slot;
-        counts = counts.add(outcome.counts);
-        len = add_count(len, width + slot_len(slot));
-        at = end;
+        let behind = at + width;
+        if unicode::has_variation_sequence(packed / 8) {
+            let CellOutcome { outcome, end } = cell_outcome(text, behind, packed / 8, policy);
+            let slot = outcome.slot;
+            counts = counts.add(outcome.counts);
+            len = add_count(len, width + slot_len(slot));
+            at = end;
+        } else {
+            let end = selectors_end(text, behind);
+            counts = counts.add(NonCanonicality::unsanctioned((end - behind) / SELECTOR_BYTES));
+            len = add_count(len, width);
+            at = end;
+        }
     }
 }

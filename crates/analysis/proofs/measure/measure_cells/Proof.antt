@@ -1,14 +1,15 @@
 -- `analysis::measure::measure_cells` meets its contract. The loop's invariant: what is counted and measured, with what is left at `at`, gives
 -- the whole (Measuring). The measure is the number of bytes left.
-use mathlib.Core.Path.{_≡_, ap, _∙_}
+use mathlib.Core.Path.{_≡_, refl, ap, sym, _∙_}
 use Prim.Native.Nat.{ℕ, _+_, _-_, _%_}
 use native.Mathlib.Omega.{arith}
 use borrow.Author.Needs.{needs}
 use lib.ListN.{length}
 use Rattle.utf8.proofs.Packed.{packed-step, packed-stop}
 use Rattle.analysis.specs.CellView.{slotLength}
-use Rattle.analysis.specs.Counts.{capped}
-use Rattle.analysis.proofs.Measuring.{Measuring, measuring-begin, measuring-cell, measuring-done, slot-few}
+use Rattle.analysis.specs.Counts.{capped, cappedSum}
+use Rattle.analysis.proofs.CellsAt.{selectors-end}
+use Rattle.analysis.proofs.Measuring.{Measuring, measuring-begin, measuring-cell, measuring-done, measuring-plain, slot-few}
 use Rattle.analysis.proofs.measure.measure_cells.Statement.{statement}
 use Rattle.analysis.proofs.measure.measure_cells.Tie as tie
 
@@ -29,8 +30,8 @@ returns c =
     let d = c .before .decode in
     measuring-done (l .inv) (packed-stop (c .before .before .before .before .before .before .args .text .now) (l .at) (d .result) (d .ensures) (c .if1 .taken))
 
-add-cell-outcome : tie.Need-add-cell-outcome Inv-loop μ-loop
-add-cell-outcome c =
+add-behind : tie.Need-add-behind Inv-loop μ-loop
+add-behind c =
     let l = c .before .before .loop in
     let d = c .before .decode in
     let k = packed-step (c .before .before .before .before .before .before .args .text .now) (l .at) (d .result) (d .ensures) (c .if1 .left) in
@@ -41,20 +42,42 @@ add-add-count c = omega (arith, c .slot-len .ensures, slot-few (c .before .befor
 
 loop-less : tie.Need-loop-less Inv-loop μ-loop
 loop-less c =
-    let l = c .before .before .before .before .before .before .before .loop in
-    let d = c .before .before .before .before .before .before .decode in
-    let k = packed-step (c .before .before .before .before .before .before .before .before .before .before .before .args .text .now) (l .at) (d .result) (d .ensures) (c .before .before .before .before .before .if1 .left) in
+    let x = c .before .before .before .before .before .before .before .before .before .before .before .before .before .args in
+    let l = c .before .before .before .before .before .before .before .before .before .loop in
+    let d = c .before .before .before .before .before .before .before .before .decode in
+    let k = packed-step (x .text .now) (l .at) (d .result) (d .ensures) (c .before .before .before .before .before .before .before .if1 .left) in
     omega (arith, k .some, k .room, c .before .before .before .before .cell-outcome .ensures .1)
 
 loop-again : tie.Need-loop-again Inv-loop μ-loop
 loop-again c =
-    let l = c .before .before .before .before .before .before .before .loop in
-    let d = c .before .before .before .before .before .before .decode in
-    let k = packed-step (c .before .before .before .before .before .before .before .before .before .before .before .args .text .now) (l .at) (d .result) (d .ensures) (c .before .before .before .before .before .if1 .left) in
+    let x = c .before .before .before .before .before .before .before .before .before .before .before .before .before .args in
+    let l = c .before .before .before .before .before .before .before .before .before .loop in
+    let d = c .before .before .before .before .before .before .before .before .decode in
+    let k = packed-step (x .text .now) (l .at) (d .result) (d .ensures) (c .before .before .before .before .before .before .before .if1 .left) in
     let o = c .before .before .before .before .cell-outcome in
     let n : c .add-count .result ≡ capped (l .len + (d .result % 8 + slotLength (o .result .outcome .slot))) =
     c .add-count .ensures ∙ ap (λ (m : ℕ). capped (l .len + (d .result % 8 + m))) (c .before .slot-len .ensures) in
-    rw (c .before .before .add .ensures, n) (measuring-cell (l .inv) k (omega (arith, c .before .before .before .before .before .before .before .before .before .before .before .good .0 .0)) (o .result .outcome) (o .result .end) (o .ensures .0) (o .ensures .1))
+    rw (c .before .before .add .ensures, n) (measuring-cell (l .inv) k (omega (arith, c .before .before .before .before .before .before .before .before .before .before .before .before .before .good .0 .0)) (o .result .outcome) (o .result .end) (o .ensures .0) (o .ensures .1))
+
+loop-less-2 : tie.Need-loop-less-2 Inv-loop μ-loop
+loop-less-2 c =
+    let x = c .before .before .before .before .before .before .before .before .before .before .before .before .args in
+    let l = c .before .before .before .before .before .before .before .before .loop in
+    let d = c .before .before .before .before .before .before .before .decode in
+    let k = packed-step (x .text .now) (l .at) (d .result) (d .ensures) (c .before .before .before .before .before .before .if1 .left) in
+    omega (arith, k .some, k .room, c .before .before .before .selectors-end .ensures)
+
+loop-again-2 : tie.Need-loop-again-2 Inv-loop μ-loop
+loop-again-2 c =
+    let x = c .before .before .before .before .before .before .before .before .before .before .before .before .args in
+    let l = c .before .before .before .before .before .before .before .before .loop in
+    let d = c .before .before .before .before .before .before .before .decode in
+    let k = packed-step (x .text .now) (l .at) (d .result) (d .ensures) (c .before .before .before .before .before .before .if1 .left) in
+    let e = c .before .before .before .selectors-end in
+    let v = sym (c .before .before .before .before .before .has-variation-sequence .ensures) ∙ c .before .before .before .before .if2 .left in
+    let a = ap (cappedSum (l .counts)) (c .before .before .unsanctioned2 .ensures) in
+    rw (c .before .add2 .ensures, a, c .add-count2 .ensures)
+    (measuring-plain (l .inv) k (omega (arith, c .before .before .before .before .before .before .before .before .before .before .before .before .good .0 .0)) v (e .result) _ (e .ensures ∙ selectors-end (x .text .now) (l .at + d .result % 8)) refl)
 
 pub measure-cells-spec : {M : Type 1} → statement M
 measure-cells-spec =
@@ -68,11 +91,19 @@ measure-cells-spec =
     (λ c κs. search needs)
     returns
     (λ c. search needs)
-    add-cell-outcome
+    add-behind
+    (λ c κs. search needs)
     (λ c κs. search needs)
     (λ c κs. search needs)
     (λ c κs. search needs)
     add-add-count
     (λ c κs. search needs)
     loop-less
-    loop-again)
+    loop-again
+    (λ c κs. search needs)
+    (λ c. search needs)
+    (λ c κs. search needs)
+    (λ c κs. search needs)
+    (λ c κs. search needs)
+    loop-less-2
+    loop-again-2)

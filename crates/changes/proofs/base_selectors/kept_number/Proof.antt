@@ -1,7 +1,7 @@
 -- The rule that holds, by the class of what follows (`Kept`), with what it leaves by numbers (`NumberedSelectors`).
-use mathlib.Core.Path.{_≡_, ap, _∙_}
-use mathlib.Core.Bool.{Bool, cond}
-use mathlib.Core.List.{List, []}
+use mathlib.Core.Path.{ap, _∙_}
+use mathlib.Core.Bool.{cond}
+use mathlib.Core.List.{List}
 use Prim.Native.Nat.{ℕ, _*_, _/_, _%_, _^_}
 use native.Mathlib.Omega.{arith}
 use lib.Dec.{eqb}
@@ -9,7 +9,7 @@ use borrow.Author.Needs.{needs}
 use Rattle.unicode.specs.declared.presentation.Presentation.{Presentation}
 use Rattle.policy.specs.PolicyBytes.{policyOf}
 use Rattle.analysis.specs.Rules.{runWith}
-use Rattle.changes.specs.Changes.{keptWord, selectorNumber, selectorOf}
+use Rattle.changes.specs.Changes.{keptWord, selectorOf}
 use Rattle.changes.proofs.Kept.{before-modifier-kept, before-other-kept, before-tags-kept}
 use Rattle.changes.proofs.NumberedSelectors.{by-modifier, by-tags, by-word, kept-few, modifier-few, tags-few}
 use Rattle.changes.proofs.base_selectors.kept_number.Statement.{statement}
