@@ -1,6 +1,6 @@
 // The tests of a text and a policy that come first in every call (document 01, "Turned back", numbers 1, 2 and 3).
-// `intake` equals `intakeRefusal` of specs/Intake.antt. Formatting and listing see the third in a pass that they make anyway (format.rt,
-// list.rt). The tests of a text alone are the crate scanner's (text_check.rt).
+// `intake` equals `intakeRefusal` of specs/Intake.antt. Formatting, listing and mending see the third in a pass that they make anyway
+// (format.rt, list.rt, mend.rt). The tests of a text alone are the crate scanner's (text_check.rt).
 ghost use mathlib.Core.Path.{_≡_};
 ghost use Rattle.base.specs.Refusals.{checked};
 ghost use Rattle.formatter.specs.Intake.{intakeRefusal};
