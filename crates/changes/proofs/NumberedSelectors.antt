@@ -1,20 +1,17 @@
 -- Selectors by numbers: what the rules leave of them, as the code has it in words and numbers.
-use mathlib.Core.Path.{_≡_, refl, subst}
-use mathlib.Core.Bool.{Bool, true, false, cond}
+use mathlib.Core.Path.{_≡_, refl}
+use mathlib.Core.Bool.{Bool}
 use mathlib.Core.List.{List, [], _∷_}
 use Prim.Native.Nat.{ℕ, zero, suc, _*_, _/_, _%_, _^_, _≤_}
 use native.Mathlib.Omega.{arith}
-use lib.Dec.{eqb}
 use Rattle.unicode.specs.declared.presentation.FromSelector.{FromSelector}
 use Rattle.unicode.specs.declared.presentation.FromSelector.the-variants.{NoSelector, Selector}
 use Rattle.unicode.specs.declared.presentation.Presentation.{Presentation}
 use Rattle.unicode.specs.declared.presentation.Presentation.the-variants.{Emoji, Text}
-use Rattle.policy.specs.declared.SingletonRule.{SingletonRule}
 use Rattle.policy.specs.declared.SingletonRule.the-variants.{BareToEmoji, BareToText, EmojiToBare, TextToBare}
-use Rattle.analysis.specs.Analysis.{chosen}
 use Rattle.analysis.specs.Rules.{byFirst, isBareSide, rule2, rule3, rule4, rule5, rule6, runWith, textFirst, withoutSelector}
 use Rattle.analysis.proofs.Rules.{rule23}
-use Rattle.changes.specs.Changes.{keptWord, selectorNumber, selectorOf}
+use Rattle.changes.specs.Changes.{Leaves, selectorNumber, selectorOf}
 
 pub number-selector : (n : ℕ) → n ≤ 2 → selectorNumber (selectorOf n) ≡ n
 unfolding selectorNumber selectorOf
@@ -31,57 +28,49 @@ selector-third (suc (suc n)) a b = refl
 
 -- ---- rule 6
 
-pub by-word : (s : SingletonRule) (f : FromSelector) (n : ℕ) → runWith (selectorOf (keptWord s / 2 ^ (2 * selectorNumber f) % 4)) 1 ≡ chosen (rule6 s (runWith f n) .slot) []
-unfolding rule6 withoutSelector isBareSide runWith selectorNumber selectorOf keptWord
-by-word TextToBare NoSelector n = refl
-by-word TextToBare (Selector Text) n = refl
-by-word TextToBare (Selector Emoji) n = refl
-by-word EmojiToBare NoSelector n = refl
-by-word EmojiToBare (Selector Text) n = refl
-by-word EmojiToBare (Selector Emoji) n = refl
-by-word BareToText NoSelector n = refl
-by-word BareToText (Selector Text) n = refl
-by-word BareToText (Selector Emoji) n = refl
-by-word BareToEmoji NoSelector n = refl
-by-word BareToEmoji (Selector Text) n = refl
-by-word BareToEmoji (Selector Emoji) n = refl
+pub text-to-bare : (f : FromSelector) (n : ℕ) → Leaves (rule6 TextToBare (runWith f n) .slot) (0x20 / 2 ^ (2 * selectorNumber f) % 4)
+unfolding rule6 withoutSelector isBareSide runWith selectorNumber selectorOf
+text-to-bare NoSelector n = record { few = omega arith; left = refl }
+text-to-bare (Selector Text) n = record { few = omega arith; left = refl }
+text-to-bare (Selector Emoji) n = record { few = omega arith; left = refl }
 
-word-few : (s : SingletonRule) (f : FromSelector) → keptWord s / 2 ^ (2 * selectorNumber f) % 4 ≤ 2
-unfolding selectorNumber keptWord
-word-few TextToBare NoSelector = omega arith
-word-few TextToBare (Selector Text) = omega arith
-word-few TextToBare (Selector Emoji) = omega arith
-word-few EmojiToBare NoSelector = omega arith
-word-few EmojiToBare (Selector Text) = omega arith
-word-few EmojiToBare (Selector Emoji) = omega arith
-word-few BareToText NoSelector = omega arith
-word-few BareToText (Selector Text) = omega arith
-word-few BareToText (Selector Emoji) = omega arith
-word-few BareToEmoji NoSelector = omega arith
-word-few BareToEmoji (Selector Text) = omega arith
-word-few BareToEmoji (Selector Emoji) = omega arith
+pub emoji-to-bare : (f : FromSelector) (n : ℕ) → Leaves (rule6 EmojiToBare (runWith f n) .slot) (0x04 / 2 ^ (2 * selectorNumber f) % 4)
+unfolding rule6 withoutSelector isBareSide runWith selectorNumber selectorOf
+emoji-to-bare NoSelector n = record { few = omega arith; left = refl }
+emoji-to-bare (Selector Text) n = record { few = omega arith; left = refl }
+emoji-to-bare (Selector Emoji) n = record { few = omega arith; left = refl }
 
-pub kept-few : (s : SingletonRule) (k : ℕ) → k ≤ 2 → keptWord s / 2 ^ (2 * k) % 4 ≤ 2
-kept-few s k h = subst (λ (m : ℕ). keptWord s / 2 ^ (2 * m) % 4 ≤ 2) (number-selector k h) (word-few s (selectorOf k))
+pub bare-to-text : (f : FromSelector) (n : ℕ) → Leaves (rule6 BareToText (runWith f n) .slot) (0x25 / 2 ^ (2 * selectorNumber f) % 4)
+unfolding rule6 withoutSelector isBareSide runWith selectorNumber selectorOf
+bare-to-text NoSelector n = record { few = omega arith; left = refl }
+bare-to-text (Selector Text) n = record { few = omega arith; left = refl }
+bare-to-text (Selector Emoji) n = record { few = omega arith; left = refl }
+
+pub bare-to-emoji : (f : FromSelector) (n : ℕ) → Leaves (rule6 BareToEmoji (runWith f n) .slot) (0x26 / 2 ^ (2 * selectorNumber f) % 4)
+unfolding rule6 withoutSelector isBareSide runWith selectorNumber selectorOf
+bare-to-emoji NoSelector n = record { few = omega arith; left = refl }
+bare-to-emoji (Selector Text) n = record { few = omega arith; left = refl }
+bare-to-emoji (Selector Emoji) n = record { few = omega arith; left = refl }
 
 -- ---- rules 2 to 5
 
-pub by-modifier : (f : FromSelector) (b : Bool) (n : ℕ) → runWith (selectorOf (cond (eqb (selectorNumber f) 1) 1 0)) 1 ≡ chosen (rule23 b (runWith f n) .slot) []
+pub modifier-text : (f : FromSelector) → selectorNumber f ≡ 1 → (b : Bool) (n : ℕ) → Leaves (rule23 b (runWith f n) .slot) 1
 unfolding rule2 rule3 byFirst textFirst runWith selectorNumber selectorOf
-by-modifier NoSelector b n = refl
-by-modifier (Selector Text) b n = refl
-by-modifier (Selector Emoji) b n = refl
+modifier-text NoSelector e b n = absurd (omega (arith, e))
+modifier-text (Selector Text) e b n = record { few = omega arith; left = refl }
+modifier-text (Selector Emoji) e b n = absurd (omega (arith, e))
 
-pub modifier-few : (b : Bool) → cond b 1 0 ≤ 2
-modifier-few true = omega arith
-modifier-few false = omega arith
+pub modifier-other : (f : FromSelector) → (selectorNumber f ≡ 1 → ⊥) → (b : Bool) (n : ℕ) → Leaves (rule23 b (runWith f n) .slot) 0
+unfolding rule2 rule3 byFirst textFirst runWith selectorNumber selectorOf
+modifier-other NoSelector e b n = record { few = omega arith; left = refl }
+modifier-other (Selector Text) e b n = absurd (e refl)
+modifier-other (Selector Emoji) e b n = record { few = omega arith; left = refl }
 
-pub by-tags : (d : Bool) (s : List Presentation) → runWith (selectorOf (cond d 0 2)) 1 ≡ chosen (cond d (rule4 s) (rule5 s) .slot) []
-unfolding rule4 rule5 byFirst runWith selectorOf
-by-tags true s = refl
-by-tags false [] = refl
-by-tags false (q ∷ s) = refl
+pub tags-bare : (s : List Presentation) → Leaves (rule4 s .slot) 0
+unfolding rule4 byFirst runWith selectorOf
+tags-bare s = record { few = omega arith; left = refl }
 
-pub tags-few : (d : Bool) → cond d 0 2 ≤ 2
-tags-few true = omega arith
-tags-few false = omega arith
+pub tags-emoji : (s : List Presentation) → Leaves (rule5 s .slot) 2
+unfolding rule5 byFirst runWith selectorOf
+tags-emoji [] = record { few = omega arith; left = refl }
+tags-emoji (q ∷ s) = record { few = omega arith; left = refl }

@@ -15,8 +15,7 @@ use Rattle.unicode.specs.declared.presentation.FromSelector.the-variants.{NoSel
 use Rattle.unicode.specs.declared.presentation.Presentation.the-variants.{Emoji, Text}
 use Rattle.policy.specs.Policy.{singletonRule}
 use Rattle.policy.specs.declared.Policy.{Policy}
-use Rattle.policy.specs.declared.SingletonRule.{SingletonRule}
-use Rattle.policy.specs.declared.SingletonRule.the-variants.{BareToEmoji, BareToText, EmojiToBare, TextToBare}
+use Rattle.policy.specs.declared.SingletonRule.the-variants.{EmojiToBare, TextToBare}
 use Rattle.scanner.specs.declared.char_class.Class.{Class}
 use Rattle.analysis.specs.Analysis.{chosen, following}
 use Rattle.analysis.specs.CellView.{formatCells, totalCells}
@@ -24,6 +23,7 @@ use Rattle.analysis.specs.Cells.{cells, leading}
 use Rattle.analysis.specs.Counts.{total}
 use Rattle.analysis.specs.Rules.{byKeycap, byModifier, byTags, outcome, runWith}
 use Rattle.analysis.specs.declared.singleton.Outcome.{Outcome}
+use Rattle.analysis.specs.declared.singleton.Slot.{Slot}
 use Rattle.changes.specs.declared.Change.{Change}
 
 -- The bytes of the selector that stands somewhere, if one does.
@@ -100,12 +100,10 @@ selectorOf zero = NoSelector
 selectorOf (suc zero) = Selector Text
 selectorOf (suc (suc n)) = Selector Emoji
 
--- What rule 6 leaves, by the numbers of selectors in two bits each, lowest first: of none, of a first FE0E, and of a first FE0F.
-unfoldable pub keptWord : SingletonRule → ℕ
-keptWord TextToBare = 0x20
-keptWord EmojiToBare = 0x04
-keptWord BareToText = 0x25
-keptWord BareToEmoji = 0x26
+-- The number of what a rule leaves of the selectors behind a base (document 01, "Replacement and text"), by the rule's slot.
+pub record Leaves (s : Slot) (r : ℕ) : Type 0 where
+  pub few : r ≤ 2
+  pub left : runWith (selectorOf r) 1 ≡ chosen s []
 
 -- What the rules say of a base whose selectors begin at an offset.
 abbrev pub outcomeFrom : Policy → List ℕ → ℕ → ℕ → Outcome

@@ -1,8 +1,8 @@
 // What becomes of the selectors behind a base that has a variation entry (document 01, "Counts and finding", rules 2 to 6): the
 // selector that stays, and whether that is a change. `base_change` meets `BaseChange` of specs/Changes.antt.
 ghost use mathlib.Core.Path.{_≡_};
-ghost use mathlib.Core.Bool.{_&&_, cond, not};
-ghost use mathlib.Core.List.{[]};
+ghost use mathlib.Core.Bool.{Bool, _&&_, cond, not};
+ghost use mathlib.Core.List.{List, []};
 ghost use Prim.Native.Nat.{ℕ, _+_, _*_, _/_, _%_, _^_, _≤_};
 ghost use lib.Dec.{eqb, leb};
 ghost use lib.ListN.{drop};
@@ -10,6 +10,7 @@ ghost use Rattle.utf8.specs.Rfc3629.{chars};
 ghost use Rattle.unicode.specs.Unicode.{variationSequenceIndex};
 ghost use Rattle.unicode.specs.declared.VariationSequenceIndex.the-variants.{At};
 ghost use Rattle.unicode.specs.declared.presentation.FromSelector.{FromSelector as FirstSelector};
+ghost use Rattle.unicode.specs.declared.presentation.Presentation.{Presentation as Selected};
 ghost use Rattle.policy.specs.PolicyBytes.{policyOf};
 ghost use Rattle.scanner.specs.Classes.{classOf};
 ghost use Rattle.scanner.specs.Runs.{selectorsAt};
@@ -17,8 +18,8 @@ ghost use Rattle.scanner.specs.SelectorRun.{firstSelector};
 ghost use Rattle.scanner.specs.Spans.{size, width};
 ghost use Rattle.analysis.specs.Analysis.{chosen};
 ghost use Rattle.analysis.specs.CellView.{classInFront};
-ghost use Rattle.analysis.specs.Rules.{byKeycap, outcome, runWith};
-ghost use Rattle.changes.specs.Changes.{BaseChange, SameRules, keptWord, selectorNumber, selectorOf};
+ghost use Rattle.analysis.specs.Rules.{byKeycap, outcome, rule2, rule3, rule4, rule5, rule6, runWith, textFirst};
+ghost use Rattle.changes.specs.Changes.{BaseChange, Leaves, SameRules, selectorNumber, selectorOf};
 use crate::Change;
 use policy::SingletonRule;
 use scanner::char_class::Class;
@@ -55,9 +56,9 @@ fn rule_class_at(text: &[u8], at: usize) -> Class
     rule_class(utf8::decode(text, at) / 8)
 }
 
-// What rule 6 leaves, by numbers in one word.
+// What rule 6 leaves, by the numbers of selectors in two bits each, lowest first: of none, of a first FE0E, and of a first FE0F.
 fn kept_word(rule: SingletonRule) -> u32
-    ensures { λ r. ⌜ r ≡ keptWord rule ⌝ }
+    ensures { λ r. ⌜ ((f : FirstSelector) (n : ℕ) → Leaves (rule6 rule (runWith f n) .slot) (r / 2 ^ (2 * selectorNumber f) % 4)) ⌝ }
 {
     match rule {
         SingletonRule::TextToBare => 0x20,
@@ -70,14 +71,14 @@ fn kept_word(rule: SingletonRule) -> u32
 // Rule 6: the number of what stays, by what the policy says of the base and the number of the first selector.
 fn by_policy(rule: SingletonRule, first: u32) -> u32
     requires { ⌜ first ≤ 2 ⌝ }
-    ensures { λ r. ⌜ r ≡ keptWord rule / 2 ^ (2 * first) % 4 ⌝ }
+    ensures { λ r. ⌜ ((f : FirstSelector) → first ≡ selectorNumber f → (n : ℕ) → Leaves (rule6 rule (runWith f n) .slot) r) ⌝ }
 {
     (kept_word(rule) >> (2 * first)) % 4
 }
 
 // Rules 2 and 3: the number of what stays of the selectors before a modifier.
 fn before_modifier(first: u32) -> u32
-    ensures { λ r. ⌜ r ≡ cond (eqb first 1) 1 0 ⌝ }
+    ensures { λ r. ⌜ ((f : FirstSelector) → first ≡ selectorNumber f → (b : Bool) (n : ℕ) → Leaves (cond (textFirst (runWith f n)) (rule2 (runWith f n)) (rule3 b (runWith f n)) .slot) r) ⌝ }
 {
     if first == 1 {
         return 1;
@@ -87,7 +88,7 @@ fn before_modifier(first: u32) -> u32
 
 // Rules 4 and 5: the number of what stays of the selectors before tags.
 fn before_tags(is_emoji_default: bool) -> u32
-    ensures { λ r. ⌜ r ≡ cond «is_emoji_default» 0 2 ⌝ }
+    ensures { λ r. ⌜ ((s : List Selected) → Leaves (cond «is_emoji_default» (rule4 s) (rule5 s) .slot) r) ⌝ }
 {
     if is_emoji_default {
         return 0;

@@ -1,8 +1,9 @@
 -- Both sides of the test.
-use borrow.Author.Tests.{eq-eqb, ne-eqb}
+use mathlib.Core.Path.{sym, _∙_}
+use Rattle.changes.proofs.NumberedSelectors.{modifier-other, modifier-text}
 use Rattle.changes.proofs.base_selectors.before_modifier.Statement.{statement}
 use Rattle.changes.proofs.base_selectors.before_modifier.Tie as tie
 
 pub before-modifier-spec : {M : Type 1} → statement M
 before-modifier-spec =
-    tie.close (tie.spec (λ c. simp (eq-eqb _ 1 (c .if1 .taken))) (λ c. simp (ne-eqb _ 1 (c .if1 .left))))
+    tie.close (tie.spec (λ c f e. modifier-text f (sym e ∙ c .if1 .taken)) (λ c f e. modifier-other f (λ q. c .if1 .left (e ∙ q))))
