@@ -3,11 +3,11 @@ use mathlib.Core.Path.{_≡_, refl, ap, sym, _∙_}
 use mathlib.Core.Bool.{Bool, true, false, cond, not}
 use mathlib.Core.List.{List}
 use mathlib.Core.Option.{Option, none, some}
-use Prim.Native.Nat.{ℕ}
+use Prim.Native.Nat.{ℕ, _<_, _≤_}
 use native.Mathlib.Omega.{arith}
 use lib.Dec.{eqb, leb}
 use lib.ListN.{length}
-use borrow.Author.Tests.{eqb-true, leb-true}
+use borrow.Author.Tests.{eqb-true, le-leb, leb-true, lt-leb}
 use Rattle.base.specs.Refusals.{checked, textLimit}
 use Rattle.base.specs.declared.Check.the-variants.{Passed, Refused}
 use Rattle.base.specs.declared.Refusal.{Refusal}
@@ -32,6 +32,12 @@ unfolding intakeRefusal
 intake-is text policy {a} {b} {f} p q r =
     ap (λ (t : Bool). byTests t (isPolicy policy) (eqb (validUpTo text) (length text)) text) p
     ∙ ap (λ (t : Bool). byTests a t (eqb (validUpTo text) (length text)) text) q ∙ ap (λ (t : Bool). byTests a b t text) r
+
+pub too-long : (text policy : List ℕ) → textLimit < length text → intakeRefusal text policy ≡ some TextTooLong
+too-long text policy h = intake-is text policy (lt-leb (length text) textLimit h) refl refl
+
+pub no-policy : (text policy : List ℕ) → length text ≤ textLimit → isPolicy policy ≡ false → intakeRefusal text policy ≡ some NotAPolicy
+no-policy text policy h p = intake-is text policy (le-leb (length text) textLimit h) p refl
 
 -- ---- the answer
 

@@ -1,9 +1,9 @@
 -- `formatter::format::format_text` meets its contract.
-use mathlib.Core.Path.{refl, sym, _∙_}
+use mathlib.Core.Path.{sym, _∙_}
 use Prim.Native.Nat.{_≤_}
 use native.Mathlib.Omega.{arith}
 use borrow.Author.Needs.{needs}
-use borrow.Author.Tests.{le-leb, lt-leb, not-false, not-true}
+use borrow.Author.Tests.{not-false, not-true}
 use lib.ListN.{length}
 use Rattle.base.specs.Refusals.{textLimit}
 use Rattle.base.specs.declared.Refusal.the-variants.{NotAPolicy, TextTooLong}
@@ -11,7 +11,7 @@ use Rattle.policy.specs.PolicyBytes.{policyOf}
 use Rattle.formatter.specs.Theorems.{IntakeComesFirst}
 use Rattle.formatter.proofs.ByCells.{format-unchanged}
 use Rattle.formatter.proofs.Outcomes.{all-well-formed, comes-first, not-well-formed}
-use Rattle.formatter.proofs.Passing.{intake-is}
+use Rattle.formatter.proofs.Passing.{no-policy, too-long}
 use Rattle.formatter.proofs.Surveying.{first-end, first-none}
 use Rattle.formatter.proofs.format.format_text.Statement.{statement}
 use Rattle.formatter.proofs.format.format_text.Tie as tie
@@ -21,14 +21,14 @@ unfolding IntakeComesFirst
 returns c =
     let x = c .before .before .before .before .args in
     let t = x .text .now in
-    sym (comes-first t (x .policy .now) TextTooLong (intake-is t (x .policy .now) (lt-leb (length t) textLimit (c .if1 .taken)) refl refl) .0 (x .out .now))
+    sym (comes-first t (x .policy .now) TextTooLong (too-long t (x .policy .now) (c .if1 .taken)) .0 (x .out .now))
 
 returns-2 : tie.Need-returns-2
 unfolding IntakeComesFirst
 returns-2 c =
     let x = c .before .before .before .before .before .before .args in
     let t = x .text .now in
-    sym (comes-first t (x .policy .now) NotAPolicy (intake-is t (x .policy .now) (le-leb (length t) textLimit (omega (arith, c .before .before .if1 .left))) (sym (c .before .is-policy .ensures) ∙ not-true _ (c .if2 .taken)) refl) .0 (x .out .now))
+    sym (comes-first t (x .policy .now) NotAPolicy (no-policy t (x .policy .now) (omega (arith, c .before .before .if1 .left)) (sym (c .before .is-policy .ensures) ∙ not-true _ (c .if2 .taken))) .0 (x .out .now))
 
 returns-3 : tie.Need-returns-3
 unfolding IntakeComesFirst

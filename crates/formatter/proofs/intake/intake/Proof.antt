@@ -1,15 +1,15 @@
 -- `formatter::intake::intake` meets its contract.
-use mathlib.Core.Path.{refl, sym, ap, _∙_}
+use mathlib.Core.Path.{sym, ap, _∙_}
 use Prim.Native.Nat.{ℕ}
 use native.Mathlib.Omega.{arith}
 use lib.ListN.{length}
 use borrow.Author.Needs.{needs}
-use borrow.Author.Tests.{eq-eqb, le-leb, lt-leb, ne-eqb, not-false, not-true}
+use borrow.Author.Tests.{eq-eqb, le-leb, ne-eqb, not-false, not-true}
 use Rattle.base.specs.Refusals.{checked}
 use Rattle.base.specs.declared.Check.the-variants.{Refused}
 use Rattle.base.specs.declared.Refusal.the-variants.{NotWellFormed}
 use Rattle.utf8.specs.Rfc3629.{validUpTo}
-use Rattle.formatter.proofs.Passing.{intake-is}
+use Rattle.formatter.proofs.Passing.{intake-is, no-policy, too-long}
 use Rattle.formatter.proofs.intake.intake.Statement.{statement}
 use Rattle.formatter.proofs.intake.intake.Tie as tie
 
@@ -17,14 +17,14 @@ returns : tie.Need-returns
 returns c =
     let x = c .before .before .before .args in
     let t = x .text .now in
-    sym (ap checked (intake-is t (x .policy .now) (lt-leb (length t) 16777216 (omega arith)) refl refl))
+    sym (ap checked (too-long t (x .policy .now) (omega arith)))
 
 returns-2 : tie.Need-returns-2
 returns-2 c =
     let x = c .before .before .before .before .before .args in
     let t = x .text .now in
     let p = sym (c .before .is-policy .ensures) ∙ not-true (c .before .is-policy .result) (c .if2 .taken) in
-    sym (ap checked (intake-is t (x .policy .now) (le-leb (length t) 16777216 (omega arith)) p refl))
+    sym (ap checked (no-policy t (x .policy .now) (omega arith) p))
 
 returns-3 : tie.Need-returns-3
 returns-3 c =
