@@ -1,6 +1,6 @@
 -- Where no finding begins, and where one does: by the items from an offset on and the totals before and behind an item.
 use mathlib.Core.Path.{_≡_, refl, ap, sym, _∙_, subst}
-use mathlib.Core.Bool.{Bool, true, false, not}
+use mathlib.Core.Bool.{Bool, true, false, cond, not}
 use mathlib.Core.List.{List, _∷_, _++_}
 use Prim.Native.Nat.{ℕ, suc, _+_, _-_, _≤_, _<_}
 use native.Mathlib.Omega.{arith}
@@ -14,7 +14,7 @@ use Rattle.policy.specs.declared.Policy.{Policy}
 use Rattle.policy.proofs.ByEntry.{ascii-rule-bare}
 use Rattle.scanner.specs.Classes.{classOf}
 use Rattle.scanner.specs.Items.{Item, begin, cut, items, join, kindOf}
-use Rattle.scanner.specs.Spans.{found, size, width}
+use Rattle.scanner.specs.Spans.{Found, found, size, width}
 use Rattle.scanner.specs.declared.char_class.Class.the-variants.{Other as other}
 use Rattle.scanner.specs.declared.place.Place.{Place}
 use Rattle.scanner.specs.declared.place.Place.the-variants.{Plain as plain}
@@ -27,7 +27,7 @@ use Rattle.analysis.specs.Counts.{total}
 use Rattle.analysis.specs.Findings.{findingsFrom}
 use Rattle.analysis.proofs.Items.{passthrough-no-finding}
 use Rattle.changes.specs.Changes.{AsciiBare, totalFrom}
-use Rattle.changes.specs.Findings.{Finds, Passes, Skips}
+use Rattle.changes.specs.Findings.{Finds, Left, Passes, PassesOver, Skips, all-left, one-less}
 use Rattle.changes.proofs.CellsOfItems.{total-first}
 use Rattle.changes.proofs.PlainText.{other-plain, stays-plain}
 use Rattle.changes.proofs.Staying.{stays-here, stays-on}
@@ -72,6 +72,55 @@ module _ {p : Policy} {text : List ℕ} where
       let w = b .valid in
       record { on = omega arith; inside = λ h. b .inside (a .inside h); same = a .same ∙ b .same; valid = omega arith }
 
+-- ---- stretches with findings that start before a limit
+
+left-on : {before m n : ℕ} {fs gs hs : List Found} → Left before fs m gs → Left before gs n hs → Left before fs (m + n) hs
+left-on {before} {n = n} {fs} {hs = hs} all-left b = let z : n ≡ 0 + n = omega arith in subst (λ (k : ℕ). Left before fs k hs) z b
+left-on {before} {n = n} {fs} {hs = hs} (one-less {n = m} h a) b = let z : suc (m + n) ≡ suc m + n = omega arith in subst (λ (k : ℕ). Left before fs k hs) z (one-less h (left-on a b))
+
+-- The findings that are passed are counted.
+pub left-length : {before n : ℕ} {fs gs : List Found} → Left before fs n gs → length fs ≡ n + length gs
+left-length all-left = omega arith
+left-length (one-less h a) = let e = left-length a in omega arith
+
+none-passed : {n : ℕ} {fs gs : List Found} → Left 0 fs n gs → fs ≡ gs
+none-passed all-left = refl
+none-passed (one-less h a) = absurd (omega arith)
+
+module _ {p : Policy} {text : List ℕ} {before : ℕ} where
+  pub over-here : (i : ℕ) → PassesOver p text before i i 0
+  over-here i = record { on = omega arith; inside = λ h. h; few = omega arith; left = all-left; valid = omega arith }
+
+  pub over-on : {i j k m n : ℕ} → PassesOver p text before i j m → PassesOver p text before j k n → PassesOver p text before i k (m + n)
+  over-on a b =
+      let l = a .on in
+      let m = b .on in
+      let v = a .valid in
+      let w = b .valid in
+      let f = a .few in
+      let g = b .few in
+      record { on = omega arith; inside = λ h. b .inside (a .inside h); few = omega arith; left = left-on (a .left) (b .left); valid = omega arith }
+
+  -- A stretch without a finding behind it.
+  pub over-passes : {i j k n : ℕ} → PassesOver p text before i j n → Passes p text j k → PassesOver p text before i k n
+  over-passes {i} {n = n} a b =
+      let l = a .on in
+      let m = b .on in
+      let v = a .valid in
+      let w = b .valid in
+      let f = a .few in
+      record {
+        on = omega arith;
+        inside = λ h. b .inside (a .inside h);
+        few = omega arith;
+        left = subst (λ (l : List Found). Left before (findingsFrom p text i) n l) (b .same) (a .left);
+        valid = omega arith;
+      }
+
+-- Nothing starts before the first offset, so that no finding is passed.
+pub over-none : {p : Policy} {text : List ℕ} {i j n : ℕ} → PassesOver p text 0 i j n → Passes p text i j
+over-none a = record { on = a .on; inside = a .inside; same = none-passed (a .left); valid = a .valid }
+
 -- ---- an item, by the totals before and behind it
 
 module _ (p : Policy) (text : List ℕ) (at end : ℕ) {x : Item} {xs : List Item} (e : items (chars (drop at text)) ≡ x ∷ xs) (f : end ≡ at + size width (x .chars)) where
@@ -110,6 +159,40 @@ module _ (p : Policy) (text : List ℕ) (at end : ℕ) {x : Item} {xs : List Ite
     end-is = f;
     is-finding = ap not (ne-eqb (total (nonCanonicality p x)) 0 (λ z. omega (arith, item-total)));
   }
+
+-- ---- an item that is a finding
+
+module _ {p : Policy} {text : List ℕ} {start end : ℕ} (f : Finds p text start end) where
+  place : ItemAt text start (f .item) (f .behind)
+  place = item-at text start (f .items-are)
+
+  pub finds-here : findingsFrom p text start ≡ record { start = start; item = f .item } ∷ findingsFrom p text end
+  unfolding found
+  finds-here =
+      let n = start + size width (f .item .chars) in
+      let l = found (isFinding p) width n (f .behind) in
+      ap (found (isFinding p) width start) (f .items-are)
+      ∙ ap (λ (b : Bool). cond b (record { start = start; item = f .item } ∷ l) l) (f .is-finding)
+      ∙ ap (λ (k : List Found). record { start = start; item = f .item } ∷ k) (ap (found (isFinding p) width n) (sym (place .behind)) ∙ ap (findingsFrom p text) (sym (f .end-is)))
+
+  pub finds-some : start < end
+  finds-some = let e = f .end-is in let s = place .some in omega arith
+
+  pub finds-room : end ≤ length text
+  finds-room = let e = f .end-is in let r = place .room in omega arith
+
+  -- It is passed where it starts before the limit.
+  pub over-finding : {before : ℕ} → start < before → PassesOver p text before start end 1
+  over-finding {before} l =
+      let s = finds-some in
+      let r = finds-room in
+      record {
+        on = omega arith;
+        inside = λ _. r;
+        few = omega arith;
+        left = subst (λ (k : List Found). Left before k 1 (findingsFrom p text end)) (sym finds-here) (one-less l all-left);
+        valid = item-valid p text start end (f .items-are) (f .end-is);
+      }
 
 -- ---- plain characters
 
@@ -154,6 +237,6 @@ pub passed : (policy text : List ℕ) {at to : ℕ} {bare : Bool} → bare ≡ a
     → Passes (policyOf policy) text at to
 passed policy text e s = s (policyOf policy) (λ t. ascii-rule-bare policy (sym e ∙ t)) .1
 
-pub passes-skip : (policy text : List ℕ) {from at to : ℕ} {bare : Bool} → bare ≡ asciiKeysBare policy → Passes (policyOf policy) text from at
-    → ((p : Policy) → (bare ≡ true → AsciiBare p) → Skips p text at to) → Passes (policyOf policy) text from to
-passes-skip policy text e a s = passes-on a (passed policy text e s)
+pub passes-skip : (policy text : List ℕ) {before from at to n : ℕ} {bare : Bool} → bare ≡ asciiKeysBare policy → PassesOver (policyOf policy) text before from at n
+    → ((p : Policy) → (bare ≡ true → AsciiBare p) → Skips p text at to) → PassesOver (policyOf policy) text before from to n
+passes-skip policy text e a s = over-passes a (passed policy text e s)

@@ -1,7 +1,7 @@
 -- From an item of links or units on, cell by cell: what the loop over items without a finding goes by.
 use mathlib.Core.Path.{_≡_, refl, ap, ap₂, sym, _∙_, subst}
 use mathlib.Core.Logic.{inl, inr, ⊎-elim}
-use mathlib.Core.Bool.{Bool, true, false, _&&_, _||_, not, true≢false}
+use mathlib.Core.Bool.{Bool, true, false, _&&_, _||_, cond, not, true≢false}
 use mathlib.Core.Option.{none, some}
 use mathlib.Core.List.{List, [], _∷_, _++_}
 use Prim.Native.Nat.{ℕ, zero, suc, _+_, _*_, _-_, _/_, _%_, _≤_, _<_}
@@ -10,8 +10,8 @@ use types.Run.{OneOf, miss}
 use denote.Enum.Declared.{tagOf}
 use lib.Dec.{eqb, leb}
 use lib.ListN.{drop, length}
-use borrow.Author.Tests.{eq-eqb, eqb-true, ne-eqb, not-false}
-use Rattle.base.proofs.Tests.{le-or-lt}
+use borrow.Author.Tests.{eq-eqb, eqb-true, leb-false, leb-true, ne-eqb, not-false}
+use Rattle.base.proofs.Tests.{both-true, le-or-lt}
 use Rattle.utf8.specs.Rfc3629.{chars, packed, readChar}
 use Rattle.utf8.proofs.Packed.{packed-step, packed-stop}
 use Rattle.utf8.proofs.Places.{Step}
@@ -54,11 +54,11 @@ use Rattle.analysis.proofs.CellsAt.{behind-at, selectors-end, selectors-room}
 use Rattle.analysis.proofs.NumberRules.{by-numbers}
 use Rattle.analysis.proofs.Rules.{outcome-no-entry}
 use Rattle.changes.specs.Changes.{SameRules, outcomeFrom, selectorNumber, totalFrom}
-use Rattle.changes.specs.Findings.{Finds, Passes, ReadsCell}
+use Rattle.changes.specs.Findings.{Finds, FindsBehind, PassesOver, ReadsCell}
 use Rattle.changes.specs.declared.findings.CellEnd.{CellEnd}
 use Rattle.changes.proofs.Bases.{no-change, selectors-total}
 use Rattle.changes.proofs.Kept.{class-in-front, follows}
-use Rattle.changes.proofs.Passing.{loud-item, passes-on, quiet-item, step-width}
+use Rattle.changes.proofs.Passing.{loud-item, over-finding, over-on, over-passes, quiet-item, step-width}
 use Rattle.changes.proofs.PlainText.{ascii-other}
 use Rattle.changes.proofs.RuleClasses.{same-outcome}
 use Rattle.changes.proofs.Staying.{step-total}
@@ -116,8 +116,8 @@ not-plain q o e = miss (1 ∷ 2 ∷ 3 ∷ 4 ∷ 5 ∷ 6 ∷ []) 0 tt (subst (λ 
 
 -- ---- the loop: the item that is gone through, and what is counted of it so far
 
-pub record Walking (p : Policy) (text : List ℕ) (from start base : ℕ) (index : VariationSequenceIndex) (at : ℕ) (place : Place) (changed : Bool) : Type 0 where
-  pub passed : Passes p text from start
+pub record Walking (p : Policy) (text : List ℕ) (before from start base : ℕ) (index : VariationSequenceIndex) (at : ℕ) (place : Place) (changed : Bool) (n : ℕ) : Type 0 where
+  pub passed : PassesOver p text before from start n
   pub entry : variationSequenceIndex base ≡ index
   pub inside : inner place ≡ true
   -- Its last character that is no selector, and where it stands.
@@ -136,10 +136,10 @@ pub record Walking (p : Policy) (text : List ℕ) (from start base : ℕ) (index
   pub counted : totalFrom p text start ≡ sum + totalFrom p text pos
   pub changed-is : changed ≡ not (eqb sum 0)
 
-pub walking-begin : (p : Policy) (text : List ℕ) (from : ℕ) {start v w : ℕ} (index : VariationSequenceIndex) → Passes p text from start → Step text start v w
-    → variationSequenceIndex v ≡ index → inner (begin (classOf v)) ≡ true → Walking p text from start v index (start + w) (begin (classOf v)) false
+pub walking-begin : (p : Policy) (text : List ℕ) (before from : ℕ) {start v w n : ℕ} (index : VariationSequenceIndex) → PassesOver p text before from start n
+    → Step text start v w → variationSequenceIndex v ≡ index → inner (begin (classOf v)) ≡ true → Walking p text before from start v index (start + w) (begin (classOf v)) false n
 unfolding items
-walking-begin p text from {start} {v} {w} index a h e i = record {
+walking-begin p text before from {start} {v} {w} index a h e i = record {
   passed = a;
   entry = e;
   inside = i;
@@ -189,8 +189,8 @@ begins-inner k s q = go (begin k) refl
     go joined e = refl
     go leftOver e = refl
 
-module _ {p : Policy} {text : List ℕ} {from start base : ℕ} {index : VariationSequenceIndex} {at : ℕ} {place : Place} {changed : Bool}
-    (l : Walking p text from start base index at place changed) {cell : CellEnd} (c : ReadsCell p text base at cell) where
+module _ {p : Policy} {text : List ℕ} {before from start base : ℕ} {index : VariationSequenceIndex} {at : ℕ} {place : Place} {changed : Bool} {n : ℕ}
+    (l : Walking p text before from start base index at place changed n) {cell : CellEnd} (c : ReadsCell p text base at cell) where
   abbrev T : List ℕ
   T = chars (drop at text)
 
@@ -267,13 +267,13 @@ module _ {p : Policy} {text : List ℕ} {from start base : ℕ} {index : Variati
 
     -- The item goes on with it.
     pub walking-on : (q : Place) → nextOf (step place (cell .class)) ≡ Next.On q
-        → Walking p text from start (cell .packed / 8) (cell .index) (cell .end + cell .packed % 8) q b
+        → Walking p text before from start (cell .packed / 8) (cell .index) (cell .end + cell .packed % 8) q b n
     walking-on q e = go (on-char q e)
       where
         on : step place (cell .class) ≡ some q
         on = next-on (step place (cell .class)) q e
 
-        go : 1 ≤ cell .packed → Walking p text from start (cell .packed / 8) (cell .index) (cell .end + cell .packed % 8) q b
+        go : 1 ≤ cell .packed → Walking p text before from start (cell .packed / 8) (cell .index) (cell .end + cell .packed % 8) q b n
         go h =
             let s = reads-next h in
             let v = cell .packed / 8 in
@@ -314,30 +314,41 @@ module _ {p : Policy} {text : List ℕ} {from start base : ℕ} {index : Variati
       ends-here : cell .end ≡ start + size width (l .item .chars)
       ends-here = omega (arith, end-on, ap (size width) nothing-left)
 
-      pub walking-finds : b ≡ true → Finds p text start (cell .end)
-      walking-finds t = go Sum refl
+      finds : b ≡ true → Finds p text start (cell .end)
+      finds t = go Sum refl
         where
-          go : (n : ℕ) → Sum ≡ n → Finds p text start (cell .end)
+          go : (m : ℕ) → Sum ≡ m → Finds p text start (cell .end)
           go zero z = absurd (true≢false (sym t ∙ changed-on ∙ ap not (eq-eqb Sum 0 z)))
-          go (suc n) z = loud-item p text start (cell .end) (l .items-are) ends-here n (omega (arith, total-on))
+          go (suc m) z = loud-item p text start (cell .end) (l .items-are) ends-here m (omega (arith, total-on))
 
-      pub walking-passes : b ≡ false → Passes p text from (cell .end)
-      walking-passes f =
-          let z : Sum ≡ 0 = eqb-true Sum 0 (not-false _ (sym changed-on ∙ f)) in
-          passes-on (l .passed) (quiet-item p text start (cell .end) (l .items-are) ends-here (omega (arith, total-on)))
+      -- It is the finding that is looked for ..
+      pub walking-finds : {q : Bool} → q ≡ b && leb before start → q ≡ true → FindsBehind p text before (record { start = start; end = cell .end; more = true; passed = n })
+      walking-finds e t = let h = both-true b (leb before start) (sym e ∙ t) in (leb-true before start (h .1), finds (h .0))
+
+      -- .. or it is passed.
+      pub walking-passes : {q : Bool} {m : ℕ} → q ≡ b && leb before start → q ≡ false → m ≡ cond b 1 0 → PassesOver p text before from (cell .end) (n + m)
+      walking-passes {q} {m} e f z = go b refl (sym e ∙ f) z
+        where
+          go : (a : Bool) → b ≡ a → (a && leb before start) ≡ false → m ≡ cond a 1 0 → PassesOver p text before from (cell .end) (n + m)
+          go true t h y = rw y (over-on (l .passed) (over-finding (finds t) (leb-false before start h)))
+          go false t h y =
+              let s : Sum ≡ 0 = eqb-true Sum 0 (not-false _ (sym changed-on ∙ t)) in
+              let k : n ≡ n + m = omega (arith, y) in
+              subst (λ (i : ℕ). PassesOver p text before from (cell .end) i) k
+              (over-passes (l .passed) (quiet-item p text start (cell .end) (l .items-are) ends-here (omega (arith, total-on))))
 
       -- And another item of links or units begins.
-      pub walking-again : b ≡ false → (begin (cell .class) ≡ plain → ⊥)
-          → Walking p text from (cell .end) (cell .packed / 8) (cell .index) (cell .end + cell .packed % 8) (begin (cell .class)) b
-      walking-again f q = go (begin-char q)
+      pub walking-again : {m : ℕ} → PassesOver p text before from (cell .end) m → (begin (cell .class) ≡ plain → ⊥)
+          → Walking p text before from (cell .end) (cell .packed / 8) (cell .index) (cell .end + cell .packed % 8) (begin (cell .class)) false m
+      walking-again {m} a q = go (begin-char q)
         where
-          go : 1 ≤ cell .packed → Walking p text from (cell .end) (cell .packed / 8) (cell .index) (cell .end + cell .packed % 8) (begin (cell .class)) b
+          go : 1 ≤ cell .packed → Walking p text before from (cell .end) (cell .packed / 8) (cell .index) (cell .end + cell .packed % 8) (begin (cell .class)) false m
           go h =
               let s = reads-next h in
               let k = c .class-is in
               let i : inner (begin (classOf (cell .packed / 8))) ≡ true =
               begins-inner (classOf (cell .packed / 8)) (λ z. true≢false (sym (selector-class (cell .packed / 8) z) ∙ clean-next s)) (λ z. q (ap begin k ∙ z)) in
-              rw (k, f) (walking-begin p text from (cell .index) (walking-passes f) s (sym (c .index-is)) i)
+              rw k (walking-begin p text before from (cell .index) a s (sym (c .index-is)) i)
 
 -- ---- where the walk begins
 

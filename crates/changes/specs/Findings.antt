@@ -1,9 +1,9 @@
--- The next finding of a text from an offset on (document 01, "Counts and finding"): bytes in which no finding begins, and the item that
--- is a finding. The findings themselves are those of crate analysis, specs/Findings.antt.
+-- The next finding of a text from an offset on (document 01, "Counts and finding"): bytes in which no finding begins, findings that are
+-- passed, and the item that is the next finding. The findings themselves are those of crate analysis, specs/Findings.antt.
 use mathlib.Core.Path.{_≡_}
 use mathlib.Core.Bool.{true, false, not}
 use mathlib.Core.List.{List, [], _∷_}
-use Prim.Native.Nat.{ℕ, _+_, _*_, _-_, _/_, _<_, _≤_}
+use Prim.Native.Nat.{ℕ, suc, _+_, _*_, _-_, _/_, _<_, _≤_}
 use lib.Dec.{eqb}
 use lib.ListN.{drop, length}
 use Rattle.utf8.specs.Rfc3629.{chars, packed, readChar, validUpTo}
@@ -11,7 +11,7 @@ use Rattle.unicode.specs.Unicode.{variationSequenceIndex}
 use Rattle.policy.specs.declared.Policy.{Policy}
 use Rattle.scanner.specs.Classes.{classOf}
 use Rattle.scanner.specs.Items.{Item, items}
-use Rattle.scanner.specs.Spans.{size, width}
+use Rattle.scanner.specs.Spans.{Found, size, width}
 use Rattle.analysis.specs.Analysis.{isFinding}
 use Rattle.analysis.specs.Cells.{leading}
 use Rattle.analysis.specs.Counts.{total}
@@ -20,12 +20,25 @@ use Rattle.changes.specs.Changes.{Stays, outcomeFrom}
 use Rattle.changes.specs.declared.findings.CellEnd.{CellEnd}
 use Rattle.changes.specs.declared.findings.FindingSpan.{FindingSpan}
 
+-- From findings to those that are left of them, where so many at the front are passed, each of which starts before a limit.
+pub data Left (before : ℕ) : List Found → ℕ → List Found → Type 0 where
+  all-left : {fs : List Found} → Left before fs 0 fs
+  one-less : {f : Found} {fs gs : List Found} {n : ℕ} → f .start < before → Left before fs n gs → Left before (f ∷ fs) (suc n) gs
+
 module _ (p : Policy) (text : List ℕ) where
   -- The findings from an offset on are those from another on, and all bytes between them are characters.
   pub record Passes (from to : ℕ) : Type 0 where
     pub on : from ≤ to
     pub inside : from ≤ length text → to ≤ length text
     pub same : findingsFrom p text from ≡ findingsFrom p text to
+    pub valid : validUpTo (drop from text) ≡ (to - from) + validUpTo (drop to text)
+
+  -- So many findings start from an offset on before another, all before a limit, and all bytes between the two offsets are characters.
+  pub record PassesOver (before from to n : ℕ) : Type 0 where
+    pub on : from ≤ to
+    pub inside : from ≤ length text → to ≤ length text
+    pub few : n ≤ to - from
+    pub left : Left before (findingsFrom p text from) n (findingsFrom p text to)
     pub valid : validUpTo (drop from text) ≡ (to - from) + validUpTo (drop to text)
 
   -- The item at an offset is a finding, and ends at another.
@@ -40,16 +53,21 @@ module _ (p : Policy) (text : List ℕ) where
   abbrev pub Skips : ℕ → ℕ → Type 0
   Skips from to = Stays p text from to × Passes from to
 
-  -- The next finding, or that there is none up to the end or the first place where no character begins.
-  abbrev pub NextFinding : ℕ → FindingSpan → Type 0
-  NextFinding from r =
-      Passes from (r .start)
-      × (r .more ≡ true → Finds (r .start) (r .end))
+  -- The first finding that does not start before a limit ..
+  abbrev pub FindsBehind : ℕ → FindingSpan → Type 0
+  FindsBehind before r = (before ≤ r .start) × Finds (r .start) (r .end)
+
+  -- .. or that there is none up to the end or the first place where no character begins; and how many are passed.
+  abbrev pub NextFinding : ℕ → ℕ → FindingSpan → Type 0
+  NextFinding before from r =
+      PassesOver before from (r .start) (r .passed)
+      × (r .more ≡ true → FindsBehind before r)
       × (r .more ≡ false → (chars (drop (r .start) text) ≡ []) × (r .end ≡ r .start))
 
-  -- The next finding, or an offset further on before which there is none.
-  abbrev pub WalkedFrom : ℕ → FindingSpan → Type 0
-  WalkedFrom from r = Passes from (r .start) × (r .more ≡ true → Finds (r .start) (r .end)) × (r .more ≡ false → from < r .start)
+  -- The same, or an offset further on before which there is none.
+  abbrev pub WalkedFrom : ℕ → ℕ → FindingSpan → Type 0
+  WalkedFrom before from r =
+      PassesOver before from (r .start) (r .passed) × (r .more ≡ true → FindsBehind before r) × (r .more ≡ false → from < r .start)
 
 -- What is read of a cell whose selectors begin at an offset: their end, whether the rules count something, and what stands behind them.
 pub record ReadsCell (p : Policy) (text : List ℕ) (base at : ℕ) (c : CellEnd) : Type 0 where

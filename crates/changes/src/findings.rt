@@ -1,11 +1,11 @@
 // The next finding of a text from an offset on: the items are gone through cell by cell, each character is read once, and of each cell
 // it is only asked whether something is counted of it (document 01, "Item", "Counts and finding"; analysis.rs of the crate evfmt
-// counts every item instead). `next_finding` meets `NextFinding` of specs/Findings.antt for every text, policy and offset.
+// counts every item instead). `next_finding` meets `NextFinding` of specs/Findings.antt for every text, policy, limit and offset.
 ghost use mathlib.Core.Path.{_≡_};
-ghost use mathlib.Core.Bool.{true, not};
+ghost use mathlib.Core.Bool.{true, _&&_, cond, not};
 ghost use mathlib.Core.List.{List};
-ghost use Prim.Native.Nat.{_*_};
-ghost use lib.Dec.{eqb};
+ghost use Prim.Native.Nat.{_*_, _≤_};
+ghost use lib.Dec.{eqb, leb};
 ghost use lib.ListN.{drop, length};
 ghost use Rattle.utf8.specs.Rfc3629.{readChar};
 ghost use Rattle.utf8.specs.declared.ReadChar.the-variants.{Char};
@@ -36,11 +36,13 @@ use scanner::selectors::selectors_end;
 use unicode::VariationSequenceIndex;
 use unicode::presentation::FromSelector;
 
-// The bytes of the next finding, from start up to end, if there is one more; else both are the end of the well-formed text.
+// The bytes of the next finding, from start up to end, if there is one more; else both are the end of the well-formed text. So many
+// findings were passed before it.
 pub struct FindingSpan {
     pub start: usize,
     pub end: usize,
     pub more: bool,
+    pub passed: usize,
 }
 
 // A cell behind its character: where its selectors end, whether something is counted of it, and what stands behind it: a character's
@@ -99,11 +101,32 @@ fn read_cell(
     }
 }
 
-// From an item of links or units on, whose first character is known, past items that are no findings: up to a finding, or to the end
-// of the last item before plain text.
+// Whether an item is the finding that is looked for: something is counted of it, and it does not start before the limit.
+fn is_next(changed: bool, before: usize, start: usize) -> bool
+    ensures { λ r. ⌜ r ≡ changed && leb before start ⌝ }
+{
+    if !changed {
+        return false;
+    }
+    before <= start
+}
+
+// How many findings an item is.
+fn findings_of(changed: bool) -> usize
+    ensures { λ r. ⌜ (r ≡ cond changed 1 0) × (r ≤ 1) ⌝ }
+{
+    if changed {
+        return 1;
+    }
+    0
+}
+
+// From an item of links or units on, whose first character is known, past items that are no findings or start before the limit: up to a
+// finding, or to the end of the last item before plain text.
 fn walk_items(
     text: &[u8],
     policy: &[u8],
+    before: usize,
     from: usize,
     ch: u32,
     width: usize,
@@ -111,7 +134,7 @@ fn walk_items(
     first: Place,
 ) -> FindingSpan
     requires { ⌜ (readChar (drop from (now text)) ≡ Char ch width) × (variationSequenceIndex ch ≡ «first_index») × (first ≡ begin (classOf ch)) × Structured (kindOf first) ⌝ }
-    ensures { λ r. ⌜ WalkedFrom (policyOf (now (policy .entry))) (now (text .entry)) from r ⌝ }
+    ensures { λ r. ⌜ WalkedFrom (policyOf (now (policy .entry))) (now (text .entry)) before from r ⌝ }
 {
     let mut start = from;
     let mut base = ch;
@@ -119,6 +142,7 @@ fn walk_items(
     let mut at = from + width;
     let mut place = first;
     let mut changed = false;
+    let mut passed = 0;
     loop {
         let cell = read_cell(text, policy, base, index, at);
         let end = cell.end;
@@ -131,22 +155,26 @@ fn walk_items(
                 place = next;
             }
             Next::Stop => {
-                place = scanner::place::begin(class);
-                if changed {
+                if is_next(changed, before, start) {
                     return FindingSpan {
                         start,
                         end,
                         more: true,
+                        passed,
                     };
                 }
+                passed += findings_of(changed);
+                place = scanner::place::begin(class);
                 if let Place::Plain = place {
                     return FindingSpan {
                         start: end,
                         end,
                         more: false,
+                        passed,
                     };
                 }
                 start = end;
+                changed = false;
             }
         }
         base = cell.packed / 8;
@@ -171,12 +199,13 @@ fn skip_bare_ascii(text: &[u8], bare: bool, from: usize) -> usize
     skip_ascii(text, from)
 }
 
-// The next finding of a text from an offset on.
-pub fn next_finding(text: &[u8], policy: &[u8], from: usize) -> FindingSpan
-    ensures { λ r. ⌜ NextFinding (policyOf (now (policy .entry))) (now (text .entry)) from r ⌝ }
+// The next finding of a text from an offset on that does not start before a limit; those that do are passed and counted.
+pub fn next_finding(text: &[u8], policy: &[u8], before: usize, from: usize) -> FindingSpan
+    ensures { λ r. ⌜ NextFinding (policyOf (now (policy .entry))) (now (text .entry)) before from r ⌝ }
 {
     let bare = policy::policy_bytes::ascii_keys_bare(policy);
     let mut at = from;
+    let mut passed = 0;
     loop {
         at = skip_bare_ascii(text, bare, at);
         let packed = utf8::decode(text, at);
@@ -185,6 +214,7 @@ pub fn next_finding(text: &[u8], policy: &[u8], from: usize) -> FindingSpan
                 start: at,
                 end: at,
                 more: false,
+                passed,
             };
         }
         let ch = packed / 8;
@@ -197,18 +227,34 @@ pub fn next_finding(text: &[u8], policy: &[u8], from: usize) -> FindingSpan
             }
             Place::Selectors => {
                 let end = selectors_end(text, at);
-                return FindingSpan {
-                    start: at,
-                    end,
-                    more: true,
-                };
+                if before <= at {
+                    return FindingSpan {
+                        start: at,
+                        end,
+                        more: true,
+                        passed,
+                    };
+                }
+                passed += 1;
+                at = end;
             }
             _ => {
-                let span = walk_items(text, policy, at, ch, width, index, place);
-                if span.more {
-                    return span;
+                let FindingSpan {
+                    start,
+                    end,
+                    more,
+                    passed: walked,
+                } = walk_items(text, policy, before, at, ch, width, index, place);
+                passed += walked;
+                if more {
+                    return FindingSpan {
+                        start,
+                        end,
+                        more,
+                        passed,
+                    };
                 }
-                at = span.start;
+                at = start;
             }
         }
     }

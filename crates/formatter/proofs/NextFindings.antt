@@ -1,14 +1,14 @@
 -- What the next finding says of the findings from an offset on: the first of them, or that there is none; and its row, by the counts of its bytes.
-use mathlib.Core.Path.{_≡_, ap, ap₂, sym, _∙_}
-use mathlib.Core.Bool.{Bool, cond}
+use mathlib.Core.Path.{_≡_, refl, ap, ap₂, sym, _∙_}
+use mathlib.Core.Bool.{Bool, true, false}
 use mathlib.Core.List.{List, [], _∷_, map}
-use Prim.Native.Nat.{ℕ, _+_, _-_}
+use Prim.Native.Nat.{ℕ, _-_}
 use native.Mathlib.Omega.{arith}
-use lib.ListN.{drop, take}
+use lib.ListN.{drop, length, take}
 use Rattle.utf8.specs.Rfc3629.{chars, validUpTo}
 use Rattle.policy.specs.declared.Policy.{Policy}
 use Rattle.scanner.specs.Items.{items}
-use Rattle.scanner.specs.Spans.{Found, found, size, width}
+use Rattle.scanner.specs.Spans.{found, size, width}
 use Rattle.scanner.proofs.Bytes.{size-chars}
 use Rattle.analysis.specs.Analysis.{isFinding}
 use Rattle.analysis.specs.CellView.{totalCells}
@@ -18,37 +18,38 @@ use Rattle.analysis.specs.declared.types.Finding.{Finding}
 use Rattle.analysis.specs.declared.types.NonCanonicality.{NonCanonicality}
 use Rattle.analysis.proofs.Items.{finding-no-passthrough}
 use Rattle.analysis.proofs.ItemsAt.{item-totals}
-use Rattle.changes.specs.Findings.{Finds, Passes}
-use Rattle.changes.proofs.Passing.{ItemAt, item-at, item-valid}
+use Rattle.changes.specs.Findings.{Finds, NextFinding, Passes}
+use Rattle.changes.specs.declared.findings.FindingSpan.{FindingSpan}
+use Rattle.changes.proofs.Passing.{finds-here, finds-room, finds-some, left-length}
 use Rattle.formatter.proofs.Steps.{Ahead, rowsFrom}
 
 -- ---- there is none
 
-module _ {p : Policy} {text : List ℕ} {from start : ℕ} (a : Passes p text from start) (e : chars (drop start text) ≡ []) where
-  pub none-found : findingsFrom p text from ≡ []
-  unfolding items found
-  none-found = a .same ∙ ap (λ (t : List ℕ). found (isFinding p) width start (items t)) e
+pub none-found : (p : Policy) (text : List ℕ) (start : ℕ) → chars (drop start text) ≡ [] → findingsFrom p text start ≡ []
+unfolding items found
+none-found p text start e = ap (λ (t : List ℕ). found (isFinding p) width start (items t)) e
 
-  pub none-valid : validUpTo (drop from text) ≡ start - from
-  none-valid = omega (arith, a .valid, size-chars (drop start text), ap (size width) e)
+-- ---- all of them, which start before the end of the text
+
+module _ {p : Policy} {text : List ℕ} {r : FindingSpan} (n : NextFinding p text (length text) 0 r) where
+  none-more : chars (drop (r .start) text) ≡ []
+  none-more = go (r .more) refl
+    where
+      go : (b : Bool) → r .more ≡ b → chars (drop (r .start) text) ≡ []
+      go true e = let f = n .1 e in let s = finds-some (f .1) in let l = finds-room (f .1) in absurd (omega (arith, f .0))
+      go false e = n .2 e .0
+
+  pub all-counted : r .passed ≡ length (findingsFrom p text 0)
+  all-counted = omega (arith, left-length (n .0 .left), ap length (none-found p text (r .start) none-more))
+
+  pub all-valid : r .start ≡ validUpTo text
+  all-valid = omega (arith, n .0 .valid, size-chars (drop (r .start) text), ap (size width) none-more)
 
 -- ---- there is one
 
 module _ {p : Policy} {text : List ℕ} {start end : ℕ} (f : Finds p text start end) where
-  h : ItemAt text start (f .item) (f .behind)
-  h = item-at text start (f .items-are)
-
   pub finds-ahead : Ahead text start end
-  finds-ahead = let e = f .end-is in let s = h .some in let r = h .room in record { some = omega arith; room = omega arith }
-
-  pub finds-here : findingsFrom p text start ≡ record { start = start; item = f .item } ∷ findingsFrom p text end
-  unfolding found
-  finds-here =
-      let n = start + size width (f .item .chars) in
-      let l = found (isFinding p) width n (f .behind) in
-      ap (found (isFinding p) width start) (f .items-are)
-      ∙ ap (λ (b : Bool). cond b (record { start = start; item = f .item } ∷ l) l) (f .is-finding)
-      ∙ ap (λ (k : List Found). record { start = start; item = f .item } ∷ k) (ap (found (isFinding p) width n) (sym (h .behind)) ∙ ap (findingsFrom p text) (sym (f .end-is)))
+  finds-ahead = record { some = finds-some f; room = finds-room f }
 
   -- Its row is its start, its end and the totals of its bytes.
   pub finds-row : (n : NonCanonicality) → n ≡ totalCells p (chars (take (end - start) (drop start text)))
@@ -56,18 +57,12 @@ module _ {p : Policy} {text : List ℕ} {start end : ℕ} (f : Finds p text star
   unfolding findingRow
   finds-row n e =
       let c = e ∙ item-totals p text start (f .items-are) (finding-no-passthrough p (f .item) (f .is-finding)) (f .end-is) in
-      ap (map (findingRow p)) finds-here
+      ap (map (findingRow p)) (finds-here f)
       ∙ ap₂ (λ (k : ℕ) (m : NonCanonicality). record { start = start; end = k; counts = m } ∷ rowsFrom p text end) (sym (f .end-is)) (sym c)
 
 module _ {p : Policy} {text : List ℕ} {from start end : ℕ} (a : Passes p text from start) (f : Finds p text start end) where
   pub next-ahead : Ahead text from end
   next-ahead = let h = finds-ahead f in let o = a .on in let s = h .some in record { some = omega arith; room = h .room }
-
-  pub next-found : findingsFrom p text from ≡ record { start = start; item = f .item } ∷ findingsFrom p text end
-  next-found = a .same ∙ finds-here f
-
-  pub next-valid : validUpTo (drop from text) ≡ (end - from) + validUpTo (drop end text)
-  next-valid = let o = a .on in let s = finds-ahead f .some in omega (arith, a .valid, item-valid p text start end (f .items-are) (f .end-is))
 
 -- The rows from an offset on, before which there is none from another on.
 pub next-row : {p : Policy} {text : List ℕ} {from start : ℕ} {rows : List Finding} → Passes p text from start → rowsFrom p text start ≡ rows → rowsFrom p text from ≡ rows

@@ -83,6 +83,10 @@ pub none-filled : (table : List ℕ) → fillTable rowNumbers 80 [] table ≡ re
 unfolding rowsBytes
 none-filled table = filled rowNumbers 80 length-row (omega arith) [] table refl (omega arith)
 
+pub no-rows : (rows : List Finding) (table : List ℕ) {n : ℕ} → n ≡ length rows → n ≡ 0 → record { answer = Listed n; buffer = table } ≡ fillTable rowNumbers 80 rows table
+no-rows [] table e z = ap (λ (k : ℕ). record { answer = Listed k; buffer = table }) z ∙ sym (none-filled table)
+no-rows (x ∷ xs) table e z = absurd (omega arith)
+
 -- ---- the call on a table of bytes, behind the intake
 
 pub list-passed : (text policy table : List ℕ) → intakeRefusal text policy ≡ none

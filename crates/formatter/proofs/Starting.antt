@@ -1,23 +1,24 @@
--- The finding that starts at an offset: a walk over the findings comes to it or passes the offset.
+-- The finding that starts at an offset: the first one that does not start before it, or none.
 use mathlib.Core.Path.{_≡_, refl, ap, sym, _∙_}
 use mathlib.Core.Bool.{Bool, true, false, cond, true≢false}
 use mathlib.Core.List.{List, [], _∷_}
 use mathlib.Core.Option.{none, some}
-use Prim.Native.Nat.{ℕ, _+_, _<_, _≤_}
+use Prim.Native.Nat.{ℕ, _+_, _<_}
 use native.Mathlib.Omega.{arith}
 use lib.Dec.{eqb}
 use lib.ListN.{drop}
 use borrow.Author.Tests.{eq-eqb, eqb-true, eqb-false, ne-eqb}
-use Rattle.utf8.specs.Rfc3629.{chars}
+use Rattle.utf8.specs.Rfc3629.{chars, validUpTo}
 use Rattle.policy.specs.declared.Policy.{Policy}
 use Rattle.scanner.specs.Items.{Item, items}
 use Rattle.scanner.specs.Spans.{Found, found, size, width}
 use Rattle.analysis.specs.Analysis.{isFinding}
 use Rattle.analysis.specs.Findings.{findingsFrom}
-use Rattle.changes.specs.Findings.{Finds, NextFinding}
+use Rattle.changes.specs.Findings.{Finds, Left, NextFinding, all-left, one-less}
 use Rattle.changes.specs.declared.findings.FindingSpan.{FindingSpan}
 use Rattle.formatter.specs.Mend.{FindingStarting, Starts, findingAt}
-use Rattle.formatter.proofs.NextFindings.{finds-here}
+use Rattle.changes.proofs.Passing.{finds-here}
+use Rattle.formatter.proofs.NextFindings.{none-found}
 
 -- Behind the offset no finding starts there.
 no-finding-past : (p : Policy) (o n : ℕ) (xs : List Item) → o < n → findingAt o (found (isFinding p) width n xs) ≡ none
@@ -31,6 +32,12 @@ no-finding-past p o n (x ∷ xs) h = go (isFinding p x) (no-finding-past p o (n 
     go : (b : Bool) → findingAt o F ≡ none → findingAt o (cond b (record { start = n; item = x } ∷ F) F) ≡ none
     go true i = ap (λ (b : Bool). cond b (some x) (findingAt o F)) (ne-eqb n o (λ e. omega arith)) ∙ i
     go false i = i
+
+-- No finding that is passed starts at the limit.
+left-at : (o : ℕ) {n : ℕ} {fs gs : List Found} → Left o fs n gs → findingAt o fs ≡ findingAt o gs
+unfolding findingAt
+left-at o all-left = refl
+left-at o (one-less {f} {fs} h a) = ap (λ (b : Bool). cond b (some (f .item)) (findingAt o fs)) (ne-eqb (f .start) o (λ e. omega arith)) ∙ left-at o a
 
 module _ {p : Policy} {text : List ℕ} where
   module _ (o : ℕ) {start end : ℕ} (h : Finds p text start end) where
@@ -51,26 +58,22 @@ module _ {p : Policy} {text : List ℕ} where
       found = i ∙ finding-by (eq-eqb start o e);
     }
 
-  -- The next finding from an offset on, where no finding before it starts at the other.
-  module _ (o : ℕ) {at : ℕ} {r : FindingSpan} (n : NextFinding p text at r) (i : findingAt o (findingsFrom p text 0) ≡ findingAt o (findingsFrom p text at)) where
+  -- The next finding that does not start before the offset.
+  module _ (o : ℕ) {r : FindingSpan} (n : NextFinding p text o 0 r) where
     next-same : findingAt o (findingsFrom p text 0) ≡ findingAt o (findingsFrom p text (r .start))
-    next-same = i ∙ ap (findingAt o) (n .0 .same)
+    next-same = left-at o (n .0 .left)
 
     -- There is none.
     pub none-further : r .more ≡ false → FindingStarting p text o r
-    unfolding findingAt found items
-    none-further m = (
-      λ t. absurd (true≢false (sym t ∙ m)),
-      λ _. next-same ∙ ap (λ (t : List ℕ). findingAt o (found (isFinding p) width (r .start) (items t))) (n .2 m .0),
+    unfolding findingAt
+    none-further m = (λ t. absurd (true≢false (sym t ∙ m)), λ _. next-same ∙ ap (findingAt o) (none-found p text (r .start) (n .2 m .0)))
+
+    -- There is one, at the offset or behind it.
+    pub none-before : r .more ≡ true → FindingStarting p text o (record { start = r .start; end = r .end; more = eqb (r .start) o; passed = r .passed })
+    none-before m = (
+      λ t. starts-here o (n .1 m .1) (eqb-true (r .start) o t) next-same,
+      λ f. next-same ∙ no-finding-past p o (r .start) (items (chars (drop (r .start) text))) (let d = eqb-false (r .start) o f in let l = n .1 m .0 in omega arith),
     )
 
-    -- It starts at the offset or behind it.
-    pub none-before : r .more ≡ true → o ≤ r .start → FindingStarting p text o (record { start = r .start; end = r .end; more = eqb (r .start) o })
-    none-before m l = (
-      λ t. starts-here o (n .1 m) (eqb-true (r .start) o t) next-same,
-      λ f. next-same ∙ no-finding-past p o (r .start) (items (chars (drop (r .start) text))) (let d = eqb-false (r .start) o f in omega arith),
-    )
-
-    -- It starts before the offset.
-    pub further-on : r .more ≡ true → r .start < o → findingAt o (findingsFrom p text 0) ≡ findingAt o (findingsFrom p text (r .end))
-    further-on m l = next-same ∙ finding-by o (n .1 m) (ne-eqb (r .start) o (λ e. omega arith))
+    pub next-valid : r .start + validUpTo (drop (r .start) text) ≡ validUpTo text
+    next-valid = let v = n .0 .valid in omega arith

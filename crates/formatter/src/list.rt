@@ -1,6 +1,6 @@
 // Listing the findings of a text into a table lent by the caller (document 01, "Counts and finding", "Turned back"). A row is ten
 // numbers of 8 bytes, lowest first: start, end and the eight counts. The text is gone through from finding to finding (crate changes): once
-// to count them, and once more to write them where all fit.
+// to count them, and once more to write them where there are some and all fit.
 // `list_findings` equals `listBytes` of specs/List.antt.
 ghost use mathlib.Core.Path.{_≡_};
 ghost use mathlib.Core.List.{_∷_, map};
@@ -38,23 +38,20 @@ pub(crate) struct FindingCount {
     pub(crate) valid_up_to: usize,
 }
 
-// Counts the findings.
+// Counts the findings: all of them start before the end of the text.
 pub(crate) fn count_findings(text: &[u8], policy: &[u8]) -> FindingCount
     ensures findings { λ r. ⌜ r .findings ≡ length (findingsFrom (policyOf (now (policy .entry))) (now (text .entry)) 0) ⌝ }
     ensures valid { λ r. ⌜ r .«valid_up_to» ≡ validUpTo (now (text .entry)) ⌝ }
 {
-    let mut at = 0;
-    let mut findings = 0;
-    loop {
-        let FindingSpan { start, end, more } = next_finding(text, policy, at);
-        if !more {
-            return FindingCount {
-                findings,
-                valid_up_to: start,
-            };
-        }
-        findings += 1;
-        at = end;
+    let FindingSpan {
+        start,
+        end: _,
+        more: _,
+        passed,
+    } = next_finding(text, policy, text.len(), 0);
+    FindingCount {
+        findings: passed,
+        valid_up_to: start,
     }
 }
 
@@ -130,7 +127,12 @@ fn put_findings(text: &[u8], policy: &[u8], table: &mut [u8]) -> usize
     let mut at = 0;
     let mut to = 0;
     loop {
-        let FindingSpan { start, end, more } = next_finding(text, policy, at);
+        let FindingSpan {
+            start,
+            end,
+            more,
+            passed: _,
+        } = next_finding(text, policy, 0, at);
         if !more {
             return to;
         }
@@ -145,6 +147,9 @@ fn fill_table(text: &[u8], policy: &[u8], findings: usize, table: &mut [u8]) -> 
     requires { ⌜ findings ≡ length (findingsFrom (policyOf (now policy)) (now text) 0) ⌝ }
     ensures { λ r. ⌜ record { answer = r; buffer = now (table .exit) } ≡ fillTable rowNumbers 80 (map (findingRow (policyOf (now (policy .entry)))) (findingsFrom (policyOf (now (policy .entry))) (now (text .entry)) 0)) (now (table .entry)) ⌝ }
 {
+    if findings == 0 {
+        return ListAnswer::Listed { findings };
+    }
     if table.len() / ROW_BYTES < findings {
         return ListAnswer::Refused(Refusal::TableTooShort { findings });
     }

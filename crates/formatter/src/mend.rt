@@ -31,21 +31,26 @@ fn finding_starting(text: &[u8], policy: &[u8], offset: usize) -> FindingSpan
     ensures starts { λ r. ⌜ FindingStarting (policyOf (now (policy .entry))) (now (text .entry)) offset r ⌝ }
     ensures valid { λ r. ⌜ (r .end ≤ length (now (text .entry))) × (r .end + validUpTo (drop (r .end) (now (text .entry))) ≡ validUpTo (now (text .entry))) ⌝ }
 {
-    let mut at = 0;
-    loop {
-        let FindingSpan { start, end, more } = next_finding(text, policy, at);
-        if !more {
-            return FindingSpan { start, end, more };
-        }
-        if offset <= start {
-            let there = start == offset;
-            return FindingSpan {
-                start,
-                end,
-                more: there,
-            };
-        }
-        at = end;
+    let FindingSpan {
+        start,
+        end,
+        more,
+        passed,
+    } = next_finding(text, policy, offset, 0);
+    if !more {
+        return FindingSpan {
+            start,
+            end,
+            more,
+            passed,
+        };
+    }
+    let there = start == offset;
+    FindingSpan {
+        start,
+        end,
+        more: there,
+        passed,
     }
 }
 
@@ -128,6 +133,7 @@ pub fn mend(
         start: _,
         end,
         more,
+        passed: _,
     } = finding_starting(text, policy, offset);
     let valid_up_to = end + utf8::valid_up_to(&text[end..]);
     if valid_up_to != text.len() {

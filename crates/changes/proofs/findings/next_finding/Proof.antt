@@ -1,5 +1,5 @@
--- `changes::findings::next_finding` meets its contract. The loop's invariant: up to `at` no finding begins. The measure is the number of
--- bytes left.
+-- `changes::findings::next_finding` meets its contract. The loop's invariant: up to `at` the findings are passed and counted. The measure is the
+-- number of bytes left.
 use mathlib.Core.Path.{refl, ap, sym, _∙_}
 use mathlib.Core.Bool.{true≢false}
 use Prim.Native.Nat.{_-_}
@@ -10,25 +10,24 @@ use Rattle.utf8.proofs.Packed.{packed-reads, packed-step, packed-stop}
 use Rattle.policy.specs.PolicyBytes.{policyOf}
 use Rattle.scanner.specs.Items.{begin}
 use Rattle.analysis.proofs.CellsAt.{selectors-end}
-use Rattle.changes.specs.Findings.{Passes}
-use Rattle.changes.proofs.Passing.{passed, passes-here, passes-on, passes-plain, passes-skip}
+use Rattle.changes.specs.Findings.{PassesOver}
+use Rattle.changes.proofs.Passing.{finds-room, finds-some, over-finding, over-here, over-on, over-passes, passed, passes-on, passes-plain, passes-skip}
 use Rattle.changes.proofs.Walking.{selectors-find, structured-place}
 use Rattle.changes.proofs.findings.next_finding.Statement.{statement}
 use Rattle.changes.proofs.findings.next_finding.Tie as tie
 
 abbrev Inv-loop : tie.InvT-loop
-Inv-loop text policy from bare at₀ at = Passes (policyOf policy) text from at
+Inv-loop text policy before from bare at₀ passed₀ at passed = PassesOver (policyOf policy) text before from at passed
 
 abbrev μ-loop : tie.MeasureT-loop
-μ-loop text policy from bare at₀ at = length text - at
+μ-loop text policy before from bare at₀ passed₀ at passed = length text - at
 
 loop-holds : tie.Need-loop-holds Inv-loop μ-loop
-loop-holds c = passes-here _
+loop-holds c = over-here _
 
 returns : tie.Need-returns Inv-loop μ-loop
 returns c =
     let x = c .before .before .before .before .before .before .before .args in
-    let p = policyOf (x .policy .now) in
     let a = passes-skip (x .policy .now) (x .text .now) (c .before .before .before .before .ascii-keys-bare .ensures) (c .before .before .before .loop .inv) (c .before .before .skip-bare-ascii .ensures) in
     let z = packed-stop (x .text .now) (c .before .before .skip-bare-ascii .result) (c .before .decode .result) (c .before .decode .ensures) (c .if1 .taken) in
     (a, λ f. absurd (true≢false (sym f)), λ _. (z .chars-none, refl))
@@ -36,8 +35,6 @@ returns c =
 add-skip-letters : tie.Need-add-skip-letters Inv-loop μ-loop
 add-skip-letters c =
     let x = c .before .before .before .before .before .before .before .before .before .before .before .args in
-    let p = policyOf (x .policy .now) in
-    let a = passes-skip (x .policy .now) (x .text .now) (c .before .before .before .before .before .before .before .before .ascii-keys-bare .ensures) (c .before .before .before .before .before .before .before .loop .inv) (c .before .before .before .before .before .before .skip-bare-ascii .ensures) in
     let s = packed-step (x .text .now) (c .before .before .before .before .before .before .skip-bare-ascii .result) (c .before .before .before .before .before .decode .result) (c .before .before .before .before .before .decode .ensures) (c .before .before .before .before .if1 .left) in
     omega (arith, s .room, c .before .before .before .before .before .before .before .before .before .before .before .good .0 .0)
 
@@ -57,16 +54,44 @@ loop-again c =
     let a = passes-skip (x .policy .now) (x .text .now) (c .before .before .before .before .before .before .before .before .before .ascii-keys-bare .ensures) (c .before .before .before .before .before .before .before .before .loop .inv) (c .before .before .before .before .before .before .before .skip-bare-ascii .ensures) in
     let s = packed-step (x .text .now) (c .before .before .before .before .before .before .before .skip-bare-ascii .result) (c .before .before .before .before .before .before .decode .result) (c .before .before .before .before .before .before .decode .ensures) (c .before .before .before .before .before .if1 .left) in
     let b = ap begin (sym (c .before .before .before .before .classify .ensures .0)) ∙ sym (c .before .before .before .begin .ensures) ∙ c .before .enum-told .given .1 in
-    passes-on (passes-on a (passes-plain p s b)) (c .skip-letters .ensures p .1)
+    over-passes a (passes-on (passes-plain p s b) (c .skip-letters .ensures p .1))
 
 returns-2 : tie.Need-returns-2 Inv-loop μ-loop
 returns-2 c =
-    let x = c .before .before .before .before .before .before .before .before .before .before .before .before .args in
+    let x = c .before .before .before .before .before .before .before .before .before .before .before .before .before .args in
     let p = policyOf (x .policy .now) in
-    let a = passes-skip (x .policy .now) (x .text .now) (c .before .before .before .before .before .before .before .before .before .ascii-keys-bare .ensures) (c .before .before .before .before .before .before .before .before .loop .inv) (c .before .before .before .before .before .before .before .skip-bare-ascii .ensures) in
-    let s = packed-step (x .text .now) (c .before .before .before .before .before .before .before .skip-bare-ascii .result) (c .before .before .before .before .before .before .decode .result) (c .before .before .before .before .before .before .decode .ensures) (c .before .before .before .before .before .if1 .left) in
-    let b = ap begin (sym (c .before .before .before .before .classify .ensures .0)) ∙ sym (c .before .before .before .begin .ensures) ∙ c .before .enum-told2 .given .1 in
-    (a, λ _. selectors-find p s b (c .selectors-end .result) (c .selectors-end .ensures ∙ selectors-end (x .text .now) (c .before .before .before .before .before .before .before .skip-bare-ascii .result)), λ f. absurd (true≢false f))
+    let a = passes-skip (x .policy .now) (x .text .now) (c .before .before .before .before .before .before .before .before .before .before .ascii-keys-bare .ensures) (c .before .before .before .before .before .before .before .before .before .loop .inv) (c .before .before .before .before .before .before .before .before .skip-bare-ascii .ensures) in
+    let s = packed-step (x .text .now) (c .before .before .before .before .before .before .before .before .skip-bare-ascii .result) (c .before .before .before .before .before .before .before .decode .result) (c .before .before .before .before .before .before .before .decode .ensures) (c .before .before .before .before .before .before .if1 .left) in
+    let b = ap begin (sym (c .before .before .before .before .before .classify .ensures .0)) ∙ sym (c .before .before .before .before .begin .ensures) ∙ c .before .before .enum-told2 .given .1 in
+    let f = selectors-find p s b (c .before .selectors-end .result) (c .before .selectors-end .ensures ∙ selectors-end (x .text .now) (c .before .before .before .before .before .before .before .before .skip-bare-ascii .result)) in
+    (a, λ _. (omega (arith, c .if2 .taken), f), λ e. absurd (true≢false e))
+
+add-passed : tie.Need-add-passed Inv-loop μ-loop
+add-passed c =
+    let x = c .before .before .before .before .before .before .before .before .before .before .before .before .before .args in
+    let a = passes-skip (x .policy .now) (x .text .now) (c .before .before .before .before .before .before .before .before .before .before .ascii-keys-bare .ensures) (c .before .before .before .before .before .before .before .before .before .loop .inv) (c .before .before .before .before .before .before .before .before .skip-bare-ascii .ensures) in
+    let s = packed-step (x .text .now) (c .before .before .before .before .before .before .before .before .skip-bare-ascii .result) (c .before .before .before .before .before .before .before .decode .result) (c .before .before .before .before .before .before .before .decode .ensures) (c .before .before .before .before .before .before .if1 .left) in
+    omega (arith, a .few, s .room, s .some, c .before .before .before .before .before .before .before .before .before .before .before .before .before .good .0 .0)
+
+loop-less-2 : tie.Need-loop-less-2 Inv-loop μ-loop
+loop-less-2 c =
+    let x = c .before .before .before .before .before .before .before .before .before .before .before .before .before .args in
+    let p = policyOf (x .policy .now) in
+    let k = passed (x .policy .now) (x .text .now) (c .before .before .before .before .before .before .before .before .before .before .ascii-keys-bare .ensures) (c .before .before .before .before .before .before .before .before .skip-bare-ascii .ensures) in
+    let s = packed-step (x .text .now) (c .before .before .before .before .before .before .before .before .skip-bare-ascii .result) (c .before .before .before .before .before .before .before .decode .result) (c .before .before .before .before .before .before .before .decode .ensures) (c .before .before .before .before .before .before .if1 .left) in
+    let b = ap begin (sym (c .before .before .before .before .before .classify .ensures .0)) ∙ sym (c .before .before .before .before .begin .ensures) ∙ c .before .before .enum-told2 .given .1 in
+    let f = selectors-find p s b (c .before .selectors-end .result) (c .before .selectors-end .ensures ∙ selectors-end (x .text .now) (c .before .before .before .before .before .before .before .before .skip-bare-ascii .result)) in
+    omega (arith, k .on, s .room, s .some, finds-some f, finds-room f)
+
+loop-again-2 : tie.Need-loop-again-2 Inv-loop μ-loop
+loop-again-2 c =
+    let x = c .before .before .before .before .before .before .before .before .before .before .before .before .before .args in
+    let p = policyOf (x .policy .now) in
+    let a = passes-skip (x .policy .now) (x .text .now) (c .before .before .before .before .before .before .before .before .before .before .ascii-keys-bare .ensures) (c .before .before .before .before .before .before .before .before .before .loop .inv) (c .before .before .before .before .before .before .before .before .skip-bare-ascii .ensures) in
+    let s = packed-step (x .text .now) (c .before .before .before .before .before .before .before .before .skip-bare-ascii .result) (c .before .before .before .before .before .before .before .decode .result) (c .before .before .before .before .before .before .before .decode .ensures) (c .before .before .before .before .before .before .if1 .left) in
+    let b = ap begin (sym (c .before .before .before .before .before .classify .ensures .0)) ∙ sym (c .before .before .before .before .begin .ensures) ∙ c .before .before .enum-told2 .given .1 in
+    let f = selectors-find p s b (c .before .selectors-end .result) (c .before .selectors-end .ensures ∙ selectors-end (x .text .now) (c .before .before .before .before .before .before .before .before .skip-bare-ascii .result)) in
+    over-on a (over-finding f (omega (arith, c .if2 .left)))
 
 walk-items-requires : tie.Need-walk-items-requires Inv-loop μ-loop
 walk-items-requires c κs =
@@ -80,31 +105,34 @@ walk-items-requires c κs =
       structured-place (b .result) (c .match .keys3),
     )
 
+add-passed-2 : tie.Need-add-passed-2 Inv-loop μ-loop
+add-passed-2 c =
+    let x = c .before .before .before .before .before .before .before .before .before .before .before .args in
+    let a = passes-skip (x .policy .now) (x .text .now) (c .before .before .before .before .before .before .before .before .ascii-keys-bare .ensures) (c .before .before .before .before .before .before .before .loop .inv) (c .before .before .before .before .before .before .skip-bare-ascii .ensures) in
+    let s = packed-step (x .text .now) (c .before .before .before .before .before .before .skip-bare-ascii .result) (c .before .before .before .before .before .decode .result) (c .before .before .before .before .before .decode .ensures) (c .before .before .before .before .if1 .left) in
+    let w = c .walk-items .ensures .0 in
+    omega (arith, a .on, a .few, w .on, w .few, w .inside (omega (arith, s .room)), c .before .before .before .before .before .before .before .before .before .before .before .good .0 .0)
+
 returns-3 : tie.Need-returns-3 Inv-loop μ-loop
 returns-3 c =
     let x = c .before .before .before .before .before .before .before .before .before .before .before .before .args in
-    let p = policyOf (x .policy .now) in
     let a = passes-skip (x .policy .now) (x .text .now) (c .before .before .before .before .before .before .before .before .before .ascii-keys-bare .ensures) (c .before .before .before .before .before .before .before .before .loop .inv) (c .before .before .before .before .before .before .before .skip-bare-ascii .ensures) in
-    let s = packed-step (x .text .now) (c .before .before .before .before .before .before .before .skip-bare-ascii .result) (c .before .before .before .before .before .before .decode .result) (c .before .before .before .before .before .before .decode .ensures) (c .before .before .before .before .before .if1 .left) in
     let w = c .before .walk-items .ensures in
-    (passes-on a (w .0), w .1, λ f. absurd (true≢false (sym (c .if2 .taken) ∙ f)))
+    (over-on a (w .0), w .1, λ f. absurd (true≢false (sym (c .if3 .taken) ∙ f)))
 
-loop-less-2 : tie.Need-loop-less-2 Inv-loop μ-loop
-loop-less-2 c =
+loop-less-3 : tie.Need-loop-less-3 Inv-loop μ-loop
+loop-less-3 c =
     let x = c .before .before .before .before .before .before .before .before .before .before .before .before .args in
-    let p = policyOf (x .policy .now) in
     let k = passed (x .policy .now) (x .text .now) (c .before .before .before .before .before .before .before .before .before .ascii-keys-bare .ensures) (c .before .before .before .before .before .before .before .skip-bare-ascii .ensures) in
     let s = packed-step (x .text .now) (c .before .before .before .before .before .before .before .skip-bare-ascii .result) (c .before .before .before .before .before .before .decode .result) (c .before .before .before .before .before .before .decode .ensures) (c .before .before .before .before .before .if1 .left) in
     let w = c .before .walk-items .ensures in
-    omega (arith, k .on, s .room, s .some, w .2 (c .if2 .left), w .0 .inside (omega (arith, s .room)))
+    omega (arith, k .on, s .room, s .some, w .2 (c .if3 .left), w .0 .inside (omega (arith, s .room)))
 
-loop-again-2 : tie.Need-loop-again-2 Inv-loop μ-loop
-loop-again-2 c =
+loop-again-3 : tie.Need-loop-again-3 Inv-loop μ-loop
+loop-again-3 c =
     let x = c .before .before .before .before .before .before .before .before .before .before .before .before .args in
-    let p = policyOf (x .policy .now) in
     let a = passes-skip (x .policy .now) (x .text .now) (c .before .before .before .before .before .before .before .before .before .ascii-keys-bare .ensures) (c .before .before .before .before .before .before .before .before .loop .inv) (c .before .before .before .before .before .before .before .skip-bare-ascii .ensures) in
-    let s = packed-step (x .text .now) (c .before .before .before .before .before .before .before .skip-bare-ascii .result) (c .before .before .before .before .before .before .decode .result) (c .before .before .before .before .before .before .decode .ensures) (c .before .before .before .before .before .if1 .left) in
-    passes-on a (c .before .walk-items .ensures .0)
+    over-on a (c .before .walk-items .ensures .0)
 
 pub next-finding-spec : {M : Type 1} → statement M
 next-finding-spec =
@@ -128,7 +156,11 @@ next-finding-spec =
     (λ c. search needs)
     (λ c κs. search needs)
     returns-2
-    walk-items-requires
-    returns-3
+    add-passed
     loop-less-2
-    loop-again-2)
+    loop-again-2
+    walk-items-requires
+    add-passed-2
+    returns-3
+    loop-less-3
+    loop-again-3)

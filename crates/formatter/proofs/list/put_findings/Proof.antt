@@ -1,5 +1,5 @@
 -- `formatter::list::put_findings` meets its contract. The loop writes the rows of the findings from its place in the text on.
-use mathlib.Core.Path.{_≡_, ap, sym, subst}
+use mathlib.Core.Path.{_≡_, ap, sym, subst, _∙_}
 use mathlib.Core.List.{List, _∷_, map}
 use Prim.Native.Nat.{_-_, _≤_}
 use native.Mathlib.Omega.{arith}
@@ -12,6 +12,7 @@ use Rattle.policy.specs.declared.Policy.{Policy}
 use Rattle.scanner.specs.Spans.{Found}
 use Rattle.formatter.specs.Findings.{findingRow}
 use Rattle.changes.specs.Findings.{Finds}
+use Rattle.changes.proofs.Passing.{over-none}
 use Rattle.formatter.specs.List.{rowNumbers, rowsBytes}
 use Rattle.formatter.proofs.NextFindings.{next-ahead, next-row, none-found}
 use Rattle.formatter.proofs.Passing.{read-policy}
@@ -43,16 +44,16 @@ returns c =
     let p = policyOf (x .policy .now) in
     let t = x .text .now in
     let l = c .before .before .loop in
-    let n = c .before .next-finding .ensures in
+    let n = c .before .next-finding in
     finish (rowsBytes rowNumbers (rowsFrom p t 0)) 0 (x .table .now) (rowsBytes rowNumbers (rowsFrom p t (l .at))) (l .inv .1)
-    (ap (λ (l : List Found). rowsBytes rowNumbers (map (findingRow p) l)) (none-found (n .0) (n .2 (not-true _ (c .if1 .taken)) .0)))
+    (ap (λ (l : List Found). rowsBytes rowNumbers (map (findingRow p) l)) (over-none (n .ensures .0) .same ∙ none-found p t (n .result .start) (n .ensures .2 (not-true (n .result .more) (c .if1 .taken)) .0)))
 
 finding-row-requires : tie.Need-finding-row-requires Inv-loop μ-loop
 finding-row-requires c κs =
     let x = c .before .before .before .before .before .before .before .before .args in
     let n = c .before .next-finding in
     subst (λ (q : Policy). Finds q (x .text .now) (n .result .start) (n .result .end)) (sym (read-policy (x .policy .now) (c .before .before .before .before .read-policy .ensures)))
-    (n .ensures .1 (not-false _ (c .if1 .left)))
+    (n .ensures .1 (not-false _ (c .if1 .left)) .1)
 
 put-row-requires : tie.Need-put-row-requires Inv-loop μ-loop
 unfolding rowsBytes
@@ -62,7 +63,7 @@ put-row-requires c κs =
     let t = x .text .now in
     let l = c .before .before .before .before .loop in
     let n = c .before .before .before .next-finding in
-    let s = next-row (n .ensures .0) (subst (λ (q : Policy). rowsFrom q t (n .result .start) ≡ c .before .finding-row .result ∷ rowsFrom q t (n .result .end)) (read-policy (x .policy .now) (c .before .before .before .before .before .before .read-policy .ensures)) (c .before .finding-row .ensures)) in
+    let s = next-row (over-none (n .ensures .0)) (subst (λ (q : Policy). rowsFrom q t (n .result .start) ≡ c .before .finding-row .result ∷ rowsFrom q t (n .result .end)) (read-policy (x .policy .now) (c .before .before .before .before .before .before .read-policy .ensures)) (c .before .finding-row .ensures)) in
     let f = c .before .finding-row .result in
     let r =
     room (rowsBytes rowNumbers (rowsFrom p t 0)) 0 (x .table .now) (rowsBytes rowNumbers (rowsFrom p t (l .at))) (bytesOf (rowNumbers f)) (rowsBytes rowNumbers (rowsFrom p t (n .result .end))) (l .inv .1) (ap (rowsBytes rowNumbers) s) in
@@ -71,7 +72,7 @@ put-row-requires c κs =
 loop-less : tie.Need-loop-less Inv-loop μ-loop
 loop-less c =
     let n = c .before .before .before .before .before .before .next-finding .ensures in
-    let h = next-ahead (n .0) (n .1 (not-false _ (c .before .before .before .before .before .if1 .left))) in
+    let h = next-ahead (over-none (n .0)) (n .1 (not-false _ (c .before .before .before .before .before .if1 .left)) .1) in
     omega (arith, h .some, h .room)
 
 loop-again : tie.Need-loop-again Inv-loop μ-loop
@@ -82,8 +83,8 @@ loop-again c =
     let t = x .text .now in
     let l = c .before .before .before .before .before .before .before .loop in
     let n = c .before .before .before .before .before .before .next-finding in
-    let s = next-row (n .ensures .0) (subst (λ (q : Policy). rowsFrom q t (n .result .start) ≡ c .before .before .before .before .finding-row .result ∷ rowsFrom q t (n .result .end)) (read-policy (x .policy .now) (c .before .before .before .before .before .before .before .before .before .read-policy .ensures)) (c .before .before .before .before .finding-row .ensures)) in
-    let h = next-ahead (n .ensures .0) (n .ensures .1 (not-false _ (c .before .before .before .before .before .if1 .left))) in (
+    let s = next-row (over-none (n .ensures .0)) (subst (λ (q : Policy). rowsFrom q t (n .result .start) ≡ c .before .before .before .before .finding-row .result ∷ rowsFrom q t (n .result .end)) (read-policy (x .policy .now) (c .before .before .before .before .before .before .before .before .before .read-policy .ensures)) (c .before .before .before .before .finding-row .ensures)) in
+    let h = next-ahead (over-none (n .ensures .0)) (n .ensures .1 (not-false _ (c .before .before .before .before .before .if1 .left)) .1) in (
       h .room,
       put (rowsBytes rowNumbers (rowsFrom p t 0)) 0 (x .table .now) (rowsBytes rowNumbers (rowsFrom p t (l .at))) (rowsBytes rowNumbers (rowsFrom p t (n .result .end))) (l .inv .1) (c .before .before .put-row .ensures)
           (ap (rowsBytes rowNumbers) s),
