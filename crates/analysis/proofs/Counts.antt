@@ -1,5 +1,5 @@
--- The eight counts under the sum: it is associative, `empty` is its zero, and only `empty` has the total 0.
-use mathlib.Core.Path.{_≡_}
+-- The eight counts under the sum: it is associative, what is added can be taken away, `empty` is its zero, and only `empty` has the total 0.
+use mathlib.Core.Path.{_≡_, ap}
 use native.Mathlib.Omega.{arith}
 use Rattle.analysis.specs.Counts.{_⊕_, empty, total}
 use Rattle.analysis.specs.declared.types.NonCanonicality.{NonCanonicality}
@@ -35,6 +35,18 @@ empty-plus n = counts-path _ _ (omega arith) (omega arith) (omega arith) (omega 
 
 pub plus-empty : (n : NonCanonicality) → n ⊕ empty ≡ n
 plus-empty n = counts-path _ _ (omega arith) (omega arith) (omega arith) (omega arith) (omega arith) (omega arith) (omega arith) (omega arith)
+
+pub plus-cancel : (l m n : NonCanonicality) → l ⊕ n ≡ m ⊕ n → l ≡ m
+plus-cancel l m n e =
+    counts-path _ _
+    (omega (arith, ap (λ (x : NonCanonicality). x .«unsanctioned_selectors») e))
+    (omega (arith, ap (λ (x : NonCanonicality). x .«modifier_defective_selectors») e))
+    (omega (arith, ap (λ (x : NonCanonicality). x .«additional_defective_selectors») e))
+    (omega (arith, ap (λ (x : NonCanonicality). x .«tag_conflicting_selectors») e))
+    (omega (arith, ap (λ (x : NonCanonicality). x .«tag_forced_presentations») e))
+    (omega (arith, ap (λ (x : NonCanonicality). x .«tag_redundant_selectors») e))
+    (omega (arith, ap (λ (x : NonCanonicality). x .«policy_redundant_selectors») e))
+    (omega (arith, ap (λ (x : NonCanonicality). x .«presentation_decisions») e))
 
 pub total-empty : (n : NonCanonicality) → total n ≡ 0 → n ≡ empty
 total-empty n e = counts-path _ _ (omega arith) (omega arith) (omega arith) (omega arith) (omega arith) (omega arith) (omega arith) (omega arith)

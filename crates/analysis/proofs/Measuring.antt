@@ -77,7 +77,7 @@ few-6 EmojiToBare (Emoji ∷ s) = omega arith
 few-6 BareToText (q ∷ s) = omega arith
 few-6 BareToEmoji (q ∷ s) = omega arith
 
-few : (p : Policy) (c : ℕ) (k : Class) → Few (outcome p c k)
+pub few : (p : Policy) (c : ℕ) (k : Class) → Few (outcome p c k)
 few = by-rules Few few-1 few-23 few-4 few-5 few-6
 
 -- ---- a length that is capped now and again is capped once
@@ -112,12 +112,12 @@ module _ (p : Policy) where
   unfolding totalCells
   total-behind t u e = ap (λ (a : List Presentation × List Cell). unsanctioned (length (a .0)) ⊕ countCells p (a .1)) e ∙ empty-plus (countCells p (cells t))
 
-  total-leading : (t u : List ℕ) → split u ≡ ([], cells t) → totalCells p t ≡ unsanctioned (length (leading t)) ⊕ totalCells p u
+  pub total-leading : (t u : List ℕ) → split u ≡ ([], cells t) → totalCells p t ≡ unsanctioned (length (leading t)) ⊕ totalCells p u
   unfolding totalCells
   total-leading t u e = ap (λ (n : NonCanonicality). unsanctioned (length (leading t)) ⊕ n) (sym (total-behind t u e))
 
   -- .. of a cell its own counts and those of what stands behind it.
-  total-char : (c : ℕ) (t u : List ℕ) → isSelector c ≡ false → split u ≡ ([], cells t)
+  pub total-char : (c : ℕ) (t u : List ℕ) → isSelector c ≡ false → split u ≡ ([], cells t)
       → totalCells p (c ∷ t) ≡ outcome p c (following (cells t)) (leading t) .counts ⊕ totalCells p u
   unfolding totalCells countCells
   total-char c t u e h =

@@ -1,11 +1,14 @@
 -- Which of the six rules holds: `by-rules` takes a law of each rule to a law of `outcome`.
-use mathlib.Core.Path.{_≡_, refl, sym, subst}
+use mathlib.Core.Path.{_≡_, refl, ap, sym, _∙_, subst}
 use mathlib.Core.Logic.{_≢_}
 use mathlib.Core.Bool.{Bool, true, false, cond}
 use mathlib.Core.List.{List}
 use Prim.Native.Nat.{ℕ}
-use Rattle.unicode.specs.Unicode.{hasVariationSequence, isEmojiDefault, isEmojiModifierBase}
+use Rattle.unicode.specs.Unicode.{hasVariationSequence, isEmojiDefault, isEmojiModifierBase, variationSequenceIndex}
+use Rattle.unicode.specs.UnicodeData.{variationEntries}
+use Rattle.unicode.specs.declared.VariationSequenceIndex.the-variants.{At}
 use Rattle.unicode.specs.declared.presentation.Presentation.{Presentation}
+use Rattle.unicode.proofs.Ascent.{isAt, member-index}
 use Rattle.policy.specs.Policy.{singletonRule}
 use Rattle.policy.specs.declared.Policy.{Policy}
 use Rattle.policy.specs.declared.SingletonRule.{SingletonRule}
@@ -14,6 +17,10 @@ use Rattle.scanner.specs.declared.char_class.Class.the-variants.{Selector as se
 use Rattle.analysis.specs.Rules.{Outcome, byKeycap, byModifier, byTags, outcome, rule1, rule2, rule3, rule4, rule5, rule6, textFirst}
 
 -- ---- which rule holds
+
+pub has-entry : (c i : ℕ) → variationSequenceIndex c ≡ At i → hasVariationSequence c ≡ true
+unfolding hasVariationSequence variationSequenceIndex isAt
+has-entry c i e = member-index c variationEntries ∙ ap isAt e
 
 -- Rules 2 and 3 together.
 abbrev pub rule23 : Bool → List Presentation → Outcome

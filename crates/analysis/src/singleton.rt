@@ -1,16 +1,20 @@
 // The six rules for a single base, in document 01's order ("Counts and finding"): analysis.rs of the crate evfmt,
 // `analyze_singleton_base_selectors` and what it calls. They are functions of numbers: the base, the class of what stands behind
 // the base and its selectors, the first selector and how many there are.
-// `analyze_singleton_base_selectors` equals `outcome` of specs/Rules.antt, the smaller functions equal its rules.
+// `analyze_singleton_base_selectors` and `analyze_by_policy_bytes` equal `outcome` of specs/Rules.antt, the smaller functions its rules.
 ghost use mathlib.Core.Path.{_≡_};
-ghost use mathlib.Core.Bool.{cond};
+ghost use mathlib.Core.Bool.{cond, true};
 ghost use Prim.Native.Nat.{_-_};
-ghost use Rattle.unicode.specs.Unicode.{isEmojiModifierBase};
-ghost use Rattle.analysis.specs.Rules.{isBareSide, outcome, rule1, rule2, rule3, rule4, rule5, rule6, runWith, textFirst, withoutSelector};
+ghost use Rattle.unicode.specs.Unicode.{hasVariationSequence, isEmojiModifierBase};
+ghost use Rattle.policy.specs.Policy.{singletonRule};
+ghost use Rattle.policy.specs.PolicyBytes.{policyOf};
+ghost use Rattle.policy.specs.declared.Policy.{Policy as GivenPolicy};
+ghost use Rattle.analysis.specs.Rules.{byKeycap, isBareSide, outcome, rule1, rule2, rule3, rule4, rule5, rule6, runWith, textFirst, withoutSelector};
 use crate::types::NonCanonicality;
 use policy::Policy;
 use policy::SingletonRule;
 use scanner::char_class::Class;
+use unicode::VariationSequenceIndex;
 use unicode::presentation::FromSelector;
 use unicode::presentation::Presentation;
 
@@ -211,6 +215,33 @@ fn by_policy(first: FromSelector, count: usize, rule: SingletonRule) -> Outcome
     }
 }
 
+// Whether a class is that of 20E3.
+pub fn is_keycap(class: Class) -> bool
+    ensures { λ r. ⌜ r ≡ byKeycap class ⌝ }
+{
+    match class {
+        Class::Keycap => true,
+        _ => false,
+    }
+}
+
+// Rules 2 to 6, for a base with a variation entry, by what a policy says of it where this class follows.
+fn with_entry(
+    base: u32,
+    next: Class,
+    first: FromSelector,
+    count: usize,
+    rule: SingletonRule,
+) -> Outcome
+    ensures { λ r. ⌜ ((p : GivenPolicy) → hasVariationSequence base ≡ true → rule ≡ singletonRule p base (byKeycap next) → r ≡ outcome p base next (runWith first count)) ⌝ }
+{
+    match next {
+        Class::Modifier => before_modifier(first, count, base),
+        Class::Tag => before_tags(first, count, unicode::is_emoji_default(base)),
+        _ => by_policy(first, count, rule),
+    }
+}
+
 // "For a single base the first rule that fits holds."
 pub fn analyze_singleton_base_selectors(
     base: u32,
@@ -224,10 +255,25 @@ pub fn analyze_singleton_base_selectors(
     if !unicode::has_variation_sequence(base) {
         return without_entry(first, count);
     }
-    match next {
-        Class::Modifier => before_modifier(first, count, base),
-        Class::Tag => before_tags(first, count, unicode::is_emoji_default(base)),
-        Class::Keycap => by_policy(first, count, policy.singleton_rule(base, true)),
-        _ => by_policy(first, count, policy.singleton_rule(base, false)),
+    let rule = policy.singleton_rule(base, is_keycap(next));
+    with_entry(base, next, first, count, rule)
+}
+
+// The same by a policy's bytes, which no call copies.
+pub fn analyze_by_policy_bytes(
+    policy: &[u8],
+    base: u32,
+    next: Class,
+    first: FromSelector,
+    count: usize,
+) -> Outcome
+    ensures { λ r. ⌜ r ≡ outcome (policyOf (now (policy .entry))) base next (runWith first count) ⌝ }
+{
+    match unicode::variation_sequence_index(base) {
+        VariationSequenceIndex::NoEntry => without_entry(first, count),
+        VariationSequenceIndex::At(index) => {
+            let rule = policy::policy_bytes::rule_at(policy, index, is_keycap(next));
+            with_entry(base, next, first, count, rule)
+        }
     }
 }

@@ -40,7 +40,8 @@ use Rattle.analysis.proofs.RuleLaws.{keeps, settles}
 use Rattle.changes.specs.Changes.{BaseChange, ChangeAt, Changes, SameRules, Stays, formattedFrom, outcomeFrom, selectorNumber, totalFrom}
 use Rattle.changes.specs.declared.Change.{Change}
 use Rattle.changes.proofs.PlainText.{StaysAlone}
-use Rattle.changes.proofs.Kept.{has-entry, outcome-read}
+use Rattle.analysis.proofs.Rules.{has-entry}
+use Rattle.changes.proofs.Kept.{outcome-read}
 use Rattle.changes.proofs.Staying.{between, step-bytes, step-formatted, step-total}
 
 -- ---- whether selectors change

@@ -10,11 +10,9 @@ use lib.ListN.{drop, length}
 use Rattle.utf8.specs.Rfc3629.{chars, packed, readChar}
 use Rattle.utf8.proofs.Packed.{packed-step, packed-stop}
 use Rattle.unicode.specs.Unicode.{hasVariationSequence, isEmojiDefault, isEmojiModifierBase, variationSequenceIndex}
-use Rattle.unicode.specs.UnicodeData.{variationEntries}
 use Rattle.unicode.specs.declared.VariationSequenceIndex.the-variants.{At}
 use Rattle.unicode.specs.declared.presentation.FromSelector.{FromSelector}
 use Rattle.unicode.specs.declared.presentation.Presentation.{Presentation}
-use Rattle.unicode.proofs.Ascent.{isAt, member-index}
 use Rattle.policy.specs.Policy.{entryRule, singletonRule}
 use Rattle.policy.specs.declared.Policy.{Policy}
 use Rattle.policy.specs.declared.SingletonRule.{SingletonRule}
@@ -32,15 +30,11 @@ use Rattle.analysis.specs.declared.singleton.Outcome.{Outcome}
 use Rattle.analysis.proofs.Cells.{front-char, split-char}
 use Rattle.analysis.proofs.CellsAt.{split-at}
 use Rattle.analysis.proofs.NumberRules.{by-numbers}
-use Rattle.analysis.proofs.Rules.{outcome-entry, rule23}
+use Rattle.analysis.proofs.Rules.{has-entry, outcome-entry, rule23}
 use Rattle.changes.specs.Changes.{SameRules, outcomeFrom}
 use Rattle.changes.proofs.RuleClasses.{rules-before, same-outcome}
 
 -- ---- the rule that holds
-
-pub has-entry : (c i : ℕ) → variationSequenceIndex c ≡ At i → hasVariationSequence c ≡ true
-unfolding hasVariationSequence variationSequenceIndex isAt
-has-entry c i e = member-index c variationEntries ∙ ap isAt e
 
 module _ (p : Policy) (c i : ℕ) (e : variationSequenceIndex c ≡ At i) (a r : FromSelector) where
   by-rule : (k : Class) (n : ℕ) (o : Outcome) → outcome p c k (runWith a n) ≡ o → runWith r 1 ≡ chosen (o .slot) [] → runWith r 1 ≡ chosen (outcome p c k (runWith a n) .slot) []

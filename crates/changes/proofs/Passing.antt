@@ -23,11 +23,13 @@ use Rattle.scanner.proofs.Rescan.{found-items, found-none, found-skip, size-app
 use Rattle.scanner.proofs.Tiling.{Filled, and-item, filled, items-tail, tiling}
 use Rattle.analysis.specs.Analysis.{isFinding, nonCanonicality}
 use Rattle.analysis.specs.CellView.{totalCells}
-use Rattle.analysis.specs.Counts.{total}
+use Rattle.analysis.specs.Counts.{_⊕_, total}
 use Rattle.analysis.specs.Findings.{findingsFrom}
+use Rattle.analysis.specs.declared.types.NonCanonicality.{NonCanonicality}
+use Rattle.analysis.proofs.Counts.{plus-cancel}
 use Rattle.analysis.proofs.Items.{passthrough-no-finding}
 use Rattle.changes.specs.Changes.{AsciiBare, totalFrom}
-use Rattle.changes.specs.Findings.{Finds, Left, Passes, PassesOver, Skips, all-left, one-less}
+use Rattle.changes.specs.Findings.{Counted, Finds, Left, Passes, PassesOver, Skips, all-left, one-less}
 use Rattle.changes.proofs.CellsOfItems.{total-first}
 use Rattle.changes.proofs.PlainText.{other-plain, stays-plain}
 use Rattle.changes.proofs.Staying.{stays-here, stays-on}
@@ -127,9 +129,10 @@ module _ (p : Policy) (text : List ℕ) (at end : ℕ) {x : Item} {xs : List Ite
   h : ItemAt text at x xs
   h = item-at text at e
 
-  pub item-total : totalFrom p text at ≡ total (nonCanonicality p x) + totalFrom p text end
-  item-total =
-      omega (arith, ap total (total-first p (chars (drop at text)) x xs e), ap (λ (t : List ℕ). total (totalCells p t)) (sym (h .text-behind)), ap (totalFrom p text) (sym f))
+  pub item-counts : totalCells p (chars (drop at text)) ≡ nonCanonicality p x ⊕ totalCells p (chars (drop end text))
+  item-counts =
+      total-first p (chars (drop at text)) x xs e
+      ∙ ap (λ (t : List ℕ). nonCanonicality p x ⊕ totalCells p t) (sym (h .text-behind) ∙ ap (λ (n : ℕ). chars (drop n text)) (sym f))
 
   pub item-valid : validUpTo (drop at text) ≡ (end - at) + validUpTo (drop end text)
   item-valid =
@@ -137,7 +140,7 @@ module _ (p : Policy) (text : List ℕ) (at end : ℕ) {x : Item} {xs : List Ite
 
   pub quiet-item : totalFrom p text at ≡ totalFrom p text end → Passes p text at end
   quiet-item q =
-      let z : total (nonCanonicality p x) ≡ 0 = omega (arith, item-total) in
+      let z : total (nonCanonicality p x) ≡ 0 = omega (arith, ap total item-counts) in
       let n : isFinding p x ≡ false = ap not (eq-eqb _ 0 z) in
       let s = h .some in
       let r = h .room in
@@ -151,14 +154,19 @@ module _ (p : Policy) (text : List ℕ) (at end : ℕ) {x : Item} {xs : List Ite
         valid = item-valid;
       }
 
-  pub loud-item : (n : ℕ) → totalFrom p text at ≡ suc n + totalFrom p text end → Finds p text at end
-  loud-item n q = record {
-    item = x;
-    behind = xs;
-    items-are = e;
-    end-is = f;
-    is-finding = ap not (ne-eqb (total (nonCanonicality p x)) 0 (λ z. omega (arith, item-total)));
-  }
+  pub loud-item : (m : NonCanonicality) → 1 ≤ total m → totalCells p (chars (drop at text)) ≡ m ⊕ totalCells p (chars (drop end text)) → Counted p text at end m
+  loud-item m l q =
+      let c : m ≡ nonCanonicality p x = plus-cancel m (nonCanonicality p x) (totalCells p (chars (drop end text))) (sym q ∙ item-counts) in
+      record {
+        finds = record {
+          item = x;
+          behind = xs;
+          items-are = e;
+          end-is = f;
+          is-finding = ap not (ne-eqb (total (nonCanonicality p x)) 0 (λ z. omega (arith, ap total c)));
+        };
+        counts-are = c;
+      }
 
 -- ---- an item that is a finding
 

@@ -1,7 +1,7 @@
 -- From an item of links or units on, cell by cell: what the loop over items without a finding goes by.
 use mathlib.Core.Path.{_≡_, refl, ap, ap₂, sym, _∙_, subst}
 use mathlib.Core.Logic.{inl, inr, ⊎-elim}
-use mathlib.Core.Bool.{Bool, true, false, _&&_, _||_, cond, not, true≢false}
+use mathlib.Core.Bool.{Bool, true, false, _&&_, _||_, and-false, cond, not, true≢false}
 use mathlib.Core.Option.{none, some}
 use mathlib.Core.List.{List, [], _∷_, _++_}
 use Prim.Native.Nat.{ℕ, zero, suc, _+_, _*_, _-_, _/_, _%_, _≤_, _<_}
@@ -10,8 +10,8 @@ use types.Run.{OneOf, miss}
 use denote.Enum.Declared.{tagOf}
 use lib.Dec.{eqb, leb}
 use lib.ListN.{drop, length}
-use borrow.Author.Tests.{eq-eqb, eqb-true, leb-false, leb-true, ne-eqb, not-false}
-use Rattle.base.proofs.Tests.{both-true, le-or-lt}
+use borrow.Author.Tests.{eq-eqb, eqb-true, le-leb, leb-false, leb-true, lt-leb, ne-eqb, not-false}
+use Rattle.base.proofs.Tests.{and-both, both-true, le-or-lt}
 use Rattle.utf8.specs.Rfc3629.{chars, packed, readChar}
 use Rattle.utf8.proofs.Packed.{packed-step, packed-stop}
 use Rattle.utf8.proofs.Places.{Step}
@@ -44,24 +44,27 @@ use Rattle.scanner.proofs.Runs.{Stops, at-char, at-end, behind-stops, run-behin
 use Rattle.scanner.proofs.Tiling.{cut-none, cut-some}
 use Rattle.scanner.proofs.Walk.{inner-no-selector, walk-cut}
 use Rattle.scanner.proofs.place.Place.{the-type as the-place}
-use Rattle.analysis.specs.Analysis.{chosen}
-use Rattle.analysis.specs.CellView.{classInFront}
-use Rattle.analysis.specs.Cells.{leading}
-use Rattle.analysis.specs.Counts.{total}
+use Rattle.analysis.specs.Analysis.{chosen, following}
+use Rattle.analysis.specs.CellView.{classInFront, totalCells}
+use Rattle.analysis.specs.Cells.{cells, leading}
+use Rattle.analysis.specs.Counts.{_⊕_, cappedSum, empty, most, total, unsanctioned}
 use Rattle.analysis.specs.Rules.{firstAsked, outcome, rule1, runWith}
 use Rattle.analysis.specs.declared.singleton.Outcome.{Outcome}
-use Rattle.analysis.proofs.CellsAt.{behind-at, selectors-end, selectors-room}
+use Rattle.analysis.specs.declared.types.NonCanonicality.{NonCanonicality}
+use Rattle.analysis.proofs.CellsAt.{behind-at, selectors-end, selectors-room, split-at}
+use Rattle.analysis.proofs.Counts.{empty-plus, plus-assoc, plus-empty, total-empty}
+use Rattle.analysis.proofs.Measuring.{few, total-char, total-leading}
 use Rattle.analysis.proofs.NumberRules.{by-numbers}
 use Rattle.analysis.proofs.Rules.{outcome-no-entry}
-use Rattle.changes.specs.Changes.{SameRules, outcomeFrom, selectorNumber, totalFrom}
-use Rattle.changes.specs.Findings.{Finds, FindsBehind, PassesOver, ReadsCell}
+use Rattle.analysis.proofs.Sums.{whole-sum}
+use Rattle.changes.specs.Changes.{SameRules, outcomeFrom, selectorNumber}
+use Rattle.changes.specs.Findings.{Counted, FindsBehind, PassesOver, ReadsCell}
 use Rattle.changes.specs.declared.findings.CellEnd.{CellEnd}
-use Rattle.changes.proofs.Bases.{no-change, selectors-total}
+use Rattle.changes.proofs.Bases.{no-change}
 use Rattle.changes.proofs.Kept.{class-in-front, follows}
 use Rattle.changes.proofs.Passing.{loud-item, over-finding, over-on, over-passes, quiet-item, step-width}
 use Rattle.changes.proofs.PlainText.{ascii-other}
 use Rattle.changes.proofs.RuleClasses.{same-outcome}
-use Rattle.changes.proofs.Staying.{step-total}
 
 -- ---- whether something is counted of a cell
 
@@ -87,15 +90,16 @@ pub read-end : (p : Policy) (text : List ℕ) (base at : ℕ) (first : FromSelec
     → first ≡ firstAsked (leading (chars (drop at text))) → end ≡ at + 3 * length (leading (chars (drop at text))) → n ≡ packed (readChar (drop end text))
     → k ≡ classOf (n / 8) → i ≡ variationSequenceIndex (n / 8)
     → ((s : List Presentation) → first ≡ firstAsked s → end - at ≡ 3 * length s → m ≡ not (eqb (total (outcome p base k s .counts)) 0))
-    → ReadsCell p text base at (record { end = end; changes = m; packed = n; class = k; index = i })
+    → ReadsCell p text base at (record { end = end; first = first; changes = m; packed = n; class = k; index = i })
 read-end p text base at first end n k i m f e d c j h =
     let t = chars (drop at text) in
     let r : SameRules k (classInFront (chars (drop end text))) = class-in-front text end n k d (subst (SameRules k) c (record { modifier = refl; tags = refl; keycap = refl })) in
+    let o = same-outcome p base (leading t) (subst (SameRules k) (follows p text base at end e) r) in
     record {
       end-is = e;
-      changes-is =
-          h (leading t) f (omega arith)
-          ∙ ap (λ (x : Outcome). not (eqb (total (x .counts)) 0)) (same-outcome p base (leading t) (subst (SameRules k) (follows p text base at end e) r));
+      first-is = f;
+      outcome-is = o;
+      changes-is = h (leading t) f (omega arith) ∙ ap (λ (x : Outcome). not (eqb (total (x .counts)) 0)) o;
       packed-is = d;
       class-is = c;
       index-is = j;
@@ -116,7 +120,11 @@ not-plain q o e = miss (1 ∷ 2 ∷ 3 ∷ 4 ∷ 5 ∷ 6 ∷ []) 0 tt (subst (λ 
 
 -- ---- the loop: the item that is gone through, and what is counted of it so far
 
-pub record Walking (p : Policy) (text : List ℕ) (before from start base : ℕ) (index : VariationSequenceIndex) (at : ℕ) (place : Place) (changed : Bool) (n : ℕ) : Type 0 where
+-- The counts that are kept: those of an item that does not start before the limit, else none.
+abbrev pub Keeps : ℕ → ℕ → NonCanonicality → NonCanonicality → Type 0
+Keeps before start sum counts = (before ≤ start → counts ≡ sum) × (start < before → counts ≡ empty)
+
+pub record Walking (p : Policy) (text : List ℕ) (before from start base : ℕ) (index : VariationSequenceIndex) (at : ℕ) (place : Place) (changed : Bool) (n : ℕ) (counts : NonCanonicality) : Type 0 where
   pub passed : PassesOver p text before from start n
   pub entry : variationSequenceIndex base ≡ index
   pub inside : inner place ≡ true
@@ -132,14 +140,18 @@ pub record Walking (p : Policy) (text : List ℕ) (before from start base : ℕ)
   pub behind : List Item
   pub items-are : items (chars (drop start text)) ≡ item ∷ behind
   pub end-same : start + size width (item .chars) ≡ at + size width ((cut place (chars (drop at text))) .0)
-  pub sum : ℕ
-  pub counted : totalFrom p text start ≡ sum + totalFrom p text pos
-  pub changed-is : changed ≡ not (eqb sum 0)
+  pub sum : NonCanonicality
+  pub counted : totalCells p (chars (drop start text)) ≡ sum ⊕ totalCells p (chars (drop pos text))
+  -- There are no more counts than bytes.
+  pub few-counts : total sum + start ≤ pos
+  pub changed-is : changed ≡ not (eqb (total sum) 0)
+  pub kept : Keeps before start sum counts
 
-pub walking-begin : (p : Policy) (text : List ℕ) (before from : ℕ) {start v w n : ℕ} (index : VariationSequenceIndex) → PassesOver p text before from start n
-    → Step text start v w → variationSequenceIndex v ≡ index → inner (begin (classOf v)) ≡ true → Walking p text before from start v index (start + w) (begin (classOf v)) false n
+pub walking-begin : (p : Policy) (text : List ℕ) (before from : ℕ) {start v w n : ℕ} {counts : NonCanonicality} (index : VariationSequenceIndex)
+    → PassesOver p text before from start n → counts ≡ empty → Step text start v w
+    → variationSequenceIndex v ≡ index → inner (begin (classOf v)) ≡ true → Walking p text before from start v index (start + w) (begin (classOf v)) false n counts
 unfolding items
-walking-begin p text before from {start} {v} {w} index a h e i = record {
+walking-begin p text before from {start} {v} {w} index a z h e i = record {
   passed = a;
   entry = e;
   inside = i;
@@ -153,9 +165,11 @@ walking-begin p text before from {start} {v} {w} index a h e i = record {
   behind = (cut (begin (classOf v)) (chars (drop (start + w) text))) .1;
   items-are = ap items (h .chars-on);
   end-same = omega (arith, step-width h);
-  sum = 0;
-  counted = omega arith;
+  sum = empty;
+  counted = sym (empty-plus (totalCells p (chars (drop start text))));
+  few-counts = omega arith;
   changed-is = refl;
+  kept = (λ _. z, λ _. z);
 }
 
 -- Inside links and units an item ends before any other character.
@@ -189,19 +203,19 @@ begins-inner k s q = go (begin k) refl
     go joined e = refl
     go leftOver e = refl
 
-module _ {p : Policy} {text : List ℕ} {before from start base : ℕ} {index : VariationSequenceIndex} {at : ℕ} {place : Place} {changed : Bool} {n : ℕ}
-    (l : Walking p text before from start base index at place changed n) {cell : CellEnd} (c : ReadsCell p text base at cell) where
+module _ {p : Policy} {text : List ℕ} {before from start base : ℕ} {index : VariationSequenceIndex} {at : ℕ} {place : Place} {changed : Bool} {n : ℕ} {counts : NonCanonicality}
+    (l : Walking p text before from start base index at place changed n counts) {cell : CellEnd} (c : ReadsCell p text base at cell) where
   abbrev T : List ℕ
   T = chars (drop at text)
 
   abbrev U : List ℕ
   U = chars (drop (cell .end) text)
 
-  abbrev gain : ℕ
-  gain = total (outcomeFrom p text base at .counts)
+  abbrev gain : NonCanonicality
+  gain = outcomeFrom p text base at .counts
 
-  abbrev Sum : ℕ
-  Sum = l .sum + gain
+  abbrev Sum : NonCanonicality
+  Sum = l .sum ⊕ gain
 
   text-behind : U ≡ behindSelectors T
   text-behind = ap (λ (n : ℕ). chars (drop n text)) (c .end-is) ∙ behind-at text at
@@ -217,10 +231,15 @@ module _ {p : Policy} {text : List ℕ} {before from start base : ℕ} {index : 
   end-on = omega (arith, l .end-same, ap (size width) cut-selectors, size-append width (selectorsAt T) ((cut place U) .0), selectors-end text at, c .end-is)
 
   -- What is counted with this cell.
-  total-on : totalFrom p text start ≡ Sum + totalFrom p text (cell .end)
+  total-on : totalCells p (chars (drop start text)) ≡ Sum ⊕ totalCells p U
   total-on =
-      let s = subst (λ (n : ℕ). totalFrom p text (l .pos) + length (leading (chars (drop n text))) ≡ total (outcomeFrom p text base n .counts) + totalFrom p text n) (sym (l .at-is)) (step-total p (l .reads) (l .clean)) in
-      omega (arith, l .counted, s, selectors-total text at p, ap (totalFrom p text) (c .end-is))
+      l .counted
+      ∙ ap (λ (t : List ℕ). l .sum ⊕ totalCells p t) (l .reads .chars-on ∙ ap (λ (n : ℕ). base ∷ chars (drop n text)) (sym (l .at-is)))
+      ∙ ap (λ (m : NonCanonicality). l .sum ⊕ m) (total-char p base T U (l .clean) (split-at text at (c .end-is)))
+      ∙ sym (plus-assoc (l .sum) gain (totalCells p U))
+
+  few-on : total Sum + start ≤ cell .end
+  few-on = omega (arith, l .few-counts, few p base (following (cells T)) (leading T), c .end-is, l .at-is, l .reads .some)
 
   pub room : cell .end ≤ length text
   room = omega (arith, c .end-is, l .at-is, selectors-room text at (omega (arith, l .at-is, l .reads .room)))
@@ -228,10 +247,32 @@ module _ {p : Policy} {text : List ℕ} {before from start base : ℕ} {index : 
   pub further : start < cell .end
   further = omega (arith, c .end-is, l .at-is, l .on, l .reads .some)
 
+  -- The counts that are kept with this cell.
+  pub keeps-on : length text ≤ most → {q : Bool} {k : NonCanonicality} → q ≡ cell .changes && leb before start
+      → k ≡ cond q (cappedSum counts (outcome p base (cell .class) (runWith (cell .first) ((cell .end - at) / 3)) .counts)) counts → Keeps before start Sum k
+  keeps-on room-most {q} {k} e z = (behind-limit (cell .changes) refl, λ h. z ∙ simp (e, lt-leb before start h, and-false) (l .kept .1 h))
+    where
+      cell-counts : outcome p base (cell .class) (runWith (cell .first) ((cell .end - at) / 3)) .counts ≡ gain
+      cell-counts =
+          let i : (cell .end - at) / 3 ≡ length (leading T) = omega (arith, c .end-is) in
+          ap (λ (o : Outcome). o .counts)
+          (ap₂ (λ (f : FromSelector) (m : ℕ). outcome p base (cell .class) (runWith f m)) (c .first-is) i ∙ sym (by-numbers p base (cell .class) (leading T)) ∙ c .outcome-is)
+
+      behind-limit : (x : Bool) → cell .changes ≡ x → before ≤ start → k ≡ Sum
+      behind-limit true t h =
+          let s = whole-sum (l .sum) gain (omega (arith, few-on, room, room-most)) in
+          z ∙ simp (e, t, le-leb before start h) (ap₂ cappedSum (l .kept .0 h) cell-counts ∙ s)
+      behind-limit false t h =
+          let g : gain ≡ empty = total-empty gain (eqb-true (total gain) 0 (not-false _ (sym (c .changes-is) ∙ t))) in
+          z ∙ simp (e, t) (l .kept .0 h ∙ sym (plus-empty (l .sum)) ∙ ap (λ (m : NonCanonicality). l .sum ⊕ m) (sym g))
+
   module _ {b : Bool} (d : b ≡ changed || cell .changes) where
-    changed-on : b ≡ not (eqb Sum 0)
-    changed-on = d ∙ ap₂ (λ (x y : Bool). x || y) (l .changed-is) (c .changes-is) ∙ go (l .sum) gain
+    changed-on : b ≡ not (eqb (total Sum) 0)
+    changed-on = d ∙ ap₂ (λ (x y : Bool). x || y) (l .changed-is) (c .changes-is) ∙ go (total (l .sum)) (total gain) ∙ ap (λ (x : ℕ). not (eqb x 0)) both
       where
+        both : total (l .sum) + total gain ≡ total Sum
+        both = omega arith
+
         go : (m n : ℕ) → (not (eqb m 0) || not (eqb n 0)) ≡ not (eqb (m + n) 0)
         go zero n = let z : n ≡ 0 + n = omega arith in ap (λ (x : ℕ). not (eqb x 0)) z
         go (suc m) n = ap (λ (x : Bool). not x || not (eqb n 0)) (ne-eqb (suc m) 0 (λ z. omega arith)) ∙ sym (ap not (ne-eqb (suc m + n) 0 (λ z. omega arith)))
@@ -266,14 +307,14 @@ module _ {p : Policy} {text : List ℕ} {before from start base : ℕ} {index : 
     begin-char q = ⊎-elim (λ h. h) (λ h. absurd (q (ap begin (other-class (omega arith))))) (le-or-lt 1 (cell .packed))
 
     -- The item goes on with it.
-    pub walking-on : (q : Place) → nextOf (step place (cell .class)) ≡ Next.On q
-        → Walking p text before from start (cell .packed / 8) (cell .index) (cell .end + cell .packed % 8) q b n
-    walking-on q e = go (on-char q e)
+    pub walking-on : {k : NonCanonicality} → Keeps before start Sum k → (q : Place) → nextOf (step place (cell .class)) ≡ Next.On q
+        → Walking p text before from start (cell .packed / 8) (cell .index) (cell .end + cell .packed % 8) q b n k
+    walking-on {k} y q e = go (on-char q e)
       where
         on : step place (cell .class) ≡ some q
         on = next-on (step place (cell .class)) q e
 
-        go : 1 ≤ cell .packed → Walking p text before from start (cell .packed / 8) (cell .index) (cell .end + cell .packed % 8) q b n
+        go : 1 ≤ cell .packed → Walking p text before from start (cell .packed / 8) (cell .index) (cell .end + cell .packed % 8) q b n k
         go h =
             let s = reads-next h in
             let v = cell .packed / 8 in
@@ -296,7 +337,9 @@ module _ {p : Policy} {text : List ℕ} {before from start base : ℕ} {index : 
               end-same = omega (arith, end-on, ap (size width) f, step-width s);
               sum = Sum;
               counted = total-on;
+              few-counts = few-on;
               changed-is = changed-on;
+              kept = y;
             }
 
     -- Or it ends here.
@@ -314,41 +357,52 @@ module _ {p : Policy} {text : List ℕ} {before from start base : ℕ} {index : 
       ends-here : cell .end ≡ start + size width (l .item .chars)
       ends-here = omega (arith, end-on, ap (size width) nothing-left)
 
-      finds : b ≡ true → Finds p text start (cell .end)
-      finds t = go Sum refl
+      finds : b ≡ true → Counted p text start (cell .end) Sum
+      finds t = loud-item p text start (cell .end) (l .items-are) ends-here Sum (some-of (total Sum) refl) total-on
         where
-          go : (m : ℕ) → Sum ≡ m → Finds p text start (cell .end)
-          go zero z = absurd (true≢false (sym t ∙ changed-on ∙ ap not (eq-eqb Sum 0 z)))
-          go (suc m) z = loud-item p text start (cell .end) (l .items-are) ends-here m (omega (arith, total-on))
+          some-of : (m : ℕ) → total Sum ≡ m → 1 ≤ m
+          some-of zero z = absurd (true≢false (sym t ∙ changed-on ∙ ap not (eq-eqb (total Sum) 0 z)))
+          some-of (suc m) z = omega arith
 
       -- It is the finding that is looked for ..
-      pub walking-finds : {q : Bool} → q ≡ b && leb before start → q ≡ true → FindsBehind p text before (record { start = start; end = cell .end; more = true; passed = n })
-      walking-finds e t = let h = both-true b (leb before start) (sym e ∙ t) in (leb-true before start (h .1), finds (h .0))
+      pub walking-finds : {k : NonCanonicality} → Keeps before start Sum k → {q : Bool} → q ≡ b && leb before start → q ≡ true
+          → FindsBehind p text before (record { start = start; end = cell .end; counts = k; more = true; passed = n })
+      walking-finds {k} y e t =
+          let h = both-true b (leb before start) (sym e ∙ t) in
+          let m = leb-true before start (h .1) in
+          (m, subst (λ (x : NonCanonicality). Counted p text start (cell .end) x) (sym (y .0 m)) (finds (h .0)))
 
-      -- .. or it is passed.
+      -- .. or it is passed, and no count is kept.
       pub walking-passes : {q : Bool} {m : ℕ} → q ≡ b && leb before start → q ≡ false → m ≡ cond b 1 0 → PassesOver p text before from (cell .end) (n + m)
       walking-passes {q} {m} e f z = go b refl (sym e ∙ f) z
         where
           go : (a : Bool) → b ≡ a → (a && leb before start) ≡ false → m ≡ cond a 1 0 → PassesOver p text before from (cell .end) (n + m)
-          go true t h y = rw y (over-on (l .passed) (over-finding (finds t) (leb-false before start h)))
+          go true t h y = rw y (over-on (l .passed) (over-finding (finds t .finds) (leb-false before start h)))
           go false t h y =
-              let s : Sum ≡ 0 = eqb-true Sum 0 (not-false _ (sym changed-on ∙ t)) in
+              let s : total Sum ≡ 0 = eqb-true (total Sum) 0 (not-false _ (sym changed-on ∙ t)) in
               let k : n ≡ n + m = omega (arith, y) in
               subst (λ (i : ℕ). PassesOver p text before from (cell .end) i) k
-              (over-passes (l .passed) (quiet-item p text start (cell .end) (l .items-are) ends-here (omega (arith, total-on))))
+              (over-passes (l .passed) (quiet-item p text start (cell .end) (l .items-are) ends-here (omega (arith, ap total total-on))))
+
+      pub none-kept : {k : NonCanonicality} → Keeps before start Sum k → {q : Bool} → q ≡ b && leb before start → q ≡ false → k ≡ empty
+      none-kept {k} y e f = ⊎-elim (λ h. behind-limit h b refl) (y .1) (le-or-lt before start)
+        where
+          behind-limit : before ≤ start → (a : Bool) → b ≡ a → k ≡ empty
+          behind-limit h true t = absurd (true≢false (sym (and-both b (leb before start) t (le-leb before start h)) ∙ sym e ∙ f))
+          behind-limit h false t = y .0 h ∙ total-empty Sum (eqb-true (total Sum) 0 (not-false _ (sym changed-on ∙ t)))
 
       -- And another item of links or units begins.
-      pub walking-again : {m : ℕ} → PassesOver p text before from (cell .end) m → (begin (cell .class) ≡ plain → ⊥)
-          → Walking p text before from (cell .end) (cell .packed / 8) (cell .index) (cell .end + cell .packed % 8) (begin (cell .class)) false m
-      walking-again {m} a q = go (begin-char q)
+      pub walking-again : {m : ℕ} {k : NonCanonicality} → PassesOver p text before from (cell .end) m → k ≡ empty → (begin (cell .class) ≡ plain → ⊥)
+          → Walking p text before from (cell .end) (cell .packed / 8) (cell .index) (cell .end + cell .packed % 8) (begin (cell .class)) false m k
+      walking-again {m} {k} a y q = go (begin-char q)
         where
-          go : 1 ≤ cell .packed → Walking p text before from (cell .end) (cell .packed / 8) (cell .index) (cell .end + cell .packed % 8) (begin (cell .class)) false m
+          go : 1 ≤ cell .packed → Walking p text before from (cell .end) (cell .packed / 8) (cell .index) (cell .end + cell .packed % 8) (begin (cell .class)) false m k
           go h =
               let s = reads-next h in
-              let k = c .class-is in
+              let j = c .class-is in
               let i : inner (begin (classOf (cell .packed / 8))) ≡ true =
-              begins-inner (classOf (cell .packed / 8)) (λ z. true≢false (sym (selector-class (cell .packed / 8) z) ∙ clean-next s)) (λ z. q (ap begin k ∙ z)) in
-              rw k (walking-begin p text before from (cell .index) a s (sym (c .index-is)) i)
+              begins-inner (classOf (cell .packed / 8)) (λ z. true≢false (sym (selector-class (cell .packed / 8) z) ∙ clean-next s)) (λ z. q (ap begin j ∙ z)) in
+              rw j (walking-begin p text before from (cell .index) a y s (sym (c .index-is)) i)
 
 -- ---- where the walk begins
 
@@ -363,16 +417,19 @@ structured-place unit o = inr refl
 structured-place joined o = inr refl
 structured-place leftOver o = inr refl
 
--- A run of selectors that begins an item is a finding.
-pub selectors-find : (p : Policy) {text : List ℕ} {at v w : ℕ} → Step text at v w → begin (classOf v) ≡ selectors → (end : ℕ)
-    → end ≡ at + 3 * length (leading (chars (drop at text))) → Finds p text at end
+-- A run of selectors that begins an item is a finding, and all of them are unsanctioned.
+pub selectors-find : (p : Policy) {text : List ℕ} {at v w : ℕ} → Step text at v w → begin (classOf v) ≡ selectors → {counts : NonCanonicality} (end n : ℕ)
+    → end ≡ at + 3 * length (leading (chars (drop at text))) → n ≡ (end - at) / 3 → counts ≡ unsanctioned n → Counted p text at end counts
 unfolding items
-selectors-find p {text} {at} {v} {w} s b end e =
+selectors-find p {text} {at} {v} {w} s b end n e i d =
     let t = chars (drop (at + w) text) in
+    let u = chars (drop at text) in
     let k = begins-selectors (classOf v) b in
-    let f : items (chars (drop at text)) ≡ record { kind = kindOf (begin (classOf v)); chars = v ∷ (cut (begin (classOf v)) t) .0 } ∷ (cut (begin (classOf v)) t) .1 = ap items (s .chars-on) in
-    let r : v ∷ (cut (begin (classOf v)) t) .0 ≡ selectorsAt (chars (drop at text)) = item-selectors v t (selector-class v k) ∙ ap selectorsAt (sym (s .chars-on)) in
-    let n = ap (size width) r in
-    let z : end ≡ at + size width (v ∷ (cut (begin (classOf v)) t) .0) = omega (arith, n, selectors-end text at) in
+    let f : items u ≡ record { kind = kindOf (begin (classOf v)); chars = v ∷ (cut (begin (classOf v)) t) .0 } ∷ (cut (begin (classOf v)) t) .1 = ap items (s .chars-on) in
+    let r : v ∷ (cut (begin (classOf v)) t) .0 ≡ selectorsAt u = item-selectors v t (selector-class v k) ∙ ap selectorsAt (sym (s .chars-on)) in
+    let z : end ≡ at + size width (v ∷ (cut (begin (classOf v)) t) .0) = omega (arith, ap (size width) r, selectors-end text at) in
     let m = width-some v in
-    loud-item p text at end f z (length (leading (chars (drop at text))) - 1) (omega (arith, selectors-total text at p, ap (totalFrom p text) e))
+    let o : n ≡ length (leading u) = omega arith in
+    let y = d ∙ ap unsanctioned o in
+    subst (λ (x : NonCanonicality). Counted p text at end x) (sym y)
+    (loud-item p text at end f z (unsanctioned (length (leading u))) (omega arith) (total-leading p u (chars (drop end text)) (split-at text at e)))

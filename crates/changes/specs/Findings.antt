@@ -12,10 +12,12 @@ use Rattle.policy.specs.declared.Policy.{Policy}
 use Rattle.scanner.specs.Classes.{classOf}
 use Rattle.scanner.specs.Items.{Item, items}
 use Rattle.scanner.specs.Spans.{Found, size, width}
-use Rattle.analysis.specs.Analysis.{isFinding}
+use Rattle.analysis.specs.Analysis.{isFinding, nonCanonicality}
 use Rattle.analysis.specs.Cells.{leading}
 use Rattle.analysis.specs.Counts.{total}
 use Rattle.analysis.specs.Findings.{findingsFrom}
+use Rattle.analysis.specs.Rules.{firstAsked, outcome}
+use Rattle.analysis.specs.declared.types.NonCanonicality.{NonCanonicality}
 use Rattle.changes.specs.Changes.{Stays, outcomeFrom}
 use Rattle.changes.specs.declared.findings.CellEnd.{CellEnd}
 use Rattle.changes.specs.declared.findings.FindingSpan.{FindingSpan}
@@ -49,13 +51,18 @@ module _ (p : Policy) (text : List ℕ) where
     pub end-is : end ≡ start + size width (item .chars)
     pub is-finding : isFinding p item ≡ true
 
+  -- The same, and what is counted of it.
+  pub record Counted (start end : ℕ) (counts : NonCanonicality) : Type 0 where
+    pub finds : Finds start end
+    pub counts-are : counts ≡ nonCanonicality p (finds .item)
+
   -- Plain text: the bytes from an offset up to another stay as they are, and no finding begins in them.
   abbrev pub Skips : ℕ → ℕ → Type 0
   Skips from to = Stays p text from to × Passes from to
 
   -- The first finding that does not start before a limit ..
   abbrev pub FindsBehind : ℕ → FindingSpan → Type 0
-  FindsBehind before r = (before ≤ r .start) × Finds (r .start) (r .end)
+  FindsBehind before r = (before ≤ r .start) × Counted (r .start) (r .end) (r .counts)
 
   -- .. or that there is none up to the end or the first place where no character begins; and how many are passed.
   abbrev pub NextFinding : ℕ → ℕ → FindingSpan → Type 0
@@ -69,9 +76,12 @@ module _ (p : Policy) (text : List ℕ) where
   WalkedFrom before from r =
       PassesOver before from (r .start) (r .passed) × (r .more ≡ true → FindsBehind before r) × (r .more ≡ false → from < r .start)
 
--- What is read of a cell whose selectors begin at an offset: their end, whether the rules count something, and what stands behind them.
+-- What is read of a cell whose selectors begin at an offset: their end and the first of them, whether the rules count something, and what
+-- stands behind them, which is to the rules as what follows the cell.
 pub record ReadsCell (p : Policy) (text : List ℕ) (base at : ℕ) (c : CellEnd) : Type 0 where
   pub end-is : c .end ≡ at + 3 * length (leading (chars (drop at text)))
+  pub first-is : c .first ≡ firstAsked (leading (chars (drop at text)))
+  pub outcome-is : outcome p base (c .class) (leading (chars (drop at text))) ≡ outcomeFrom p text base at
   pub changes-is : c .changes ≡ not (eqb (total (outcomeFrom p text base at .counts)) 0)
   pub packed-is : c .packed ≡ packed (readChar (drop (c .end) text))
   pub class-is : c .class ≡ classOf (c .packed / 8)

@@ -18,9 +18,10 @@ ghost use Rattle.scanner.specs.SelectorRun.{firstSelector};
 ghost use Rattle.scanner.specs.Spans.{size, width};
 ghost use Rattle.analysis.specs.Analysis.{chosen};
 ghost use Rattle.analysis.specs.CellView.{classInFront};
-ghost use Rattle.analysis.specs.Rules.{byKeycap, outcome, rule2, rule3, rule4, rule5, rule6, runWith, textFirst};
+ghost use Rattle.analysis.specs.Rules.{outcome, rule2, rule3, rule4, rule5, rule6, runWith, textFirst};
 ghost use Rattle.changes.specs.Changes.{BaseChange, Leaves, SameRules, selectorNumber, selectorOf};
 use crate::Change;
+use analysis::singleton::is_keycap;
 use policy::SingletonRule;
 use scanner::char_class::Class;
 use scanner::selectors::SELECTOR_BYTES;
@@ -94,16 +95,6 @@ fn before_tags(is_emoji_default: bool) -> u32
         return 0;
     }
     2
-}
-
-// Whether a class is that of 20E3.
-fn is_keycap(class: Class) -> bool
-    ensures { λ r. ⌜ r ≡ byKeycap class ⌝ }
-{
-    match class {
-        Class::Keycap => true,
-        _ => false,
-    }
 }
 
 // The number of what stays of the selectors behind a base, by the class of what follows them and the number of the first of them.

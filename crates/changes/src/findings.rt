@@ -1,10 +1,10 @@
 // The next finding of a text from an offset on: the items are gone through cell by cell, each character is read once, and of each cell
-// it is only asked whether something is counted of it (document 01, "Item", "Counts and finding"; analysis.rs of the crate evfmt
-// counts every item instead). `next_finding` meets `NextFinding` of specs/Findings.antt for every text, policy, limit and offset.
+// it is asked whether something is counted of it, and what only of a finding that is looked for (document 01, "Item", "Counts and
+// finding"; analysis.rs of the crate evfmt counts every item instead). `next_finding` meets `NextFinding` of specs/Findings.antt for every text, policy, limit and offset.
 ghost use mathlib.Core.Path.{_≡_};
 ghost use mathlib.Core.Bool.{true, _&&_, cond, not};
 ghost use mathlib.Core.List.{List};
-ghost use Prim.Native.Nat.{_*_, _≤_};
+ghost use Prim.Native.Nat.{_*_, _/_, _≤_};
 ghost use lib.Dec.{eqb, leb};
 ghost use lib.ListN.{drop, length};
 ghost use Rattle.utf8.specs.Rfc3629.{readChar};
@@ -16,8 +16,8 @@ ghost use Rattle.policy.specs.declared.Policy.{Policy};
 ghost use Rattle.scanner.specs.Classes.{classOf};
 ghost use Rattle.scanner.specs.Items.{begin, kindOf};
 ghost use Rattle.scanner.specs.Theorems.{Structured};
-ghost use Rattle.analysis.specs.Counts.{total};
-ghost use Rattle.analysis.specs.Rules.{firstAsked, outcome};
+ghost use Rattle.analysis.specs.Counts.{cappedSum, total};
+ghost use Rattle.analysis.specs.Rules.{firstAsked, outcome, runWith};
 ghost use Rattle.changes.specs.Changes.{AsciiBare};
 ghost use Rattle.changes.specs.Findings.{NextFinding, ReadsCell, Skips, WalkedFrom};
 use crate::base_selectors::is_change;
@@ -26,29 +26,34 @@ use crate::base_selectors::number_of;
 use crate::base_selectors::selectors_behind;
 use crate::plain::skip_ascii;
 use crate::plain::skip_letters;
+use analysis::singleton::analyze_by_policy_bytes;
+use analysis::types::NonCanonicality;
 use scanner::char_class::Class;
 use scanner::char_class::Classified;
 use scanner::char_class::classify;
 use scanner::place::Next;
 use scanner::place::Place;
+use scanner::selectors::SELECTOR_BYTES;
 use scanner::selectors::selector_at;
 use scanner::selectors::selectors_end;
 use unicode::VariationSequenceIndex;
 use unicode::presentation::FromSelector;
 
-// The bytes of the next finding, from start up to end, if there is one more; else both are the end of the well-formed text. So many
-// findings were passed before it.
+// The next finding, if there is one more: its bytes, from start up to end, and the eight counts; else both are the end of the well-formed
+// text. So many findings were passed before it.
 pub struct FindingSpan {
     pub start: usize,
     pub end: usize,
+    pub counts: NonCanonicality,
     pub more: bool,
     pub passed: usize,
 }
 
-// A cell behind its character: where its selectors end, whether something is counted of it, and what stands behind it: a character's
-// packed number, or 0, its class and its place among the variation entries.
+// A cell behind its character: where its selectors end, the first of them, whether something is counted of it, and what stands behind
+// it: a character's packed number, or 0, its class and its place among the variation entries.
 struct CellEnd {
     end: usize,
+    first: FromSelector,
     changes: bool,
     packed: u32,
     class: Class,
@@ -94,6 +99,7 @@ fn read_cell(
     let changes = cell_changes(policy, base, index, class, first, end - at);
     CellEnd {
         end,
+        first,
         changes,
         packed,
         class,
@@ -101,14 +107,33 @@ fn read_cell(
     }
 }
 
-// Whether an item is the finding that is looked for: something is counted of it, and it does not start before the limit.
-fn is_next(changed: bool, before: usize, start: usize) -> bool
-    ensures { λ r. ⌜ r ≡ changed && leb before start ⌝ }
+// Whether it is asked what is counted: something is, and the item does not start before the limit.
+fn is_wanted(changes: bool, before: usize, start: usize) -> bool
+    ensures { λ r. ⌜ r ≡ changes && leb before start ⌝ }
 {
-    if !changed {
+    if !changes {
         return false;
     }
     before <= start
+}
+
+// The counts with those of a cell, where they are wanted; its selectors have so many bytes.
+fn add_cell(
+    counts: NonCanonicality,
+    wanted: bool,
+    policy: &[u8],
+    base: u32,
+    next: Class,
+    first: FromSelector,
+    bytes: usize,
+) -> NonCanonicality
+    ensures { λ r. ⌜ r ≡ cond wanted (cappedSum counts (outcome (policyOf (now (policy .entry))) base next (runWith first (bytes / 3)) .counts)) counts ⌝ }
+{
+    if !wanted {
+        return counts;
+    }
+    let outcome = analyze_by_policy_bytes(policy, base, next, first, bytes / SELECTOR_BYTES);
+    counts.add(outcome.counts)
 }
 
 // How many findings an item is.
@@ -143,10 +168,14 @@ fn walk_items(
     let mut place = first;
     let mut changed = false;
     let mut passed = 0;
+    let mut counts = NonCanonicality::empty();
     loop {
         let cell = read_cell(text, policy, base, index, at);
         let end = cell.end;
         let class = cell.class;
+        let selector = cell.first;
+        let wanted = is_wanted(cell.changes, before, start);
+        counts = add_cell(counts, wanted, policy, base, class, selector, end - at);
         if cell.changes {
             changed = true;
         }
@@ -155,10 +184,11 @@ fn walk_items(
                 place = next;
             }
             Next::Stop => {
-                if is_next(changed, before, start) {
+                if is_wanted(changed, before, start) {
                     return FindingSpan {
                         start,
                         end,
+                        counts,
                         more: true,
                         passed,
                     };
@@ -169,6 +199,7 @@ fn walk_items(
                     return FindingSpan {
                         start: end,
                         end,
+                        counts,
                         more: false,
                         passed,
                     };
@@ -213,6 +244,7 @@ pub fn next_finding(text: &[u8], policy: &[u8], before: usize, from: usize) -> F
             return FindingSpan {
                 start: at,
                 end: at,
+                counts: NonCanonicality::empty(),
                 more: false,
                 passed,
             };
@@ -231,6 +263,7 @@ pub fn next_finding(text: &[u8], policy: &[u8], before: usize, from: usize) -> F
                     return FindingSpan {
                         start: at,
                         end,
+                        counts: NonCanonicality::unsanctioned((end - at) / SELECTOR_BYTES),
                         more: true,
                         passed,
                     };
@@ -242,6 +275,7 @@ pub fn next_finding(text: &[u8], policy: &[u8], before: usize, from: usize) -> F
                 let FindingSpan {
                     start,
                     end,
+                    counts,
                     more,
                     passed: walked,
                 } = walk_items(text, policy, before, at, ch, width, index, place);
@@ -250,6 +284,7 @@ pub fn next_finding(text: &[u8], policy: &[u8], before: usize, from: usize) -> F
                     return FindingSpan {
                         start,
                         end,
+                        counts,
                         more,
                         passed,
                     };

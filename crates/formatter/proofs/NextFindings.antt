@@ -11,14 +11,11 @@ use Rattle.scanner.specs.Items.{items}
 use Rattle.scanner.specs.Spans.{found, size, width}
 use Rattle.scanner.proofs.Bytes.{size-chars}
 use Rattle.analysis.specs.Analysis.{isFinding}
-use Rattle.analysis.specs.CellView.{totalCells}
 use Rattle.analysis.specs.Findings.{findingsFrom}
 use Rattle.formatter.specs.Findings.{findingRow}
 use Rattle.analysis.specs.declared.types.Finding.{Finding}
 use Rattle.analysis.specs.declared.types.NonCanonicality.{NonCanonicality}
-use Rattle.analysis.proofs.Items.{finding-no-passthrough}
-use Rattle.analysis.proofs.ItemsAt.{item-totals}
-use Rattle.changes.specs.Findings.{Finds, NextFinding, Passes}
+use Rattle.changes.specs.Findings.{Counted, Finds, NextFinding, Passes}
 use Rattle.changes.specs.declared.findings.FindingSpan.{FindingSpan}
 use Rattle.changes.proofs.Passing.{finds-here, finds-room, finds-some, left-length}
 use Rattle.formatter.proofs.Steps.{Ahead, rowsFrom}
@@ -36,7 +33,7 @@ module _ {p : Policy} {text : List ℕ} {r : FindingSpan} (n : NextFinding p tex
   none-more = go (r .more) refl
     where
       go : (b : Bool) → r .more ≡ b → chars (drop (r .start) text) ≡ []
-      go true e = let f = n .1 e in let s = finds-some (f .1) in let l = finds-room (f .1) in absurd (omega (arith, f .0))
+      go true e = let f = n .1 e in let s = finds-some (f .1 .finds) in let l = finds-room (f .1 .finds) in absurd (omega (arith, f .0))
       go false e = n .2 e .0
 
   pub all-counted : r .passed ≡ length (findingsFrom p text 0)
@@ -51,14 +48,13 @@ module _ {p : Policy} {text : List ℕ} {start end : ℕ} (f : Finds p text star
   pub finds-ahead : Ahead text start end
   finds-ahead = record { some = finds-some f; room = finds-room f }
 
-  -- Its row is its start, its end and the totals of its bytes.
-  pub finds-row : (n : NonCanonicality) → n ≡ totalCells p (chars (take (end - start) (drop start text)))
-      → rowsFrom p text start ≡ record { start = start; end = end; counts = n } ∷ rowsFrom p text end
-  unfolding findingRow
-  finds-row n e =
-      let c = e ∙ item-totals p text start (f .items-are) (finding-no-passthrough p (f .item) (f .is-finding)) (f .end-is) in
-      ap (map (findingRow p)) (finds-here f)
-      ∙ ap₂ (λ (k : ℕ) (m : NonCanonicality). record { start = start; end = k; counts = m } ∷ rowsFrom p text end) (sym (f .end-is)) (sym c)
+-- Its row is its start, its end and its counts.
+pub finds-row : {p : Policy} {text : List ℕ} {start end : ℕ} {n : NonCanonicality} → Counted p text start end n
+    → rowsFrom p text start ≡ record { start = start; end = end; counts = n } ∷ rowsFrom p text end
+unfolding findingRow
+finds-row {p} {text} {start} {end} f =
+    ap (map (findingRow p)) (finds-here (f .finds))
+    ∙ ap₂ (λ (k : ℕ) (m : NonCanonicality). record { start = start; end = k; counts = m } ∷ rowsFrom p text end) (sym (f .finds .end-is)) (sym (f .counts-are))
 
 module _ {p : Policy} {text : List ℕ} {from start end : ℕ} (a : Passes p text from start) (f : Finds p text start end) where
   pub next-ahead : Ahead text from end

@@ -69,9 +69,9 @@ module _ {p : Policy} {text : List ℕ} where
     none-further m = (λ t. absurd (true≢false (sym t ∙ m)), λ _. next-same ∙ ap (findingAt o) (none-found p text (r .start) (n .2 m .0)))
 
     -- There is one, at the offset or behind it.
-    pub none-before : r .more ≡ true → FindingStarting p text o (record { start = r .start; end = r .end; more = eqb (r .start) o; passed = r .passed })
+    pub none-before : r .more ≡ true → FindingStarting p text o (record { start = r .start; end = r .end; counts = r .counts; more = eqb (r .start) o; passed = r .passed })
     none-before m = (
-      λ t. starts-here o (n .1 m .1) (eqb-true (r .start) o t) next-same,
+      λ t. starts-here o (n .1 m .1 .finds) (eqb-true (r .start) o t) next-same,
       λ f. next-same ∙ no-finding-past p o (r .start) (items (chars (drop (r .start) text))) (let d = eqb-false (r .start) o f in let l = n .1 m .0 in omega arith),
     )
 

@@ -3,7 +3,7 @@
 // to count them, and once more to write them where there are some and all fit.
 // `list_findings` equals `listBytes` of specs/List.antt.
 ghost use mathlib.Core.Path.{_≡_};
-ghost use mathlib.Core.List.{_∷_, map};
+ghost use mathlib.Core.List.{map};
 ghost use Prim.Native.Nat.{_+_, _*_, _≤_};
 ghost use lib.ListN.{length};
 ghost use Rattle.base.specs.Output.{PutAt};
@@ -12,19 +12,14 @@ ghost use Rattle.utf8.specs.Rfc3629.{validUpTo};
 ghost use Rattle.policy.specs.PolicyBytes.{bytesOf, policyOf};
 ghost use Rattle.analysis.specs.Findings.{findingsFrom};
 ghost use Rattle.formatter.specs.Findings.{findingRow};
-ghost use Rattle.changes.specs.Findings.{Finds};
 ghost use Rattle.formatter.specs.List.{fillTable, listBytes, rowNumbers, rowsBytes};
 use crate::ListAnswer;
-use analysis::measure::Measure;
-use analysis::measure::measure_cells;
 use analysis::types::Finding;
 use base::Refusal;
 use base::TEXT_LIMIT;
 use base::WORD_BYTES;
 use changes::findings::FindingSpan;
 use changes::findings::next_finding;
-use policy::Policy;
-use policy::ReadPolicy;
 use policy::policy_bytes::is_policy;
 
 // The numbers of a row, and its bytes.
@@ -46,6 +41,7 @@ pub(crate) fn count_findings(text: &[u8], policy: &[u8]) -> FindingCount
     let FindingSpan {
         start,
         end: _,
+        counts: _,
         more: _,
         passed,
     } = next_finding(text, policy, text.len(), 0);
@@ -106,39 +102,26 @@ fn put_row(table: &mut [u8], start: usize, finding: Finding) -> usize
     put_numbers(table, start, &numbers)
 }
 
-// The row of the finding from start up to end.
-fn finding_row(text: &[u8], start: usize, end: usize, policy: Policy) -> Finding
-    requires { ⌜ Finds policy (now text) start end ⌝ }
-    ensures { λ r. ⌜ map (findingRow policy) (findingsFrom policy (now (text .entry)) start) ≡ r ∷ map (findingRow policy) (findingsFrom policy (now (text .entry)) end) ⌝ }
-{
-    let Measure { counts, len: _ } = measure_cells(&text[start..end], policy);
-    Finding { start, end, counts }
-}
-
 // Puts the row of each finding, for which there is room.
 fn put_findings(text: &[u8], policy: &[u8], table: &mut [u8]) -> usize
     requires { ⌜ length (rowsBytes rowNumbers (map (findingRow (policyOf (now policy))) (findingsFrom (policyOf (now policy)) (now text) 0))) ≤ length (now table) ⌝ }
     ensures { λ r. ⌜ PutAt (now (table .entry)) 0 (rowsBytes rowNumbers (map (findingRow (policyOf (now (policy .entry)))) (findingsFrom (policyOf (now (policy .entry))) (now (text .entry)) 0))) (now (table .exit)) r ⌝ }
 {
-    let ReadPolicy {
-        accepted: _,
-        policy: read,
-    } = policy::read_policy(policy);
     let mut at = 0;
     let mut to = 0;
     loop {
         let FindingSpan {
             start,
             end,
+            counts,
             more,
             passed: _,
         } = next_finding(text, policy, 0, at);
         if !more {
             return to;
         }
-        let finding = finding_row(text, start, end, read);
         at = end;
-        to = put_row(table, to, finding);
+        to = put_row(table, to, Finding { start, end, counts });
     }
 }
 

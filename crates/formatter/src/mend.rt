@@ -34,6 +34,7 @@ fn finding_starting(text: &[u8], policy: &[u8], offset: usize) -> FindingSpan
     let FindingSpan {
         start,
         end,
+        counts,
         more,
         passed,
     } = next_finding(text, policy, offset, 0);
@@ -41,6 +42,7 @@ fn finding_starting(text: &[u8], policy: &[u8], offset: usize) -> FindingSpan
         return FindingSpan {
             start,
             end,
+            counts,
             more,
             passed,
         };
@@ -49,6 +51,7 @@ fn finding_starting(text: &[u8], policy: &[u8], offset: usize) -> FindingSpan
     FindingSpan {
         start,
         end,
+        counts,
         more: there,
         passed,
     }
@@ -132,6 +135,7 @@ pub fn mend(
     let FindingSpan {
         start: _,
         end,
+        counts: _,
         more,
         passed: _,
     } = finding_starting(text, policy, offset);

@@ -2,7 +2,7 @@
 -- number of bytes left.
 use mathlib.Core.Path.{refl, ap, sym, _∙_}
 use mathlib.Core.Bool.{true≢false}
-use Prim.Native.Nat.{_-_}
+use Prim.Native.Nat.{_-_, _/_}
 use native.Mathlib.Omega.{arith}
 use borrow.Author.Needs.{needs}
 use lib.ListN.{drop, length}
@@ -27,9 +27,9 @@ loop-holds c = over-here _
 
 returns : tie.Need-returns Inv-loop μ-loop
 returns c =
-    let x = c .before .before .before .before .before .before .before .args in
-    let a = passes-skip (x .policy .now) (x .text .now) (c .before .before .before .before .ascii-keys-bare .ensures) (c .before .before .before .loop .inv) (c .before .before .skip-bare-ascii .ensures) in
-    let z = packed-stop (x .text .now) (c .before .before .skip-bare-ascii .result) (c .before .decode .result) (c .before .decode .ensures) (c .if1 .taken) in
+    let x = c .before .before .before .before .before .before .before .before .args in
+    let a = passes-skip (x .policy .now) (x .text .now) (c .before .before .before .before .before .ascii-keys-bare .ensures) (c .before .before .before .before .loop .inv) (c .before .before .before .skip-bare-ascii .ensures) in
+    let z = packed-stop (x .text .now) (c .before .before .before .skip-bare-ascii .result) (c .before .before .decode .result) (c .before .before .decode .ensures) (c .before .if1 .taken) in
     (a, λ f. absurd (true≢false (sym f)), λ _. (z .chars-none, refl))
 
 add-skip-letters : tie.Need-add-skip-letters Inv-loop μ-loop
@@ -56,15 +56,22 @@ loop-again c =
     let b = ap begin (sym (c .before .before .before .before .classify .ensures .0)) ∙ sym (c .before .before .before .begin .ensures) ∙ c .before .enum-told .given .1 in
     over-passes a (passes-on (passes-plain p s b) (c .skip-letters .ensures p .1))
 
+sub-unsanctioned : tie.Need-sub-unsanctioned Inv-loop μ-loop
+sub-unsanctioned c =
+    let x = c .before .before .before .before .before .before .before .before .before .before .before .before .before .args in
+    let e = c .before .selectors-end .ensures ∙ selectors-end (x .text .now) (c .before .before .before .before .before .before .before .before .skip-bare-ascii .result) in
+    omega (arith, e)
+
 returns-2 : tie.Need-returns-2 Inv-loop μ-loop
 returns-2 c =
-    let x = c .before .before .before .before .before .before .before .before .before .before .before .before .before .args in
+    let x = c .before .before .before .before .before .before .before .before .before .before .before .before .before .before .args in
     let p = policyOf (x .policy .now) in
-    let a = passes-skip (x .policy .now) (x .text .now) (c .before .before .before .before .before .before .before .before .before .before .ascii-keys-bare .ensures) (c .before .before .before .before .before .before .before .before .before .loop .inv) (c .before .before .before .before .before .before .before .before .skip-bare-ascii .ensures) in
-    let s = packed-step (x .text .now) (c .before .before .before .before .before .before .before .before .skip-bare-ascii .result) (c .before .before .before .before .before .before .before .decode .result) (c .before .before .before .before .before .before .before .decode .ensures) (c .before .before .before .before .before .before .if1 .left) in
-    let b = ap begin (sym (c .before .before .before .before .before .classify .ensures .0)) ∙ sym (c .before .before .before .before .begin .ensures) ∙ c .before .before .enum-told2 .given .1 in
-    let f = selectors-find p s b (c .before .selectors-end .result) (c .before .selectors-end .ensures ∙ selectors-end (x .text .now) (c .before .before .before .before .before .before .before .before .skip-bare-ascii .result)) in
-    (a, λ _. (omega (arith, c .if2 .taken), f), λ e. absurd (true≢false e))
+    let a = passes-skip (x .policy .now) (x .text .now) (c .before .before .before .before .before .before .before .before .before .before .before .ascii-keys-bare .ensures) (c .before .before .before .before .before .before .before .before .before .before .loop .inv) (c .before .before .before .before .before .before .before .before .before .skip-bare-ascii .ensures) in
+    let s = packed-step (x .text .now) (c .before .before .before .before .before .before .before .before .before .skip-bare-ascii .result) (c .before .before .before .before .before .before .before .before .decode .result) (c .before .before .before .before .before .before .before .before .decode .ensures) (c .before .before .before .before .before .before .before .if1 .left) in
+    let b = ap begin (sym (c .before .before .before .before .before .before .classify .ensures .0)) ∙ sym (c .before .before .before .before .before .begin .ensures) ∙ c .before .before .before .enum-told2 .given .1 in
+    let e = c .before .before .selectors-end .ensures ∙ selectors-end (x .text .now) (c .before .before .before .before .before .before .before .before .before .skip-bare-ascii .result) in
+    let f = selectors-find p s b (c .before .before .selectors-end .result) ((c .before .before .selectors-end .result - c .before .before .before .before .before .before .before .before .before .skip-bare-ascii .result) / 3) e refl (c .unsanctioned .ensures) in
+    (a, λ _. (omega (arith, c .before .if2 .taken), f), λ h. absurd (true≢false h))
 
 add-passed : tie.Need-add-passed Inv-loop μ-loop
 add-passed c =
@@ -80,8 +87,9 @@ loop-less-2 c =
     let k = passed (x .policy .now) (x .text .now) (c .before .before .before .before .before .before .before .before .before .before .ascii-keys-bare .ensures) (c .before .before .before .before .before .before .before .before .skip-bare-ascii .ensures) in
     let s = packed-step (x .text .now) (c .before .before .before .before .before .before .before .before .skip-bare-ascii .result) (c .before .before .before .before .before .before .before .decode .result) (c .before .before .before .before .before .before .before .decode .ensures) (c .before .before .before .before .before .before .if1 .left) in
     let b = ap begin (sym (c .before .before .before .before .before .classify .ensures .0)) ∙ sym (c .before .before .before .before .begin .ensures) ∙ c .before .before .enum-told2 .given .1 in
-    let f = selectors-find p s b (c .before .selectors-end .result) (c .before .selectors-end .ensures ∙ selectors-end (x .text .now) (c .before .before .before .before .before .before .before .before .skip-bare-ascii .result)) in
-    omega (arith, k .on, s .room, s .some, finds-some f, finds-room f)
+    let e = c .before .selectors-end .ensures ∙ selectors-end (x .text .now) (c .before .before .before .before .before .before .before .before .skip-bare-ascii .result) in
+    let f = selectors-find p s b (c .before .selectors-end .result) ((c .before .selectors-end .result - c .before .before .before .before .before .before .before .before .skip-bare-ascii .result) / 3) e refl refl in
+    omega (arith, k .on, s .room, s .some, finds-some (f .finds), finds-room (f .finds))
 
 loop-again-2 : tie.Need-loop-again-2 Inv-loop μ-loop
 loop-again-2 c =
@@ -90,8 +98,9 @@ loop-again-2 c =
     let a = passes-skip (x .policy .now) (x .text .now) (c .before .before .before .before .before .before .before .before .before .before .ascii-keys-bare .ensures) (c .before .before .before .before .before .before .before .before .before .loop .inv) (c .before .before .before .before .before .before .before .before .skip-bare-ascii .ensures) in
     let s = packed-step (x .text .now) (c .before .before .before .before .before .before .before .before .skip-bare-ascii .result) (c .before .before .before .before .before .before .before .decode .result) (c .before .before .before .before .before .before .before .decode .ensures) (c .before .before .before .before .before .before .if1 .left) in
     let b = ap begin (sym (c .before .before .before .before .before .classify .ensures .0)) ∙ sym (c .before .before .before .before .begin .ensures) ∙ c .before .before .enum-told2 .given .1 in
-    let f = selectors-find p s b (c .before .selectors-end .result) (c .before .selectors-end .ensures ∙ selectors-end (x .text .now) (c .before .before .before .before .before .before .before .before .skip-bare-ascii .result)) in
-    over-on a (over-finding f (omega (arith, c .if2 .left)))
+    let e = c .before .selectors-end .ensures ∙ selectors-end (x .text .now) (c .before .before .before .before .before .before .before .before .skip-bare-ascii .result) in
+    let f = selectors-find p s b (c .before .selectors-end .result) ((c .before .selectors-end .result - c .before .before .before .before .before .before .before .before .skip-bare-ascii .result) / 3) e refl refl in
+    over-on a (over-finding (f .finds) (omega (arith, c .if2 .left)))
 
 walk-items-requires : tie.Need-walk-items-requires Inv-loop μ-loop
 walk-items-requires c κs =
@@ -107,32 +116,32 @@ walk-items-requires c κs =
 
 add-passed-2 : tie.Need-add-passed-2 Inv-loop μ-loop
 add-passed-2 c =
-    let x = c .before .before .before .before .before .before .before .before .before .before .before .args in
-    let a = passes-skip (x .policy .now) (x .text .now) (c .before .before .before .before .before .before .before .before .ascii-keys-bare .ensures) (c .before .before .before .before .before .before .before .loop .inv) (c .before .before .before .before .before .before .skip-bare-ascii .ensures) in
-    let s = packed-step (x .text .now) (c .before .before .before .before .before .before .skip-bare-ascii .result) (c .before .before .before .before .before .decode .result) (c .before .before .before .before .before .decode .ensures) (c .before .before .before .before .if1 .left) in
-    let w = c .walk-items .ensures .0 in
-    omega (arith, a .on, a .few, w .on, w .few, w .inside (omega (arith, s .room)), c .before .before .before .before .before .before .before .before .before .before .before .good .0 .0)
+    let x = c .before .before .before .before .before .before .before .before .before .before .before .before .args in
+    let a = passes-skip (x .policy .now) (x .text .now) (c .before .before .before .before .before .before .before .before .before .ascii-keys-bare .ensures) (c .before .before .before .before .before .before .before .before .loop .inv) (c .before .before .before .before .before .before .before .skip-bare-ascii .ensures) in
+    let s = packed-step (x .text .now) (c .before .before .before .before .before .before .before .skip-bare-ascii .result) (c .before .before .before .before .before .before .decode .result) (c .before .before .before .before .before .before .decode .ensures) (c .before .before .before .before .before .if1 .left) in
+    let w = c .before .walk-items .ensures .0 in
+    omega (arith, a .on, a .few, w .on, w .few, w .inside (omega (arith, s .room)), c .before .before .before .before .before .before .before .before .before .before .before .before .good .0 .0)
 
 returns-3 : tie.Need-returns-3 Inv-loop μ-loop
 returns-3 c =
-    let x = c .before .before .before .before .before .before .before .before .before .before .before .before .args in
-    let a = passes-skip (x .policy .now) (x .text .now) (c .before .before .before .before .before .before .before .before .before .ascii-keys-bare .ensures) (c .before .before .before .before .before .before .before .before .loop .inv) (c .before .before .before .before .before .before .before .skip-bare-ascii .ensures) in
-    let w = c .before .walk-items .ensures in
+    let x = c .before .before .before .before .before .before .before .before .before .before .before .before .before .args in
+    let a = passes-skip (x .policy .now) (x .text .now) (c .before .before .before .before .before .before .before .before .before .before .ascii-keys-bare .ensures) (c .before .before .before .before .before .before .before .before .before .loop .inv) (c .before .before .before .before .before .before .before .before .skip-bare-ascii .ensures) in
+    let w = c .before .before .walk-items .ensures in
     (over-on a (w .0), w .1, λ f. absurd (true≢false (sym (c .if3 .taken) ∙ f)))
 
 loop-less-3 : tie.Need-loop-less-3 Inv-loop μ-loop
 loop-less-3 c =
-    let x = c .before .before .before .before .before .before .before .before .before .before .before .before .args in
-    let k = passed (x .policy .now) (x .text .now) (c .before .before .before .before .before .before .before .before .before .ascii-keys-bare .ensures) (c .before .before .before .before .before .before .before .skip-bare-ascii .ensures) in
-    let s = packed-step (x .text .now) (c .before .before .before .before .before .before .before .skip-bare-ascii .result) (c .before .before .before .before .before .before .decode .result) (c .before .before .before .before .before .before .decode .ensures) (c .before .before .before .before .before .if1 .left) in
-    let w = c .before .walk-items .ensures in
+    let x = c .before .before .before .before .before .before .before .before .before .before .before .before .before .args in
+    let k = passed (x .policy .now) (x .text .now) (c .before .before .before .before .before .before .before .before .before .before .ascii-keys-bare .ensures) (c .before .before .before .before .before .before .before .before .skip-bare-ascii .ensures) in
+    let s = packed-step (x .text .now) (c .before .before .before .before .before .before .before .before .skip-bare-ascii .result) (c .before .before .before .before .before .before .before .decode .result) (c .before .before .before .before .before .before .before .decode .ensures) (c .before .before .before .before .before .before .if1 .left) in
+    let w = c .before .before .walk-items .ensures in
     omega (arith, k .on, s .room, s .some, w .2 (c .if3 .left), w .0 .inside (omega (arith, s .room)))
 
 loop-again-3 : tie.Need-loop-again-3 Inv-loop μ-loop
 loop-again-3 c =
-    let x = c .before .before .before .before .before .before .before .before .before .before .before .before .args in
-    let a = passes-skip (x .policy .now) (x .text .now) (c .before .before .before .before .before .before .before .before .before .ascii-keys-bare .ensures) (c .before .before .before .before .before .before .before .before .loop .inv) (c .before .before .before .before .before .before .before .skip-bare-ascii .ensures) in
-    over-on a (c .before .walk-items .ensures .0)
+    let x = c .before .before .before .before .before .before .before .before .before .before .before .before .before .args in
+    let a = passes-skip (x .policy .now) (x .text .now) (c .before .before .before .before .before .before .before .before .before .before .ascii-keys-bare .ensures) (c .before .before .before .before .before .before .before .before .before .loop .inv) (c .before .before .before .before .before .before .before .before .skip-bare-ascii .ensures) in
+    over-on a (c .before .before .walk-items .ensures .0)
 
 pub next-finding-spec : {M : Type 1} → statement M
 next-finding-spec =
@@ -142,6 +151,7 @@ next-finding-spec =
     μ-loop
     (λ c κs. search needs)
     loop-holds
+    (λ c κs. search needs)
     (λ c κs. search needs)
     (λ c κs. search needs)
     returns
@@ -154,6 +164,8 @@ next-finding-spec =
     loop-less
     loop-again
     (λ c. search needs)
+    (λ c κs. search needs)
+    sub-unsanctioned
     (λ c κs. search needs)
     returns-2
     add-passed

@@ -15,8 +15,8 @@ use Rattle.formatter.proofs.mend.finding_starting.Tie as tie
 
 returns : tie.Need-returns
 returns c =
-    let x = c .before .before .before .before .args in
-    let n = c .before .next-finding in
+    let x = c .before .before .before .before .before .args in
+    let n = c .before .before .next-finding in
     let m = not-true (n .result .more) (c .if1 .taken) in
     let e = n .ensures .2 m .1 in (
       none-further (x .offset) (n .ensures) m,
@@ -25,10 +25,10 @@ returns c =
 
 returns-2 : tie.Need-returns-2
 returns-2 c =
-    let x = c .before .before .before .before .args in
-    let n = c .before .next-finding in
+    let x = c .before .before .before .before .before .args in
+    let n = c .before .before .next-finding in
     let m = not-false (n .result .more) (c .if1 .left) in
-    let f = n .ensures .1 m .1 in (
+    let f = n .ensures .1 m .1 .finds in (
       none-before (x .offset) (n .ensures) m,
       (finds-room f, omega (arith, next-valid (x .offset) (n .ensures), item-valid (policyOf (x .policy .now)) (x .text .now) (n .result .start) (n .result .end) (f .items-are) (f .end-is), finds-some f)),
     )

@@ -1,13 +1,13 @@
--- `changes::base_selectors::is_keycap` meets its contract, class by class.
+-- `analysis::singleton::is_keycap` meets its contract, class by class.
 use mathlib.Core.Path.{_≡_, refl, ap, sym}
 use mathlib.Core.Bool.{false}
 use mathlib.Core.List.{[], _∷_}
 use borrow.Author.Needs.{needs}
 use Rattle.scanner.specs.declared.char_class.Class.{Class}
 use Rattle.scanner.proofs.Arms.{class-arm}
 use Rattle.analysis.specs.Rules.{byKeycap}
-use Rattle.changes.proofs.base_selectors.is_keycap.Statement.{statement}
-use Rattle.changes.proofs.base_selectors.is_keycap.Tie as tie
+use Rattle.analysis.proofs.singleton.is_keycap.Statement.{statement}
+use Rattle.analysis.proofs.singleton.is_keycap.Tie as tie
 
 returns : tie.Need-returns
 unfolding byKeycap
