@@ -1,6 +1,6 @@
 -- What stays of the selectors behind a base is what the rules leave, by the first selector and the class of what follows them.
 use mathlib.Core.Path.{_≡_, refl, ap, sym, _∙_, subst}
-use mathlib.Core.Bool.{Bool, true, cond}
+use mathlib.Core.Bool.{Bool, cond}
 use mathlib.Core.List.{List, [], _∷_}
 use Prim.Native.Nat.{ℕ, zero, suc, _+_, _*_, _/_}
 use native.Mathlib.Omega.{arith}
@@ -9,7 +9,7 @@ use denote.Enum.Declared.{tagOf}
 use lib.ListN.{drop, length}
 use Rattle.utf8.specs.Rfc3629.{chars, packed, readChar}
 use Rattle.utf8.proofs.Packed.{packed-step, packed-stop}
-use Rattle.unicode.specs.Unicode.{hasVariationSequence, isEmojiDefault, isEmojiModifierBase, variationSequenceIndex}
+use Rattle.unicode.specs.Unicode.{isEmojiDefault, isEmojiModifierBase, variationSequenceIndex}
 use Rattle.unicode.specs.declared.VariationSequenceIndex.the-variants.{At}
 use Rattle.unicode.specs.declared.presentation.FromSelector.{FromSelector}
 use Rattle.unicode.specs.declared.presentation.Presentation.{Presentation}
