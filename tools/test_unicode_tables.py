@@ -60,7 +60,7 @@ class Committed(unittest.TestCase):
 
     def test_every_file_that_differs_or_is_missing_shows(self):
         made = maker.files()
-        self.assertEqual(len(made), 11)
+        self.assertEqual(len(made), 10)
         self.assertEqual(maker.differing(made), [])
         for path, text in made:
             self.assertEqual(maker.differing([(path, text + "\n")]), [path])
@@ -81,6 +81,16 @@ class Blocks(unittest.TestCase):
         self.assertEqual(listed, maker.blocks(tables))
         self.assertEqual(len(listed), 54)
         self.assertEqual(sum(bin(entries).count("1") for _, _, entries, _ in listed), 354)
+
+    def test_every_block_is_in_one_match_at_its_place(self):
+        _, tables = maker.tables()
+        arms = {name: rows for name, _, _, rows in maker.matched(tables)}
+        self.assertEqual({name: len(rows) for name, rows in arms.items()}, {"low": 2, "middle": 5, "dense": 47})
+        places = [place for place, *_ in arms["dense"]]
+        self.assertEqual(places, sorted(set(places)))
+        self.assertEqual((places[0], places[15], places[16], places[-1]), (0, 0x1E, 0x1F, 0x4A))
+        held = [row[1:] for name in ("low", "dense", "middle") for row in arms[name]]
+        self.assertEqual(sorted(held), sorted(row[1:] for row in maker.blocks(tables)))
 
 
 if __name__ == "__main__":

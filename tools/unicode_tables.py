@@ -10,7 +10,7 @@ It reads crates/published_data/data/{emoji-data.txt,emoji-variation-sequences.tx
 - crates/unicode/specs/UnicodeData.antt: the same numbers as the lists that contracts cite;
 - crates/unicode/src/blocks.rt: the emoji and the variation entries as words, a block of 64 code points to an arm;
 - crates/unicode/specs/BlockData.antt: the same words as lists of blocks;
-- crates/unicode/proofs/blocks/*_block/Proof.antt: an answer for each arm, all alike;
+- crates/unicode/proofs/blocks/*_block/Proof.antt: of each `match` an answer for each arm, all alike;
 - crates/policy_key_set/src/named_sets.rt: the words of the named sets, entry i at bit i % 64 of word i / 64;
 - crates/policy/src/default_policy.rt and crates/policy/specs/DefaultPolicy.antt: the words of the default policy.
 """
@@ -33,14 +33,20 @@ DEFAULT_POLICY_SPECS = ROOT / "crates" / "policy" / "specs" / "DefaultPolicy.ant
 # Document 01, "Character": the data files have no property for the regional indicators.
 REGIONAL_INDICATORS = range(0x1F1E6, 0x1F1FF + 1)
 
-# The groups of blocks, told apart by the first block of each: a name, that block, and what the group holds. The
-# symbols and the pictographs stand close together, so that the compiler makes a table of each.
+# The groups of blocks, told apart by the first block of each: a name, that block, and what the group holds.
 BLOCK_GROUPS = [
     ("low", 0, "before the symbols"),
     ("symbol", 0x80, "of the symbols, 2000 to 27BF"),
     ("middle", 0x9F, "between the symbols and the pictographs"),
     ("pictograph", 0x7C0, "of the pictographs, from 1F000 on"),
 ]
+FIRST = {name: first for name, first, _ in BLOCK_GROUPS}
+
+# The symbols and the pictographs each stand close together, and texts have both. They are one `match`, the dense one, with
+# the pictographs behind the symbols, so that the compiler makes one table of them. Of each of the two groups: what is
+# taken from the number of a block there.
+SYMBOL_PLACES = FIRST["middle"] - FIRST["symbol"]
+MOVED = {"symbol": FIRST["symbol"], "pictograph": FIRST["pictograph"] - SYMBOL_PLACES}
 
 
 class Malformed(Exception):
@@ -193,6 +199,15 @@ def grouped(tables):
     ]
 
 
+def matched(tables):
+    """Of each `match`: its name, what it holds, its parameter, and its arms, each with the number that it is for."""
+    groups = grouped(tables)
+    alone = [(name, what, "k", rows) for name, what, rows in groups if name not in MOVED]
+    dense = [(block - MOVED[name], *held) for name, _, rows in groups if name in MOVED for block, *held in rows]
+    what = ", and ".join(f"of the {name}s, block k at k - 0x{less:X}" for name, less in MOVED.items())
+    return alone + [("dense", what, "i", dense)]
+
+
 def block_source(numbered, tables):
     major, minor = numbered
     out = [
@@ -202,7 +217,7 @@ def block_source(numbered, tables):
         "ghost use mathlib.Core.Path.{_≡_};",
         "ghost use Rattle.unicode.specs.Blocks.{blockIn};",
         "ghost use Rattle.unicode.specs.BlockData.{",
-        *[f"  {name}," for name in sorted(["blocks"] + [f"{name}Blocks" for name, *_ in BLOCK_GROUPS])],
+        *[f"  {name}," for name in sorted(["blocks"] + [f"{name}Blocks" for name, *_ in matched(tables)])],
         "};",
         "",
         "// Bit j of `emoji` says that character j of the block is emoji, bit j of `entries` that it is a variation",
@@ -213,19 +228,37 @@ def block_source(numbered, tables):
         "    pub(crate) rank: u32,",
         "}",
     ]
-    for name, what, rows in grouped(tables):
-        out += ["", f"// The blocks {what}: {len(rows)}.", f"fn {name}_block(k: u32) -> Block"]
-        out += [f"    ensures {{ λ r. ⌜ r ≡ blockIn k {name}Blocks ⌝ }}", "{", "    match k {"]
+    for name, what, given, rows in matched(tables):
+        out += ["", f"// The blocks {what}: {len(rows)}.", f"fn {name}_block({given}: u32) -> Block"]
+        out += [f"    ensures {{ λ r. ⌜ r ≡ blockIn {given} {name}Blocks ⌝ }}", "{", f"    match {given} {{"]
         for block, emoji, entries, rank in rows:
             out += [f"        0x{block:X} => Block {{", f"            emoji: 0x{emoji:016X},"]
             out += [f"            entries: 0x{entries:016X},", f"            rank: {rank},", "        },"]
         out += ["        _ => Block {", "            emoji: 0,", "            entries: 0,", "            rank: 0,"]
         out += ["        },", "    }", "}"]
-    out += ["", "// The block k.", "pub(crate) fn block_of(k: u32) -> Block"]
-    out += ["    ensures { λ r. ⌜ r ≡ blockIn k blocks ⌝ }", "{"]
-    for (name, _, _), (_, end, _) in zip(BLOCK_GROUPS, BLOCK_GROUPS[1:]):
-        out += [f"    if k < 0x{end:X} {{", f"        return {name}_block(k);", "    }"]
-    out += [f"    {BLOCK_GROUPS[-1][0]}_block(k)", "}"]
+    out += [
+        "",
+        "// The block k. The last `if` only chooses what is taken from k, so that the compiler makes no branch of it.",
+        "pub(crate) fn block_of(k: u32) -> Block",
+        "    ensures { λ r. ⌜ r ≡ blockIn k blocks ⌝ }",
+        "{",
+        f"    if k < 0x{FIRST['symbol']:X} {{",
+        "        return low_block(k);",
+        "    }",
+        f"    let is_before_pictographs = k < 0x{FIRST['pictograph']:X};",
+        "    if is_before_pictographs {",
+        f"        if 0x{FIRST['middle'] - 1:X} < k {{",
+        "            return middle_block(k);",
+        "        }",
+        "    }",
+        "    let i = if is_before_pictographs {",
+        f"        k - 0x{MOVED['symbol']:X}",
+        "    } else {",
+        f"        k - 0x{MOVED['pictograph']:X}",
+        "    };",
+        "    dense_block(i)",
+        "}",
+    ]
     return "\n".join(out) + "\n"
 
 
@@ -236,7 +269,8 @@ def block_specs(numbered, tables):
         "-- each block of 64 code points that has any, its number, the word of its emoji, the word of its variation",
         "-- entries, and the number of entries before it.",
         "use mathlib.Core.List.{List, [], _∷_, _++_}",
-        "use Rattle.unicode.specs.Blocks.{BlockRow, row}",
+        "use Prim.Native.Nat.{ℕ, _-_}",
+        "use Rattle.unicode.specs.Blocks.{BlockRow, moved, row}",
     ]
     for name, what, rows in grouped(tables):
         out += ["", f"-- the blocks {what}: {len(rows)}"]
@@ -246,20 +280,37 @@ def block_specs(numbered, tables):
     names = [f"{name}Blocks" for name, *_ in BLOCK_GROUPS]
     out += ["", "-- all blocks", "unfoldable pub blocks : List BlockRow"]
     out += ["blocks = " + " ++ (".join(names[:-1]) + f" ++ {names[-1]}" + ")" * (len(names) - 2)]
+    out += ["", "-- the first block of each group but the low one"]
+    for name, first, _ in BLOCK_GROUPS[1:]:
+        out += [f"abbrev pub {name}First : ℕ", f"{name}First = 0x{first:X}", ""]
+    out += [
+        "-- the symbols, and behind their places the pictographs, as one `match` has them",
+        "abbrev pub symbolPlaces : ℕ",
+        "symbolPlaces = middleFirst - symbolFirst",
+        "",
+        "abbrev pub pictographMove : ℕ",
+        "pictographMove = pictographFirst - symbolPlaces",
+        "",
+        "unfoldable pub denseBlocks : List BlockRow",
+        "denseBlocks = moved symbolFirst symbolBlocks ++ moved pictographMove pictographBlocks",
+    ]
     return "\n".join(out) + "\n"
 
 
 def block_proof(name):
-    """The maker of the proof of one group's function: an answer for each arm, and one for the rest."""
+    """The maker of the proof of one `match`: an answer for each arm, and one for the rest."""
 
     def make(numbered, tables):
-        rows = next(rows for group, _, rows in grouped(tables) if group == name)
+        given, rows = next((given, rows) for match, _, given, rows in matched(tables) if match == name)
         listed = f"{name}Blocks"
+        lists, laws = [listed], ["blockIn", "noBlock"]
+        if name == "dense":
+            lists, laws = lists + [f"{group}Blocks" for group in sorted(MOVED)], ["blockIn", "moved", "noBlock"]
         out = [
             "-- Each arm is found in the list, and nothing else is. Made by tools/unicode_tables.py.",
             "use mathlib.Core.Path.{sym}",
-            "use Rattle.unicode.specs.Blocks.{blockIn, noBlock}",
-            f"use Rattle.unicode.specs.BlockData.{{{listed}}}",
+            f"use Rattle.unicode.specs.Blocks.{{{', '.join(laws)}}}",
+            f"use Rattle.unicode.specs.BlockData.{{{', '.join(lists)}}}",
             "use Rattle.unicode.proofs.BlockSearch.{in-arm, in-no-arm}",
             f"use Rattle.unicode.proofs.blocks.{name}_block.Statement.{{statement}}",
             f"use Rattle.unicode.proofs.blocks.{name}_block.Tie as tie",
@@ -267,13 +318,13 @@ def block_proof(name):
         out += [
             "",
             f"pub {name}-block-spec : {{M : Type 1}} → statement M",
-            f"unfolding blockIn noBlock {listed}",
+            f"unfolding {' '.join(laws + lists)}",
             f"{name}-block-spec =",
             "    tie.close",
             "    (tie.spec",
         ]
         out += [f"    (λ c. in-arm {listed} (c .match .keys{i}))" for i in range(1, len(rows) + 1)]
-        out += [f"    (λ c. sym (in-no-arm (c .before .args .k) {listed} (c .match .rest))))"]
+        out += [f"    (λ c. sym (in-no-arm (c .before .args .{given}) {listed} (c .match .rest))))"]
         return "\n".join(out) + "\n"
 
     return make
@@ -384,7 +435,7 @@ def files():
         (SPECS, specs),
         (BLOCKS, block_source),
         (BLOCK_SPECS, block_specs),
-        *[(BLOCK_PROOFS / f"{name}_block" / "Proof.antt", block_proof(name)) for name, *_ in BLOCK_GROUPS],
+        *[(BLOCK_PROOFS / f"{name}_block" / "Proof.antt", block_proof(name)) for name, *_ in matched(made[1])],
         (NAMED_SETS, named_sets),
         (DEFAULT_POLICY, default_policy),
         (DEFAULT_POLICY_SPECS, default_policy_specs),

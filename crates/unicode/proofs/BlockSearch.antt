@@ -1,13 +1,13 @@
--- The search for a block: what the arms of a `match` say of it, and where it may stop.
-use mathlib.Core.Path.{_≡_, refl, sym, ap}
+-- The search for a block: what the arms of a `match` say of it, where it may stop, and where moved blocks are found.
+use mathlib.Core.Path.{_≡_, refl, sym, ap, _∙_}
 use mathlib.Core.Bool.{Bool, true, cond, _&&_}
 use mathlib.Core.List.{List, [], _∷_, _++_}
-use Prim.Native.Nat.{ℕ, suc, _≤_, _<_}
+use Prim.Native.Nat.{ℕ, suc, _-_, _≤_, _<_}
 use native.Mathlib.Omega.{arith}
 use lib.Dec.{eqb, leb, ltb}
-use borrow.Author.Tests.{leb-true, ltb-true, ne-eqb}
-use Rattle.base.proofs.Tests.{both-true}
-use Rattle.unicode.specs.Blocks.{BlockRow, blockIn, noBlock}
+use borrow.Author.Tests.{eq-eqb, eqb-true, leb-true, ltb-true, ne-eqb}
+use Rattle.base.proofs.Tests.{both-true, same-test}
+use Rattle.unicode.specs.Blocks.{BlockRow, blockIn, moved, noBlock}
 
 -- what the last arm of a `match` knows, after an arm for each block: that k is none of them
 abbrev pub NoneOf : ℕ → Type 0 → List BlockRow → Type 0
@@ -60,3 +60,25 @@ pub search-stops : (n : ℕ) (qs rs : List BlockRow) → ascendFrom n rs ≡ tru
 unfolding blockIn
 search-stops n [] rs t k h = none-from n rs t k h
 search-stops n (q ∷ qs) rs t k h = ap (cond (eqb (q .key) k) (q .block)) (search-stops n qs rs t k h)
+
+-- between blocks before n and blocks from m on
+pub search-within : (n m : ℕ) (qs rs ss : List BlockRow) → allBefore n qs ≡ true → ascendFrom m ss ≡ true → (k : ℕ) → n ≤ k → k < m → blockIn k (qs ++ (rs ++ ss)) ≡ blockIn k rs
+search-within n m qs rs ss t u k l h = search-past n qs (rs ++ ss) t k l ∙ search-stops m rs ss u k h
+
+-- numbers from n on are the same if they are when n is taken from both
+eqb-less : (n a b : ℕ) → n ≤ a → n ≤ b → eqb (a - n) (b - n) ≡ eqb a b
+eqb-less n a b l h =
+    same-test
+    (eqb (a - n) (b - n))
+    (eqb a b)
+    (λ e. eq-eqb a b (omega (arith, eqb-true (a - n) (b - n) e)))
+    (λ e. eq-eqb (a - n) (b - n) (ap (λ (j : ℕ). j - n) (eqb-true a b e)))
+
+-- where blocks from m on are moved by n, block k stands at k - n
+pub search-moved : (n m : ℕ) (rs : List BlockRow) → n ≤ m → ascendFrom m rs ≡ true → (k : ℕ) → n ≤ k → blockIn (k - n) (moved n rs) ≡ blockIn k rs
+unfolding ascendFrom blockIn moved
+search-moved n m [] l t k h = refl
+search-moved n m (r ∷ rs) l t k h =
+    let s = both-true (leb m (r .key)) (ascendFrom (suc (r .key)) rs) t in
+    let g = leb-true m (r .key) (s .0) in
+    rw (eqb-less n (r .key) k (omega arith) h) (ap (cond (eqb (r .key) k) (r .block)) (search-moved n (suc (r .key)) rs (omega arith) (s .1) k h))

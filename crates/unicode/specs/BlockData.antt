@@ -2,7 +2,8 @@
 -- each block of 64 code points that has any, its number, the word of its emoji, the word of its variation
 -- entries, and the number of entries before it.
 use mathlib.Core.List.{List, [], _∷_, _++_}
-use Rattle.unicode.specs.Blocks.{BlockRow, row}
+use Prim.Native.Nat.{ℕ, _-_}
+use Rattle.unicode.specs.Blocks.{BlockRow, moved, row}
 
 -- the blocks before the symbols: 2
 unfoldable pub lowBlocks : List BlockRow
@@ -77,3 +78,23 @@ pictographBlocks =
 -- all blocks
 unfoldable pub blocks : List BlockRow
 blocks = lowBlocks ++ (symbolBlocks ++ (middleBlocks ++ pictographBlocks))
+
+-- the first block of each group but the low one
+abbrev pub symbolFirst : ℕ
+symbolFirst = 0x80
+
+abbrev pub middleFirst : ℕ
+middleFirst = 0x9F
+
+abbrev pub pictographFirst : ℕ
+pictographFirst = 0x7C0
+
+-- the symbols, and behind their places the pictographs, as one `match` has them
+abbrev pub symbolPlaces : ℕ
+symbolPlaces = middleFirst - symbolFirst
+
+abbrev pub pictographMove : ℕ
+pictographMove = pictographFirst - symbolPlaces
+
+unfoldable pub denseBlocks : List BlockRow
+denseBlocks = moved symbolFirst symbolBlocks ++ moved pictographMove pictographBlocks

@@ -3,7 +3,7 @@
 -- that they hold its tables.
 use mathlib.Core.Bool.{cond}
 use mathlib.Core.List.{List, [], _∷_}
-use Prim.Native.Nat.{ℕ, _+_, _%_, _^_}
+use Prim.Native.Nat.{ℕ, _+_, _-_, _%_, _^_}
 use lib.Count.{ones}
 use lib.Dec.{eqb}
 use Rattle.base.specs.Bits.{one}
@@ -27,6 +27,11 @@ noBlock = record { emoji = 0; entries = 0; rank = 0 }
 unfoldable pub blockIn : ℕ → List BlockRow → Block
 blockIn k [] = noBlock
 blockIn k (r ∷ rs) = cond (eqb (r .key) k) (r .block) (blockIn k rs)
+
+-- a list of blocks, the number of each less by n
+unfoldable pub moved : ℕ → List BlockRow → List BlockRow
+moved n [] = []
+moved n (r ∷ rs) = record { key = r .key - n; block = r .block } ∷ moved n rs
 
 -- the place among all entries of character j of a block: after the entries before the block, and those of it below j
 unfoldable pub entryIn : ℕ → Block → VariationSequenceIndex

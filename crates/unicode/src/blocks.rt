@@ -5,10 +5,9 @@ ghost use mathlib.Core.Path.{_≡_};
 ghost use Rattle.unicode.specs.Blocks.{blockIn};
 ghost use Rattle.unicode.specs.BlockData.{
   blocks,
+  denseBlocks,
   lowBlocks,
   middleBlocks,
-  pictographBlocks,
-  symbolBlocks,
 };
 
 // Bit j of `emoji` says that character j of the block is emoji, bit j of `entries` that it is a variation
@@ -33,99 +32,6 @@ fn low_block(k: u32) -> Block
             emoji: 0x0000420000000000,
             entries: 0x0000420000000000,
             rank: 12,
-        },
-        _ => Block {
-            emoji: 0,
-            entries: 0,
-            rank: 0,
-        },
-    }
-}
-
-// The blocks of the symbols, 2000 to 27BF: 16.
-fn symbol_block(k: u32) -> Block
-    ensures { λ r. ⌜ r ≡ blockIn k symbolBlocks ⌝ }
-{
-    match k {
-        0x80 => Block {
-            emoji: 0x1000000000000000,
-            entries: 0x1000000000000000,
-            rank: 14,
-        },
-        0x81 => Block {
-            emoji: 0x0000000000000200,
-            entries: 0x0000000000000200,
-            rank: 15,
-        },
-        0x84 => Block {
-            emoji: 0x0200000400000000,
-            entries: 0x0200000400000000,
-            rank: 16,
-        },
-        0x86 => Block {
-            emoji: 0x0000060003F00000,
-            entries: 0x0000060003F00000,
-            rank: 18,
-        },
-        0x8C => Block {
-            emoji: 0x000001000C000000,
-            entries: 0x000001000C000000,
-            rank: 26,
-        },
-        0x8F => Block {
-            emoji: 0x070FFE0000008000,
-            entries: 0x070EE60000008000,
-            rank: 29,
-        },
-        0x93 => Block {
-            emoji: 0x0000000000000004,
-            entries: 0x0000000000000004,
-            rank: 41,
-        },
-        0x96 => Block {
-            emoji: 0x00400C0000000000,
-            entries: 0x00400C0000000000,
-            rank: 42,
-        },
-        0x97 => Block {
-            emoji: 0x7800000000000001,
-            entries: 0x7800000000000001,
-            rank: 45,
-        },
-        0x98 => Block {
-            emoji: 0x0700C44D2132401F,
-            entries: 0x0700C44D2132401F,
-            rank: 50,
-        },
-        0x99 => Block {
-            emoji: 0xC8000169800FFF05,
-            entries: 0xC8000169800FFF05,
-            rank: 71,
-        },
-        0x9A => Block {
-            emoji: 0x60030C831AFC0000,
-            entries: 0x60030C831AFC0000,
-            rank: 94,
-        },
-        0x9B => Block {
-            emoji: 0x27BF0600001AC130,
-            entries: 0x27BF0600001A8130,
-            rank: 112,
-        },
-        0x9C => Block {
-            emoji: 0x001801022054BF24,
-            entries: 0x001800022054B304,
-            rank: 132,
-        },
-        0x9D => Block {
-            emoji: 0x0000001800B85090,
-            entries: 0x0000001800880090,
-            rank: 145,
-        },
-        0x9E => Block {
-            emoji: 0x8001000200E00000,
-            entries: 0x0000000200000000,
-            rank: 151,
         },
         _ => Block {
             emoji: 0,
@@ -173,162 +79,242 @@ fn middle_block(k: u32) -> Block
     }
 }
 
-// The blocks of the pictographs, from 1F000 on: 31.
-fn pictograph_block(k: u32) -> Block
-    ensures { λ r. ⌜ r ≡ blockIn k pictographBlocks ⌝ }
+// The blocks of the symbols, block k at k - 0x80, and of the pictographs, block k at k - 0x7A1: 47.
+fn dense_block(i: u32) -> Block
+    ensures { λ r. ⌜ r ≡ blockIn i denseBlocks ⌝ }
 {
-    match k {
-        0x7C0 => Block {
+    match i {
+        0x0 => Block {
+            emoji: 0x1000000000000000,
+            entries: 0x1000000000000000,
+            rank: 14,
+        },
+        0x1 => Block {
+            emoji: 0x0000000000000200,
+            entries: 0x0000000000000200,
+            rank: 15,
+        },
+        0x4 => Block {
+            emoji: 0x0200000400000000,
+            entries: 0x0200000400000000,
+            rank: 16,
+        },
+        0x6 => Block {
+            emoji: 0x0000060003F00000,
+            entries: 0x0000060003F00000,
+            rank: 18,
+        },
+        0xC => Block {
+            emoji: 0x000001000C000000,
+            entries: 0x000001000C000000,
+            rank: 26,
+        },
+        0xF => Block {
+            emoji: 0x070FFE0000008000,
+            entries: 0x070EE60000008000,
+            rank: 29,
+        },
+        0x13 => Block {
+            emoji: 0x0000000000000004,
+            entries: 0x0000000000000004,
+            rank: 41,
+        },
+        0x16 => Block {
+            emoji: 0x00400C0000000000,
+            entries: 0x00400C0000000000,
+            rank: 42,
+        },
+        0x17 => Block {
+            emoji: 0x7800000000000001,
+            entries: 0x7800000000000001,
+            rank: 45,
+        },
+        0x18 => Block {
+            emoji: 0x0700C44D2132401F,
+            entries: 0x0700C44D2132401F,
+            rank: 50,
+        },
+        0x19 => Block {
+            emoji: 0xC8000169800FFF05,
+            entries: 0xC8000169800FFF05,
+            rank: 71,
+        },
+        0x1A => Block {
+            emoji: 0x60030C831AFC0000,
+            entries: 0x60030C831AFC0000,
+            rank: 94,
+        },
+        0x1B => Block {
+            emoji: 0x27BF0600001AC130,
+            entries: 0x27BF0600001A8130,
+            rank: 112,
+        },
+        0x1C => Block {
+            emoji: 0x001801022054BF24,
+            entries: 0x001800022054B304,
+            rank: 132,
+        },
+        0x1D => Block {
+            emoji: 0x0000001800B85090,
+            entries: 0x0000001800880090,
+            rank: 145,
+        },
+        0x1E => Block {
+            emoji: 0x8001000200E00000,
+            entries: 0x0000000200000000,
+            rank: 151,
+        },
+        0x1F => Block {
             emoji: 0x0000000000000010,
             entries: 0x0000000000000010,
             rank: 165,
         },
-        0x7C3 => Block {
+        0x22 => Block {
             emoji: 0x0000000000008000,
             entries: 0x0000000000000000,
             rank: 166,
         },
-        0x7C5 => Block {
+        0x24 => Block {
             emoji: 0xC003000000000000,
             entries: 0xC003000000000000,
             rank: 166,
         },
-        0x7C6 => Block {
+        0x25 => Block {
             emoji: 0x0000000007FE4000,
             entries: 0x0000000000000000,
             rank: 170,
         },
-        0x7C7 => Block {
+        0x26 => Block {
             emoji: 0xFFFFFFC000000000,
             entries: 0x0000000000000000,
             rank: 170,
         },
-        0x7C8 => Block {
+        0x27 => Block {
             emoji: 0x07FC800004000006,
             entries: 0x0080800004000004,
             rank: 170,
         },
-        0x7C9 => Block {
+        0x28 => Block {
             emoji: 0x0000000000030000,
             entries: 0x0000000000000000,
             rank: 174,
         },
-        0x7CC => Block {
+        0x2B => Block {
             emoji: 0xFFFFFFF3FFFFFFFF,
             entries: 0x00401FF21020E000,
             rank: 174,
         },
-        0x7CD => Block {
+        0x2C => Block {
             emoji: 0xFFFFFFFFFFFFFFFF,
             entries: 0x2100000000000000,
             rank: 190,
         },
-        0x7CE => Block {
+        0x2D => Block {
             emoji: 0xFFFFFFFFCECFFFFF,
             entries: 0x00007080CEC80000,
             rank: 192,
         },
-        0x7CF => Block {
+        0x2E => Block {
             emoji: 0xFFB9FFFFFFFFFFFF,
             entries: 0x00A82001FFF07C54,
             rank: 204,
         },
-        0x7D0 => Block {
+        0x2F => Block {
             emoji: 0xFFFFFFFFFFFFFFFF,
             entries: 0x8000004080200100,
             rank: 229,
         },
-        0x7D1 => Block {
+        0x30 => Block {
             emoji: 0xFFFFFFFFFFFFFFFF,
             entries: 0x20000400000863C6,
             rank: 234,
         },
-        0x7D2 => Block {
+        0x31 => Block {
             emoji: 0xFFFFFFFFFFFFFFFF,
             entries: 0x8809000800000000,
             rank: 245,
         },
-        0x7D3 => Block {
+        0x32 => Block {
             emoji: 0xBFFFFFFFFFFFFFFF,
             entries: 0x2E803C7084000800,
             rank: 250,
         },
-        0x7D4 => Block {
+        0x33 => Block {
             emoji: 0x3FFFFFFFFFFFFFFF,
             entries: 0x00000000000C2100,
             rank: 265,
         },
-        0x7D5 => Block {
+        0x34 => Block {
             emoji: 0x07F980FFFFFF7E00,
             entries: 0x03F980FFFFFF0600,
             rank: 269,
         },
-        0x7D6 => Block {
+        0x35 => Block {
             emoji: 0x1006013000613C80,
             entries: 0x1006012000013C80,
             rank: 304,
         },
-        0x7D7 => Block {
+        0x36 => Block {
             emoji: 0xFC08810A700E001C,
             entries: 0x0408810A700E001C,
             rank: 315,
         },
-        0x7D8 => Block {
+        0x37 => Block {
             emoji: 0xFFFFFFFFFFFFFFFF,
             entries: 0x0000000000010000,
             rank: 330,
         },
-        0x7D9 => Block {
+        0x38 => Block {
             emoji: 0x000000000000FFFF,
             entries: 0x0000000000000000,
             rank: 331,
         },
-        0x7DA => Block {
+        0x39 => Block {
             emoji: 0xFFFFFFFFFFFFFFFF,
             entries: 0x1604200001122080,
             rank: 331,
         },
-        0x7DB => Block {
+        0x3A => Block {
             emoji: 0x1FF91A3FF0E7F83F,
             entries: 0x0009023F0000E800,
             rank: 341,
         },
-        0x7DF => Block {
+        0x3E => Block {
             emoji: 0x00010FFF00000000,
             entries: 0x0000000000000000,
             rank: 354,
         },
-        0x7E4 => Block {
+        0x43 => Block {
             emoji: 0xF7FFFFFFFFFFF000,
             entries: 0x0000000000000000,
             rank: 354,
         },
-        0x7E5 => Block {
+        0x44 => Block {
             emoji: 0xFFFFFFFFFFFFFFBF,
             entries: 0x0000000000000000,
             rank: 354,
         },
-        0x7E6 => Block {
+        0x45 => Block {
             emoji: 0xFFFFFFFFFFFFFFFF,
             entries: 0x0000000000000000,
             rank: 354,
         },
-        0x7E7 => Block {
+        0x46 => Block {
             emoji: 0xFFFFFFFFFFFFFFFF,
             entries: 0x0000000000000000,
             rank: 354,
         },
-        0x7E9 => Block {
+        0x48 => Block {
             emoji: 0x1FFF000000000000,
             entries: 0x0000000000000000,
             rank: 354,
         },
-        0x7EA => Block {
+        0x49 => Block {
             emoji: 0xBFFFFFFFFFFF01FF,
             entries: 0x0000000000000000,
             rank: 354,
         },
-        0x7EB => Block {
+        0x4A => Block {
             emoji: 0x01FF01FF0FFFC03F,
             entries: 0x0000000000000000,
             rank: 354,
@@ -341,18 +327,23 @@ fn pictograph_block(k: u32) -> Block
     }
 }
 
-// The block k.
+// The block k. The last `if` only chooses what is taken from k, so that the compiler makes no branch of it.
 pub(crate) fn block_of(k: u32) -> Block
     ensures { λ r. ⌜ r ≡ blockIn k blocks ⌝ }
 {
     if k < 0x80 {
         return low_block(k);
     }
-    if k < 0x9F {
-        return symbol_block(k);
+    let is_before_pictographs = k < 0x7C0;
+    if is_before_pictographs {
+        if 0x9E < k {
+            return middle_block(k);
+        }
     }
-    if k < 0x7C0 {
-        return middle_block(k);
-    }
-    pictograph_block(k)
+    let i = if is_before_pictographs {
+        k - 0x80
+    } else {
+        k - 0x7A1
+    };
+    dense_block(i)
 }

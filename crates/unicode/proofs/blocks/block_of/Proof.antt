@@ -1,57 +1,80 @@
--- The groups stand one behind the other, so that the search ends in the group that is asked.
+-- The groups stand one behind the other, so that the search ends in the group that is asked; in the dense blocks too.
 use mathlib.Core.Path.{_≡_, refl, sym, _∙_}
 use mathlib.Core.List.{_++_}
-use Prim.Native.Nat.{ℕ, _≤_, _<_}
+use mathlib.Core.Logic.{⊎-elim}
+use Prim.Native.Nat.{ℕ, _-_, _≤_, _<_}
 use native.Mathlib.Omega.{arith}
 use borrow.Author.Needs.{needs}
-use Rattle.unicode.specs.Blocks.{blockIn}
-use Rattle.unicode.specs.BlockData.{blocks, lowBlocks, middleBlocks, pictographBlocks, symbolBlocks}
-use Rattle.unicode.proofs.BlockSearch.{allBefore, ascendFrom, search-past, search-stops}
+use borrow.Author.Tests.{ltb-false, ltb-true}
+use Rattle.unicode.specs.Blocks.{blockIn, moved}
+use Rattle.unicode.specs.BlockData.{
+  blocks,
+  denseBlocks,
+  lowBlocks,
+  middleBlocks,
+  middleFirst,
+  pictographBlocks,
+  pictographFirst,
+  pictographMove,
+  symbolBlocks,
+  symbolFirst,
+  symbolPlaces,
+}
+use Rattle.unicode.proofs.BlockSearch.{
+  allBefore,
+  ascendFrom,
+  in-arm,
+  search-moved,
+  search-past,
+  search-stops,
+  search-within,
+}
 use Rattle.unicode.proofs.blocks.block_of.Statement.{statement}
 use Rattle.unicode.proofs.blocks.block_of.Tie as tie
 
 module _ (k : ℕ) where
-  stops-low : k < 0x80 → blockIn k blocks ≡ blockIn k lowBlocks
+  of-low : k < symbolFirst → blockIn k blocks ≡ blockIn k lowBlocks
   unfolding blocks symbolBlocks middleBlocks pictographBlocks ascendFrom
-  stops-low = search-stops 0x80 lowBlocks (symbolBlocks ++ (middleBlocks ++ pictographBlocks)) refl k
+  of-low = search-stops symbolFirst lowBlocks (symbolBlocks ++ (middleBlocks ++ pictographBlocks)) refl k
 
-  past-low : 0x80 ≤ k → blockIn k blocks ≡ blockIn k (symbolBlocks ++ (middleBlocks ++ pictographBlocks))
-  unfolding blocks lowBlocks allBefore
-  past-low = search-past 0x80 lowBlocks (symbolBlocks ++ (middleBlocks ++ pictographBlocks)) refl k
+  of-middle : middleFirst ≤ k → k < pictographFirst → blockIn k blocks ≡ blockIn k middleBlocks
+  unfolding blocks lowBlocks symbolBlocks pictographBlocks allBefore ascendFrom
+  of-middle = search-within middleFirst pictographFirst (lowBlocks ++ symbolBlocks) middleBlocks pictographBlocks refl refl k
 
-  stops-symbol : k < 0x9F → blockIn k (symbolBlocks ++ (middleBlocks ++ pictographBlocks)) ≡ blockIn k symbolBlocks
-  unfolding middleBlocks pictographBlocks ascendFrom
-  stops-symbol = search-stops 0x9F symbolBlocks (middleBlocks ++ pictographBlocks) refl k
+  of-symbol : symbolFirst ≤ k → k < middleFirst → blockIn k blocks ≡ blockIn (k - symbolFirst) denseBlocks
+  unfolding blocks denseBlocks lowBlocks symbolBlocks middleBlocks pictographBlocks allBefore ascendFrom moved
+  of-symbol l h =
+      search-within symbolFirst middleFirst lowBlocks symbolBlocks (middleBlocks ++ pictographBlocks) refl refl k l h
+      ∙ sym (search-moved symbolFirst symbolFirst symbolBlocks (omega arith) refl k l)
+      ∙ sym (search-stops symbolPlaces (moved symbolFirst symbolBlocks) (moved pictographMove pictographBlocks) refl (k - symbolFirst) (omega arith))
 
-  past-symbol : 0x9F ≤ k → blockIn k (symbolBlocks ++ (middleBlocks ++ pictographBlocks)) ≡ blockIn k (middleBlocks ++ pictographBlocks)
-  unfolding symbolBlocks allBefore
-  past-symbol = search-past 0x9F symbolBlocks (middleBlocks ++ pictographBlocks) refl k
-
-  stops-middle : k < 0x7C0 → blockIn k (middleBlocks ++ pictographBlocks) ≡ blockIn k middleBlocks
-  unfolding pictographBlocks ascendFrom
-  stops-middle = search-stops 0x7C0 middleBlocks pictographBlocks refl k
-
-  past-middle : 0x7C0 ≤ k → blockIn k (middleBlocks ++ pictographBlocks) ≡ blockIn k pictographBlocks
-  unfolding middleBlocks allBefore
-  past-middle = search-past 0x7C0 middleBlocks pictographBlocks refl k
+  of-pictograph : pictographFirst ≤ k → blockIn k blocks ≡ blockIn (k - pictographMove) denseBlocks
+  unfolding blocks denseBlocks lowBlocks symbolBlocks middleBlocks pictographBlocks allBefore ascendFrom moved
+  of-pictograph h =
+      search-past pictographFirst (lowBlocks ++ (symbolBlocks ++ middleBlocks)) pictographBlocks refl k h
+      ∙ sym (search-moved pictographMove pictographFirst pictographBlocks (omega arith) refl k (omega arith))
+      ∙ sym (search-past symbolPlaces (moved symbolFirst symbolBlocks) (moved pictographMove pictographBlocks) refl (k - pictographMove) (omega arith))
 
 returns : tie.Need-returns
-returns c = c .low-block .ensures ∙ sym (stops-low (c .before .before .args .k) (c .before .if1 .taken))
+returns c = c .low-block .ensures ∙ sym (of-low (c .before .before .args .k) (c .before .if1 .taken))
 
 returns-2 : tie.Need-returns-2
 returns-2 c =
-    let k = c .before .before .before .args .k in
-    c .symbol-block .ensures ∙ sym (past-low k (omega arith) ∙ stops-symbol k (omega arith))
+    let k = c .before .before .before .before .args .k in
+    c .middle-block .ensures ∙ sym (of-middle k (omega arith) (ltb-true k pictographFirst (c .before .before .if2 .taken)))
+
+sub-i : tie.Need-sub-i
+sub-i c = omega (arith, ltb-false (c .before .before .before .args .k) pictographFirst (c .if4 .left))
 
 returns-3 : tie.Need-returns-3
 returns-3 c =
     let k = c .before .before .before .before .args .k in
-    c .middle-block .ensures ∙ sym (past-low k (omega arith) ∙ past-symbol k (omega arith) ∙ stops-middle k (omega arith))
-
-returns-4 : tie.Need-returns-4
-returns-4 c =
-    let k = c .before .before .before .before .args .k in
-    c .pictograph-block .ensures ∙ sym (past-low k (omega arith) ∙ past-symbol k (omega arith) ∙ past-middle k (omega arith))
+    let not-middle : k < pictographFirst → k < middleFirst =
+    λ h. ⊎-elim (λ w. omega arith) (λ w. omega (arith, ltb-false k pictographFirst (w .left))) (c .before .before .if2 .came) in
+    c .dense-block .ensures ∙ sym (⊎-elim
+    (λ w. of-symbol k (omega arith) (not-middle (ltb-true k pictographFirst (w .0 .taken))) ∙ in-arm denseBlocks (w .1))
+    (λ w. of-pictograph k (ltb-false k pictographFirst (w .0 .left)) ∙ in-arm denseBlocks (w .1))
+    (c .before .if4 .came))
 
 pub block-of-spec : {M : Type 1} → statement M
 block-of-spec =
@@ -61,7 +84,6 @@ block-of-spec =
     returns
     (λ c κs. search needs)
     returns-2
+    sub-i
     (λ c κs. search needs)
-    returns-3
-    (λ c κs. search needs)
-    returns-4)
+    returns-3)
