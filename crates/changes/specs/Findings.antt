@@ -14,7 +14,7 @@ use Rattle.scanner.specs.Items.{Item, items}
 use Rattle.scanner.specs.Spans.{Found, size, width}
 use Rattle.analysis.specs.Analysis.{isFinding, nonCanonicality}
 use Rattle.analysis.specs.Cells.{leading}
-use Rattle.analysis.specs.Counts.{total}
+use Rattle.analysis.specs.Counts.{empty, total}
 use Rattle.analysis.specs.Findings.{findingsFrom}
 use Rattle.analysis.specs.Rules.{firstAsked, outcome}
 use Rattle.analysis.specs.declared.types.NonCanonicality.{NonCanonicality}
@@ -22,7 +22,7 @@ use Rattle.changes.specs.Changes.{Stays, outcomeFrom}
 use Rattle.changes.specs.declared.findings.CellEnd.{CellEnd}
 use Rattle.changes.specs.declared.findings.FindingSpan.{FindingSpan}
 
--- From findings to those that are left of them, where so many at the front are passed, each of which starts before a limit.
+-- From findings to what is left of them when so many at the front are passed, each of which starts before a limit.
 pub data Left (before : ℕ) : List Found → ℕ → List Found → Type 0 where
   all-left : {fs : List Found} → Left before fs 0 fs
   one-less : {f : Found} {fs gs : List Found} {n : ℕ} → f .start < before → Left before fs n gs → Left before (f ∷ fs) (suc n) gs
@@ -35,7 +35,7 @@ module _ (p : Policy) (text : List ℕ) where
     pub same : findingsFrom p text from ≡ findingsFrom p text to
     pub valid : validUpTo (drop from text) ≡ (to - from) + validUpTo (drop to text)
 
-  -- So many findings start from an offset on before another, all before a limit, and all bytes between the two offsets are characters.
+  -- The same, where so many findings, each of which starts before a limit, lie between the two offsets.
   pub record PassesOver (before from to n : ℕ) : Type 0 where
     pub on : from ≤ to
     pub inside : from ≤ length text → to ≤ length text
@@ -60,7 +60,7 @@ module _ (p : Policy) (text : List ℕ) where
   abbrev pub Skips : ℕ → ℕ → Type 0
   Skips from to = Stays p text from to × Passes from to
 
-  -- The first finding that does not start before a limit ..
+  -- The first finding that does not start before a limit, with its counts ..
   abbrev pub FindsBehind : ℕ → FindingSpan → Type 0
   FindsBehind before r = (before ≤ r .start) × Counted (r .start) (r .end) (r .counts)
 
@@ -69,7 +69,7 @@ module _ (p : Policy) (text : List ℕ) where
   NextFinding before from r =
       PassesOver before from (r .start) (r .passed)
       × (r .more ≡ true → FindsBehind before r)
-      × (r .more ≡ false → (chars (drop (r .start) text) ≡ []) × (r .end ≡ r .start))
+      × (r .more ≡ false → (chars (drop (r .start) text) ≡ []) × (r .end ≡ r .start) × (r .counts ≡ empty))
 
   -- The same, or an offset further on before which there is none.
   abbrev pub WalkedFrom : ℕ → ℕ → FindingSpan → Type 0

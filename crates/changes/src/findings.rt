@@ -40,7 +40,7 @@ use unicode::VariationSequenceIndex;
 use unicode::presentation::FromSelector;
 
 // The next finding, if there is one more: its bytes, from start up to end, and the eight counts; else both are the end of the well-formed
-// text. So many findings were passed before it.
+// text, and there is no count. So many findings were passed before it.
 pub struct FindingSpan {
     pub start: usize,
     pub end: usize,

@@ -30,7 +30,7 @@ returns c =
     let x = c .before .before .before .before .before .before .before .before .args in
     let a = passes-skip (x .policy .now) (x .text .now) (c .before .before .before .before .before .ascii-keys-bare .ensures) (c .before .before .before .before .loop .inv) (c .before .before .before .skip-bare-ascii .ensures) in
     let z = packed-stop (x .text .now) (c .before .before .before .skip-bare-ascii .result) (c .before .before .decode .result) (c .before .before .decode .ensures) (c .before .if1 .taken) in
-    (a, λ f. absurd (true≢false (sym f)), λ _. (z .chars-none, refl))
+    (a, λ f. absurd (true≢false (sym f)), λ _. (z .chars-none, refl, c .empty .ensures))
 
 add-skip-letters : tie.Need-add-skip-letters Inv-loop μ-loop
 add-skip-letters c =
