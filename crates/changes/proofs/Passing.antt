@@ -1,4 +1,4 @@
--- Where no finding begins, and where one does: by the items from an offset on and the totals before and behind an item.
+-- Where no finding begins, where one does, and how many are passed: by the items from an offset on and the totals before and behind an item.
 use mathlib.Core.Path.{_≡_, refl, ap, sym, _∙_, subst}
 use mathlib.Core.Bool.{Bool, true, false, cond, not}
 use mathlib.Core.List.{List, _∷_, _++_}

@@ -1,4 +1,4 @@
--- From an item of links or units on, cell by cell: what the loop over items without a finding goes by.
+-- From an item of links or units on, cell by cell: what the loop over items goes by, up to the finding that is looked for.
 use mathlib.Core.Path.{_≡_, refl, ap, ap₂, sym, _∙_, subst}
 use mathlib.Core.Logic.{inl, inr, ⊎-elim}
 use mathlib.Core.Bool.{Bool, true, false, _&&_, _||_, and-false, cond, not, true≢false}
