@@ -1,4 +1,4 @@
--- What the next finding says of the findings from an offset on: the first of them, or that there is none; and its row, by the counts of its bytes.
+-- What the next finding says of the findings from an offset on: how many there are, the first of them with its row, or that there is none.
 use mathlib.Core.Path.{_≡_, refl, ap, ap₂, sym, _∙_}
 use mathlib.Core.Bool.{Bool, true, false}
 use mathlib.Core.List.{List, [], _∷_, map}

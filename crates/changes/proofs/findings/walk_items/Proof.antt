@@ -1,3 +1,4 @@
+-- `changes::findings::walk_items` meets its contract: `Walking` is the loop's invariant, and the measure is the number of bytes left.
 use mathlib.Core.Path.{sym, _∙_, subst}
 use mathlib.Core.Logic.{⊎-elim}
 use mathlib.Core.Bool.{true≢false}
