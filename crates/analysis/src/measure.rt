@@ -1,6 +1,6 @@
 // The cells of a slice, one after the other: a character that is no selector, the selectors behind it, and of the next cell only
 // its character's class. A cell is read once. This pass serves the analysis of an item, mending and the report; listing sums up the
-// same outcomes on its way (crate changes).
+// same outcomes on its way (crate text_pass).
 // document 01, "Counts and finding". `measure_cells` equals `totalCells` and the length of `formatCells` of specs/CellView.antt.
 ghost use mathlib.Core.Path.{_≡_};
 ghost use Prim.Native.Nat.{_+_, _*_};

@@ -28,7 +28,7 @@ use Rattle.formatter.specs.Format.{format, formatted, sameBytes}
 use Rattle.formatter.specs.declared.FormatAnswer.{FormatAnswer}
 use Rattle.formatter.specs.declared.FormatAnswer.the-variants.{Changed, Refused, Unchanged}
 use Rattle.analysis.proofs.Replacing.{out-put, out-short}
-use Rattle.changes.specs.Changes.{formattedFrom}
+use Rattle.text_pass.specs.Changes.{formattedFrom}
 use Rattle.formatter.proofs.CellView.{cell-view}
 use Rattle.formatter.proofs.FirstBook.{totals-is}
 use Rattle.formatter.proofs.FormattedClaim.{formatted-claim}

@@ -15,9 +15,9 @@ use Rattle.analysis.specs.Findings.{findingsFrom}
 use Rattle.formatter.specs.Findings.{findingRow}
 use Rattle.analysis.specs.declared.types.Finding.{Finding}
 use Rattle.analysis.specs.declared.types.NonCanonicality.{NonCanonicality}
-use Rattle.changes.specs.Findings.{Counted, Finds, NextFinding, Passes}
-use Rattle.changes.specs.declared.findings.FindingSpan.{FindingSpan}
-use Rattle.changes.proofs.Passing.{finds-here, finds-room, finds-some, left-length}
+use Rattle.text_pass.specs.Findings.{Counted, Finds, NextFinding, Passes}
+use Rattle.text_pass.specs.declared.findings.FindingSpan.{FindingSpan}
+use Rattle.text_pass.proofs.Passing.{finds-here, finds-room, finds-some, left-length}
 use Rattle.formatter.proofs.Steps.{Ahead, rowsFrom}
 
 -- ---- there is none

@@ -14,10 +14,10 @@ use Rattle.scanner.specs.Items.{Item, items}
 use Rattle.scanner.specs.Spans.{Found, found, size, width}
 use Rattle.analysis.specs.Analysis.{isFinding}
 use Rattle.analysis.specs.Findings.{findingsFrom}
-use Rattle.changes.specs.Findings.{Finds, Left, NextFinding, all-left, one-less}
-use Rattle.changes.specs.declared.findings.FindingSpan.{FindingSpan}
+use Rattle.text_pass.specs.Findings.{Finds, Left, NextFinding, all-left, one-less}
+use Rattle.text_pass.specs.declared.findings.FindingSpan.{FindingSpan}
 use Rattle.formatter.specs.Mend.{FindingStarting, Starts, findingAt}
-use Rattle.changes.proofs.Passing.{finds-here}
+use Rattle.text_pass.proofs.Passing.{finds-here}
 use Rattle.formatter.proofs.NextFindings.{none-found}
 
 -- Behind the offset no finding starts there.

@@ -26,8 +26,8 @@ use Rattle.unicode.specs.declared.presentation.FromSelector.the-variants.{NoSel
 use Rattle.unicode.specs.declared.presentation.Presentation.{Presentation}
 use Rattle.unicode.specs.declared.presentation.Presentation.the-variants.{Emoji, Text}
 use Rattle.unicode.specs.Presentation.{asSelector}
-use Rattle.changes.specs.Changes.{NextChange, formattedFrom, selectorBytes, totalFrom}
-use Rattle.changes.specs.declared.Change.{Change}
+use Rattle.text_pass.specs.Changes.{NextChange, formattedFrom, selectorBytes, totalFrom}
+use Rattle.text_pass.specs.declared.Change.{Change}
 
 -- The bytes from an offset on, as a part of the text.
 pub rest-valid : (text : List ℕ) (at : ℕ) {n : ℕ} → n ≡ validUpTo (take (length text - at) (drop at text)) → n ≡ validUpTo (drop at text)

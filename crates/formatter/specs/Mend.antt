@@ -16,8 +16,8 @@ use Rattle.analysis.specs.Analysis.{render, replacement}
 use Rattle.analysis.specs.Cells.{cells}
 use Rattle.analysis.specs.Decisions.{judge, meaning}
 use Rattle.analysis.specs.Findings.{findingsFrom}
-use Rattle.changes.specs.Findings.{Finds}
-use Rattle.changes.specs.declared.findings.FindingSpan.{FindingSpan}
+use Rattle.text_pass.specs.Findings.{Finds}
+use Rattle.text_pass.specs.declared.findings.FindingSpan.{FindingSpan}
 use Rattle.formatter.specs.Findings.{findings}
 use Rattle.base.specs.Refusals.{After, kept, orElse}
 use Rattle.formatter.specs.Intake.{intakeRefusal}

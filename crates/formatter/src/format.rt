@@ -1,5 +1,5 @@
 // Formatting a text: `format_text` of formatter.rs of the crate evfmt; document 01, "Replacement and text", "Turned back".
-// The text is gone through from change to change (crate changes) and written on the way; only for an output that may be too short it is
+// The text is gone through from change to change (crate text_pass) and written on the way; only for an output that may be too short it is
 // measured before. `format_text` equals `format` of specs/Format.antt.
 ghost use mathlib.Core.Path.{_≡_};
 ghost use mathlib.Core.Bool.{true, false};
@@ -11,15 +11,15 @@ ghost use Rattle.base.specs.Refusals.{textLimit};
 ghost use Rattle.utf8.specs.Rfc3629.{validUpTo};
 ghost use Rattle.unicode.specs.declared.presentation.FromSelector.the-variants.{Selector};
 ghost use Rattle.policy.specs.PolicyBytes.{isPolicy, policyOf};
-ghost use Rattle.changes.specs.Changes.{NextChange, formattedFrom, selectorBytes};
+ghost use Rattle.text_pass.specs.Changes.{NextChange, formattedFrom, selectorBytes};
 ghost use Rattle.formatter.specs.Format.{format};
 use crate::FormatAnswer;
 use base::Refusal;
 use base::TEXT_LIMIT;
-use changes::Change;
-use changes::next_change;
 use policy::policy_bytes::is_policy;
 use scanner::selectors::SELECTOR_BYTES;
+use text_pass::Change;
+use text_pass::next_change;
 use unicode::presentation::FromSelector;
 use unicode::presentation::Presentation;
 

@@ -1,5 +1,5 @@
 // Listing the findings of a text into a table lent by the caller (document 01, "Counts and finding", "Turned back"). A row is ten
-// numbers of 8 bytes, lowest first: start, end and the eight counts. The text is gone through from finding to finding (crate changes): once
+// numbers of 8 bytes, lowest first: start, end and the eight counts. The text is gone through from finding to finding (crate text_pass): once
 // to count them, and once more to write them where there are some and all fit.
 // `list_findings` equals `listBytes` of specs/List.antt.
 ghost use mathlib.Core.Path.{_≡_};
@@ -18,9 +18,9 @@ use analysis::types::Finding;
 use base::Refusal;
 use base::TEXT_LIMIT;
 use base::WORD_BYTES;
-use changes::findings::FindingSpan;
-use changes::findings::next_finding;
 use policy::policy_bytes::is_policy;
+use text_pass::findings::FindingSpan;
+use text_pass::findings::next_finding;
 
 // The numbers of a row, and its bytes.
 pub const ROW_NUMBERS: usize = 10;

@@ -19,11 +19,11 @@ use analysis::types::MendAnswer;
 use base::Check;
 use base::Refusal;
 use base::TEXT_LIMIT;
-use changes::findings::FindingSpan;
-use changes::findings::next_finding;
 use policy::Policy;
 use policy::ReadPolicy;
 use policy::policy_bytes::is_policy;
+use text_pass::findings::FindingSpan;
+use text_pass::findings::next_finding;
 
 // The finding of a text that starts at an offset; an item may start before it and reach over it. Up to where the search ends the text is
 // well-formed.

@@ -4,7 +4,7 @@ use native.Mathlib.Omega.{arith}
 use borrow.Author.Needs.{needs}
 use Rattle.base.proofs.Writer.{begin, put-as, put-then}
 use Rattle.policy.specs.PolicyBytes.{policyOf}
-use Rattle.changes.specs.Changes.{formattedFrom}
+use Rattle.text_pass.specs.Changes.{formattedFrom}
 use Rattle.formatter.specs.Theorems.{IntakeComesFirst}
 use Rattle.formatter.proofs.ByCells.{format-written}
 use Rattle.formatter.proofs.Outcomes.{all-well-formed, comes-first, not-well-formed}

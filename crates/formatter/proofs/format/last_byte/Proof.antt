@@ -3,7 +3,7 @@ use mathlib.Core.Path.{ap, _∙_}
 use Rattle.formatter.proofs.Surveying.{emoji-bytes, text-bytes}
 use Rattle.unicode.specs.declared.presentation.FromSelector.the-variants.{Selector}
 use Rattle.unicode.specs.declared.presentation.Presentation.{Presentation}
-use Rattle.changes.specs.Changes.{selectorBytes}
+use Rattle.text_pass.specs.Changes.{selectorBytes}
 use borrow.Author.Needs.{needs}
 use Rattle.formatter.proofs.format.last_byte.Statement.{statement}
 use Rattle.formatter.proofs.format.last_byte.Tie as tie

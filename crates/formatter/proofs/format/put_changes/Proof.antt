@@ -7,7 +7,7 @@ use borrow.Author.Needs.{needs}
 use borrow.Author.Tests.{not-false, not-true}
 use Rattle.base.proofs.Writer.{Writing, begin, finish}
 use Rattle.policy.specs.PolicyBytes.{policyOf}
-use Rattle.changes.specs.Changes.{NextChange, formattedFrom}
+use Rattle.text_pass.specs.Changes.{NextChange, formattedFrom}
 use Rattle.formatter.proofs.Surveying.{change-put, change-room, none-left, passed, passed-less}
 use Rattle.formatter.proofs.format.put_changes.Statement.{statement}
 use Rattle.formatter.proofs.format.put_changes.Tie as tie

@@ -4,7 +4,7 @@ use Prim.Native.Nat.{_+_}
 use native.Mathlib.Omega.{arith}
 use lib.ListN.{length, length-set, set}
 use lib.Seq.{sets}
-use Rattle.changes.specs.Changes.{selectorBytes}
+use Rattle.text_pass.specs.Changes.{selectorBytes}
 use Rattle.formatter.proofs.Surveying.{no-bytes, selector-put, three-bytes}
 use borrow.Author.Needs.{needs}
 use Rattle.formatter.proofs.format.put_selector.Statement.{statement}

@@ -6,7 +6,7 @@ use borrow.Author.Needs.{needs}
 use borrow.Author.Tests.{not-false, not-true}
 use lib.ListN.{length}
 use Rattle.policy.specs.PolicyBytes.{policyOf}
-use Rattle.changes.specs.Changes.{NextChange}
+use Rattle.text_pass.specs.Changes.{NextChange}
 use Rattle.formatter.proofs.Surveying.{Surveying, passed, passed-less, survey-begin, survey-fits, survey-length, survey-on, survey-valid}
 use Rattle.formatter.proofs.format.survey_text.Statement.{statement}
 use Rattle.formatter.proofs.format.survey_text.Tie as tie

@@ -10,7 +10,7 @@ use Rattle.base.proofs.Writer.{Writing, begin, finish, put, room}
 use Rattle.policy.specs.PolicyBytes.{bytesOf, policyOf}
 use Rattle.scanner.specs.Spans.{Found}
 use Rattle.analysis.specs.declared.types.Finding.{Finding}
-use Rattle.changes.proofs.Passing.{over-none}
+use Rattle.text_pass.proofs.Passing.{over-none}
 use Rattle.formatter.specs.Findings.{findingRow}
 use Rattle.formatter.specs.List.{rowNumbers, rowsBytes}
 use Rattle.formatter.proofs.NextFindings.{finds-row, next-ahead, next-row, none-found}

@@ -8,7 +8,7 @@ use borrow.Author.Tests.{not-false, not-true}
 use lib.ListN.{drop}
 use Rattle.utf8.specs.Rfc3629.{validUpTo}
 use Rattle.policy.specs.PolicyBytes.{policyOf}
-use Rattle.changes.proofs.Passing.{finds-room, finds-some, item-valid}
+use Rattle.text_pass.proofs.Passing.{finds-room, finds-some, item-valid}
 use Rattle.formatter.proofs.Starting.{next-valid, none-before, none-further}
 use Rattle.formatter.proofs.mend.finding_starting.Statement.{statement}
 use Rattle.formatter.proofs.mend.finding_starting.Tie as tie

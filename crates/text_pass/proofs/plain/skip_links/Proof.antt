@@ -1,0 +1,47 @@
+-- `text_pass::plain::skip_links` meets its contract. The loop's invariant: up to `at` all bytes stay. The measure is the number of bytes
+-- left.
+use Prim.Native.Nat.{_-_}
+use native.Mathlib.Omega.{arith}
+use borrow.Author.Needs.{needs}
+use lib.ListN.{length}
+use Rattle.policy.specs.declared.Policy.{Policy}
+use Rattle.text_pass.specs.Changes.{Stays}
+use Rattle.text_pass.proofs.PlainText.{link-at, stays-at}
+use Rattle.text_pass.proofs.Staying.{stays-here, stays-on}
+use Rattle.text_pass.proofs.plain.skip_links.Statement.{statement}
+use Rattle.text_pass.proofs.plain.skip_links.Tie as tie
+
+abbrev Inv-loop : tie.InvT-loop
+Inv-loop text from at₀ at = (p : Policy) → Stays p text from at
+
+abbrev μ-loop : tie.MeasureT-loop
+μ-loop text from at₀ at = length text - at
+
+add-at : tie.Need-add-at Inv-loop μ-loop
+add-at c =
+    let x = c .before .before .before .before .args in
+    let l = c .before .before .loop in
+    let h = link-at (x .text .now) (l .at) (c .before .decode .result) (c .before .decode .ensures) (c .if1 .taken) in
+    omega (arith, h .read .room, c .before .before .before .before .good .0 .0)
+
+loop-less : tie.Need-loop-less Inv-loop μ-loop
+loop-less c =
+    let x = c .before .before .before .before .args in
+    let l = c .before .before .loop in
+    let h = link-at (x .text .now) (l .at) (c .before .decode .result) (c .before .decode .ensures) (c .if1 .taken) in
+    omega (arith, h .read .room)
+
+loop-again : tie.Need-loop-again Inv-loop μ-loop
+loop-again c =
+    let x = c .before .before .before .before .args in
+    let l = c .before .before .loop in
+    let h = link-at (x .text .now) (l .at) (c .before .decode .result) (c .before .decode .ensures) (c .if1 .taken) in
+    λ p. stays-on (l .inv p) (stays-at p h)
+
+returns : tie.Need-returns Inv-loop μ-loop
+returns c = c .before .before .loop .inv
+
+pub skip-links-spec : {M : Type 1} → statement M
+skip-links-spec =
+    tie.close
+    (tie.spec Inv-loop μ-loop (λ c p. stays-here _) (λ c κs. search needs) add-at loop-less loop-again returns)

@@ -1,0 +1,296 @@
+// The next finding of a text from an offset on: the items are gone through cell by cell, each character is read once, and of each cell
+// it is asked whether something is counted of it, and what only of a finding that is looked for (document 01, "Item", "Counts and
+// finding"; analysis.rs of the crate evfmt counts every item instead). `next_finding` meets `NextFinding` of specs/Findings.antt for every text, policy, limit and offset.
+ghost use mathlib.Core.Path.{_≡_};
+ghost use mathlib.Core.Bool.{true, _&&_, cond, not};
+ghost use mathlib.Core.List.{List};
+ghost use Prim.Native.Nat.{_*_, _/_, _≤_};
+ghost use lib.Dec.{eqb, leb};
+ghost use lib.ListN.{drop, length};
+ghost use Rattle.utf8.specs.Rfc3629.{readChar};
+ghost use Rattle.utf8.specs.declared.ReadChar.the-variants.{Char};
+ghost use Rattle.unicode.specs.Unicode.{variationSequenceIndex};
+ghost use Rattle.unicode.specs.declared.presentation.Presentation.{Presentation as PresentationValue};
+ghost use Rattle.policy.specs.PolicyBytes.{policyOf};
+ghost use Rattle.policy.specs.declared.Policy.{Policy};
+ghost use Rattle.scanner.specs.Classes.{classOf};
+ghost use Rattle.scanner.specs.Items.{begin, kindOf};
+ghost use Rattle.scanner.specs.Theorems.{Structured};
+ghost use Rattle.analysis.specs.Counts.{cappedSum, total};
+ghost use Rattle.analysis.specs.Rules.{firstAsked, outcome, runWith};
+ghost use Rattle.text_pass.specs.Changes.{AsciiBare};
+ghost use Rattle.text_pass.specs.Findings.{NextFinding, ReadsCell, Skips, WalkedFrom};
+use crate::base_selectors::is_change;
+use crate::base_selectors::kept_number;
+use crate::base_selectors::number_of;
+use crate::base_selectors::selectors_behind;
+use crate::plain::skip_ascii;
+use crate::plain::skip_letters;
+use analysis::singleton::analyze_by_policy_bytes;
+use analysis::types::NonCanonicality;
+use scanner::char_class::Class;
+use scanner::char_class::Classified;
+use scanner::char_class::classify;
+use scanner::place::Next;
+use scanner::place::Place;
+use scanner::selectors::SELECTOR_BYTES;
+use scanner::selectors::selector_at;
+use scanner::selectors::selectors_end;
+use unicode::VariationSequenceIndex;
+use unicode::presentation::FromSelector;
+
+// The next finding, if there is one more: its bytes, from start up to end, and the eight counts; else both are the end of the well-formed
+// text, and there is no count. So many findings were passed before it.
+pub struct FindingSpan {
+    pub start: usize,
+    pub end: usize,
+    pub counts: NonCanonicality,
+    pub more: bool,
+    pub passed: usize,
+}
+
+// A cell behind its character: where its selectors end, the first of them, whether something is counted of it, and what stands behind
+// it: a character's packed number, or 0, its class and its place among the variation entries.
+struct CellEnd {
+    end: usize,
+    first: FromSelector,
+    changes: bool,
+    packed: u32,
+    class: Class,
+    index: VariationSequenceIndex,
+}
+
+// Whether something is counted of a base whose selectors have so many bytes, by the class of what follows them and the first of them.
+fn cell_changes(
+    policy: &[u8],
+    base: u32,
+    index: VariationSequenceIndex,
+    next: Class,
+    first: FromSelector,
+    bytes: usize,
+) -> bool
+    requires { ⌜ variationSequenceIndex base ≡ index ⌝ }
+    ensures { λ r. ⌜ ((s : List PresentationValue) → first ≡ firstAsked s → bytes ≡ 3 * length s → r ≡ not (eqb (total (outcome (policyOf (now (policy .entry))) base next s .counts)) 0)) ⌝ }
+{
+    match index {
+        VariationSequenceIndex::At(i) => {
+            let number = number_of(first);
+            is_change(number, bytes, kept_number(policy, base, i, next, number))
+        }
+        VariationSequenceIndex::NoEntry => bytes != 0,
+    }
+}
+
+// Reads the cell whose character is the base and whose selectors begin at the offset, and what stands behind it.
+fn read_cell(
+    text: &[u8],
+    policy: &[u8],
+    base: u32,
+    index: VariationSequenceIndex,
+    at: usize,
+) -> CellEnd
+    requires { ⌜ variationSequenceIndex base ≡ index ⌝ }
+    ensures { λ r. ⌜ ReadsCell (policyOf (now (policy .entry))) (now (text .entry)) base at r ⌝ }
+{
+    let first = selector_at(text, at);
+    let end = selectors_behind(text, at, first);
+    let packed = utf8::decode(text, end);
+    let Classified { class, index: next } = classify(packed / 8);
+    let changes = cell_changes(policy, base, index, class, first, end - at);
+    CellEnd {
+        end,
+        first,
+        changes,
+        packed,
+        class,
+        index: next,
+    }
+}
+
+// Whether it is asked what is counted: something is, and the item does not start before the limit.
+fn is_wanted(changes: bool, before: usize, start: usize) -> bool
+    ensures { λ r. ⌜ r ≡ changes && leb before start ⌝ }
+{
+    if !changes {
+        return false;
+    }
+    before <= start
+}
+
+// The counts with those of a cell, where they are wanted; its selectors have so many bytes.
+fn add_cell(
+    counts: NonCanonicality,
+    wanted: bool,
+    policy: &[u8],
+    base: u32,
+    next: Class,
+    first: FromSelector,
+    bytes: usize,
+) -> NonCanonicality
+    ensures { λ r. ⌜ r ≡ cond wanted (cappedSum counts (outcome (policyOf (now (policy .entry))) base next (runWith first (bytes / 3)) .counts)) counts ⌝ }
+{
+    if !wanted {
+        return counts;
+    }
+    let outcome = analyze_by_policy_bytes(policy, base, next, first, bytes / SELECTOR_BYTES);
+    counts.add(outcome.counts)
+}
+
+// How many findings an item is.
+fn findings_of(changed: bool) -> usize
+    ensures { λ r. ⌜ (r ≡ cond changed 1 0) × (r ≤ 1) ⌝ }
+{
+    if changed {
+        return 1;
+    }
+    0
+}
+
+// From an item of links or units on, whose first character is known, past items that are no findings or start before the limit: up to a
+// finding, or to the end of the last item before plain text.
+fn walk_items(
+    text: &[u8],
+    policy: &[u8],
+    before: usize,
+    from: usize,
+    ch: u32,
+    width: usize,
+    first_index: VariationSequenceIndex,
+    first: Place,
+) -> FindingSpan
+    requires { ⌜ (readChar (drop from (now text)) ≡ Char ch width) × (variationSequenceIndex ch ≡ «first_index») × (first ≡ begin (classOf ch)) × Structured (kindOf first) ⌝ }
+    ensures { λ r. ⌜ WalkedFrom (policyOf (now (policy .entry))) (now (text .entry)) before from r ⌝ }
+{
+    let mut start = from;
+    let mut base = ch;
+    let mut index = first_index;
+    let mut at = from + width;
+    let mut place = first;
+    let mut changed = false;
+    let mut passed = 0;
+    let mut counts = NonCanonicality::empty();
+    loop {
+        let cell = read_cell(text, policy, base, index, at);
+        let end = cell.end;
+        let class = cell.class;
+        let selector = cell.first;
+        let wanted = is_wanted(cell.changes, before, start);
+        counts = add_cell(counts, wanted, policy, base, class, selector, end - at);
+        if cell.changes {
+            changed = true;
+        }
+        match scanner::place::step(place, class) {
+            Next::On(next) => {
+                place = next;
+            }
+            Next::Stop => {
+                if is_wanted(changed, before, start) {
+                    return FindingSpan {
+                        start,
+                        end,
+                        counts,
+                        more: true,
+                        passed,
+                    };
+                }
+                passed += findings_of(changed);
+                place = scanner::place::begin(class);
+                if let Place::Plain = place {
+                    return FindingSpan {
+                        start: end,
+                        end,
+                        counts,
+                        more: false,
+                        passed,
+                    };
+                }
+                start = end;
+                changed = false;
+            }
+        }
+        base = cell.packed / 8;
+        index = cell.index;
+        at = end + (cell.packed % 8) as usize;
+    }
+}
+
+// Past ASCII where a character of it stands and the policy keeps the ASCII bases bare.
+fn skip_bare_ascii(text: &[u8], bare: bool, from: usize) -> usize
+    ensures { λ r. ⌜ ((p : Policy) → (bare ≡ true → AsciiBare p) → Skips p (now (text .entry)) from r) ⌝ }
+{
+    if !bare {
+        return from;
+    }
+    if text.len() <= from {
+        return from;
+    }
+    if 0x7F < text[from] {
+        return from;
+    }
+    skip_ascii(text, from)
+}
+
+// The next finding of a text from an offset on that does not start before a limit; those that do are passed and counted.
+pub fn next_finding(text: &[u8], policy: &[u8], before: usize, from: usize) -> FindingSpan
+    ensures { λ r. ⌜ NextFinding (policyOf (now (policy .entry))) (now (text .entry)) before from r ⌝ }
+{
+    let bare = policy::policy_bytes::ascii_keys_bare(policy);
+    let mut at = from;
+    let mut passed = 0;
+    loop {
+        at = skip_bare_ascii(text, bare, at);
+        let packed = utf8::decode(text, at);
+        if packed == 0 {
+            return FindingSpan {
+                start: at,
+                end: at,
+                counts: NonCanonicality::empty(),
+                more: false,
+                passed,
+            };
+        }
+        let ch = packed / 8;
+        let width = (packed % 8) as usize;
+        let Classified { class, index } = classify(ch);
+        let place = scanner::place::begin(class);
+        match place {
+            Place::Plain => {
+                at = skip_letters(text, at + width);
+            }
+            Place::Selectors => {
+                let end = selectors_end(text, at);
+                if before <= at {
+                    return FindingSpan {
+                        start: at,
+                        end,
+                        counts: NonCanonicality::unsanctioned((end - at) / SELECTOR_BYTES),
+                        more: true,
+                        passed,
+                    };
+                }
+                passed += 1;
+                at = end;
+            }
+            _ => {
+                let FindingSpan {
+                    start,
+                    end,
+                    counts,
+                    more,
+                    passed: walked,
+                } = walk_items(text, policy, before, at, ch, width, index, place);
+                passed += walked;
+                if more {
+                    return FindingSpan {
+                        start,
+                        end,
+                        counts,
+                        more,
+                        passed,
+                    };
+                }
+                at = start;
+            }
+        }
+    }
+}

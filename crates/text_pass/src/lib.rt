@@ -1,0 +1,84 @@
+// Where formatting changes a text: the next change from an offset on. Formatting asks for one change after the other and copies what
+// lies between them (document 01, "Replacement and text"; formatter.rs of the crate evfmt builds each item instead). `next_change`
+// meets `NextChange` of specs/Changes.antt for every text, policy and offset.
+mod base_selectors;
+pub mod findings;
+mod plain;
+
+ghost use mathlib.Core.Path.{_≡_};
+ghost use lib.ListN.{drop};
+ghost use Rattle.utf8.specs.Rfc3629.{readChar};
+ghost use Rattle.utf8.specs.declared.ReadChar.the-variants.{Char};
+ghost use Rattle.policy.specs.PolicyBytes.{policyOf};
+ghost use Rattle.text_pass.specs.Changes.{ChangeAt, NextChange};
+use base_selectors::base_change;
+use plain::skip_alike;
+use plain::skip_plain;
+use scanner::selectors::selectors_end;
+use unicode::VariationSequenceIndex;
+use unicode::presentation::FromSelector;
+use unicode::presentation::Presentation;
+
+// Up to `kept` all bytes stay. There the selector, if it is one, takes the place of the bytes up to `end`. Without a change more, both
+// are the end of the well-formed text.
+pub struct Change {
+    pub kept: usize,
+    pub selector: FromSelector,
+    pub end: usize,
+    pub more: bool,
+}
+
+// What becomes of the character at an offset, of so many bytes, and of the selectors behind it: a selector goes with all behind it, a
+// base with a variation entry takes the selectors behind it with it, any other character stays, and more links or tags behind it.
+fn change_at(text: &[u8], policy: &[u8], at: usize, ch: u32, width: usize) -> Change
+    requires { ⌜ readChar (drop at (now text)) ≡ Char ch width ⌝ }
+    ensures { λ r. ⌜ ChangeAt (policyOf (now (policy .entry))) (now (text .entry)) at r ⌝ }
+{
+    let next = at + width;
+    match unicode::variation_sequence_index(ch) {
+        VariationSequenceIndex::At(index) => base_change(text, policy, ch, index, next),
+        VariationSequenceIndex::NoEntry => match Presentation::from_selector(ch) {
+            FromSelector::Selector(_) => Change {
+                kept: at,
+                selector: FromSelector::NoSelector,
+                end: selectors_end(text, next),
+                more: true,
+            },
+            FromSelector::NoSelector => {
+                let end = skip_alike(text, next, ch);
+                Change {
+                    kept: end,
+                    selector: FromSelector::NoSelector,
+                    end,
+                    more: false,
+                }
+            }
+        },
+    }
+}
+
+// The next change of a text from an offset on.
+pub fn next_change(text: &[u8], policy: &[u8], from: usize) -> Change
+    ensures { λ r. ⌜ NextChange (policyOf (now (policy .entry))) (now (text .entry)) from r ⌝ }
+{
+    let bare = policy::policy_bytes::ascii_keys_bare(policy);
+    let mut at = from;
+    loop {
+        at = skip_plain(text, bare, at);
+        let packed = utf8::decode(text, at);
+        if packed == 0 {
+            return Change {
+                kept: at,
+                selector: FromSelector::NoSelector,
+                end: at,
+                more: false,
+            };
+        }
+        let width = (packed % 8) as usize;
+        let change = change_at(text, policy, at, packed / 8, width);
+        if change.more {
+            return change;
+        }
+        at = change.end;
+    }
+}
