@@ -9,6 +9,7 @@ pub mod Cells
 pub mod Replacement
 pub mod Items
 pub mod Lengths
+pub mod CellsOfItems
 pub mod CellsAt
 pub mod Measuring
 pub mod Choices

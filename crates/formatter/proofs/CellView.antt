@@ -1,4 +1,4 @@
--- The formatted text and the totals of a text are those of its cells: what holds of items in a row (crate text_pass, CellsOfItems) holds of
+-- The formatted text and the totals of a text are those of its cells: what holds of items in a row (crate analysis, CellsOfItems) holds of
 -- a text's items.
 use mathlib.Core.Path.{_≡_, refl, ap, sym, _∙_}
 use mathlib.Core.Bool.{Bool, true, false, cond}
@@ -23,7 +23,7 @@ use Rattle.analysis.specs.Findings.{totals}
 use Rattle.formatter.specs.Findings.{findings, textTotals}
 use Rattle.formatter.specs.Format.{formatItems, formatted}
 use Rattle.formatter.proofs.Marks.{foundTotals}
-use Rattle.text_pass.proofs.CellsOfItems.{by-cells, cellSum, cellText, render-outs, replaceAll, total-cells}
+use Rattle.analysis.proofs.CellsOfItems.{by-cells, cellSum, cellText, render-outs, replaceAll, total-cells}
 
 module _ (p : Policy) where
   -- ---- of a text

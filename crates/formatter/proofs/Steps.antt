@@ -19,7 +19,7 @@ use Rattle.analysis.specs.declared.ItemAnalysis.the-variants.{Canonical, End, N
 use Rattle.analysis.specs.declared.types.Finding.{Finding}
 use Rattle.analysis.specs.Findings.{findingsFrom}
 use Rattle.formatter.specs.Findings.{findingRow}
-use Rattle.text_pass.proofs.Passing.{ItemAt, item-at}
+use Rattle.scanner.proofs.ItemAt.{ItemAt, item-at}
 
 -- ---- the item at an offset
 

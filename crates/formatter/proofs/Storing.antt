@@ -31,7 +31,7 @@ use Rattle.formatter.specs.Table.{firstFinding, firstOr, listingPlan, no
 use Rattle.formatter.specs.declared.ListAnswer.{ListAnswer}
 use Rattle.formatter.specs.declared.ListAnswer.the-variants.{Listed, Refused}
 use Rattle.formatter.specs.declared.table.ListingPlan.{ListingPlan}
-use Rattle.text_pass.proofs.Passing.{item-at}
+use Rattle.scanner.proofs.ItemAt.{item-at}
 use Rattle.formatter.proofs.Steps.{Says, analysis-says, rowsFrom}
 
 -- ---- the first finding from an offset on

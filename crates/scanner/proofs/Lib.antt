@@ -10,6 +10,7 @@ pub mod WalksDerive
 pub mod Reading
 pub mod Rescan
 pub mod Bytes
+pub mod ItemAt
 pub mod Spans
 pub mod Runs
 pub mod Modifications

@@ -1,5 +1,4 @@
 -- Laws of the pass over a text, in the order in which each needs the others.
-pub mod CellsOfItems
 pub mod RuleClasses
 pub mod Staying
 pub mod PlainText

@@ -1,14 +1,13 @@
 -- Where no finding begins, where one does, and how many are passed: by the items from an offset on and the totals before and behind an item.
 use mathlib.Core.Path.{_≡_, refl, ap, sym, _∙_, subst}
 use mathlib.Core.Bool.{Bool, true, false, cond, not}
-use mathlib.Core.List.{List, _∷_, _++_}
+use mathlib.Core.List.{List, _∷_}
 use Prim.Native.Nat.{ℕ, suc, _+_, _-_, _≤_, _<_}
 use native.Mathlib.Omega.{arith}
-use lib.ListN.{drop, length, length-drop}
+use lib.ListN.{drop, length}
 use borrow.Author.Tests.{eq-eqb, ne-eqb}
 use Rattle.utf8.specs.Rfc3629.{chars, validUpTo}
 use Rattle.utf8.proofs.Places.{Step}
-use Rattle.utf8.proofs.Texts.{validUpTo-le}
 use Rattle.policy.specs.PolicyBytes.{asciiKeysBare, policyOf}
 use Rattle.policy.specs.declared.Policy.{Policy}
 use Rattle.policy.proofs.ByEntry.{ascii-rule-bare}
@@ -18,9 +17,9 @@ use Rattle.scanner.specs.Spans.{Found, found, size, width}
 use Rattle.scanner.specs.declared.char_class.Class.the-variants.{Other as other}
 use Rattle.scanner.specs.declared.place.Place.{Place}
 use Rattle.scanner.specs.declared.place.Place.the-variants.{Plain as plain}
-use Rattle.scanner.proofs.Bytes.{chars-from, size-chars, width-some}
+use Rattle.scanner.proofs.Bytes.{size-chars}
 use Rattle.scanner.proofs.Rescan.{found-items, found-none, found-skip, size-append}
-use Rattle.scanner.proofs.Tiling.{Filled, and-item, filled, items-tail, tiling}
+use Rattle.scanner.proofs.ItemAt.{ItemAt, item-at}
 use Rattle.analysis.specs.Analysis.{isFinding, nonCanonicality}
 use Rattle.analysis.specs.CellView.{totalCells}
 use Rattle.analysis.specs.Counts.{_⊕_, total}
@@ -30,35 +29,9 @@ use Rattle.analysis.proofs.Counts.{plus-cancel}
 use Rattle.analysis.proofs.Items.{passthrough-no-finding}
 use Rattle.text_pass.specs.Changes.{AsciiBare, totalFrom}
 use Rattle.text_pass.specs.Findings.{Counted, Finds, Left, Passes, PassesOver, Skips, all-left, one-less}
-use Rattle.text_pass.proofs.CellsOfItems.{total-first}
+use Rattle.analysis.proofs.CellsOfItems.{total-first}
 use Rattle.text_pass.proofs.PlainText.{other-plain, stays-plain}
 use Rattle.text_pass.proofs.Staying.{stays-here, stays-on}
-
--- ---- the item at an offset, up to its end, and the items behind it
-
-pub record ItemAt (text : List ℕ) (at : ℕ) (x : Item) (xs : List Item) : Type 0 where
-  pub some : at < at + size width (x .chars)
-  pub room : at + size width (x .chars) ≤ length text
-  pub bytes : chars (drop at text) ≡ x .chars ++ join xs
-  pub text-behind : chars (drop (at + size width (x .chars)) text) ≡ join xs
-  pub behind : items (chars (drop (at + size width (x .chars)) text)) ≡ xs
-
-pub filled-some : {x : Item} {xs : List Item} → Filled (x ∷ xs) → 1 ≤ size width (x .chars)
-filled-some (and-item c s l h) = let k = width-some c in omega (arith, ap (size width) l)
-
-pub item-at : (text : List ℕ) (at : ℕ) {x : Item} {xs : List Item} → items (chars (drop at text)) ≡ x ∷ xs → ItemAt text at x xs
-item-at text at {x} {xs} e =
-    let t = chars (drop at text) in
-    let c : t ≡ x .chars ++ join xs = sym (tiling t) ∙ ap join e in
-    let s = filled-some (subst (λ (l : List Item). Filled l) e (filled t)) in
-    let b = chars-from text at (x .chars) (join xs) c in
-    record {
-      some = omega arith;
-      room = omega (arith, size-chars (drop at text), validUpTo-le (drop at text), length-drop at text, ap (size width) c, size-append width (x .chars) (join xs));
-      bytes = c;
-      text-behind = b;
-      behind = ap items b ∙ items-tail t x xs e;
-    }
 
 -- ---- stretches without a finding
 
