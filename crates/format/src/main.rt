@@ -6,7 +6,7 @@ ghost use Rattle.format.specs.Answers.{Answers};
 use base::Refusal;
 use formatter::FormatAnswer;
 use formatter::filed::filed_text;
-use formatter::format::format_text;
+use formatting::format_text;
 use message_io::Ending;
 use message_io::MESSAGE_LIMIT;
 use message_io::MESSAGE_ROOM;

@@ -19,13 +19,6 @@ pub mod FirstBook
 pub mod ListClaim
 pub mod FormattedClaim
 pub mod Passing
-pub mod Surveying
-pub mod ByCells
 pub mod Steps
-pub mod NextFindings
 pub mod RowBytes
-pub mod Storing
-pub mod Starting
-pub mod Around
-pub mod Exchanging
 pub mod Claims

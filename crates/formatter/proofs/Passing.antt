@@ -3,10 +3,11 @@ use mathlib.Core.Path.{_≡_, refl, ap, sym, _∙_}
 use mathlib.Core.Bool.{Bool, true, false, cond, not}
 use mathlib.Core.List.{List}
 use mathlib.Core.Option.{Option, none, some}
-use Prim.Native.Nat.{ℕ, _<_, _≤_}
+use Prim.Native.Nat.{ℕ, _-_, _<_, _≤_}
 use native.Mathlib.Omega.{arith}
 use lib.Dec.{eqb, leb}
-use lib.ListN.{length}
+use lib.ListN.{drop, length, length-drop, take}
+use lib.Seq.{take-all}
 use borrow.Author.Tests.{eqb-true, le-leb, leb-true, lt-leb}
 use Rattle.base.specs.Refusals.{checked, textLimit}
 use Rattle.base.specs.declared.Check.the-variants.{Passed, Refused}
@@ -38,6 +39,12 @@ too-long text policy h = intake-is text policy (lt-leb (length text) textLimit h
 
 pub no-policy : (text policy : List ℕ) → length text ≤ textLimit → isPolicy policy ≡ false → intakeRefusal text policy ≡ some NotAPolicy
 no-policy text policy h p = intake-is text policy (le-leb (length text) textLimit h) p refl
+
+-- ---- the well-formed bytes
+
+-- The bytes from an offset on, as a part of the text.
+pub rest-valid : (text : List ℕ) (at : ℕ) {n : ℕ} → n ≡ validUpTo (take (length text - at) (drop at text)) → n ≡ validUpTo (drop at text)
+rest-valid text at e = e ∙ ap validUpTo (take-all (length text - at) (drop at text) (omega (arith, length-drop at text)))
 
 -- ---- the answer
 

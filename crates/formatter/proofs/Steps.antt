@@ -79,6 +79,11 @@ module _ (p : Policy) (text : List ℕ) (at : ℕ) where
   unfolding analysisAt
   analysis-says e = subst Says (sym e) (says-of (items (chars (drop at text))) refl)
 
+-- Where no character begins there is no finding.
+pub none-found : (p : Policy) (text : List ℕ) (start : ℕ) → chars (drop start text) ≡ [] → findingsFrom p text start ≡ []
+unfolding items found
+none-found p text start e = ap (λ (t : List ℕ). found (isFinding p) width start (items t)) e
+
 -- ---- the items from an offset on
 
 module _ (text : List ℕ) (at : ℕ) where

@@ -3,7 +3,6 @@ pub mod Intake
 pub mod Findings
 pub mod Format
 pub mod List
-pub mod Table
 pub mod Mend
 pub mod Filed
 pub mod Book

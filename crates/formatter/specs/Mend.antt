@@ -1,9 +1,8 @@
 -- Mending: the whole outcome of the call, `mend`, and a list of such calls, each reading what the last accepted one wrote (document 01, "Replacement and text", "Mending in sequence").
-use mathlib.Core.Path.{_≡_}
-use mathlib.Core.Bool.{true, false, cond}
+use mathlib.Core.Bool.{cond}
 use mathlib.Core.List.{List, [], _∷_, _++_, map}
 use mathlib.Core.Option.{Option, none, some}
-use Prim.Native.Nat.{ℕ, _+_, _-_}
+use Prim.Native.Nat.{ℕ, _+_}
 use lib.Dec.{eqb}
 use lib.ListN.{drop, length, take}
 use Rattle.utf8.specs.Rfc3629.{chars, encodeAll}
@@ -12,12 +11,8 @@ use Rattle.policy.specs.declared.Policy.{Policy}
 use Rattle.policy.specs.PolicyBytes.{policyOf}
 use Rattle.scanner.specs.Items.{Item}
 use Rattle.scanner.specs.Spans.{Found}
-use Rattle.analysis.specs.Analysis.{render, replacement}
-use Rattle.analysis.specs.Cells.{cells}
+use Rattle.analysis.specs.Analysis.{replacement}
 use Rattle.analysis.specs.Decisions.{judge, meaning}
-use Rattle.analysis.specs.Findings.{findingsFrom}
-use Rattle.text_pass.specs.Findings.{Finds}
-use Rattle.text_pass.specs.declared.findings.FindingSpan.{FindingSpan}
 use Rattle.formatter.specs.Findings.{findings}
 use Rattle.base.specs.Refusals.{After, kept, orElse}
 use Rattle.formatter.specs.Intake.{intakeRefusal}
@@ -45,22 +40,6 @@ mend text policy offset decisions out =
     let x = findingAt offset (findings text policy) in
     orElse (intakeRefusal text policy) (λ (r : Refusal). kept (Refused r) out)
     (judge p x decisions (exchanged text p offset (map meaning decisions) x) out)
-
--- ---- the parts of a call
-
--- The finding that starts at an offset, up to its end ..
-pub record Starts (p : Policy) (text : List ℕ) (offset end : ℕ) : Type 0 where
-  pub finds : Finds p text offset end
-  pub found : findingAt offset (findingsFrom p text 0) ≡ some (finds .item)
-
--- .. or that none does.
-abbrev pub FindingStarting : Policy → List ℕ → ℕ → FindingSpan → Type 0
-FindingStarting p text offset r =
-    (r .more ≡ true → Starts p text offset (r .end)) × (r .more ≡ false → findingAt offset (findingsFrom p text 0) ≡ none)
-
--- The cells of a text from an offset up to another, written with the selectors that the rules and the decisions give them.
-abbrev pub cellsWritten : Policy → List ℕ → ℕ → ℕ → List Presentation → List ℕ
-cellsWritten p text start end ds = encodeAll (render p (cells (chars (take (end - start) (drop start text)))) ds)
 
 -- ---- a list of calls
 

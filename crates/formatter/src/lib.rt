@@ -1,12 +1,7 @@
 // Formatting, listing and mending a text: formatter.rs of the crate evfmt; document 01, "Replacement and text", "Turned back".
 // These are the types of the calls' answers; each call's whole outcome is set out in specs/Format.antt, List.antt and Mend.antt.
 pub mod filed;
-pub mod format;
 pub mod intake;
-pub mod items;
-pub mod list;
-pub mod mend;
-pub mod table;
 
 use base::Refusal;
 

@@ -12,7 +12,7 @@ use analysis::measure::Measure;
 use analysis::measure::measure_cells;
 use analysis::types::Finding;
 use analysis::types::NonCanonicality;
-use formatter::list::row_numbers;
+use listing::row_numbers;
 use message_io::line::LINE_ROOM;
 use policy::Policy;
 

@@ -25,7 +25,7 @@ pub extern "C" fn tilghorz_format(text: &[u8], policy: &[u8], out: &mut [u8]) ->
     ensures word { λ r. ⌜ r ≡ word (formatRow (format (now (text .entry)) (now (policy .entry)) (now (out .entry)) .answer)) ⌝ }
     ensures bytes { λ _. ⌜ now (out .exit) ≡ format (now (text .entry)) (now (policy .entry)) (now (out .entry)) .buffer ⌝ }
 {
-    format_word(formatter::format::format_text(text, policy, out))
+    format_word(formatting::format_text(text, policy, out))
 }
 
 // Lists the findings of a text under a policy: ten numbers of 8 bytes each, start, end and the eight counts. Refusals 1, 2, 3 and 7.
@@ -34,7 +34,7 @@ pub extern "C" fn tilghorz_list(text: &[u8], policy: &[u8], table: &mut [u8]) ->
     ensures word { λ r. ⌜ r ≡ word (listRow (listBytes (now (text .entry)) (now (policy .entry)) (now (table .entry)) .answer)) ⌝ }
     ensures bytes { λ _. ⌜ now (table .exit) ≡ listBytes (now (text .entry)) (now (policy .entry)) (now (table .entry)) .buffer ⌝ }
 {
-    list_word(formatter::list::list_findings(text, policy, table))
+    list_word(listing::list_findings(text, policy, table))
 }
 
 // Mends the finding that starts at an offset: refusals 1, 2, 3, 4, 5, 6 and 8.
@@ -49,7 +49,7 @@ pub extern "C" fn tilghorz_mend(
     ensures word { λ r. ⌜ r ≡ word (mendRow (mend (now (text .entry)) (now (policy .entry)) offset (now (decisions .entry)) (now (out .entry)) .answer)) ⌝ }
     ensures bytes { λ _. ⌜ now (out .exit) ≡ mend (now (text .entry)) (now (policy .entry)) offset (now (decisions .entry)) (now (out .entry)) .buffer ⌝ }
 {
-    mend_word(formatter::mend::mend(text, policy, offset as usize, decisions, out))
+    mend_word(mending::mend(text, policy, offset as usize, decisions, out))
 }
 
 // Lists the items of a text: four numbers of 8 bytes each, start, end, kind and whether its tags are complete. Refusals 1, 3 and 7.
@@ -58,7 +58,7 @@ pub extern "C" fn tilghorz_scan(text: &[u8], table: &mut [u8]) -> u64
     ensures word { λ r. ⌜ r ≡ word (listRow (listItems (now (text .entry)) (now (table .entry)) .answer)) ⌝ }
     ensures bytes { λ _. ⌜ now (table .exit) ≡ listItems (now (text .entry)) (now (table .entry)) .buffer ⌝ }
 {
-    list_word(formatter::items::list_items(text, table))
+    list_word(listing::items::list_items(text, table))
 }
 
 // Writes the default policy's words: refusal 8.

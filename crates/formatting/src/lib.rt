@@ -1,0 +1,208 @@
+// Formatting a text: `format_text` of formatter.rs of the crate evfmt; document 01, "Replacement and text", "Turned back".
+// The text is gone through from change to change (crate text_pass) and written on the way; only for an output that may be too short it is
+// measured before. `format_text` equals `format` of specs/Format.antt.
+ghost use mathlib.Core.Path.{_≡_};
+ghost use mathlib.Core.Bool.{true, false};
+ghost use mathlib.Core.List.{[], _∷_, _++_};
+ghost use Prim.Native.Nat.{_+_, _*_, _-_, _≤_};
+ghost use lib.ListN.{drop, length, take};
+ghost use Rattle.base.specs.Output.{PutAt};
+ghost use Rattle.base.specs.Refusals.{textLimit};
+ghost use Rattle.utf8.specs.Rfc3629.{validUpTo};
+ghost use Rattle.unicode.specs.declared.presentation.FromSelector.the-variants.{Selector};
+ghost use Rattle.policy.specs.PolicyBytes.{isPolicy, policyOf};
+ghost use Rattle.text_pass.specs.Changes.{NextChange, formattedFrom, selectorBytes};
+ghost use Rattle.formatter.specs.Format.{format};
+use base::Refusal;
+use base::TEXT_LIMIT;
+use formatter::FormatAnswer;
+use policy::policy_bytes::is_policy;
+use scanner::selectors::SELECTOR_BYTES;
+use text_pass::Change;
+use text_pass::next_change;
+use unicode::presentation::FromSelector;
+use unicode::presentation::Presentation;
+
+// A formatted text has at most four times the bytes of the text.
+const MOST_TIMES: usize = 4;
+
+// What goes before writing into an output that may be too short: the length of the longest well-formed beginning, and its length when
+// formatted.
+struct Survey {
+    valid_up_to: usize,
+    len: usize,
+}
+
+// The bytes of a selector, if there is one.
+fn selector_len(selector: FromSelector) -> usize
+    ensures { λ r. ⌜ r ≡ length (selectorBytes selector) ⌝ }
+{
+    match selector {
+        FromSelector::NoSelector => 0,
+        FromSelector::Selector(_) => SELECTOR_BYTES,
+    }
+}
+
+// Measures a text within the limit, from its first change on.
+fn survey_text(text: &[u8], policy: &[u8], first: Change) -> Survey
+    requires { ⌜ (length (now text) ≤ textLimit) × NextChange (policyOf (now policy)) (now text) 0 first ⌝ }
+    ensures valid { λ r. ⌜ r .«valid_up_to» ≡ validUpTo (now (text .entry)) ⌝ }
+    ensures len { λ r. ⌜ r .len ≡ length (formattedFrom (policyOf (now (policy .entry))) (now (text .entry)) 0) ⌝ }
+{
+    let mut at = 0;
+    let mut len = 0;
+    let mut change = first;
+    loop {
+        let selector = change.selector;
+        len += change.kept - at + selector_len(selector);
+        at = change.end;
+        if !change.more {
+            return Survey {
+                valid_up_to: at,
+                len,
+            };
+        }
+        change = next_change(text, policy, at);
+    }
+}
+
+// Puts the bytes of a text from one offset up to another, for which there is room, and says where they end.
+fn put_part(text: &[u8], from: usize, to: usize, out: &mut [u8], at: usize) -> usize
+    requires { ⌜ (from ≤ to) × (to ≤ length (now text)) × (at + (to - from) ≤ length (now out)) ⌝ }
+    ensures { λ r. ⌜ PutAt (now (out .entry)) at (take (to - from) (drop from (now (text .entry)))) (now (out .exit)) r ⌝ }
+{
+    base::write_bytes(out, at, &text[from..to]);
+    at + (to - from)
+}
+
+// The third byte of a selector; the first two are EF B8.
+fn last_byte(presentation: Presentation) -> u8
+    ensures { λ r. ⌜ selectorBytes (Selector presentation) ≡ 0xEF ∷ 0xB8 ∷ r ∷ [] ⌝ }
+{
+    match presentation {
+        Presentation::Text => 0x8E,
+        Presentation::Emoji => 0x8F,
+    }
+}
+
+// Puts a selector, if there is one, for which there is room, and says where it ends.
+fn put_selector(out: &mut [u8], at: usize, selector: FromSelector) -> usize
+    requires { ⌜ at + length (selectorBytes selector) ≤ length (now out) ⌝ }
+    ensures { λ r. ⌜ PutAt (now (out .entry)) at (selectorBytes selector) (now (out .exit)) r ⌝ }
+{
+    match selector {
+        FromSelector::NoSelector => at,
+        FromSelector::Selector(presentation) => {
+            out[at] = 0xEF;
+            out[at + 1] = 0xB8;
+            out[at + 2] = last_byte(presentation);
+            at + SELECTOR_BYTES
+        }
+    }
+}
+
+// Puts the bytes of a text from an offset up to a change, and the selector that stands there then, for which there is room, and says
+// where they end.
+fn put_change(text: &[u8], from: usize, change: Change, out: &mut [u8], at: usize) -> usize
+    requires { ⌜ (from ≤ change .kept) × (change .kept ≤ length (now text)) × (at + (change .kept - from) + length (selectorBytes (change .selector)) ≤ length (now out)) ⌝ }
+    ensures { λ r. ⌜ PutAt (now (out .entry)) at (take (change .kept - from) (drop from (now (text .entry))) ++ selectorBytes (change .selector)) (now (out .exit)) r ⌝ }
+{
+    let selector = change.selector;
+    let end = put_part(text, from, change.kept, out, at);
+    put_selector(out, end, selector)
+}
+
+// Puts the formatted text from an offset on, for which there is room; the next change from there on is known.
+fn put_changes(
+    text: &[u8],
+    policy: &[u8],
+    from: usize,
+    next: Change,
+    out: &mut [u8],
+    start: usize,
+) -> usize
+    requires { ⌜ (from ≤ length (now text)) × NextChange (policyOf (now policy)) (now text) from next × (start + length (formattedFrom (policyOf (now policy)) (now text) from) ≤ length (now out)) ⌝ }
+    ensures { λ r. ⌜ PutAt (now (out .entry)) start (formattedFrom (policyOf (now (policy .entry))) (now (text .entry)) from) (now (out .exit)) r ⌝ }
+{
+    let mut at = from;
+    let mut to = start;
+    let mut change = next;
+    loop {
+        to = put_change(text, at, change, out, to);
+        if !change.more {
+            return to;
+        }
+        at = change.end;
+        change = next_change(text, policy, at);
+    }
+}
+
+// Formats a text that has a change, of which the first is known, into an output that may be too short: it is measured before.
+fn format_measured(text: &[u8], policy: &[u8], first: Change, out: &mut [u8]) -> FormatAnswer
+    requires { ⌜ (length (now text) ≤ textLimit) × (isPolicy (now policy) ≡ true) × NextChange (policyOf (now policy)) (now text) 0 first × (first .more ≡ true) ⌝ }
+    ensures { λ r. ⌜ record { answer = r; buffer = now (out .exit) } ≡ format (now (text .entry)) (now (policy .entry)) (now (out .entry)) ⌝ }
+{
+    let Survey { valid_up_to, len } = survey_text(text, policy, first);
+    if valid_up_to != text.len() {
+        return FormatAnswer::Refused(Refusal::NotWellFormed { valid_up_to });
+    }
+    if out.len() < len {
+        return FormatAnswer::Refused(Refusal::OutputTooShort { wanted: len });
+    }
+    put_changes(text, policy, 0, first, out, 0);
+    FormatAnswer::Changed { len }
+}
+
+// Up to where a text is well-formed, by a change that was found: without one more the search came to the end of what is.
+fn valid_behind(text: &[u8], change: Change) -> usize
+    requires { ⌜ change .end ≤ length (now text) ⌝ }
+    ensures { λ r. ⌜ (change .more ≡ true → r ≡ change .end + validUpTo (drop (change .end) (now (text .entry)))) × (change .more ≡ false → r ≡ change .end) ⌝ }
+{
+    let end = change.end;
+    if !change.more {
+        return end;
+    }
+    end + utf8::valid_up_to(&text[end..])
+}
+
+// Formats a text that has a change, of which the first is known, into an output that has room for every formatted text. The second one
+// is asked for before anything is written: most messages have none, and then it is known that the rest is well-formed.
+fn format_at_once(text: &[u8], policy: &[u8], first: Change, out: &mut [u8]) -> FormatAnswer
+    requires { ⌜ (length (now text) ≤ textLimit) × (isPolicy (now policy) ≡ true) × NextChange (policyOf (now policy)) (now text) 0 first × (first .more ≡ true) × (4 * length (now text) ≤ length (now out)) ⌝ }
+    ensures { λ r. ⌜ record { answer = r; buffer = now (out .exit) } ≡ format (now (text .entry)) (now (policy .entry)) (now (out .entry)) ⌝ }
+{
+    let end = first.end;
+    let second = next_change(text, policy, end);
+    let valid_up_to = valid_behind(text, second);
+    if valid_up_to != text.len() {
+        return FormatAnswer::Refused(Refusal::NotWellFormed { valid_up_to });
+    }
+    let to = put_change(text, 0, first, out, 0);
+    FormatAnswer::Changed {
+        len: put_changes(text, policy, end, second, out, to),
+    }
+}
+
+// Writes the formatted text at the front of the output, if it is another text and fits.
+pub fn format_text(text: &[u8], policy: &[u8], out: &mut [u8]) -> FormatAnswer
+    ensures { λ r. ⌜ record { answer = r; buffer = now (out .exit) } ≡ format (now (text .entry)) (now (policy .entry)) (now (out .entry)) ⌝ }
+{
+    if TEXT_LIMIT < text.len() {
+        return FormatAnswer::Refused(Refusal::TextTooLong);
+    }
+    if !is_policy(policy) {
+        return FormatAnswer::Refused(Refusal::NotAPolicy);
+    }
+    let first = next_change(text, policy, 0);
+    let end = first.end;
+    if !first.more {
+        if end != text.len() {
+            return FormatAnswer::Refused(Refusal::NotWellFormed { valid_up_to: end });
+        }
+        return FormatAnswer::Unchanged;
+    }
+    if out.len() / MOST_TIMES < text.len() {
+        return format_measured(text, policy, first, out);
+    }
+    format_at_once(text, policy, first, out)
+}

@@ -1,0 +1,57 @@
+-- What the next finding says of the findings from an offset on: how many there are, the first of them with its row, or that there is none.
+use mathlib.Core.Path.{_≡_, refl, ap, ap₂, sym, _∙_}
+use mathlib.Core.Bool.{Bool, true, false}
+use mathlib.Core.List.{List, [], _∷_, map}
+use Prim.Native.Nat.{ℕ}
+use native.Mathlib.Omega.{arith}
+use lib.ListN.{drop, length}
+use Rattle.utf8.specs.Rfc3629.{chars, validUpTo}
+use Rattle.policy.specs.declared.Policy.{Policy}
+use Rattle.scanner.specs.Spans.{size, width}
+use Rattle.scanner.proofs.Bytes.{size-chars}
+use Rattle.analysis.specs.Findings.{findingsFrom}
+use Rattle.formatter.specs.Findings.{findingRow}
+use Rattle.analysis.specs.declared.types.Finding.{Finding}
+use Rattle.analysis.specs.declared.types.NonCanonicality.{NonCanonicality}
+use Rattle.text_pass.specs.Findings.{Counted, Finds, NextFinding, Passes}
+use Rattle.text_pass.specs.declared.findings.FindingSpan.{FindingSpan}
+use Rattle.text_pass.proofs.Passing.{finds-here, finds-room, finds-some, left-length}
+use Rattle.formatter.proofs.Steps.{Ahead, none-found, rowsFrom}
+
+-- ---- all of them, which start before the end of the text
+
+module _ {p : Policy} {text : List ℕ} {r : FindingSpan} (n : NextFinding p text (length text) 0 r) where
+  none-more : chars (drop (r .start) text) ≡ []
+  none-more = go (r .more) refl
+    where
+      go : (b : Bool) → r .more ≡ b → chars (drop (r .start) text) ≡ []
+      go true e = let f = n .1 e in let s = finds-some (f .1 .finds) in let l = finds-room (f .1 .finds) in absurd (omega (arith, f .0))
+      go false e = n .2 e .0
+
+  pub all-counted : r .passed ≡ length (findingsFrom p text 0)
+  all-counted = omega (arith, left-length (n .0 .left), ap length (none-found p text (r .start) none-more))
+
+  pub all-valid : r .start ≡ validUpTo text
+  all-valid = omega (arith, n .0 .valid, size-chars (drop (r .start) text), ap (size width) none-more)
+
+-- ---- there is one
+
+module _ {p : Policy} {text : List ℕ} {start end : ℕ} (f : Finds p text start end) where
+  pub finds-ahead : Ahead text start end
+  finds-ahead = record { some = finds-some f; room = finds-room f }
+
+-- Its row is its start, its end and its counts.
+pub finds-row : {p : Policy} {text : List ℕ} {start end : ℕ} {n : NonCanonicality} → Counted p text start end n
+    → rowsFrom p text start ≡ record { start = start; end = end; counts = n } ∷ rowsFrom p text end
+unfolding findingRow
+finds-row {p} {text} {start} {end} f =
+    ap (map (findingRow p)) (finds-here (f .finds))
+    ∙ ap₂ (λ (k : ℕ) (m : NonCanonicality). record { start = start; end = k; counts = m } ∷ rowsFrom p text end) (sym (f .finds .end-is)) (sym (f .counts-are))
+
+module _ {p : Policy} {text : List ℕ} {from start end : ℕ} (a : Passes p text from start) (f : Finds p text start end) where
+  pub next-ahead : Ahead text from end
+  next-ahead = let h = finds-ahead f in let o = a .on in let s = h .some in record { some = omega arith; room = h .room }
+
+-- The rows from an offset on, before which there is none from another on.
+pub next-row : {p : Policy} {text : List ℕ} {from start : ℕ} {rows : List Finding} → Passes p text from start → rowsFrom p text start ≡ rows → rowsFrom p text from ≡ rows
+next-row {p} a e = ap (map (findingRow p)) (a .same) ∙ e

@@ -1,0 +1,34 @@
+-- `listing::items::kind_number` meets its contract.
+use borrow.Author.Needs.{needs}
+use Rattle.formatter.specs.List.{kindNumber}
+use Rattle.listing.proofs.items.kind_number.Statement.{statement}
+use Rattle.listing.proofs.items.kind_number.Tie as tie
+
+returns : tie.Need-returns
+unfolding kindNumber
+returns c = simp (c .enum-told .given .1)
+
+returns-2 : tie.Need-returns-2
+unfolding kindNumber
+returns-2 c = simp (c .enum-told2 .given .1)
+
+returns-3 : tie.Need-returns-3
+unfolding kindNumber
+returns-3 c = simp (c .enum-told3 .given .1)
+
+returns-4 : tie.Need-returns-4
+unfolding kindNumber
+returns-4 c = simp (c .enum-told4 .given .1)
+
+pub kind-number-spec : {M : Type 1} → statement M
+kind-number-spec =
+    tie.close
+    (tie.spec
+    (λ c. search needs)
+    (λ c. search needs)
+    (λ c. search needs)
+    (λ c. search needs)
+    returns
+    returns-2
+    returns-3
+    returns-4)

@@ -1,0 +1,97 @@
+-- `listing::put_findings` meets its contract. The loop writes the rows of the findings from its place in the text on.
+use mathlib.Core.Path.{ap, _∙_}
+use mathlib.Core.List.{List, map}
+use Prim.Native.Nat.{_-_, _≤_}
+use native.Mathlib.Omega.{arith}
+use borrow.Author.Needs.{needs}
+use borrow.Author.Tests.{not-false, not-true}
+use lib.ListN.{length}
+use Rattle.base.proofs.Writer.{Writing, begin, finish, put, room}
+use Rattle.policy.specs.PolicyBytes.{bytesOf, policyOf}
+use Rattle.scanner.specs.Spans.{Found}
+use Rattle.analysis.specs.declared.types.Finding.{Finding}
+use Rattle.text_pass.proofs.Passing.{over-none}
+use Rattle.formatter.specs.Findings.{findingRow}
+use Rattle.formatter.specs.List.{rowNumbers, rowsBytes}
+use Rattle.listing.proofs.NextFindings.{finds-row, next-ahead, next-row}
+use Rattle.formatter.proofs.RowBytes.{length-row}
+use Rattle.formatter.proofs.Steps.{none-found, rowsFrom}
+use Rattle.listing.proofs.put_findings.Statement.{statement}
+use Rattle.listing.proofs.put_findings.Tie as tie
+
+abbrev Inv-loop : tie.InvT-loop
+Inv-loop text policy table₀ at₀ to₀ table at to =
+    (at ≤ length text)
+    × Writing (rowsBytes rowNumbers (rowsFrom (policyOf policy) text 0)) 0 table₀ (rowsBytes rowNumbers (rowsFrom (policyOf policy) text at)) table to
+
+abbrev μ-loop : tie.MeasureT-loop
+μ-loop text policy table₀ at₀ to₀ table at to = length text - at
+
+loop-holds : tie.Need-loop-holds Inv-loop μ-loop
+loop-holds c =
+    let x = c .before .before .before .args in
+    (omega arith, begin (rowsBytes rowNumbers (rowsFrom (policyOf (x .policy .now)) (x .text .now) 0)) 0 (x .table .now) (omega (arith, c .before .before .before .pre)))
+
+same-length : tie.Need-same-length Inv-loop μ-loop
+same-length c = c .before .before .before .loop .inv .1 .same
+
+returns : tie.Need-returns Inv-loop μ-loop
+unfolding rowsBytes
+returns c =
+    let x = c .before .before .before .before .before .before .before .args in
+    let p = policyOf (x .policy .now) in
+    let t = x .text .now in
+    let l = c .before .before .before .loop in
+    let n = c .before .before .next-finding in
+    finish (rowsBytes rowNumbers (rowsFrom p t 0)) 0 (x .table .now) (rowsBytes rowNumbers (rowsFrom p t (l .at))) (l .inv .1)
+    (ap (λ (l : List Found). rowsBytes rowNumbers (map (findingRow p) l)) (over-none (n .ensures .0) .same ∙ none-found p t (n .result .start) (n .ensures .2 (not-true (n .result .more) (c .if1 .taken)) .0)))
+
+put-row-requires : tie.Need-put-row-requires Inv-loop μ-loop
+unfolding rowsBytes
+put-row-requires c κs =
+    let x = c .before .before .before .before .before .before .before .before .args in
+    let p = policyOf (x .policy .now) in
+    let t = x .text .now in
+    let l = c .before .before .before .before .loop in
+    let n = c .before .before .before .next-finding in
+    let s = next-row (over-none (n .ensures .0)) (finds-row (n .ensures .1 (not-false (n .result .more) (c .before .if1 .left)) .1)) in
+    let f : Finding = record { start = n .result .start; end = n .result .end; counts = n .result .counts } in
+    let r =
+    room (rowsBytes rowNumbers (rowsFrom p t 0)) 0 (x .table .now) (rowsBytes rowNumbers (rowsFrom p t (l .at))) (bytesOf (rowNumbers f)) (rowsBytes rowNumbers (rowsFrom p t (n .result .end))) (l .inv .1) (ap (rowsBytes rowNumbers) s) in
+    omega (arith, r, length-row f)
+
+loop-less : tie.Need-loop-less Inv-loop μ-loop
+loop-less c =
+    let n = c .before .before .before .before .before .before .next-finding in
+    let h = next-ahead (over-none (n .ensures .0)) (n .ensures .1 (not-false (n .result .more) (c .before .before .before .before .if1 .left)) .1 .finds) in
+    omega (arith, h .some, h .room)
+
+loop-again : tie.Need-loop-again Inv-loop μ-loop
+unfolding rowsBytes
+loop-again c =
+    let x = c .before .before .before .before .before .before .before .before .before .before .before .args in
+    let p = policyOf (x .policy .now) in
+    let t = x .text .now in
+    let l = c .before .before .before .before .before .before .before .loop in
+    let n = c .before .before .before .before .before .before .next-finding in
+    let f = n .ensures .1 (not-false (n .result .more) (c .before .before .before .before .if1 .left)) .1 in
+    let s = next-row (over-none (n .ensures .0)) (finds-row f) in
+    let h = next-ahead (over-none (n .ensures .0)) (f .finds) in (
+      h .room,
+      put (rowsBytes rowNumbers (rowsFrom p t 0)) 0 (x .table .now) (rowsBytes rowNumbers (rowsFrom p t (l .at))) (rowsBytes rowNumbers (rowsFrom p t (n .result .end))) (l .inv .1) (c .before .before .put-row .ensures)
+          (ap (rowsBytes rowNumbers) s),
+    )
+
+pub put-findings-spec : {M : Type 1} → statement M
+put-findings-spec =
+    tie.close
+    (tie.spec
+    Inv-loop
+    μ-loop
+    loop-holds
+    (λ c κs. search needs)
+    same-length
+    returns
+    put-row-requires
+    loop-less
+    loop-again)

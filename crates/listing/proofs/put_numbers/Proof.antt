@@ -1,0 +1,66 @@
+-- `listing::put_numbers` meets its contract. The loop writes the bytes of the numbers that are left at its place.
+use mathlib.Core.Path.{ap}
+use Prim.Native.Nat.{_-_, _≤_}
+use native.Mathlib.Omega.{arith}
+use lib.ListN.{drop, drop-of-length-le, length}
+use Rattle.base.proofs.Writer.{Writing, begin, finish, put}
+use Rattle.policy.specs.PolicyBytes.{bytesOf}
+use Rattle.policy.proofs.Bytes.{bytesOf-drop, length-bytesOf, word-room}
+use Rattle.listing.proofs.put_numbers.Statement.{statement}
+use Rattle.listing.proofs.put_numbers.Tie as tie
+
+abbrev Inv-loop : tie.InvT-loop
+Inv-loop table₀ start numbers at₀ i₀ table at i =
+    (i ≤ length numbers) × Writing (bytesOf numbers) start table₀ (bytesOf (drop i numbers)) table at
+
+abbrev μ-loop : tie.MeasureT-loop
+μ-loop table₀ start numbers at₀ i₀ table at i = length numbers - i
+
+loop-holds : tie.Need-loop-holds Inv-loop μ-loop
+loop-holds c =
+    let x = c .before .before .args in
+    let ws = x .numbers .now in
+    (omega arith, begin (bytesOf ws) (x .start) (x .table .now) (omega (arith, c .before .before .pre, length-bytesOf ws)))
+
+put-number-requires : tie.Need-put-number-requires Inv-loop μ-loop
+put-number-requires c κs =
+    let l = c .before .before .before .loop in
+    let x = c .before .before .before .before .before .before .args in
+    let r = word-room (x .numbers .now) (x .table .now) (l .table) (x .start) (l .at) (l .i) (omega arith) (l .inv .1) in
+    omega arith
+
+loop-again : tie.Need-loop-again Inv-loop μ-loop
+loop-again c =
+    let l = c .before .before .before .before .before .before .loop in
+    let x = c .before .before .before .before .before .before .before .before .before .args in
+    let ws = x .numbers .now in (
+      omega arith,
+      put (bytesOf ws) (x .start) (x .table .now) _ _ (l .inv .1) (c .before .before .put-number .ensures) (bytesOf-drop ws (l .i) (omega arith)),
+    )
+
+same-length : tie.Need-same-length Inv-loop μ-loop
+same-length c = c .before .loop .inv .1 .same
+
+returns : tie.Need-returns Inv-loop μ-loop
+unfolding bytesOf
+returns c =
+    let l = c .before .loop in
+    let x = c .before .before .before .before .args in
+    let ws = x .numbers .now in
+    finish (bytesOf ws) (x .start) (x .table .now) (bytesOf (drop (l .i) ws)) (l .inv .1) (ap bytesOf (drop-of-length-le ws {i = l .i} (omega arith)))
+
+pub put-numbers-spec : {M : Type 1} → statement M
+put-numbers-spec =
+    tie.close
+    (tie.spec
+    Inv-loop
+    μ-loop
+    loop-holds
+    (λ c. omega arith)
+    (λ c. omega arith)
+    put-number-requires
+    (λ c. omega arith)
+    (λ c. omega arith)
+    loop-again
+    same-length
+    returns)

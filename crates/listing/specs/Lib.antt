@@ -1,0 +1,2 @@
+-- Listing into a table of structs, step by step.
+pub mod Table

@@ -1,0 +1,49 @@
+-- Listing into a table of findings, step by step: what is decided beforehand, and each finding from an offset on
+-- (document 01, "Counts and finding", "Turned back"). The whole outcome of the call is `list` of List.antt.
+use mathlib.Core.Bool.{cond}
+use mathlib.Core.List.{List, [], _∷_, map}
+use Prim.Native.Nat.{ℕ}
+use lib.Dec.{leb}
+use lib.ListN.{length, replicate}
+use Rattle.policy.specs.declared.Policy.{Policy}
+use Rattle.policy.specs.PolicyBytes.{policyOf}
+use Rattle.analysis.specs.Counts.{empty}
+use Rattle.analysis.specs.declared.types.Finding.{Finding}
+use Rattle.base.specs.Refusals.{orElse}
+use Rattle.base.specs.declared.Refusal.{Refusal}
+use Rattle.base.specs.declared.Refusal.the-variants.{TableTooShort}
+use Rattle.analysis.specs.Findings.{findingsFrom}
+use Rattle.formatter.specs.Findings.{findingRow, findings}
+use Rattle.formatter.specs.Intake.{intakeRefusal}
+use Rattle.formatter.specs.List.{list}
+use Rattle.formatter.specs.declared.ListAnswer.{ListAnswer}
+use Rattle.formatter.specs.declared.ListAnswer.the-variants.{Listed, Refused}
+use Rattle.listing.specs.declared.table.FewFindings.{FewFindings}
+use Rattle.listing.specs.declared.table.ListingPlan.{ListingPlan}
+
+-- No finding: empty, at an offset.
+abbrev pub noFinding : ℕ → Finding
+noFinding at = record { start = at; end = at; counts = empty }
+
+-- The first of a list of findings, or another where there is none.
+abbrev pub firstOr : Finding → List Finding → Finding
+firstOr none [] = none
+firstOr none (f ∷ fs) = f
+
+-- "in text order": the first finding from an offset on.
+unfoldable pub firstFinding : Policy → List ℕ → ℕ → Finding
+firstFinding p text at = firstOr (noFinding at) (map (findingRow p) (findingsFrom p text at))
+
+-- Refusals 1, 2, 3 and 7 in this order, each of which stores nothing; else every finding is stored.
+unfoldable pub listingPlan : List ℕ → List ℕ → ℕ → ListingPlan
+listingPlan text policy room =
+    let n = length (map (findingRow (policyOf policy)) (findings text policy)) in
+    let plan : ℕ → ListAnswer → ListingPlan = λ places answer. record { places = places; policy = policyOf policy; answer = answer } in
+    orElse (intakeRefusal text policy) (λ (r : Refusal). plan 0 (Refused r))
+    (cond (leb n room) (plan n (Listed n)) (plan 0 (Refused (TableTooShort n))))
+
+-- Listing into a table of eight places that hold no finding: the answer, and the table after the call.
+unfoldable pub fewFindings : List ℕ → List ℕ → FewFindings
+fewFindings text policy =
+    let after = list text policy (replicate 8 (noFinding 0)) in
+    record { answer = after .answer; findings = after .buffer }

@@ -1,0 +1,100 @@
+// Listing the items of a text into a table lent by the caller, as list.rt lists findings. A row is four numbers of 8 bytes, lowest
+// first: start, end, kind, and whether the tags are complete. `list_items` equals `listItems` of specs/List.antt.
+ghost use mathlib.Core.Path.{_≡_};
+ghost use mathlib.Core.Bool.{cond};
+ghost use Prim.Native.Nat.{_+_, _≤_};
+ghost use lib.ListN.{length};
+ghost use Rattle.base.specs.Output.{PutAt};
+ghost use Rattle.policy.specs.PolicyBytes.{bytesOf};
+ghost use Rattle.scanner.specs.Spans.{scan};
+ghost use Rattle.formatter.specs.List.{itemNumbers, kindNumber, listItems, rowsBytes};
+use crate::put_numbers;
+use base::Check;
+use base::Refusal;
+use base::WORD_BYTES;
+use formatter::ListAnswer;
+use scanner::ScanItem;
+use scanner::ScanKind;
+use scanner::ScanStep;
+use scanner::text_check::check_text;
+
+// The numbers of a row, and its bytes.
+const ROW_NUMBERS: usize = 4;
+
+const ROW_BYTES: usize = ROW_NUMBERS * WORD_BYTES;
+
+// How many items there are.
+fn count_items(text: &[u8]) -> usize
+    ensures { λ r. ⌜ r ≡ length (scan (now (text .entry))) ⌝ }
+{
+    let mut at = 0;
+    let mut items = 0;
+    while let ScanStep::Item(item) = scanner::next_item(text, at) {
+        items += 1;
+        at = item.end;
+    }
+    items
+}
+
+// The number of a kind.
+fn kind_number(kind: ScanKind) -> usize
+    ensures { λ r. ⌜ r ≡ kindNumber kind ⌝ }
+{
+    match kind {
+        ScanKind::Passthrough => 0,
+        ScanKind::UnsanctionedPresentationSelectors => 1,
+        ScanKind::LinksOnly => 2,
+        ScanKind::EmojiHeaded => 3,
+    }
+}
+
+// 1 for true and 0 for false.
+fn flag_number(flag: bool) -> usize
+    ensures { λ r. ⌜ r ≡ cond flag 1 0 ⌝ }
+{
+    if flag {
+        return 1;
+    }
+    0
+}
+
+// Puts the row of an item, for which there is room.
+fn put_item(table: &mut [u8], start: usize, item: ScanItem) -> usize
+    requires { ⌜ start + 32 ≤ length (now table) ⌝ }
+    ensures { λ r. ⌜ PutAt (now (table .entry)) start (bytesOf (itemNumbers item)) (now (table .exit)) r ⌝ }
+{
+    let kind = item.kind;
+    let number = kind_number(kind);
+    let complete = flag_number(item.tags_complete);
+    let numbers = [item.start, item.end, number, complete];
+    put_numbers(table, start, &numbers)
+}
+
+// Puts the row of each item, for which there is room.
+fn put_items(text: &[u8], table: &mut [u8]) -> usize
+    requires { ⌜ length (rowsBytes itemNumbers (scan (now text))) ≤ length (now table) ⌝ }
+    ensures { λ r. ⌜ PutAt (now (table .entry)) 0 (rowsBytes itemNumbers (scan (now (text .entry)))) (now (table .exit)) r ⌝ }
+{
+    let mut at = 0;
+    let mut to = 0;
+    while let ScanStep::Item(item) = scanner::next_item(text, at) {
+        at = item.end;
+        to = put_item(table, to, item);
+    }
+    to
+}
+
+// Lists the items of a text, if the table has a place for each.
+pub fn list_items(text: &[u8], table: &mut [u8]) -> ListAnswer
+    ensures { λ r. ⌜ record { answer = r; buffer = now (table .exit) } ≡ listItems (now (text .entry)) (now (table .entry)) ⌝ }
+{
+    if let Check::Refused(refusal) = check_text(text) {
+        return ListAnswer::Refused(refusal);
+    }
+    let items = count_items(text);
+    if table.len() / ROW_BYTES < items {
+        return ListAnswer::Refused(Refusal::TableTooShort { findings: items });
+    }
+    put_items(text, table);
+    ListAnswer::Listed { findings: items }
+}

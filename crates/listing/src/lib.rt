@@ -1,0 +1,164 @@
+// Listing the findings of a text into a table lent by the caller (document 01, "Counts and finding", "Turned back"). A row is ten
+// numbers of 8 bytes, lowest first: start, end and the eight counts. The text is gone through from finding to finding (crate text_pass): once
+// to count them, and once more to write them where there are some and all fit.
+// `list_findings` equals `listBytes` of specs/List.antt.
+pub mod items;
+pub mod table;
+
+ghost use mathlib.Core.Path.{_≡_};
+ghost use mathlib.Core.List.{map};
+ghost use Prim.Native.Nat.{_+_, _*_, _≤_};
+ghost use lib.ListN.{length};
+ghost use Rattle.base.specs.Output.{PutAt};
+ghost use Rattle.base.specs.Words.{wordBytes};
+ghost use Rattle.utf8.specs.Rfc3629.{validUpTo};
+ghost use Rattle.policy.specs.PolicyBytes.{bytesOf, policyOf};
+ghost use Rattle.analysis.specs.Findings.{findingsFrom};
+ghost use Rattle.formatter.specs.Findings.{findingRow};
+ghost use Rattle.formatter.specs.List.{fillTable, listBytes, rowNumbers, rowsBytes};
+use analysis::types::Finding;
+use base::Refusal;
+use base::TEXT_LIMIT;
+use base::WORD_BYTES;
+use formatter::ListAnswer;
+use policy::policy_bytes::is_policy;
+use text_pass::findings::FindingSpan;
+use text_pass::findings::next_finding;
+
+// The numbers of a row, and its bytes.
+pub const ROW_NUMBERS: usize = 10;
+
+pub const ROW_BYTES: usize = ROW_NUMBERS * WORD_BYTES;
+
+// How many findings there are, and the length of the longest well-formed beginning.
+pub(crate) struct FindingCount {
+    pub(crate) findings: usize,
+    pub(crate) valid_up_to: usize,
+}
+
+// Counts the findings: all of them start before the end of the text.
+pub(crate) fn count_findings(text: &[u8], policy: &[u8]) -> FindingCount
+    ensures findings { λ r. ⌜ r .findings ≡ length (findingsFrom (policyOf (now (policy .entry))) (now (text .entry)) 0) ⌝ }
+    ensures valid { λ r. ⌜ r .«valid_up_to» ≡ validUpTo (now (text .entry)) ⌝ }
+{
+    let FindingSpan {
+        start,
+        end: _,
+        counts: _,
+        more: _,
+        passed,
+    } = next_finding(text, policy, text.len(), 0);
+    FindingCount {
+        findings: passed,
+        valid_up_to: start,
+    }
+}
+
+// Puts a number, for which there is room, and says where it ends.
+fn put_number(table: &mut [u8], at: usize, n: usize) -> usize
+    requires { ⌜ at + 8 ≤ length (now table) ⌝ }
+    ensures { λ r. ⌜ PutAt (now (table .entry)) at (wordBytes n) (now (table .exit)) r ⌝ }
+{
+    base::write_word(table, at, n as u64);
+    at + WORD_BYTES
+}
+
+// Puts the numbers of a row, for which there is room, and says where they end.
+pub(crate) fn put_numbers(table: &mut [u8], start: usize, numbers: &[usize]) -> usize
+    requires { ⌜ start + length (now numbers) * 8 ≤ length (now table) ⌝ }
+    ensures { λ r. ⌜ PutAt (now (table .entry)) start (bytesOf (now (numbers .entry))) (now (table .exit)) r ⌝ }
+{
+    let mut at = start;
+    let mut i = 0;
+    while i < numbers.len() {
+        at = put_number(table, at, numbers[i]);
+        i += 1;
+    }
+    at
+}
+
+// The numbers of a finding's row.
+pub fn row_numbers(finding: Finding) -> [usize; ROW_NUMBERS]
+    ensures { λ r. ⌜ r ≡ rowNumbers finding ⌝ }
+{
+    let counts = finding.counts;
+    [
+        finding.start,
+        finding.end,
+        counts.unsanctioned_selectors,
+        counts.modifier_defective_selectors,
+        counts.additional_defective_selectors,
+        counts.tag_conflicting_selectors,
+        counts.tag_forced_presentations,
+        counts.tag_redundant_selectors,
+        counts.policy_redundant_selectors,
+        counts.presentation_decisions,
+    ]
+}
+
+// Puts the row of a finding, for which there is room.
+fn put_row(table: &mut [u8], start: usize, finding: Finding) -> usize
+    requires { ⌜ start + 80 ≤ length (now table) ⌝ }
+    ensures { λ r. ⌜ PutAt (now (table .entry)) start (bytesOf (rowNumbers finding)) (now (table .exit)) r ⌝ }
+{
+    let numbers = row_numbers(finding);
+    put_numbers(table, start, &numbers)
+}
+
+// Puts the row of each finding, for which there is room.
+fn put_findings(text: &[u8], policy: &[u8], table: &mut [u8]) -> usize
+    requires { ⌜ length (rowsBytes rowNumbers (map (findingRow (policyOf (now policy))) (findingsFrom (policyOf (now policy)) (now text) 0))) ≤ length (now table) ⌝ }
+    ensures { λ r. ⌜ PutAt (now (table .entry)) 0 (rowsBytes rowNumbers (map (findingRow (policyOf (now (policy .entry)))) (findingsFrom (policyOf (now (policy .entry))) (now (text .entry)) 0))) (now (table .exit)) r ⌝ }
+{
+    let mut at = 0;
+    let mut to = 0;
+    loop {
+        let FindingSpan {
+            start,
+            end,
+            counts,
+            more,
+            passed: _,
+        } = next_finding(text, policy, 0, at);
+        if !more {
+            return to;
+        }
+        at = end;
+        to = put_row(table, to, Finding { start, end, counts });
+    }
+}
+
+// Lists the findings, of which there are so many, if the table has a place for each.
+fn fill_table(text: &[u8], policy: &[u8], findings: usize, table: &mut [u8]) -> ListAnswer
+    requires { ⌜ findings ≡ length (findingsFrom (policyOf (now policy)) (now text) 0) ⌝ }
+    ensures { λ r. ⌜ record { answer = r; buffer = now (table .exit) } ≡ fillTable rowNumbers 80 (map (findingRow (policyOf (now (policy .entry)))) (findingsFrom (policyOf (now (policy .entry))) (now (text .entry)) 0)) (now (table .entry)) ⌝ }
+{
+    if findings == 0 {
+        return ListAnswer::Listed { findings };
+    }
+    if table.len() / ROW_BYTES < findings {
+        return ListAnswer::Refused(Refusal::TableTooShort { findings });
+    }
+    put_findings(text, policy, table);
+    ListAnswer::Listed { findings }
+}
+
+// Lists the findings of a text under a policy, by their bytes.
+pub fn list_findings(text: &[u8], policy: &[u8], table: &mut [u8]) -> ListAnswer
+    ensures { λ r. ⌜ record { answer = r; buffer = now (table .exit) } ≡ listBytes (now (text .entry)) (now (policy .entry)) (now (table .entry)) ⌝ }
+{
+    if TEXT_LIMIT < text.len() {
+        return ListAnswer::Refused(Refusal::TextTooLong);
+    }
+    if !is_policy(policy) {
+        return ListAnswer::Refused(Refusal::NotAPolicy);
+    }
+    let FindingCount {
+        findings,
+        valid_up_to,
+    } = count_findings(text, policy);
+    if valid_up_to != text.len() {
+        return ListAnswer::Refused(Refusal::NotWellFormed { valid_up_to });
+    }
+    fill_table(text, policy, findings, table)
+}

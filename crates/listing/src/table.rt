@@ -1,0 +1,135 @@
+// Listing the findings of a text into a table of structs (document 01, "Counts and finding": "The findings are listed in
+// text order into a table lent by the caller"). What is listed is decided beforehand (`plan_listing`), and each finding
+// comes by value (`first_finding`): `list_into_table` only stores them. It equals `list` of specs/List.antt, to which
+// `ListedAsBytes` ties the table of bytes.
+ghost use mathlib.Core.Path.{_≡_};
+ghost use Rattle.formatter.specs.List.{list};
+ghost use Rattle.listing.specs.Table.{fewFindings, firstFinding, listingPlan, noFinding};
+use crate::FindingCount;
+use crate::count_findings;
+use analysis::ItemAnalysis;
+use analysis::analyze_scan_item;
+use analysis::types::Finding;
+use analysis::types::NonCanonicality;
+use base::Check;
+use base::Refusal;
+use formatter::ListAnswer;
+use formatter::intake::intake;
+use policy::Policy;
+use policy::ReadPolicy;
+
+// How many findings are few.
+pub const FEW: usize = 8;
+
+// What listing into a table is to do: how many findings it stores, under which policy, and what it answers.
+struct ListingPlan {
+    places: usize,
+    policy: Policy,
+    answer: ListAnswer,
+}
+
+// The findings of a text that has few of them, at the front of a table by value.
+pub struct FewFindings {
+    pub answer: ListAnswer,
+    pub findings: [Finding; FEW],
+}
+
+// No finding: empty, at an offset.
+fn no_finding(at: usize) -> Finding
+    ensures { λ r. ⌜ r ≡ noFinding at ⌝ }
+{
+    let counts = NonCanonicality::empty();
+    Finding {
+        start: at,
+        end: at,
+        counts,
+    }
+}
+
+// The first finding from an offset on, or none there.
+fn first_finding(text: &[u8], start: usize, policy: Policy) -> Finding
+    ensures { λ r. ⌜ r ≡ firstFinding policy (now (text .entry)) start ⌝ }
+{
+    let mut at = start;
+    loop {
+        match analyze_scan_item(text, at, policy) {
+            ItemAnalysis::End => {
+                return no_finding(start);
+            }
+            ItemAnalysis::Canonical { end } => {
+                at = end;
+            }
+            ItemAnalysis::NonCanonical(finding) => {
+                return finding;
+            }
+        }
+    }
+}
+
+// All findings where the tests pass and the table has a place for each, and none where the answer is a refusal.
+fn plan_listing(text: &[u8], policy: &[u8], room: usize) -> ListingPlan
+    ensures { λ r. ⌜ r ≡ listingPlan (now (text .entry)) (now (policy .entry)) room ⌝ }
+{
+    let ReadPolicy {
+        accepted: _,
+        policy: read,
+    } = policy::read_policy(policy);
+    if let Check::Refused(refusal) = intake(text, policy) {
+        let answer = ListAnswer::Refused(refusal);
+        return ListingPlan {
+            places: 0,
+            policy: read,
+            answer,
+        };
+    }
+    let FindingCount {
+        findings,
+        valid_up_to: _,
+    } = count_findings(text, policy);
+    if room < findings {
+        let answer = ListAnswer::Refused(Refusal::TableTooShort { findings });
+        return ListingPlan {
+            places: 0,
+            policy: read,
+            answer,
+        };
+    }
+    let answer = ListAnswer::Listed { findings };
+    ListingPlan {
+        places: findings,
+        policy: read,
+        answer,
+    }
+}
+
+// Lists the findings of a text under a policy, by its bytes: each is stored in the table at its place.
+pub fn list_into_table(text: &[u8], policy: &[u8], table: &mut [Finding]) -> ListAnswer
+    ensures { λ r. ⌜ record { answer = r; buffer = now (table .exit) } ≡ list (now (text .entry)) (now (policy .entry)) (now (table .entry)) ⌝ }
+{
+    let plan = plan_listing(text, policy, table.len());
+    let mut at = 0;
+    let mut k = 0;
+    while k < plan.places {
+        let finding = first_finding(text, at, plan.policy);
+        table[k] = finding;
+        at = finding.end;
+        k += 1;
+    }
+    plan.answer
+}
+
+// The answer and the table, handed on by value.
+fn few_findings(answer: ListAnswer, findings: [Finding; FEW]) -> FewFindings
+    ensures { λ r. ⌜ r ≡ record { answer = answer; findings = findings } ⌝ }
+{
+    FewFindings { answer, findings }
+}
+
+// Lists the findings of a text that has at most eight of them.
+pub fn list_few(text: &[u8], policy: &[u8]) -> FewFindings
+    ensures { λ r. ⌜ r ≡ fewFindings (now (text .entry)) (now (policy .entry)) ⌝ }
+{
+    let mut findings = [no_finding(0); FEW];
+    let answer = list_into_table(text, policy, &mut findings);
+    few_findings(answer, findings)
+}

@@ -1,0 +1,80 @@
+-- The finding that starts at an offset: the first one that does not start before it, or none.
+use mathlib.Core.Path.{_≡_, refl, ap, sym, _∙_}
+use mathlib.Core.Bool.{Bool, true, false, cond, true≢false}
+use mathlib.Core.List.{List, [], _∷_}
+use mathlib.Core.Option.{none, some}
+use Prim.Native.Nat.{ℕ, _+_, _<_}
+use native.Mathlib.Omega.{arith}
+use lib.Dec.{eqb}
+use lib.ListN.{drop}
+use borrow.Author.Tests.{eq-eqb, eqb-true, eqb-false, ne-eqb}
+use Rattle.utf8.specs.Rfc3629.{chars, validUpTo}
+use Rattle.policy.specs.declared.Policy.{Policy}
+use Rattle.scanner.specs.Items.{Item, items}
+use Rattle.scanner.specs.Spans.{Found, found, size, width}
+use Rattle.analysis.specs.Analysis.{isFinding}
+use Rattle.analysis.specs.Findings.{findingsFrom}
+use Rattle.text_pass.specs.Findings.{Finds, Left, NextFinding, all-left, one-less}
+use Rattle.text_pass.specs.declared.findings.FindingSpan.{FindingSpan}
+use Rattle.formatter.specs.Mend.{findingAt}
+use Rattle.mending.specs.Parts.{FindingStarting, Starts}
+use Rattle.text_pass.proofs.Passing.{finds-here}
+use Rattle.formatter.proofs.Steps.{none-found}
+
+-- Behind the offset no finding starts there.
+no-finding-past : (p : Policy) (o n : ℕ) (xs : List Item) → o < n → findingAt o (found (isFinding p) width n xs) ≡ none
+unfolding findingAt found
+no-finding-past p o n [] h = refl
+no-finding-past p o n (x ∷ xs) h = go (isFinding p x) (no-finding-past p o (n + size width (x .chars)) xs (omega arith))
+  where
+    F : List Found
+    F = found (isFinding p) width (n + size width (x .chars)) xs
+
+    go : (b : Bool) → findingAt o F ≡ none → findingAt o (cond b (record { start = n; item = x } ∷ F) F) ≡ none
+    go true i = ap (λ (b : Bool). cond b (some x) (findingAt o F)) (ne-eqb n o (λ e. omega arith)) ∙ i
+    go false i = i
+
+-- No finding that is passed starts at the limit.
+left-at : (o : ℕ) {n : ℕ} {fs gs : List Found} → Left o fs n gs → findingAt o fs ≡ findingAt o gs
+unfolding findingAt
+left-at o all-left = refl
+left-at o (one-less {f} {fs} h a) = ap (λ (b : Bool). cond b (some (f .item)) (findingAt o fs)) (ne-eqb (f .start) o (λ e. omega arith)) ∙ left-at o a
+
+module _ {p : Policy} {text : List ℕ} where
+  module _ (o : ℕ) {start end : ℕ} (h : Finds p text start end) where
+    -- The finding at the offset, by whether this is it.
+    finding-by : {b : Bool} → eqb start o ≡ b → findingAt o (findingsFrom p text start) ≡ cond b (some (h .item)) (findingAt o (findingsFrom p text end))
+    unfolding findingAt
+    finding-by e = ap (findingAt o) (finds-here h) ∙ ap (λ (b : Bool). cond b (some (h .item)) (findingAt o (findingsFrom p text end))) e
+
+    starts-here : start ≡ o → findingAt o (findingsFrom p text 0) ≡ findingAt o (findingsFrom p text start) → Starts p text o end
+    starts-here e i = record {
+      finds = record {
+        item = h .item;
+        behind = h .behind;
+        items-are = ap (λ (k : ℕ). items (chars (drop k text))) (sym e) ∙ h .items-are;
+        end-is = h .end-is ∙ ap (λ (k : ℕ). k + size width (h .item .chars)) e;
+        is-finding = h .is-finding;
+      };
+      found = i ∙ finding-by (eq-eqb start o e);
+    }
+
+  -- The next finding that does not start before the offset.
+  module _ (o : ℕ) {r : FindingSpan} (n : NextFinding p text o 0 r) where
+    next-same : findingAt o (findingsFrom p text 0) ≡ findingAt o (findingsFrom p text (r .start))
+    next-same = left-at o (n .0 .left)
+
+    -- There is none.
+    pub none-further : r .more ≡ false → FindingStarting p text o r
+    unfolding findingAt
+    none-further m = (λ t. absurd (true≢false (sym t ∙ m)), λ _. next-same ∙ ap (findingAt o) (none-found p text (r .start) (n .2 m .0)))
+
+    -- There is one, at the offset or behind it.
+    pub none-before : r .more ≡ true → FindingStarting p text o (record { start = r .start; end = r .end; counts = r .counts; more = eqb (r .start) o; passed = r .passed })
+    none-before m = (
+      λ t. starts-here o (n .1 m .1 .finds) (eqb-true (r .start) o t) next-same,
+      λ f. next-same ∙ no-finding-past p o (r .start) (items (chars (drop (r .start) text))) (let d = eqb-false (r .start) o f in let l = n .1 m .0 in omega arith),
+    )
+
+    pub next-valid : r .start + validUpTo (drop (r .start) text) ≡ validUpTo text
+    next-valid = let v = n .0 .valid in omega arith

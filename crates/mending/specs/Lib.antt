@@ -1,0 +1,2 @@
+-- The contracts of the functions that mending calls.
+pub mod Parts

@@ -1,0 +1,30 @@
+-- The contracts of the functions that mending calls. The whole outcome of the call is `mend` of the crate formatter, specs/Mend.antt.
+use mathlib.Core.Path.{_≡_}
+use mathlib.Core.Bool.{true, false}
+use mathlib.Core.List.{List}
+use mathlib.Core.Option.{none, some}
+use Prim.Native.Nat.{ℕ, _-_}
+use lib.ListN.{drop, take}
+use Rattle.utf8.specs.Rfc3629.{chars, encodeAll}
+use Rattle.unicode.specs.declared.presentation.Presentation.{Presentation}
+use Rattle.policy.specs.declared.Policy.{Policy}
+use Rattle.analysis.specs.Analysis.{render}
+use Rattle.analysis.specs.Cells.{cells}
+use Rattle.analysis.specs.Findings.{findingsFrom}
+use Rattle.text_pass.specs.Findings.{Finds}
+use Rattle.text_pass.specs.declared.findings.FindingSpan.{FindingSpan}
+use Rattle.formatter.specs.Mend.{findingAt}
+
+-- The finding that starts at an offset, up to its end ..
+pub record Starts (p : Policy) (text : List ℕ) (offset end : ℕ) : Type 0 where
+  pub finds : Finds p text offset end
+  pub found : findingAt offset (findingsFrom p text 0) ≡ some (finds .item)
+
+-- .. or that none does.
+abbrev pub FindingStarting : Policy → List ℕ → ℕ → FindingSpan → Type 0
+FindingStarting p text offset r =
+    (r .more ≡ true → Starts p text offset (r .end)) × (r .more ≡ false → findingAt offset (findingsFrom p text 0) ≡ none)
+
+-- The cells of a text from an offset up to another, written with the selectors that the rules and the decisions give them.
+abbrev pub cellsWritten : Policy → List ℕ → ℕ → ℕ → List Presentation → List ℕ
+cellsWritten p text start end ds = encodeAll (render p (cells (chars (take (end - start) (drop start text)))) ds)

@@ -1,0 +1,151 @@
+// Mending one finding of a text (document 01, "Replacement and text", "Turned back"): the whole text is written with the finding's
+// replacement in its place, once every test has passed. `mend` equals `mend` of specs/Mend.antt.
+ghost use mathlib.Core.Path.{_≡_};
+ghost use mathlib.Core.List.{_++_, map};
+ghost use Prim.Native.Nat.{_+_, _-_, _≤_};
+ghost use lib.ListN.{drop, length, take};
+ghost use lib.Seq.{sets};
+ghost use Rattle.base.specs.Refusals.{textLimit};
+ghost use Rattle.utf8.specs.Rfc3629.{validUpTo};
+ghost use Rattle.policy.specs.PolicyBytes.{policyOf};
+ghost use Rattle.analysis.specs.Decisions.{meaning, writeOut};
+ghost use Rattle.formatter.specs.Demand3.{Accepted};
+ghost use Rattle.formatter.specs.Mend.{mend};
+ghost use Rattle.mending.specs.Parts.{FindingStarting, Starts, cellsWritten};
+use analysis::decisions::check_decisions;
+use analysis::measure::Measure;
+use analysis::measure::measure_cells;
+use analysis::render::write_cells;
+use analysis::types::MendAnswer;
+use base::Check;
+use base::Refusal;
+use base::TEXT_LIMIT;
+use policy::Policy;
+use policy::ReadPolicy;
+use policy::policy_bytes::is_policy;
+use text_pass::findings::FindingSpan;
+use text_pass::findings::next_finding;
+
+// The finding of a text that starts at an offset; an item may start before it and reach over it. Up to where the search ends the text is
+// well-formed.
+fn finding_starting(text: &[u8], policy: &[u8], offset: usize) -> FindingSpan
+    ensures starts { λ r. ⌜ FindingStarting (policyOf (now (policy .entry))) (now (text .entry)) offset r ⌝ }
+    ensures valid { λ r. ⌜ (r .end ≤ length (now (text .entry))) × (r .end + validUpTo (drop (r .end) (now (text .entry))) ≡ validUpTo (now (text .entry))) ⌝ }
+{
+    let FindingSpan {
+        start,
+        end,
+        counts,
+        more,
+        passed,
+    } = next_finding(text, policy, offset, 0);
+    if !more {
+        return FindingSpan {
+            start,
+            end,
+            counts,
+            more,
+            passed,
+        };
+    }
+    let there = start == offset;
+    FindingSpan {
+        start,
+        end,
+        counts,
+        more: there,
+        passed,
+    }
+}
+
+// Puts the bytes before an item and those behind it, with room for so many bytes between them.
+fn put_around(text: &[u8], start: usize, end: usize, len: usize, out: &mut [u8])
+    requires { ⌜ (start ≤ end) × (end ≤ length (now text)) × (start + len + (length (now text) - end) ≤ length (now out)) ⌝ }
+    ensures { λ _. ⌜ now (out .exit) ≡ sets (sets (now (out .entry)) 0 (take start (now (text .entry)))) (start + len) (drop end (now (text .entry))) ⌝ }
+{
+    base::write_bytes(out, 0, &text[..start]);
+    base::write_bytes(out, start + len, &text[end..]);
+}
+
+// Writes the text with the cells from start up to end, which are written in so many bytes, in their place, if there is room. Selectors
+// alone are written in none.
+fn exchange(
+    text: &[u8],
+    start: usize,
+    end: usize,
+    len: usize,
+    policy: Policy,
+    decisions: &[u8],
+    out: &mut [u8],
+) -> MendAnswer
+    requires { ⌜ (start ≤ end) × (end ≤ length (now text)) × (length (now text) ≤ textLimit) × (len ≡ length (cellsWritten policy (now text) start end (map meaning (now decisions)))) ⌝ }
+    ensures { λ r. ⌜ record { answer = r; buffer = now (out .exit) } ≡ writeOut (take start (now (text .entry)) ++ cellsWritten policy (now (text .entry)) start end (map meaning (now (decisions .entry))) ++ drop end (now (text .entry))) (now (out .entry)) ⌝ }
+{
+    let stop = start + len;
+    let wanted = stop + (text.len() - end);
+    if out.len() < wanted {
+        return MendAnswer::Refused(Refusal::OutputTooShort { wanted });
+    }
+    put_around(text, start, end, len, out);
+    if len == 0 {
+        return MendAnswer::Mended { len: wanted };
+    }
+    write_cells(&text[start..end], policy, decisions, &mut out[start..stop]);
+    MendAnswer::Mended { len: wanted }
+}
+
+// Writes an accepted text with the finding from the offset up to end replaced under the decisions, if they are valid and there is room.
+fn mend_finding(
+    text: &[u8],
+    policy: &[u8],
+    offset: usize,
+    end: usize,
+    decisions: &[u8],
+    out: &mut [u8],
+) -> MendAnswer
+    requires { ⌜ Accepted (now policy) (now text) × Starts (policyOf (now policy)) (now text) offset end ⌝ }
+    ensures { λ r. ⌜ record { answer = r; buffer = now (out .exit) } ≡ mend (now (text .entry)) (now (policy .entry)) offset (now (decisions .entry)) (now (out .entry)) ⌝ }
+{
+    let ReadPolicy {
+        accepted: _,
+        policy: accepted_policy,
+    } = policy::read_policy(policy);
+    let Measure { counts, len } = measure_cells(&text[offset..end], accepted_policy);
+    if let Check::Refused(refusal) = check_decisions(decisions, counts.presentation_decisions) {
+        return MendAnswer::Refused(refusal);
+    }
+    exchange(text, offset, end, len, accepted_policy, decisions, out)
+}
+
+// Writes the text with the finding that starts at the offset replaced under the decisions.
+pub fn mend(
+    text: &[u8],
+    policy: &[u8],
+    offset: usize,
+    decisions: &[u8],
+    out: &mut [u8],
+) -> MendAnswer
+    ensures { λ r. ⌜ record { answer = r; buffer = now (out .exit) } ≡ mend (now (text .entry)) (now (policy .entry)) offset (now (decisions .entry)) (now (out .entry)) ⌝ }
+{
+    if TEXT_LIMIT < text.len() {
+        return MendAnswer::Refused(Refusal::TextTooLong);
+    }
+    if !is_policy(policy) {
+        return MendAnswer::Refused(Refusal::NotAPolicy);
+    }
+    let FindingSpan {
+        start: _,
+        end,
+        counts: _,
+        more,
+        passed: _,
+    } = finding_starting(text, policy, offset);
+    let valid_up_to = end + utf8::valid_up_to(&text[end..]);
+    if valid_up_to != text.len() {
+        return MendAnswer::Refused(Refusal::NotWellFormed { valid_up_to });
+    }
+    if !more {
+        return MendAnswer::Refused(Refusal::NoFinding);
+    }
+    mend_finding(text, policy, offset, end, decisions, out)
+}
