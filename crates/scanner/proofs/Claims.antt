@@ -1,13 +1,11 @@
--- The proof of each statement of specs/Theorems.antt, of specs/Walks.antt and of specs/Scanner.antt.
+-- The proof of each statement of specs/Theorems.antt and of specs/Walks.antt.
 use mathlib.Core.Path.{_≡_, refl, ap, sym, _∙_, subst}
 use mathlib.Core.Logic.{_↔_, inr, ⊎-elim}
 use mathlib.Core.Bool.{true, true≢false}
 use mathlib.Core.List.{List, [], _∷_, _++_, getLastD, head-eq-of-cons-eq, List·Memᴰ, List·Memᴰ·head}
 use Prim.Native.Nat.{ℕ, _+_, _-_}
-use native.Mathlib.Nat.{sub-zero, zero-add}
-use native.Mathlib.Omega.{arith}
-use lib.ListN.{drop, drop-of-length-le, length, take}
-use lib.Seq.{take-length}
+use native.Mathlib.Nat.{zero-add}
+use lib.ListN.{drop, drop-of-length-le, take}
 use Rattle.utf8.specs.Rfc3629.{encode, encodeAll, readChar, readFour, foldChars, foldStep, chars, utf8-1, utf8-2, utf8-3, utf8-4, validUpTo}
 use Rattle.utf8.proofs.Folds.{chars-end}
 use Rattle.utf8.proofs.Fronts.{readChar-nil}
@@ -34,7 +32,6 @@ use Rattle.scanner.specs.Structure.{
   tagToRuns,
   toModifications,
 }
-use Rattle.scanner.specs.Scanner.{HandsOutItems, MadeHandsOut, RawSpells, RawsJoin}
 use Rattle.scanner.specs.Spans.{firstOf, scan, scanAt, scanFrom, size, spans, width}
 use Rattle.scanner.specs.Tags.{allComplete, complete, tagModifications, tagRuns, tagsComplete, withTags}
 use Rattle.scanner.specs.Theorems.{CursorAtItemEnd, CursorAtStart, CursorEnds, CursorInsideCharacter, CursorPastEnd, FirstItemByRuns, ItemAlone, ItemsAfresh, ItemsAreAReading, ItemsTile, NoItemIsEmpty, OnlyReading, RestByRuns, RunsAreDerived, RunsAreLongest, RunsByClass, SelectorsMoveNothing, SpansAfresh, SpansCover, SpansSpellItems, SpansTile, SpansTileFrom, Spells, span, StructureFlattens, StructureIsDerived, Structured, TagReportTells, TagsAreInStructure, TagsCompleteMeans, Tiles, WorkedItems, WorkedStructure, WorkedTags}
@@ -61,7 +58,6 @@ use Rattle.scanner.proofs.RunLaws.{
   unit-derived,
 }
 use Rattle.scanner.proofs.Runs.{Stops, at-char, at-end}
-use Rattle.scanner.proofs.HandingOut.{hands-out, join-raw, made-hands-out, raw-spells}
 use Rattle.scanner.proofs.Spans.{scan-behind, scan-spells, scan-tiles, spells-first}
 use Rattle.scanner.proofs.TagReport.{report-is}
 use Rattle.scanner.proofs.Tiling.{afresh, never-empty, tiling}
@@ -223,19 +219,3 @@ structure-is-walked text at x e k = go (items (chars (drop at text))) refl (scan
         let m = subst (λ (z : ScanItem). Structured (z .kind)) (sym f) k in
         subst Walked f
         (y .chars, spells-first s, structure-walk text at y ys p m (item-structure (chars (drop at text)) y (subst (List·Memᴰ y) (sym p) (List·Memᴰ·head refl)) m .are))
-
-pub hands-out-items : HandsOutItems
-unfolding HandsOutItems
-hands-out-items = hands-out
-
-pub made-scanner-hands-out : MadeHandsOut
-unfolding MadeHandsOut
-made-scanner-hands-out = made-hands-out
-
-pub raw-spells-item : RawSpells
-unfolding RawSpells
-raw-spells-item = raw-spells
-
-pub raws-join : RawsJoin
-unfolding RawsJoin SpansCover
-raws-join text w = join-raw text 0 (scan text) (length text) (spans-cover text w) (omega arith) ∙ ap (λ (n : ℕ). take n text) (sub-zero (length text)) ∙ take-length text

@@ -22,9 +22,6 @@ pub mod TagReport
 pub mod Peek
 pub mod Cursor
 pub mod TextTests
-pub mod Advancing
-pub mod HandingOut
-pub mod Lending
 pub mod ItemRuns
 pub mod EmojiRuns
 pub mod RestRuns

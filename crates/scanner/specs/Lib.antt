@@ -9,7 +9,6 @@ pub mod Tags
 pub mod TagReport
 pub mod Spans
 pub mod TextCheck
-pub mod Scanner
 pub mod Peek
 pub mod SelectorRun
 pub mod Parts

@@ -5,7 +5,6 @@ pub mod char_class;
 pub mod consume;
 pub mod parts;
 pub mod place;
-pub mod scanner;
 pub mod selectors;
 pub mod tag_report;
 pub mod text_check;

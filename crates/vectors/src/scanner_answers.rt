@@ -5,9 +5,9 @@ use crate::lines::is_word;
 use base::Check;
 use scanner::ScanItem;
 use scanner::ScanStep;
-use scanner::scanner::NthItem;
-use scanner::scanner::nth_item;
-use scanner::scanner::nth_raw;
+use text_scanner::NthItem;
+use text_scanner::nth_item;
+use text_scanner::nth_raw;
 
 // Whether two items are the same.
 fn same_item(a: ScanItem, b: ScanItem) -> bool {

@@ -1,0 +1,2 @@
+-- The scanner that borrows a text: document 01, "Item".
+pub mod Scanner

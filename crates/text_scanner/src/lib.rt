@@ -1,0 +1,183 @@
+// The scanner of scanner.rs of the crate evfmt: it borrows the text and remembers one offset (document 01, "Item").
+// The crate `scanner` says what an item is, and its `next_item` reads one.
+// `scan` makes one and tests the text; `next` and `raw` are thin over the covered `advance` and `part`, which take the
+// slice and numbers. The functions over the struct are proved by walks of their code; every other caller takes
+// `nth_item` and `nth_raw`, whose parameters are plain. Each equals a definition of specs/Scanner.antt, for all inputs.
+ghost use mathlib.Core.Path.{_≡_};
+ghost use Rattle.scanner.specs.Spans.{scanAt};
+ghost use Rattle.text_scanner.specs.Scanner.{advanced, atOffset, behind, itemOf, leftAfter, nthItem};
+ghost use Rattle.text_scanner.specs.Scanner.{opened, part, rawOf, scanned, skipped};
+use base::Check;
+use scanner::ScanItem;
+use scanner::ScanKind;
+use scanner::ScanStep;
+use scanner::next_item;
+use scanner::text_check::check_text;
+
+// A text, and the offset where the next item is looked for.
+pub struct Scanner<'a> {
+    pub text: &'a [u8],
+    pub offset: usize,
+}
+
+// A scanner, and beside it the verdict on its text.
+pub struct Scanned<'a> {
+    pub verdict: Check,
+    pub scanner: Scanner<'a>,
+}
+
+// The verdict on a text, and the offset where its scanner starts.
+pub struct Opened {
+    pub verdict: Check,
+    pub offset: usize,
+}
+
+// The answer of a cursor, and the offset behind it.
+pub struct Advanced {
+    pub step: ScanStep,
+    pub offset: usize,
+}
+
+// The verdict on a text, and its n-th item or the end.
+pub struct NthItem {
+    pub verdict: Check,
+    pub step: ScanStep,
+}
+
+// Tests a text: its scanner starts at 0, or on a refusal at the end.
+fn open_text(text: &[u8]) -> Opened
+    ensures { λ r. ⌜ r ≡ opened (now (text .entry)) ⌝ }
+{
+    let verdict = check_text(text);
+    match verdict {
+        Check::Passed => Opened { verdict, offset: 0 },
+        Check::Refused(_) => Opened {
+            verdict,
+            offset: text.len(),
+        },
+    }
+}
+
+// The item at an offset, and the offset behind it; at the end the offset stays.
+fn advance(text: &[u8], at: usize) -> Advanced
+    ensures { λ r. ⌜ r ≡ advanced (now (text .entry)) at ⌝ }
+{
+    let step = next_item(text, at);
+    match step {
+        ScanStep::Item(item) => Advanced {
+            step,
+            offset: item.end,
+        },
+        ScanStep::End => Advanced { step, offset: at },
+    }
+}
+
+// The bytes of a text from start up to end, or none where the text has no such part.
+fn part(text: &[u8], start: usize, end: usize) -> &[u8]
+    ensures { λ r. ⌜ now r ≡ part (now (text .entry)) start end ⌝ }
+{
+    if end < start {
+        return &text[..0];
+    }
+    if text.len() < end {
+        return &text[..0];
+    }
+    &text[start..end]
+}
+
+// A scanner of a text, which is tested. On a refusal the scanner says end at once.
+pub fn scan<'a>(text: &'a [u8]) -> Scanned<'a>
+    ensures { λ r. ⌜ r ≡ scanned (text .entry) ⌝ }
+{
+    let start = open_text(text);
+    Scanned {
+        verdict: start.verdict,
+        scanner: Scanner {
+            text: text,
+            offset: start.offset,
+        },
+    }
+}
+
+// The next item; after the last, the end on each call.
+pub fn next<'s, 'a>(s: &'s mut Scanner<'a>) -> ScanStep
+    ensures { λ r. ⌜ (r ≡ scanAt (now (now (s .entry) .text)) (now (s .entry) .offset))
+        × (now (s .exit) ≡ atOffset (now (s .entry)) (behind r (now (s .entry) .offset))) ⌝ }
+{
+    let at = s.offset;
+    let moved = advance(s.text, at);
+    s.offset = moved.offset;
+    moved.step
+}
+
+// The bytes of an item, as a part of the scanner's text.
+pub fn raw<'a>(s: Scanner<'a>, item: ScanItem) -> &'a [u8]
+    ensures { λ r. ⌜ now r ≡ part (now (s .entry .text)) (item .start) (item .end) ⌝ }
+{
+    part(s.text, item.start, item.end)
+}
+
+// How many calls are left after an answer, of so many: one less, and none after the end.
+fn left_after(step: ScanStep, left: usize) -> usize
+    ensures { λ r. ⌜ r ≡ leftAfter step left ⌝ }
+{
+    match step {
+        ScanStep::Item(_) => {
+            if left == 0 {
+                return 0;
+            }
+            left - 1
+        }
+        ScanStep::End => 0,
+    }
+}
+
+// The item of an answer; at the end an empty one.
+fn item_of(step: ScanStep) -> ScanItem
+    ensures { λ r. ⌜ r ≡ itemOf step ⌝ }
+{
+    match step {
+        ScanStep::Item(item) => item,
+        ScanStep::End => ScanItem {
+            start: 0,
+            end: 0,
+            kind: ScanKind::Passthrough,
+            tags_complete: true,
+        },
+    }
+}
+
+// The scanner after n calls of `next`.
+fn skip<'a>(s: Scanner<'a>, n: usize) -> Scanner<'a>
+    ensures { λ r. ⌜ r ≡ skipped (s .entry) n ⌝ }
+{
+    let mut scanner = s;
+    let mut left = n;
+    while 0 < left {
+        let step = next(&mut scanner);
+        left = left_after(step, left);
+    }
+    scanner
+}
+
+// The verdict on a text and its n-th item, counted from 0, or the end: a scanner is made, moved past n items, and asked.
+pub fn nth_item(text: &[u8], n: usize) -> NthItem
+    ensures { λ r. ⌜ r ≡ nthItem (now (text .entry)) n ⌝ }
+{
+    let scanned = scan(text);
+    let mut scanner = skip(scanned.scanner, n);
+    let step = next(&mut scanner);
+    NthItem {
+        verdict: scanned.verdict,
+        step,
+    }
+}
+
+// The bytes of the n-th item of a text, as a part of it, or none.
+pub fn nth_raw<'a>(text: &'a [u8], n: usize) -> &'a [u8]
+    ensures { λ r. ⌜ now r ≡ rawOf (now (text .entry)) (nthItem (now (text .entry)) n .step) ⌝ }
+{
+    let nth = nth_item(text, n);
+    let item = item_of(nth.step);
+    raw(Scanner { text, offset: 0 }, item)
+}
