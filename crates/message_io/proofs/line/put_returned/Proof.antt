@@ -1,4 +1,4 @@
--- The value behind a blank, or nothing.
+-- A blank and the value, or nothing.
 use mathlib.Core.Path.{refl}
 use borrow.Author.Needs.{needs}
 use Rattle.base.specs.Refusals.{returned}
