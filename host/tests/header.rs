@@ -202,17 +202,12 @@ fn the_sizes_agree_with_the_header() {
     }
 }
 
-/// The refusals that a file names behind a prefix, each with the first number behind its arrow.
-fn refusals(path: &str, prefix: &str) -> Vec<(String, u64)> {
-    let text = file(path);
+/// The refusals that a text names after a prefix, each with the first number after its arrow.
+fn refusals(text: &str, prefix: &str) -> Vec<(String, u64)> {
     let refusals = text.lines().filter_map(|line| {
         let (pattern, rest) = line.trim().strip_prefix(prefix)?.split_once(" => ")?;
         let name = pattern.split_once(' ').map_or(pattern, |(name, _)| name);
-        let digits: String = rest
-            .trim_start_matches("word_of(")
-            .chars()
-            .take_while(char::is_ascii_digit)
-            .collect();
+        let digits: String = rest.chars().take_while(char::is_ascii_digit).collect();
         Some((name.to_owned(), digits.parse().ok()?))
     });
     refusals.collect()
@@ -220,10 +215,13 @@ fn refusals(path: &str, prefix: &str) -> Vec<(String, u64)> {
 
 #[test]
 fn the_refusals_agree_with_the_source() {
-    let source = refusals("../crates/tilghorz/src/answer_word.rt", "Refusal::");
+    let code = file("../crates/base/src/refusals.rt");
+    let mut functions = code.split("pub fn ");
+    let body = functions.find(|function| function.starts_with("refusal_number("));
+    let source = refusals(body.expect("the function of the numbers"), "Refusal::");
     let numbers: Vec<u64> = source.iter().map(|(_, number)| *number).collect();
     assert_eq!(numbers, [1, 2, 3, 4, 5, 6, 7, 8]);
-    assert_eq!(refusals("tilghorz/src/refusal.rs", "Self::"), source);
+    assert_eq!(refusals(&file("tilghorz/src/refusal.rs"), "Self::"), source);
     let header = file("../include/tilghorz.h");
     for number in numbers {
         let mut lines = header.lines();

@@ -2,7 +2,6 @@
 use lib.ListN.{length}
 use borrow.Author.Tests.{le-leb, lt-leb}
 use Rattle.base.specs.Output.{answerOf, bufferOf, refusal}
-use Rattle.base.specs.Refusals.{refusalRow}
 use Rattle.base.specs.Words.{wordBytes}
 use Rattle.base.specs.Theorems.{BytesOfNumber, NumberOfWord, RowsTellRefusals, WrittenOrRefused}
 use Rattle.base.proofs.Rows.{rows-tell}
@@ -17,7 +16,7 @@ unfolding BytesOfNumber
 bytes-of-number = littleEndian-number
 
 pub written-or-refused : WrittenOrRefused
-unfolding WrittenOrRefused answerOf bufferOf refusal refusalRow
+unfolding WrittenOrRefused answerOf bufferOf refusal
 written-or-refused result out = (
   λ h. let t = le-leb (length result) (length out) h in (simp t, simp t),
   λ h. let t = lt-leb (length result) (length out) h in (simp t, simp t),

@@ -1,6 +1,6 @@
 -- The refusals of document 01's table ("Turned back"), and what a call leaves in a lent buffer.
-use mathlib.Core.List.{List, _++_}
-use mathlib.Core.Option.{Option, none, some}
+use mathlib.Core.List.{List, [], _∷_, _++_}
+use mathlib.Core.Option.{Option, none, some, Option·getD}
 use Prim.Native.Nat.{ℕ}
 use lib.ListN.{drop, length}
 use Rattle.base.specs.declared.Check.{Check}
@@ -19,21 +19,40 @@ use Rattle.base.specs.declared.Refusal.the-variants.{
 
 -- ---- the table
 
--- A row of document 01's table of refusals: the number, and what is returned with it, or 0.
+-- A row of document 01's table of refusals: "Number", and "Returned", which is none where the table says "nothing more".
+pub record TableRow : Type 0 where
+  pub number : ℕ
+  pub returned : Option ℕ
+
+-- Document 01's table, row by row. The functions of src/refusals.rt are held to it, and all else that tells a refusal's number or value
+-- is made of them.
+abbrev pub refusalTable : Refusal → TableRow
+refusalTable TextTooLong = record { number = 1; returned = none }
+refusalTable NotAPolicy = record { number = 2; returned = none }
+refusalTable (NotWellFormed n) = record { number = 3; returned = some n }
+refusalTable NoFinding = record { number = 4; returned = none }
+refusalTable (WrongNumberOfDecisions n) = record { number = 5; returned = some n }
+refusalTable (BadDecision n) = record { number = 6; returned = some n }
+refusalTable (TableTooShort n) = record { number = 7; returned = some n }
+refusalTable (OutputTooShort n) = record { number = 8; returned = some n }
+
+-- An answer's row as two numbers: the number, and what is returned with it, or 0.
 pub record RefusalRow : Type 0 where
   pub number : ℕ
   pub value : ℕ
 
--- "Number" and "Returned" of each cause; 0 where the table says "nothing more".
-unfoldable pub refusalRow : Refusal → RefusalRow
-refusalRow TextTooLong = record { number = 1; value = 0 }
-refusalRow NotAPolicy = record { number = 2; value = 0 }
-refusalRow (NotWellFormed n) = record { number = 3; value = n }
-refusalRow NoFinding = record { number = 4; value = 0 }
-refusalRow (WrongNumberOfDecisions n) = record { number = 5; value = n }
-refusalRow (BadDecision n) = record { number = 6; value = n }
-refusalRow (TableTooShort n) = record { number = 7; value = n }
-refusalRow (OutputTooShort n) = record { number = 8; value = n }
+-- The row of a refusal as two numbers; the value is 0 where the table says "nothing more".
+abbrev pub refusalRow : Refusal → RefusalRow
+refusalRow r = record { number = refusalTable r .number; value = Option·getD (refusalTable r .returned) 0 }
+
+-- A number, or none, as a list.
+abbrev pub asList : Option ℕ → List ℕ
+asList none = []
+asList (some n) = n ∷ []
+
+-- "Returned" of a refusal as a list: one number, or none where the table says "nothing more".
+abbrev pub returned : Refusal → List ℕ
+returned r = asList (refusalTable r .returned)
 
 -- "16,777,216 bytes pass, 16,777,217 don't."
 abbrev pub textLimit : ℕ

@@ -2,6 +2,8 @@
 // bytes, lowest first (document 01: "There a policy word, a start, an end or a count is 8 bytes, lowest first").
 // `read_word` equals `number` of the eight bytes, `write_word` puts `wordBytes`, and `write_bytes` puts the bytes it is
 // given.
+pub mod refusals;
+
 ghost use mathlib.Core.Path.{_≡_};
 ghost use mathlib.Core.Bool.{cond};
 ghost use Prim.Native.Nat.{_+_, _*_, _%_, _≤_};
@@ -22,7 +24,7 @@ pub enum WriteAnswer {
     TooShort { wanted: usize },
 }
 
-// Why a call is turned back, with what is returned: a row of document 01's table.
+// Why a call is turned back, with what is returned: a row of document 01's table. Its number and its value: refusals.rt.
 pub enum Refusal {
     TextTooLong,
     NotAPolicy,

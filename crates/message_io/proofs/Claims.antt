@@ -2,8 +2,7 @@
 use mathlib.Core.Path.{refl}
 use native.Mathlib.Omega.{arith}
 use Rattle.base.specs.Texts.{parted}
-use Rattle.base.specs.Refusals.{refusalRow}
-use Rattle.message_io.specs.Lines.{decimal, decimalBy, findingLine, line, refusalLine, returned, totalLine}
+use Rattle.message_io.specs.Lines.{decimal, decimalBy, findingLine, line, refusalLine, totalLine}
 use Rattle.message_io.specs.Theorems.{DecimalTells, WorkedLines}
 use Rattle.message_io.proofs.Digits.{tells}
 
@@ -12,5 +11,5 @@ unfolding DecimalTells decimal
 decimal-tells n = tells n n (omega arith)
 
 pub worked-lines : WorkedLines
-unfolding WorkedLines findingLine totalLine refusalLine line parted decimal decimalBy refusalRow returned
+unfolding WorkedLines findingLine totalLine refusalLine line parted decimal decimalBy
 worked-lines = (refl, refl, refl, refl, refl)

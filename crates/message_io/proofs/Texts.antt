@@ -9,9 +9,8 @@ use lib.Seq.{drop-append-seam, drop-cons, length-sets, sets-eq, take-append-seam
 use Rattle.io.specs.Counts.{Counts}
 use Rattle.base.specs.Output.{PutAt}
 use Rattle.base.specs.Texts.{parted}
-use Rattle.base.specs.declared.Refusal.{Refusal}
 use Rattle.base.proofs.Writer.{put-as, put-then}
-use Rattle.message_io.specs.Lines.{behindBlanks, decimal, findingLine, line, returned}
+use Rattle.message_io.specs.Lines.{behindBlanks, decimal, findingLine, line}
 
 -- a line is its first text, and the others behind blanks
 blanks : (t : List ℕ) (ts : List (List ℕ)) → parted 0x20 (t ∷ ts) ≡ t ++ behindBlanks ts
@@ -54,19 +53,19 @@ unfolding findingLine
 first-number ns h = ap (λ (xs : List ℕ). line (map decimal xs)) (sym (drop-cons ns 0 0 h))
 
 -- what is returned with a refusal: a number, or nothing; 21 bytes have room for it
-pub value-put : {o o₁ : List ℕ} {s r n : ℕ} {x y : Refusal} → x ≡ y → returned y ≡ n ∷ [] → PutAt o s (0x20 ∷ decimal n) o₁ r × (r ≤ s + 21)
-    → PutAt o s (behindBlanks (map decimal (returned x))) o₁ r × (r ≤ s + 21)
+pub value-put : {o o₁ : List ℕ} {s r n : ℕ} (ns : List ℕ) → ns ≡ n ∷ [] → PutAt o s (0x20 ∷ decimal n) o₁ r × (r ≤ s + 21)
+    → PutAt o s (behindBlanks (map decimal ns)) o₁ r × (r ≤ s + 21)
 unfolding behindBlanks
-value-put {n = n} {x = x} d e p = (
-  put-as (behindBlanks (map decimal (returned x)))
-      (ap (λ (xs : List ℕ). 0x20 ∷ xs) (sym (append-nil (decimal n))) ∙ ap (λ (ns : List ℕ). behindBlanks (map decimal ns)) (sym (ap returned d ∙ e)))
+value-put {n = n} ns e p = (
+  put-as (behindBlanks (map decimal ns))
+      (ap (λ (xs : List ℕ). 0x20 ∷ xs) (sym (append-nil (decimal n))) ∙ ap (λ (ns : List ℕ). behindBlanks (map decimal ns)) (sym e))
       (p .0),
   p .1,
 )
 
-pub nothing-put : {o : List ℕ} {s : ℕ} {x y : Refusal} → x ≡ y → returned y ≡ [] → PutAt o s (behindBlanks (map decimal (returned x))) o s × (s ≤ s + 21)
+pub nothing-put : {o : List ℕ} {s : ℕ} (ns : List ℕ) → ns ≡ [] → PutAt o s (behindBlanks (map decimal ns)) o s × (s ≤ s + 21)
 unfolding behindBlanks
-nothing-put {o} {s} {x} d e = (
-  put-as (behindBlanks (map decimal (returned x))) (ap (λ (ns : List ℕ). behindBlanks (map decimal ns)) (sym (ap returned d ∙ e))) (record { ends = sym (add-zero s); bytes = refl }),
+nothing-put {s = s} ns e = (
+  put-as (behindBlanks (map decimal ns)) (ap (λ (ns : List ℕ). behindBlanks (map decimal ns)) (sym e)) (record { ends = sym (add-zero s); bytes = refl }),
   omega arith,
 )

@@ -4,18 +4,8 @@ use mathlib.Core.List.{List, [], _∷_, _++_, map}
 use Prim.Native.Nat.{ℕ, zero, suc, _+_, _/_, _%_}
 use lib.Dec.{ltb}
 use Rattle.base.specs.Texts.{parted}
-use Rattle.base.specs.Refusals.{refusalRow}
+use Rattle.base.specs.Refusals.{refusalRow, returned}
 use Rattle.base.specs.declared.Refusal.{Refusal}
-use Rattle.base.specs.declared.Refusal.the-variants.{
-  BadDecision,
-  NoFinding,
-  NotAPolicy,
-  NotWellFormed,
-  OutputTooShort,
-  TableTooShort,
-  TextTooLong,
-  WrongNumberOfDecisions,
-}
 
 -- ---- numbers
 
@@ -47,19 +37,7 @@ findingLine numbers = line (map decimal numbers)
 unfoldable pub totalLine : List ℕ → List ℕ
 totalLine numbers = line ((0x74 ∷ 0x6F ∷ 0x74 ∷ 0x61 ∷ 0x6C ∷ []) ∷ map decimal numbers)
 
--- "Returned" of a cause in document 01's table: none where it says "nothing more". The programs give only 1 and 3, of
--- which 3 has a value, the offset.
-unfoldable pub returned : Refusal → List ℕ
-returned TextTooLong = []
-returned NotAPolicy = []
-returned (NotWellFormed n) = n ∷ []
-returned NoFinding = []
-returned (WrongNumberOfDecisions n) = n ∷ []
-returned (BadDecision n) = n ∷ []
-returned (TableTooShort n) = n ∷ []
-returned (OutputTooShort n) = n ∷ []
-
--- "`refused`, the number and any offset"
+-- "`refused`, the number and any offset". The programs give only 1 and 3, of which 3 has a value, the offset.
 unfoldable pub refusalLine : Refusal → List ℕ
 refusalLine r =
     line ((0x72 ∷ 0x65 ∷ 0x66 ∷ 0x75 ∷ 0x73 ∷ 0x65 ∷ 0x64 ∷ []) ∷ map decimal (refusalRow r .number ∷ returned r))

@@ -6,9 +6,12 @@ ghost use Prim.Native.Nat.{_+_, _*_, _≤_};
 ghost use lib.ListN.{drop, length, take};
 ghost use Rattle.io.specs.Counts.{Counts};
 ghost use Rattle.base.specs.Output.{PutAt};
-ghost use Rattle.base.specs.Refusals.{refusalRow};
-ghost use Rattle.message_io.specs.Lines.{behindBlanks, decimal, findingLine, refusalLine, returned, totalLine};
+ghost use Rattle.base.specs.Refusals.{returned};
+ghost use Rattle.message_io.specs.Lines.{behindBlanks, decimal, findingLine, refusalLine, totalLine};
 use base::Refusal;
+use base::refusals::refusal_number;
+use base::refusals::refusal_value;
+use base::refusals::returns_value;
 
 // The most bytes of a line, with its 0A: ten numbers of up to 20 digits, each with a blank or the line's end behind it.
 pub const LINE_ROOM: usize = 210;
@@ -78,37 +81,15 @@ pub fn total_line(numbers: &[usize; 8], out: &mut [u8; LINE_ROOM]) -> usize
     put_bytes(out, at, b"\n")
 }
 
-// The number of a refusal in document 01's table.
-fn refusal_number(refusal: Refusal) -> usize
-    ensures { λ r. ⌜ r ≡ refusalRow refusal .number ⌝ }
-{
-    match refusal {
-        Refusal::TextTooLong => 1,
-        Refusal::NotAPolicy => 2,
-        Refusal::NotWellFormed { valid_up_to: _ } => 3,
-        Refusal::NoFinding => 4,
-        Refusal::WrongNumberOfDecisions { wanted: _ } => 5,
-        Refusal::BadDecision { index: _ } => 6,
-        Refusal::TableTooShort { findings: _ } => 7,
-        Refusal::OutputTooShort { wanted: _ } => 8,
-    }
-}
-
 // Puts what is returned with a refusal, behind a blank, if anything is.
 fn put_returned(out: &mut [u8], start: usize, refusal: Refusal) -> usize
     requires { ⌜ start + 21 ≤ length (now out) ⌝ }
     ensures { λ r. ⌜ PutAt (now (out .entry)) start (behindBlanks (map decimal (returned refusal))) (now (out .exit)) r × (r ≤ start + 21) ⌝ }
 {
-    match refusal {
-        Refusal::NotWellFormed { valid_up_to } => put_number(out, start, valid_up_to),
-        Refusal::WrongNumberOfDecisions { wanted } => put_number(out, start, wanted),
-        Refusal::BadDecision { index } => put_number(out, start, index),
-        Refusal::TableTooShort { findings } => put_number(out, start, findings),
-        Refusal::OutputTooShort { wanted } => put_number(out, start, wanted),
-        Refusal::TextTooLong => start,
-        Refusal::NotAPolicy => start,
-        Refusal::NoFinding => start,
+    if returns_value(refusal) {
+        return put_number(out, start, refusal_value(refusal));
     }
+    start
 }
 
 // Puts the line of a refusal, and answers its length.
@@ -118,7 +99,7 @@ pub fn refusal_line(refusal: Refusal, out: &mut [u8; LINE_ROOM]) -> usize
     ensures { λ r. ⌜ drop r (now (out .exit)) ≡ drop r (now (out .entry)) ⌝ }
 {
     let mut at = put_bytes(out, 0, b"refused");
-    at = put_number(out, at, refusal_number(refusal));
+    at = put_number(out, at, refusal_number(refusal) as usize);
     at = put_returned(out, at, refusal);
     put_bytes(out, at, b"\n")
 }

@@ -65,7 +65,6 @@ tested row refused same none out next h k = k refl
 
 -- The tests of a text and a policy, by their answers: a refusal's value is small, and a text that passes is short.
 tests-small : (text : List ℕ) (a b f : Bool) → leb (length text) textLimit ≡ a → (r : Refusal) → byTests a b f text ≡ some r → refusalRow r .value ≤ most
-unfolding refusalRow
 tests-small text a b f p r e = go a b f p e
   where
     is : (s : Refusal) → s ≡ r → refusalRow s .value ≤ most → refusalRow r .value ≤ most
@@ -88,7 +87,7 @@ intake-small text policy r e =
 -- ---- the calls
 
 pub format-small : (text policy out : List ℕ) → formatRow (format text policy out .answer) .value ≤ most
-unfolding format formatRow refusalRow
+unfolding format formatRow
 format-small text policy out =
     tested formatRow Format.Refused (λ r. refl) (intakeRefusal text policy) out _ (intake-small text policy)
     (λ e.
@@ -106,7 +105,7 @@ format-small text policy out =
 -- Rows in a table, of which there are no more than bytes of the text.
 table-small : {A : Type 0} (numbers : A → List ℕ) (k : ℕ) (rows : List A) (table text : List ℕ) → length rows ≤ length text → length text ≤ textLimit
     → listRow (fillTable numbers k rows table .answer) .value ≤ most
-unfolding fillTable listRow refusalRow
+unfolding fillTable listRow
 table-small numbers k rows table text f h = go (leb (length rows) (length table / k))
   where
     go : (b : Bool) → listRow (cond b (written (Listing.Listed (length rows)) (rowsBytes numbers rows) table) (kept (Listing.Refused (TableTooShort (length rows))) table) .answer) .value ≤ most
@@ -134,7 +133,7 @@ module _ (text policy : List ℕ) (offset : ℕ) (decisions out : List ℕ) wher
   P = policyOf policy
 
   decisions-small : (x : Item) (r : Refusal) → wanted P x ≤ textLimit → decisionsRefusal (wanted P x) decisions ≡ some r → refusalRow r .value ≤ most
-  unfolding decisionsRefusal refusalRow
+  unfolding decisionsRefusal
   decisions-small x r h e = go (eqb (length decisions) (wanted P x)) refl e
     where
       go : (b : Bool) → eqb (length decisions) (wanted P x) ≡ b
@@ -156,7 +155,7 @@ module _ (text policy : List ℕ) (offset : ℕ) (decisions out : List ℕ) wher
       omega (arith, a .short, l, s, size-chars text, validUpTo-le text, f, size-width r, length-append (take offset text ++ encodeAll r) b, length-append (take offset text) (encodeAll r), length-take offset text, length-drop (offset + length (encodeAll (x .chars))) text)
 
   pub mend-small : mendRow (mend text policy offset decisions out .answer) .value ≤ most
-  unfolding mend mendRow refusalRow findings judge
+  unfolding mend mendRow findings judge
   mend-small =
       tested mendRow Mend.Refused (λ r. refl) (intakeRefusal text policy) out _ (intake-small text policy)
       (λ e. go (findingAt offset (findings text policy)) refl (passed-accepted text policy e))
@@ -187,7 +186,7 @@ unfolding policyBytes policyWords keyWords defaultPolicy preferBare preferBareKe
 default-bytes = length-bytesOf (policyWords defaultPolicy)
 
 pub default-small : (out : List ℕ) → writeRow (answerOf (policyBytes defaultPolicy) out) .value ≤ most
-unfolding answerOf writeRow refusalRow
+unfolding answerOf writeRow
 default-small out = go (leb (length B) (length out)) default-bytes
   where
     B : List ℕ

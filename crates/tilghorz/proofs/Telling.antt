@@ -1,23 +1,13 @@
 -- A word of a small value tells its row, and a row tells the answer.
 use mathlib.Core.Path.{_≡_, refl, ap}
-use Prim.Native.Nat.{_/_, _%_, _^_, _≤_, _<_}
+use Prim.Native.Nat.{_/_, _%_, _^_, _<_}
 use native.Mathlib.Omega.{arith}
 use Rattle.base.specs.Refusals.{RefusalRow, refusalRow}
 use Rattle.base.specs.Theorems.{RowsTellRefusals}
 use Rattle.base.specs.declared.Refusal.{Refusal}
-use Rattle.base.specs.declared.Refusal.the-variants.{
-  BadDecision,
-  NoFinding,
-  NotAPolicy,
-  NotWellFormed,
-  OutputTooShort,
-  TableTooShort,
-  TextTooLong,
-  WrongNumberOfDecisions,
-}
 use Rattle.base.specs.declared.WriteAnswer.{WriteAnswer}
 use Rattle.base.specs.declared.WriteAnswer.the-variants as Write
-use Rattle.base.proofs.Rows.{rows-tell}
+use Rattle.base.proofs.Rows.{refusal-numbers, rows-tell}
 use Rattle.unicode.specs.declared.VariationEntry.{VariationEntry}
 use Rattle.unicode.specs.declared.VariationEntry.the-variants.{Char, NoEntry}
 use Rattle.analysis.specs.declared.types.MendAnswer.{MendAnswer}
@@ -51,19 +41,7 @@ tell row answer small rows = record {
   value = λ i. value-of (row (answer i)) (small i);
 }
 
--- ---- rows
-
--- A refusal's number is none of the other two.
-refused : (r : Refusal) → (1 ≤ refusalRow r .number) × (refusalRow r .number ≤ 8)
-unfolding refusalRow
-refused TextTooLong = (omega arith, omega arith)
-refused NotAPolicy = (omega arith, omega arith)
-refused (NotWellFormed n) = (omega arith, omega arith)
-refused NoFinding = (omega arith, omega arith)
-refused (WrongNumberOfDecisions n) = (omega arith, omega arith)
-refused (BadDecision n) = (omega arith, omega arith)
-refused (TableTooShort n) = (omega arith, omega arith)
-refused (OutputTooShort n) = (omega arith, omega arith)
+-- ---- rows: a refusal has a number from 1 to 254, so none of the other two answers
 
 num : {r s : RefusalRow} → r ≡ s → r .number ≡ s .number
 num e = ap (λ (r : RefusalRow). r .number) e
@@ -79,30 +57,30 @@ pub format-rows : (a b : FormatAnswer) → formatRow a ≡ formatRow b → a ≡
 unfolding formatRow
 format-rows Format.Unchanged Format.Unchanged e = refl
 format-rows Format.Unchanged (Format.Changed n) e = absurd (omega (arith, num e))
-format-rows Format.Unchanged (Format.Refused r) e = absurd (omega (arith, num e, refused r))
+format-rows Format.Unchanged (Format.Refused r) e = absurd (omega (arith, num e, refusal-numbers r))
 format-rows (Format.Changed n) Format.Unchanged e = absurd (omega (arith, num e))
 format-rows (Format.Changed n) (Format.Changed m) e = ap Format.Changed (val e)
-format-rows (Format.Changed n) (Format.Refused r) e = absurd (omega (arith, num e, refused r))
-format-rows (Format.Refused r) Format.Unchanged e = absurd (omega (arith, num e, refused r))
-format-rows (Format.Refused r) (Format.Changed n) e = absurd (omega (arith, num e, refused r))
+format-rows (Format.Changed n) (Format.Refused r) e = absurd (omega (arith, num e, refusal-numbers r))
+format-rows (Format.Refused r) Format.Unchanged e = absurd (omega (arith, num e, refusal-numbers r))
+format-rows (Format.Refused r) (Format.Changed n) e = absurd (omega (arith, num e, refusal-numbers r))
 format-rows (Format.Refused r) (Format.Refused s) e = ap Format.Refused (refusals r s e)
 
 pub list-rows : (a b : ListAnswer) → listRow a ≡ listRow b → a ≡ b
 unfolding listRow
 list-rows (Listing.Listed n) (Listing.Listed m) e = ap Listing.Listed (val e)
-list-rows (Listing.Listed n) (Listing.Refused r) e = absurd (omega (arith, num e, refused r))
-list-rows (Listing.Refused r) (Listing.Listed n) e = absurd (omega (arith, num e, refused r))
+list-rows (Listing.Listed n) (Listing.Refused r) e = absurd (omega (arith, num e, refusal-numbers r))
+list-rows (Listing.Refused r) (Listing.Listed n) e = absurd (omega (arith, num e, refusal-numbers r))
 list-rows (Listing.Refused r) (Listing.Refused s) e = ap Listing.Refused (refusals r s e)
 
 pub mend-rows : (a b : MendAnswer) → mendRow a ≡ mendRow b → a ≡ b
 unfolding mendRow
 mend-rows (Mend.Mended n) (Mend.Mended m) e = ap Mend.Mended (val e)
-mend-rows (Mend.Mended n) (Mend.Refused r) e = absurd (omega (arith, num e, refused r))
-mend-rows (Mend.Refused r) (Mend.Mended n) e = absurd (omega (arith, num e, refused r))
+mend-rows (Mend.Mended n) (Mend.Refused r) e = absurd (omega (arith, num e, refusal-numbers r))
+mend-rows (Mend.Refused r) (Mend.Mended n) e = absurd (omega (arith, num e, refusal-numbers r))
 mend-rows (Mend.Refused r) (Mend.Refused s) e = ap Mend.Refused (refusals r s e)
 
 pub write-rows : (a b : WriteAnswer) → writeRow a ≡ writeRow b → a ≡ b
-unfolding writeRow refusalRow
+unfolding writeRow
 write-rows (Write.Written n) (Write.Written m) e = ap Write.Written (val e)
 write-rows (Write.Written n) (Write.TooShort m) e = absurd (omega (arith, num e))
 write-rows (Write.TooShort n) (Write.Written m) e = absurd (omega (arith, num e))

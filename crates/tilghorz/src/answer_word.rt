@@ -13,6 +13,8 @@ ghost use Rattle.tilghorz.specs.AnswerWord.{
 use analysis::types::MendAnswer;
 use base::Refusal;
 use base::WriteAnswer;
+use base::refusals::refusal_number;
+use base::refusals::refusal_value;
 use formatter::FormatAnswer;
 use formatter::ListAnswer;
 use unicode::VariationEntry;
@@ -35,16 +37,7 @@ fn word_of(number: u64, value: usize) -> u64
 fn refusal_word(refusal: Refusal) -> u64
     ensures { λ r. ⌜ r ≡ word (refusalRow refusal) ⌝ }
 {
-    match refusal {
-        Refusal::TextTooLong => word_of(1, 0),
-        Refusal::NotAPolicy => word_of(2, 0),
-        Refusal::NotWellFormed { valid_up_to } => word_of(3, valid_up_to),
-        Refusal::NoFinding => word_of(4, 0),
-        Refusal::WrongNumberOfDecisions { wanted } => word_of(5, wanted),
-        Refusal::BadDecision { index } => word_of(6, index),
-        Refusal::TableTooShort { findings } => word_of(7, findings),
-        Refusal::OutputTooShort { wanted } => word_of(8, wanted),
-    }
+    word_of(refusal_number(refusal), refusal_value(refusal))
 }
 
 // The word of formatting's answer.
@@ -84,7 +77,7 @@ pub fn write_word(answer: WriteAnswer) -> u64
 {
     match answer {
         WriteAnswer::Written { len } => word_of(0, len),
-        WriteAnswer::TooShort { wanted } => word_of(8, wanted),
+        WriteAnswer::TooShort { wanted } => refusal_word(Refusal::OutputTooShort { wanted }),
     }
 }
 

@@ -3,8 +3,9 @@ use mathlib.Core.Path.{ap, _∙_}
 use mathlib.Core.List.{List, [], _∷_, map}
 use Prim.Native.Nat.{ℕ}
 use native.Mathlib.Omega.{arith}
+use Rattle.base.specs.Refusals.{returned}
 use Rattle.base.proofs.Writer.{put-then}
-use Rattle.message_io.specs.Lines.{behindBlanks, decimal, line, refusalLine, returned}
+use Rattle.message_io.specs.Lines.{behindBlanks, decimal, line, refusalLine}
 use Rattle.message_io.proofs.Texts.{front, line-put}
 use borrow.Author.Needs.{needs}
 use Rattle.message_io.proofs.line.refusal_line.Statement.{statement}
@@ -24,7 +25,7 @@ returns c =
     let v = c .before .before .before .put-returned .ensures in
     let s = c .put-bytes2 .ensures in
     let w = front (line-put (map decimal (n .result ∷ returned x)) p (put-then (q .0) (v .0)) s) (omega (arith, p .ends, q .1, v .1, s .ends)) in
-    (w .0, (w .1 .0 ∙ ap (λ (k : ℕ). line (word ∷ map decimal (k ∷ returned x))) (n .ensures), w .1 .1))
+    (w .0, (w .1 .0 ∙ ap (λ (k : ℕ). line (word ∷ map decimal (k ∷ returned x))) (n .ensures .0), w .1 .1))
 
 pub refusal-line-spec : {M : Type 1} → statement M
 refusal-line-spec =

@@ -1,12 +1,11 @@
 -- Case by case, the word of the answer's row.
 use borrow.Author.Needs.{needs}
-use Rattle.base.specs.Refusals.{refusalRow}
 use Rattle.tilghorz.specs.AnswerWord.{writeRow}
 use Rattle.tilghorz.proofs.answer_word.write_word.Statement.{statement}
 use Rattle.tilghorz.proofs.answer_word.write_word.Tie as tie
 
 pub write-word-spec : {M : Type 1} → statement M
-unfolding writeRow refusalRow
+unfolding writeRow
 write-word-spec =
     tie.close
     (tie.spec
@@ -15,4 +14,4 @@ write-word-spec =
     (λ c. search needs)
     (λ c κs. search needs)
     (λ c. simp (c .before .before .answer .given .1, c .word-of .ensures))
-    (λ c. simp (c .before .before .answer2 .given .1, c .word-of2 .ensures)))
+    (λ c. simp (c .before .before .answer2 .given .1, c .refusal-word .ensures)))
