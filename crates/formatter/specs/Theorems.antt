@@ -6,7 +6,7 @@ use mathlib.Core.List.{List, _++_}
 use Prim.Native.Nat.{ℕ, _≤_, _<_}
 use lib.ListN.{length}
 use Rattle.utf8.specs.Rfc3629.{WellFormed, chars, encodeAll, validUpTo}
-use Rattle.policy.specs.PolicyBytes.{isPolicy, policyOf}
+use Rattle.policy.specs.PolicyBytes.{isPolicy, policyOf, policyRefusal}
 use Rattle.analysis.specs.CellView.{formatCells, totalCells}
 use Rattle.formatter.specs.Demand3.{Accepted, FormattedClaim, ListClaim}
 use Rattle.formatter.specs.Filed.{filedText}
@@ -20,7 +20,7 @@ use Rattle.formatter.specs.declared.FormatAnswer.the-variants as Format
 use Rattle.formatter.specs.declared.ListAnswer.the-variants.{Refused}
 use Rattle.analysis.specs.declared.types.MendAnswer.the-variants as Mend
 use Rattle.base.specs.declared.Refusal.{Refusal}
-use Rattle.base.specs.declared.Refusal.the-variants.{NotAPolicy, NotWellFormed, TextTooLong}
+use Rattle.base.specs.declared.Refusal.the-variants.{NotWellFormed, TextTooLong}
 
 -- ---- refusals
 
@@ -29,7 +29,7 @@ unfoldable pub IntakeInOrder : Type 0
 IntakeInOrder =
     (text policy : List ℕ)
     → (16777217 ≤ length text → intakeRefusal text policy ≡ some TextTooLong)
-    × (length text ≤ 16777216 → isPolicy policy ≡ false → intakeRefusal text policy ≡ some NotAPolicy)
+    × ((r : Refusal) → length text ≤ 16777216 → policyRefusal policy ≡ some r → intakeRefusal text policy ≡ some r)
     × (length text ≤ 16777216 → isPolicy policy ≡ true → (WellFormed text → ⊥) → intakeRefusal text policy ≡ some (NotWellFormed (validUpTo text)))
     × (Accepted policy text → intakeRefusal text policy ≡ none)
 

@@ -22,6 +22,7 @@ use base::TEXT_LIMIT;
 use base::WORD_BYTES;
 use formatter::ListAnswer;
 use policy::policy_bytes::is_policy;
+use policy::policy_bytes::policy_refusal;
 use text_pass::findings::FindingSpan;
 use text_pass::findings::next_finding;
 
@@ -151,7 +152,7 @@ pub fn list_findings(text: &[u8], policy: &[u8], table: &mut [u8]) -> ListAnswer
         return ListAnswer::Refused(Refusal::TextTooLong);
     }
     if !is_policy(policy) {
-        return ListAnswer::Refused(Refusal::NotAPolicy);
+        return ListAnswer::Refused(policy_refusal(policy));
     }
     let FindingCount {
         findings,
