@@ -9,6 +9,7 @@ use lib.Dec.{leb}
 use lib.ListN.{drop, length, length-append, take}
 use lib.Seq.{take-append-seam}
 use borrow.Author.Tests.{le-leb, ne-eqb}
+use Rattle.base.specs.Tables.{fillTable}
 use Rattle.utf8.specs.Rfc3629.{validUpTo}
 use Rattle.utf8.proofs.Grammar.{whole-well-formed}
 use Rattle.policy.specs.PolicyBytes.{isPolicy, policyOf}
@@ -16,7 +17,7 @@ use Rattle.formatter.specs.Demand3.{Accepted}
 use Rattle.formatter.specs.Filed.{filedText}
 use Rattle.formatter.specs.Findings.{findingRow, findings}
 use Rattle.formatter.specs.Format.{format, formatted, sameBytes}
-use Rattle.formatter.specs.List.{fillTable, list, listBytes, rowNumbers}
+use Rattle.formatter.specs.List.{list, listBytes, rowBytes, rowNumbers}
 use Rattle.analysis.specs.Decisions.{judge, meaning}
 use Rattle.formatter.specs.Mend.{exchanged, findingAt, mend}
 use Rattle.base.specs.Refusals.{After, kept, orElse, textLimit}
@@ -24,7 +25,7 @@ use Rattle.formatter.specs.Intake.{intakeRefusal}
 use Rattle.formatter.specs.Theorems.{FiledIsFormatted, IntakeComesFirst, IntakeInOrder}
 use Rattle.formatter.specs.declared.FormatAnswer.{FormatAnswer}
 use Rattle.formatter.specs.declared.FormatAnswer.the-variants as Format
-use Rattle.formatter.specs.declared.ListAnswer.the-variants as Listing
+use Rattle.base.specs.declared.ListAnswer.the-variants as Listing
 use Rattle.analysis.specs.declared.types.MendAnswer.the-variants as Mend
 use Rattle.base.specs.declared.Refusal.{Refusal}
 use Rattle.base.specs.declared.Refusal.the-variants.{NotWellFormed}
@@ -50,7 +51,7 @@ comes-first text policy r e =
     let p = policyOf policy in (
       (λ out. ap (λ (o : Option Refusal). orElse o (λ (f : Refusal). kept (Format.Refused f) out) (formatTests (sameBytes F text) (leb (length F) (length out)) F out)) e),
       (λ table. ap (λ (o : Option Refusal). orElse o (λ (f : Refusal). kept (Listing.Refused f) table) (listRows (map (findingRow p) (findings text policy)) table)) e),
-      (λ table. ap (λ (o : Option Refusal). orElse o (λ (f : Refusal). kept (Listing.Refused f) table) (fillTable rowNumbers 80 (map (findingRow p) (findings text policy)) table)) e),
+      (λ table. ap (λ (o : Option Refusal). orElse o (λ (f : Refusal). kept (Listing.Refused f) table) (fillTable rowNumbers rowBytes (map (findingRow p) (findings text policy)) table)) e),
       (λ offset ds out.
           let x = findingAt offset (findings text policy) in
           ap (λ (o : Option Refusal). orElse o (λ (f : Refusal). kept (Mend.Refused f) out) (judge p x ds (exchanged text p offset (map meaning ds) x) out)) e),

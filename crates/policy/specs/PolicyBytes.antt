@@ -7,7 +7,7 @@ use mathlib.Core.Option.{Option, none, some}
 use Prim.Native.Nat.{ℕ, zero, suc, _+_, _*_, _/_, _^_, _≤_, _<_}
 use lib.Dec.{eqb, ltb}
 use lib.ListN.{drop, getD, length, take}
-use Rattle.base.specs.Words.{number, wordBytes}
+use Rattle.base.specs.Words.{bytesOf, number}
 use Rattle.base.specs.declared.Refusal.{Refusal}
 use Rattle.base.specs.declared.Refusal.the-variants.{NotAPolicy}
 use Rattle.unicode.specs.UnicodeData.{variationEntries}
@@ -28,11 +28,6 @@ keyWords s = s .chars .bits ++ s .«keycap_chars» .bits
 
 unfoldable pub policyWords : Policy → List ℕ
 policyWords p = keyWords (p .«prefer_bare») ++ keyWords (p .«bare_as_text»)
-
--- the bytes of words
-unfoldable pub bytesOf : List ℕ → List ℕ
-bytesOf [] = []
-bytesOf (w ∷ ws) = wordBytes w ++ bytesOf ws
 
 unfoldable pub policyBytes : Policy → List ℕ
 policyBytes p = bytesOf (policyWords p)

@@ -8,6 +8,8 @@ use native.Mathlib.Omega.{arith}
 use lib.Dec.{eqb, leb}
 use lib.ListN.{drop, length, length-append, length-drop, length-map, length-take, take}
 use borrow.Author.Tests.{eqb-true, leb-true}
+use Rattle.base.specs.Tables.{fillTable, rowsBytes}
+use Rattle.base.proofs.Numbers.{length-bytesOf}
 use Rattle.base.specs.Output.{answerOf}
 use Rattle.base.specs.Refusals.{After, RefusalRow, kept, orElse, refusalRow, textLimit, written}
 use Rattle.base.specs.declared.Refusal.{Refusal}
@@ -24,7 +26,6 @@ use Rattle.policy.specs.DefaultPolicy.{bareAsText, bareAsTextKeycap, defaultPol
 use Rattle.policy.specs.PolicyBytes.{isPolicy, keyWords, policyBytes, policyFault, policyOf, policyWords}
 use Rattle.policy.specs.declared.Policy.{Policy}
 use Rattle.policy.proofs.Refusals.{fault-value}
-use Rattle.policy.proofs.Bytes.{length-bytesOf}
 use Rattle.scanner.specs.Items.{Item, items}
 use Rattle.scanner.specs.Spans.{scan, size, width}
 use Rattle.scanner.specs.TextCheck.{textRefusal}
@@ -39,10 +40,10 @@ use Rattle.formatter.specs.Demand3.{Accepted}
 use Rattle.formatter.specs.Findings.{findingRow, findings}
 use Rattle.formatter.specs.Format.{format, formatted, sameBytes}
 use Rattle.formatter.specs.Intake.{intakeRefusal}
-use Rattle.formatter.specs.List.{fillTable, itemNumbers, listBytes, listItems, rowNumbers, rowsBytes}
+use Rattle.formatter.specs.List.{itemBytes, itemNumbers, listBytes, listItems, rowBytes, rowNumbers}
 use Rattle.formatter.specs.Mend.{exchanged, findingAt, mend}
 use Rattle.formatter.specs.declared.FormatAnswer.the-variants as Format
-use Rattle.formatter.specs.declared.ListAnswer.the-variants as Listing
+use Rattle.base.specs.declared.ListAnswer.the-variants as Listing
 use Rattle.formatter.proofs.Formatting.{formatTests}
 use Rattle.formatter.proofs.FormattedClaim.{formatted-claim}
 use Rattle.formatter.proofs.Judging.{some-bad}
@@ -122,7 +123,7 @@ list-small text policy table =
     let p = policyOf policy in
     let f = few-found (isFinding p) 0 (items (chars text)) in
     tested listRow Listing.Refused (λ r. refl) (intakeRefusal text policy) table _ (intake-small text policy)
-    (λ e. table-small rowNumbers 80 (map (findingRow p) (findings text policy)) table text (omega (arith, length-map (findings text policy) (findingRow p), f, few-items text)) (passed-accepted text policy e .short))
+    (λ e. table-small rowNumbers rowBytes (map (findingRow p) (findings text policy)) table text (omega (arith, length-map (findings text policy) (findingRow p), f, few-items text)) (passed-accepted text policy e .short))
 
 pub items-small : (text table : List ℕ) → listRow (listItems text table .answer) .value ≤ most
 unfolding listItems listRow
@@ -130,7 +131,7 @@ items-small text table =
     let a = leb (length text) textLimit in
     let f = eqb (validUpTo text) (length text) in
     tested listRow Listing.Refused (λ r. refl) (textRefusal text) table _ (λ r e. tests-small TextTooLong (omega arith) text a true f refl r (sym (text-is text refl refl) ∙ e))
-    (λ e. table-small itemNumbers 32 (scan text) table text (few-spans text) (tests-short text a f refl (sym (text-is text refl refl) ∙ e)))
+    (λ e. table-small itemNumbers itemBytes (scan text) table text (few-spans text) (tests-short text a f refl (sym (text-is text refl refl) ∙ e)))
 
 module _ (text policy : List ℕ) (offset : ℕ) (decisions out : List ℕ) where
   abbrev P : Policy

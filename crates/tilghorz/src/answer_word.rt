@@ -11,10 +11,10 @@ ghost use Rattle.tilghorz.specs.AnswerWord.{
   writeRow,
 };
 use analysis::types::MendAnswer;
+use base::ListAnswer;
 use base::Refusal;
 use base::WriteAnswer;
 use formatter::FormatAnswer;
-use formatter::ListAnswer;
 use unicode::VariationEntry;
 
 // One more than the largest value.

@@ -3,8 +3,8 @@ use mathlib.Core.Path.{ap₂}
 use mathlib.Core.List.{[], _∷_}
 use Prim.Native.Nat.{ℕ}
 use borrow.Author.Needs.{needs}
+use Rattle.base.specs.Words.{bytesOf}
 use Rattle.base.proofs.Writer.{put-as}
-use Rattle.policy.specs.PolicyBytes.{bytesOf}
 use Rattle.formatter.specs.List.{itemNumbers}
 use Rattle.listing.proofs.items.put_item.Statement.{statement}
 use Rattle.listing.proofs.items.put_item.Tie as tie

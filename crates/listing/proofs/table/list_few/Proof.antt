@@ -54,7 +54,7 @@ use Rattle.analysis.proofs.types.Finding.Laws as T′
 use Rattle.base.specs.Refusals.{After}
 use Rattle.formatter.specs.List.{list}
 use Rattle.listing.specs.Table.{fewFindings, noFinding}
-use Rattle.formatter.specs.declared.ListAnswer.{ListAnswer}
+use Rattle.base.specs.declared.ListAnswer.{ListAnswer}
 use Rattle.listing.specs.declared.table.FewFindings.{FewFindings}
 use Rattle.formatter.proofs.ListAnswer as E
 use Rattle.formatter.proofs.ListAnswer.Laws as E′
