@@ -1,9 +1,11 @@
--- Laws that every layer shares: tests, words, bits, and writing into a lent buffer.
+-- Laws that every layer shares: tests, words, bits, writing into a lent buffer, and tables of rows.
 pub mod Tests
 pub mod Writer
 pub mod Words
 pub mod Bits
 pub mod ByteBits
 pub mod Output
+pub mod Numbers
+pub mod TableBytes
 pub mod Rows
 pub mod Claims

@@ -1,9 +1,10 @@
 -- What every layer shares: ranges of numbers, numbers of eight bytes, bits of a word, texts in a row, document 01's
--- table of refusals, and results that are written into a lent buffer.
+-- table of refusals, results that are written into a lent buffer, and tables of rows of numbers.
 pub mod Ranges
 pub mod Words
 pub mod Bits
 pub mod Texts
 pub mod Refusals
 pub mod Output
+pub mod Tables
 pub mod Theorems

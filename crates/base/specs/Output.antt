@@ -31,6 +31,11 @@ bufferOf result out = cond (leb (length result) (length out)) (result ++ drop (l
 abbrev pub roomFor : List ℕ → List ℕ → ℕ → Bool
 roomFor bytes out at = leb (at + length bytes) (length out)
 
+-- what writing bytes at a place answers and leaves: true with the bytes there, or false with the buffer as it was
+abbrev pub WritesAt : List ℕ → List ℕ → ℕ → Bool → List ℕ → Type 0
+WritesAt bytes before at r after =
+    (r ≡ roomFor bytes before at) × (after ≡ cond (roomFor bytes before at) (sets before at bytes) before)
+
 -- a list written into a buffer at a place: where it ends, and the buffer after it
 pub record PutAt (before : List ℕ) (at : ℕ) (xs after : List ℕ) (r : ℕ) : Type 0 where
   pub ends : r ≡ at + length xs

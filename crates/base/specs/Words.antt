@@ -1,6 +1,6 @@
 -- A number as bytes, lowest first, and back.
 use mathlib.Core.Bool.{Bool, true, _&&_}
-use mathlib.Core.List.{List, [], _∷_}
+use mathlib.Core.List.{List, [], _∷_, _++_}
 use Prim.Native.Nat.{ℕ, zero, suc, _+_, _*_, _/_, _%_}
 use lib.Dec.{leb}
 use lib.ListN.{length}
@@ -13,6 +13,11 @@ littleEndian (suc k) x = x % 256 ∷ littleEndian k (x / 256)
 -- "a policy word, a start, an end or a count is 8 bytes, lowest first"
 unfoldable pub wordBytes : ℕ → List ℕ
 wordBytes x = littleEndian 8 x
+
+-- numbers as bytes, eight to each
+unfoldable pub bytesOf : List ℕ → List ℕ
+bytesOf [] = []
+bytesOf (w ∷ ws) = wordBytes w ++ bytesOf ws
 
 -- the number that bytes make, lowest first
 unfoldable pub number : List ℕ → ℕ

@@ -1,7 +1,7 @@
 // What every layer shares: the refusals of document 01's table, a bit of a word, a byte of a slice, and numbers of eight
 // bytes, lowest first (document 01: "There a policy word, a start, an end or a count is 8 bytes, lowest first").
-// `read_word` equals `number` of the eight bytes, `write_word` puts `wordBytes`, and `write_bytes` puts the bytes it is
-// given.
+// `read_word` equals `number` of the eight bytes, `write_word` puts `wordBytes`, `write_numbers` puts `bytesOf`, and
+// `write_bytes` puts the bytes it is given.
 pub mod refusals;
 
 ghost use mathlib.Core.Path.{_≡_};
@@ -10,8 +10,8 @@ ghost use Prim.Native.Nat.{_+_, _*_, _%_, _≤_};
 ghost use lib.ListN.{drop, getD, length, take};
 ghost use lib.Seq.{sets};
 ghost use Rattle.base.specs.Bits.{one};
-ghost use Rattle.base.specs.Output.{roomFor};
-ghost use Rattle.base.specs.Words.{hasRoom, littleEndian, number, wordBytes};
+ghost use Rattle.base.specs.Output.{WritesAt};
+ghost use Rattle.base.specs.Words.{bytesOf, hasRoom, littleEndian, number, wordBytes};
 
 pub const WORD_BYTES: usize = 8;
 
@@ -34,6 +34,12 @@ pub enum Refusal {
     BadDecision { index: usize },
     TableTooShort { findings: usize },
     OutputTooShort { wanted: usize },
+}
+
+// What filling a table answers: how many places are filled, or a refusal.
+pub enum ListAnswer {
+    Listed { findings: usize },
+    Refused(Refusal),
 }
 
 // The answer to tests that a call makes: all have passed, or the first refusal.
@@ -156,7 +162,7 @@ fn put_bytes(out: &mut [u8], start: usize, bytes: &[u8])
 
 // Writes bytes at a place and answers true, or leaves the buffer where it has no room for them.
 pub fn write_bytes(out: &mut [u8], at: usize, bytes: &[u8]) -> bool
-    ensures { λ r. ⌜ (r ≡ roomFor (now (bytes .entry)) (now (out .entry)) at) × (now (out .exit) ≡ cond (roomFor (now (bytes .entry)) (now (out .entry)) at) (sets (now (out .entry)) at (now (bytes .entry))) (now (out .entry))) ⌝ }
+    ensures { λ r. ⌜ WritesAt (now (bytes .entry)) (now (out .entry)) at r (now (out .exit)) ⌝ }
 {
     if out.len() < bytes.len() {
         return false;
@@ -165,5 +171,41 @@ pub fn write_bytes(out: &mut [u8], at: usize, bytes: &[u8]) -> bool
         return false;
     }
     put_bytes(out, at, bytes);
+    true
+}
+
+// Puts a number's eight bytes.
+fn put_number(out: &mut [u8], at: usize, n: usize)
+    requires { ⌜ at + 8 ≤ length (now out) ⌝ }
+    ensures { λ _. ⌜ now (out .exit) ≡ sets (now (out .entry)) at (wordBytes n) ⌝ }
+{
+    put_word(out, at, n as u64);
+}
+
+// Puts numbers at a place, eight bytes each.
+fn put_numbers(out: &mut [u8], start: usize, numbers: &[usize])
+    requires { ⌜ start + length (now numbers) * 8 ≤ length (now out) ⌝ }
+    ensures { λ _. ⌜ now (out .exit) ≡ sets (now (out .entry)) start (bytesOf (now (numbers .entry))) ⌝ }
+{
+    let mut at = start;
+    let mut i = 0;
+    while i < numbers.len() {
+        put_number(out, at, numbers[i]);
+        at += WORD_BYTES;
+        i += 1;
+    }
+}
+
+// Writes numbers at a place, eight bytes each, and answers true, or leaves the buffer where it has no room for them.
+pub fn write_numbers(out: &mut [u8], at: usize, numbers: &[usize]) -> bool
+    ensures { λ r. ⌜ WritesAt (bytesOf (now (numbers .entry))) (now (out .entry)) at r (now (out .exit)) ⌝ }
+{
+    if out.len() / WORD_BYTES < numbers.len() {
+        return false;
+    }
+    if out.len() - numbers.len() * WORD_BYTES < at {
+        return false;
+    }
+    put_numbers(out, at, numbers);
     true
 }

@@ -4,8 +4,8 @@
 ghost use Prim.Native.Nat.{_+_, _≤_};
 ghost use lib.ListN.{length};
 use analysis::types::Finding;
+use base::ListAnswer;
 use base::WORD_BYTES;
-use formatter::ListAnswer;
 use libc::STDOUT_FILENO;
 use listing::ROW_BYTES;
 use listing::ROW_NUMBERS;

@@ -1,11 +1,10 @@
 -- A call on a book's text and the same call on the book come to the same, and leave the next book's text.
 use mathlib.Core.Path.{_≡_, refl, ap, sym, _∙_, subst}
-use mathlib.Core.Bool.{Bool, true, false, cond, not, true≢false}
+use mathlib.Core.Bool.{Bool, true, false, cond, true≢false}
 use mathlib.Core.Option.{Option, none, some}
 use mathlib.Core.List.{List, _++_, map}
 use Prim.Native.Nat.{ℕ, _+_, _*_, _≤_}
 use native.Mathlib.Omega.{arith}
-use lib.Dec.{eqb}
 use lib.ListN.{length-map, drop, length, take}
 use lib.Seq.{take-append-seam}
 use borrow.Author.Tests.{eq-eqb, le-leb}
@@ -31,11 +30,11 @@ use Rattle.formatter.specs.Intake.{intakeRefusal}
 use Rattle.analysis.specs.declared.types.MendAnswer.{MendAnswer}
 use Rattle.analysis.specs.declared.types.MendAnswer.the-variants.{Mended, Refused}
 use Rattle.base.specs.declared.Refusal.{Refusal}
-use Rattle.base.specs.declared.Refusal.the-variants.{NotAPolicy, NotWellFormed, TextTooLong}
 use Rattle.formatter.proofs.Books.{scalar-book, size-book}
 use Rattle.formatter.proofs.Judging.{Passes, bookOutcome, mended-passes, mended-written, mends-is}
 use Rattle.formatter.proofs.Marks.{Rights, right-mark}
 use Rattle.formatter.proofs.Mending.{Derived, mending, openFound}
+use Rattle.formatter.proofs.Passing.{intake-is}
 use Rattle.formatter.proofs.Splicing.{mark-items, markAt, marks-are, openings-are, spliced}
 
 next-kept : (b : List ℕ) (a : MendAnswer) (o : List ℕ) → isMended a ≡ false → nextFrom b a o ≡ b
@@ -45,12 +44,8 @@ next-kept b (Refused r) o e = refl
 module _ (policy : List ℕ) where
   -- A text that is accepted passes the tests 1, 2 and 3.
   pub pass-intake : (b : List ℕ) → Accepted policy b → intakeRefusal b policy ≡ none
-  unfolding intakeRefusal
   pass-intake b h =
-      let formed = cond (not (eqb (validUpTo b) (length b))) (some (NotWellFormed (validUpTo b))) none in
-      ap (λ (q : Bool). cond (not q) (some TextTooLong) (cond (not (isPolicy policy)) (some NotAPolicy) formed)) (le-leb (length b) 16777216 (h .short))
-      ∙ ap (λ (q : Bool). cond (not q) (some NotAPolicy) formed) (h .is-policy)
-      ∙ ap (λ (q : Bool). cond (not q) (some (NotWellFormed (validUpTo b))) none) (eq-eqb (validUpTo b) (length b) (well-formed-whole (h .well-formed)))
+      intake-is b policy (le-leb (length b) 16777216 (h .short)) (h .is-policy) (eq-eqb (validUpTo b) (length b) (well-formed-whole (h .well-formed)))
 
   abbrev P : Policy
   P = policyOf policy

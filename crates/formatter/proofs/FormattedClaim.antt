@@ -7,6 +7,7 @@ use native.Mathlib.Omega.{arith}
 use lib.Dec.{leb}
 use lib.ListN.{length}
 use borrow.Author.Tests.{le-leb, lt-leb}
+use Rattle.base.specs.Tables.{fillTable}
 use Rattle.utf8.specs.Rfc3629.{WellFormed, chars, encodeAll}
 use Rattle.utf8.proofs.Grammar.{well-formed-whole}
 use Rattle.utf8.proofs.Texts.{encodeAll-chars}
@@ -31,9 +32,10 @@ use Rattle.formatter.specs.declared.FormatAnswer.{FormatAnswer}
 use Rattle.formatter.specs.declared.FormatAnswer.the-variants.{Unchanged}
 use Rattle.formatter.proofs.Books.{balance-book, strip-book}
 use Rattle.formatter.proofs.Formatting.{all-chars, all-items, all-none, all-right, format-is, format-none, formatTests, same-self, same-true, says-unchanged}
-use Rattle.formatter.specs.List.{fillTable, rowNumbers}
+use Rattle.formatter.specs.List.{rowBytes, rowNumbers}
 use Rattle.formatter.proofs.Listing.{list-bytes-is, list-is, listRows, room-rows}
-use Rattle.formatter.proofs.RowBytes.{none-filled}
+use Rattle.base.proofs.TableBytes.{no-rows}
+use Rattle.formatter.proofs.RowBytes.{length-row}
 use Rattle.formatter.proofs.Marks.{foundTotals, split-totals}
 use Rattle.formatter.proofs.Calls.{InRow, decoded-book, findings-book, formed-book, four-book, row-same}
 use Rattle.formatter.proofs.Splicing.{fresh-items}
@@ -133,8 +135,8 @@ module _ (policy : List ℕ) where
           list-is policy F table (short-all h) ∙ ap (λ (l : List Found). listRows (map (findingRow P) l) table) none-all
           ∙ room-rows [] table 0 refl (omega arith);
       none-listed-bytes = λ table h.
-          list-bytes-is policy F table (short-all h) ∙ ap (λ (l : List Found). fillTable rowNumbers 80 (map (findingRow P) l) table) none-all
-          ∙ none-filled table;
+          list-bytes-is policy F table (short-all h) ∙ ap (λ (l : List Found). fillTable rowNumbers rowBytes (map (findingRow P) l) table) none-all
+          ∙ sym (no-rows rowNumbers rowBytes length-row (omega arith) [] table refl refl);
       again = again-all;
       again-unchanged = λ out h. kept-none F out (short-all h) none-all;
       eight-totals = totals-all;

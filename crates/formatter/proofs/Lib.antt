@@ -9,6 +9,7 @@ pub mod Marks
 pub mod CellView
 pub mod Alike
 pub mod Order
+pub mod Passing
 pub mod Calls
 pub mod Acceptance
 pub mod Runs
@@ -18,7 +19,6 @@ pub mod Outcomes
 pub mod FirstBook
 pub mod ListClaim
 pub mod FormattedClaim
-pub mod Passing
 pub mod Steps
 pub mod RowBytes
 pub mod Claims

@@ -5,6 +5,7 @@ use mathlib.Core.List.{List, [], _∷_, _++_, append-nil, map, List·Memᴰ}
 use Prim.Native.Nat.{ℕ, _+_, _≤_}
 use native.Mathlib.Omega.{arith}
 use lib.ListN.{length-map, drop, length}
+use Rattle.base.proofs.TableBytes.{filled, not-filled}
 use Rattle.utf8.specs.Rfc3629.{chars, encodeAll}
 use Rattle.policy.specs.declared.Policy.{Policy}
 use Rattle.policy.specs.PolicyBytes.{isPolicy, policyOf}
@@ -21,7 +22,7 @@ use Rattle.formatter.specs.Demand3.{Accepted, Alike, FirstRefusal, ListC
 use Rattle.analysis.specs.Findings.{totals}
 use Rattle.formatter.specs.Findings.{findings, textTotals}
 use Rattle.formatter.specs.Format.{formatItems}
-use Rattle.formatter.specs.List.{list, listBytes, rowNumbers}
+use Rattle.formatter.specs.List.{list, listBytes, rowBytes, rowNumbers}
 use Rattle.formatter.specs.Mend.{Call, mendCall, outcomes, textAfter}
 use Rattle.base.specs.Refusals.{After}
 use Rattle.analysis.specs.declared.types.MendAnswer.{MendAnswer}
@@ -30,7 +31,7 @@ use Rattle.formatter.proofs.Books.{balance-book, strip-book}
 use Rattle.formatter.proofs.Formatting.{default-book}
 use Rattle.formatter.proofs.Judging.{bookOutcome}
 use Rattle.formatter.proofs.Listing.{first-finding, list-book, list-book-bytes, room-rows, seen-same, short-rows}
-use Rattle.formatter.proofs.RowBytes.{filled, length-row, not-filled}
+use Rattle.formatter.proofs.RowBytes.{length-row}
 use Rattle.formatter.proofs.Marks.{foundTotals, open-number, split-totals}
 use Rattle.formatter.proofs.Alike.{alike-of, alike-sym, alike-trans}
 use Rattle.formatter.proofs.Order.{places-add, same-chars}
@@ -117,10 +118,10 @@ module _ (policy : List ℕ) where
           unlisted = λ table r. ap (λ (t : List ℕ). list t policy table) (text-is cs) ∙ list-book policy ok E table S ∙ short-rows (map (openRow P) O) table (length O) (length-map O (openRow P)) r;
           listed-bytes = λ table r.
               ap (λ (t : List ℕ). listBytes t policy table) (text-is cs) ∙ list-book-bytes policy ok E table S
-              ∙ filled rowNumbers 80 length-row (omega arith) (map (openRow P) O) table (sym (length-map O (openRow P))) r;
+              ∙ filled rowNumbers rowBytes length-row (omega arith) (map (openRow P) O) table (sym (length-map O (openRow P))) r;
           unlisted-bytes = λ table r.
               ap (λ (t : List ℕ). listBytes t policy table) (text-is cs) ∙ list-book-bytes policy ok E table S
-              ∙ not-filled rowNumbers 80 length-row (omega arith) (map (openRow P) O) table (sym (length-map O (openRow P))) r;
+              ∙ not-filled rowNumbers rowBytes length-row (omega arith) (map (openRow P) O) table (sym (length-map O (openRow P))) r;
           were-findings = λ o i. subst (List·Memᴰ (atFirst o)) (ap (found (isFinding P) width 0) (items-are cs) ∙ sym (first-found policy b)) (first-finding P 0 0 0 E o i);
           unaltered =
               ap (λ (t : List ℕ). map (seen P t) (findings t policy)) (text-is cs) ∙ seen-same policy ok E (S .base)

@@ -10,6 +10,7 @@ use lib.Dec.{leb}
 use lib.ListN.{drop, length, length-append, take}
 use lib.Seq.{drop-append-seam, take-append-seam}
 use borrow.Author.Tests.{le-leb, lt-leb}
+use Rattle.base.specs.Tables.{fillTable}
 use Rattle.utf8.specs.Rfc3629.{encodeAll}
 use Rattle.utf8.proofs.Texts.{encodeAll-append}
 use Rattle.policy.specs.declared.Policy.{Policy}
@@ -21,11 +22,11 @@ use Rattle.analysis.specs.Analysis.{choices, isFinding, nonCanonicality, replac
 use Rattle.formatter.specs.Book.{Entry, Mark, Opening, atFirst, atPlace, bookChars, bookText, entryChars, isOpen, itemsOf, mended, openings, openingsFrom, place, putBy, takenBy, untouched}
 use Rattle.formatter.specs.Demand3.{Accepted, Seen, openRow, seen}
 use Rattle.formatter.specs.Findings.{findingRow, findings}
-use Rattle.formatter.specs.List.{fillTable, list, listBytes, rowNumbers}
+use Rattle.formatter.specs.List.{list, listBytes, rowBytes, rowNumbers}
 use Rattle.base.specs.Refusals.{After, kept, orElse, written}
 use Rattle.analysis.specs.declared.types.Finding.{Finding}
-use Rattle.formatter.specs.declared.ListAnswer.{ListAnswer}
-use Rattle.formatter.specs.declared.ListAnswer.the-variants.{Listed, Refused}
+use Rattle.base.specs.declared.ListAnswer.{ListAnswer}
+use Rattle.base.specs.declared.ListAnswer.the-variants.{Listed, Refused}
 use Rattle.base.specs.declared.Refusal.{Refusal}
 use Rattle.base.specs.declared.Refusal.the-variants.{TableTooShort}
 use Rattle.formatter.proofs.Mending.{openFound}
@@ -55,7 +56,7 @@ unfolding list
 list-is policy b table a =
     ap (λ (o : Option Refusal). orElse o (λ (r : Refusal). kept (Refused r) table) (listRows (map (findingRow (policyOf policy)) (findings b policy)) table)) (pass-intake policy b a)
 
-pub list-bytes-is : (policy b table : List ℕ) → Accepted policy b → listBytes b policy table ≡ fillTable rowNumbers 80 (map (findingRow (policyOf policy)) (findings b policy)) table
+pub list-bytes-is : (policy b table : List ℕ) → Accepted policy b → listBytes b policy table ≡ fillTable rowNumbers rowBytes (map (findingRow (policyOf policy)) (findings b policy)) table
 list-bytes-is policy b table a = sym (list-passed b policy table (pass-intake policy b a))
 
 row-open : (p : Policy) (os : List Opening) → map (findingRow p) (map atPlace os) ≡ map (openRow p) os
@@ -193,10 +194,10 @@ module _ (policy : List ℕ) (ok : isPolicy policy ≡ true) where
       list-is policy (bookText policy es) table (accepted-book policy ok es h) ∙ ap (λ (rows : List Finding). listRows rows table) (rows-book es h)
 
   pub list-book-bytes : (es : List Entry) (table : List ℕ) → Sound policy es
-      → listBytes (bookText policy es) policy table ≡ fillTable rowNumbers 80 (map (openRow (policyOf policy)) (openings policy es)) table
+      → listBytes (bookText policy es) policy table ≡ fillTable rowNumbers rowBytes (map (openRow (policyOf policy)) (openings policy es)) table
   list-book-bytes es table h =
       list-bytes-is policy (bookText policy es) table (accepted-book policy ok es h)
-      ∙ ap (λ (rows : List Finding). fillTable rowNumbers 80 rows table) (rows-book es h)
+      ∙ ap (λ (rows : List Finding). fillTable rowNumbers rowBytes rows table) (rows-book es h)
 
   pub seen-same : (es : List Entry) → InRow policy es
       → map (seen (policyOf policy) (bookText policy es)) (findings (bookText policy es) policy) ≡ map (seen (policyOf policy) (encodeAll (join (itemsOf es)))) (map atFirst (openings policy es))

@@ -1,14 +1,15 @@
 -- The tests of a text and a policy in their order, and the filed text.
 use mathlib.Core.Path.{_≡_, refl, ap, sym, _∙_}
-use mathlib.Core.Bool.{Bool, true, false, cond, not}
-use mathlib.Core.Option.{Option, none, some}
+use mathlib.Core.Bool.{Bool, true, false, cond}
+use mathlib.Core.Option.{Option, some}
 use mathlib.Core.List.{List, _++_, map}
 use Prim.Native.Nat.{ℕ, _≤_}
 use native.Mathlib.Omega.{arith}
-use lib.Dec.{eqb, leb}
+use lib.Dec.{leb}
 use lib.ListN.{drop, length, length-append, take}
 use lib.Seq.{take-append-seam}
-use borrow.Author.Tests.{le-leb, lt-leb, ne-eqb}
+use borrow.Author.Tests.{le-leb, ne-eqb}
+use Rattle.base.specs.Tables.{fillTable}
 use Rattle.utf8.specs.Rfc3629.{validUpTo}
 use Rattle.utf8.proofs.Grammar.{whole-well-formed}
 use Rattle.policy.specs.PolicyBytes.{isPolicy, policyOf}
@@ -16,7 +17,7 @@ use Rattle.formatter.specs.Demand3.{Accepted}
 use Rattle.formatter.specs.Filed.{filedText}
 use Rattle.formatter.specs.Findings.{findingRow, findings}
 use Rattle.formatter.specs.Format.{format, formatted, sameBytes}
-use Rattle.formatter.specs.List.{fillTable, list, listBytes, rowNumbers}
+use Rattle.formatter.specs.List.{list, listBytes, rowBytes, rowNumbers}
 use Rattle.analysis.specs.Decisions.{judge, meaning}
 use Rattle.formatter.specs.Mend.{exchanged, findingAt, mend}
 use Rattle.base.specs.Refusals.{After, kept, orElse, textLimit}
@@ -24,26 +25,24 @@ use Rattle.formatter.specs.Intake.{intakeRefusal}
 use Rattle.formatter.specs.Theorems.{FiledIsFormatted, IntakeComesFirst, IntakeInOrder}
 use Rattle.formatter.specs.declared.FormatAnswer.{FormatAnswer}
 use Rattle.formatter.specs.declared.FormatAnswer.the-variants as Format
-use Rattle.formatter.specs.declared.ListAnswer.the-variants as Listing
+use Rattle.base.specs.declared.ListAnswer.the-variants as Listing
 use Rattle.analysis.specs.declared.types.MendAnswer.the-variants as Mend
 use Rattle.base.specs.declared.Refusal.{Refusal}
-use Rattle.base.specs.declared.Refusal.the-variants.{NotAPolicy, NotWellFormed, TextTooLong}
+use Rattle.base.specs.declared.Refusal.the-variants.{NotWellFormed}
 use Rattle.formatter.proofs.Calls.{pass-intake}
 use Rattle.formatter.proofs.Formatting.{format-is, formatTests, same-true}
 use Rattle.formatter.proofs.Listing.{listRows}
-use Rattle.formatter.proofs.Passing.{intake-is}
+use Rattle.formatter.proofs.Passing.{intake-is, policy-first, too-long}
 
 pub in-order : IntakeInOrder
-unfolding IntakeInOrder intakeRefusal
-in-order text policy =
-    let formed : Bool → Option Refusal = λ q. cond (not q) (some (NotWellFormed (validUpTo text))) none in
-    let rest : Bool → Option Refusal = λ q. cond (not q) (some NotAPolicy) (formed (eqb (validUpTo text) (length text))) in
-    let all : Bool → Option Refusal = λ q. cond (not q) (some TextTooLong) (rest (isPolicy policy)) in (
-      (λ h. ap all (lt-leb (length text) 16777216 (omega arith))),
-      (λ h e. ap all (le-leb (length text) 16777216 h) ∙ ap rest e),
-      (λ h e w. ap all (le-leb (length text) 16777216 h) ∙ ap rest e ∙ ap formed (ne-eqb (validUpTo text) (length text) (λ i. w (whole-well-formed text i)))),
-      pass-intake policy text,
-    )
+unfolding IntakeInOrder
+in-order text policy = (
+  (λ h. too-long text policy (omega arith)),
+  (λ r h e. policy-first text policy r h e),
+  (λ h e w.
+      intake-is text policy (le-leb (length text) 16777216 h) e (ne-eqb (validUpTo text) (length text) (λ i. w (whole-well-formed text i)))),
+  pass-intake policy text,
+)
 
 pub comes-first : IntakeComesFirst
 unfolding IntakeComesFirst format list listBytes mend
@@ -52,7 +51,7 @@ comes-first text policy r e =
     let p = policyOf policy in (
       (λ out. ap (λ (o : Option Refusal). orElse o (λ (f : Refusal). kept (Format.Refused f) out) (formatTests (sameBytes F text) (leb (length F) (length out)) F out)) e),
       (λ table. ap (λ (o : Option Refusal). orElse o (λ (f : Refusal). kept (Listing.Refused f) table) (listRows (map (findingRow p) (findings text policy)) table)) e),
-      (λ table. ap (λ (o : Option Refusal). orElse o (λ (f : Refusal). kept (Listing.Refused f) table) (fillTable rowNumbers 80 (map (findingRow p) (findings text policy)) table)) e),
+      (λ table. ap (λ (o : Option Refusal). orElse o (λ (f : Refusal). kept (Listing.Refused f) table) (fillTable rowNumbers rowBytes (map (findingRow p) (findings text policy)) table)) e),
       (λ offset ds out.
           let x = findingAt offset (findings text policy) in
           ap (λ (o : Option Refusal). orElse o (λ (f : Refusal). kept (Mend.Refused f) out) (judge p x ds (exchanged text p offset (map meaning ds) x) out)) e),

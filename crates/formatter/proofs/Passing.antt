@@ -9,36 +9,47 @@ use lib.Dec.{eqb, leb}
 use lib.ListN.{drop, length, length-drop, take}
 use lib.Seq.{take-all}
 use borrow.Author.Tests.{eqb-true, le-leb, leb-true, lt-leb}
-use Rattle.base.specs.Refusals.{checked, textLimit}
+use Rattle.base.specs.Refusals.{checked, orElse, textLimit}
 use Rattle.base.specs.declared.Check.the-variants.{Passed, Refused}
 use Rattle.base.specs.declared.Refusal.{Refusal}
-use Rattle.base.specs.declared.Refusal.the-variants.{NotAPolicy, NotWellFormed, TextTooLong}
+use Rattle.base.specs.declared.Refusal.the-variants.{NotWellFormed, TextTooLong}
 use Rattle.utf8.specs.Rfc3629.{validUpTo}
 use Rattle.utf8.proofs.Grammar.{whole-well-formed}
-use Rattle.policy.specs.PolicyBytes.{isPolicy, policyOf, readPolicy}
+use Rattle.policy.specs.PolicyBytes.{isPolicy, policyFault, policyOf, policyRefusal, readPolicy}
 use Rattle.policy.specs.declared.ReadPolicy.{ReadPolicy}
+use Rattle.policy.proofs.Refusals.{policy-refused, refused-policy}
 use Rattle.formatter.specs.Demand3.{Accepted}
 use Rattle.formatter.specs.Intake.{intakeRefusal}
 
 -- ---- the tests
 
--- The refusal by the answers of the three tests.
-abbrev pub byTests : Bool → Bool → Bool → List ℕ → Option Refusal
-byTests short fit formed text =
-    cond (not short) (some TextTooLong) (cond (not fit) (some NotAPolicy) (cond (not formed) (some (NotWellFormed (validUpTo text))) none))
+-- The refusal by the answers of the three tests, with the refusal of the policy.
+abbrev pub byTests : Bool → Bool → Bool → Refusal → List ℕ → Option Refusal
+byTests short fit formed fault text =
+    cond (not short) (some TextTooLong)
+    (orElse (cond fit none (some fault)) some (cond (not formed) (some (NotWellFormed (validUpTo text))) none))
 
 pub intake-is : (text policy : List ℕ) {a b f : Bool} → leb (length text) textLimit ≡ a → isPolicy policy ≡ b → eqb (validUpTo text) (length text) ≡ f
-    → intakeRefusal text policy ≡ byTests a b f text
-unfolding intakeRefusal
+    → intakeRefusal text policy ≡ byTests a b f (policyFault policy) text
+unfolding intakeRefusal policyRefusal
 intake-is text policy {a} {b} {f} p q r =
-    ap (λ (t : Bool). byTests t (isPolicy policy) (eqb (validUpTo text) (length text)) text) p
-    ∙ ap (λ (t : Bool). byTests a t (eqb (validUpTo text) (length text)) text) q ∙ ap (λ (t : Bool). byTests a b t text) r
+    ap (λ (t : Bool). byTests t (isPolicy policy) (eqb (validUpTo text) (length text)) (policyFault policy) text) p
+    ∙ ap (λ (t : Bool). byTests a t (eqb (validUpTo text) (length text)) (policyFault policy) text) q
+    ∙ ap (λ (t : Bool). byTests a b t (policyFault policy) text) r
 
 pub too-long : (text policy : List ℕ) → textLimit < length text → intakeRefusal text policy ≡ some TextTooLong
 too-long text policy h = intake-is text policy (lt-leb (length text) textLimit h) refl refl
 
-pub no-policy : (text policy : List ℕ) → length text ≤ textLimit → isPolicy policy ≡ false → intakeRefusal text policy ≡ some NotAPolicy
+pub no-policy : (text policy : List ℕ) → length text ≤ textLimit → isPolicy policy ≡ false
+    → intakeRefusal text policy ≡ some (policyFault policy)
 no-policy text policy h p = intake-is text policy (le-leb (length text) textLimit h) p refl
+
+-- The refusal of a policy is that of the tests.
+pub policy-first : (text policy : List ℕ) (r : Refusal) → length text ≤ textLimit → policyRefusal policy ≡ some r
+    → intakeRefusal text policy ≡ some r
+policy-first text policy r h e =
+    let p = refused-policy policy r e in
+    no-policy text policy h p ∙ sym (policy-refused policy p) ∙ e
 
 -- ---- the well-formed bytes
 
@@ -66,7 +77,7 @@ passed-accepted text policy e = go (leb (length text) textLimit) (isPolicy polic
     go : (a b f : Bool) → leb (length text) textLimit ≡ a → isPolicy policy ≡ b → eqb (validUpTo text) (length text) ≡ f → Accepted policy text
     go true true true p q r = record { short = leb-true _ _ p; is-policy = q; well-formed = whole-well-formed text (eqb-true _ _ r) }
     go true true false p q r = absurd (some-none (NotWellFormed (validUpTo text)) (sym (intake-is text policy p q r) ∙ e))
-    go true false f p q r = absurd (some-none NotAPolicy (sym (intake-is text policy p q r) ∙ e))
+    go true false f p q r = absurd (some-none (policyFault policy) (sym (intake-is text policy p q r) ∙ e))
     go false b f p q r = absurd (some-none TextTooLong (sym (intake-is text policy p q r) ∙ e))
 
 -- ---- the policy that was read

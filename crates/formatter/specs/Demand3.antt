@@ -7,6 +7,7 @@ use mathlib.Core.Bool.{Bool, true, false, cond}
 use mathlib.Core.List.{List, [], _∷_, _++_, map, List·Memᴰ}
 use Prim.Native.Nat.{ℕ, suc, _+_, _*_, _≤_, _<_}
 use lib.ListN.{drop, length, take}
+use Rattle.base.specs.Tables.{rowsBytes}
 use Rattle.utf8.specs.Rfc3629.{WellFormed, chars, encodeAll}
 use Rattle.unicode.specs.declared.presentation.Presentation.{Presentation}
 use Rattle.policy.specs.declared.Policy.{Policy}
@@ -40,13 +41,13 @@ use Rattle.formatter.specs.Book.{
 use Rattle.analysis.specs.Findings.{totals}
 use Rattle.formatter.specs.Findings.{findings, textTotals}
 use Rattle.formatter.specs.Format.{format, formatted}
-use Rattle.formatter.specs.List.{list, listBytes, rowNumbers, rowsBytes}
+use Rattle.formatter.specs.List.{list, listBytes, rowBytes, rowNumbers}
 use Rattle.analysis.specs.Decisions.{meaning}
 use Rattle.formatter.specs.Mend.{Call, mend, nextText, outcomes, textAfter}
 use Rattle.base.specs.Refusals.{After}
 use Rattle.analysis.specs.declared.types.Finding.{Finding}
 use Rattle.formatter.specs.declared.FormatAnswer.the-variants as Format
-use Rattle.formatter.specs.declared.ListAnswer.the-variants as Listing
+use Rattle.base.specs.declared.ListAnswer.the-variants as Listing
 use Rattle.analysis.specs.declared.types.MendAnswer.{MendAnswer}
 use Rattle.analysis.specs.declared.types.MendAnswer.the-variants.{Mended, Refused}
 use Rattle.base.specs.declared.Refusal.the-variants.{BadDecision, NoFinding, OutputTooShort, TableTooShort, WrongNumberOfDecisions}
@@ -231,13 +232,13 @@ module _ (policy : List ℕ) where
           }
       pub unlisted : (table : List Finding) → length table < length (open-after cs)
           → list (text cs) policy table ≡ record { answer = Listing.Refused (TableTooShort (length (open-after cs))); buffer = table }
-      -- The same into any table of bytes, 80 to a row: their rows' bytes at the front, the bytes behind as they were.
-      pub listed-bytes : (table : List ℕ) → length (open-after cs) * 80 ≤ length table
+      -- The same into any table of bytes: their rows' bytes at the front, the bytes behind as they were.
+      pub listed-bytes : (table : List ℕ) → length (open-after cs) * rowBytes ≤ length table
           → listBytes (text cs) policy table ≡ record {
             answer = Listing.Listed (length (open-after cs));
-            buffer = rowsBytes rowNumbers (map (openRow (policyOf policy)) (open-after cs)) ++ drop (length (open-after cs) * 80) table;
+            buffer = rowsBytes rowNumbers (map (openRow (policyOf policy)) (open-after cs)) ++ drop (length (open-after cs) * rowBytes) table;
           }
-      pub unlisted-bytes : (table : List ℕ) → length table < length (open-after cs) * 80
+      pub unlisted-bytes : (table : List ℕ) → length table < length (open-after cs) * rowBytes
           → listBytes (text cs) policy table ≡ record { answer = Listing.Refused (TableTooShort (length (open-after cs))); buffer = table }
       pub were-findings : (o : Opening) → List·Memᴰ o (open-after cs) → List·Memᴰ (atFirst o) (findings first policy)
       -- Their bytes, counts and choices are as at first.

@@ -5,11 +5,11 @@ use mathlib.Core.Option.{Option, none, some}
 use Prim.Native.Nat.{ℕ}
 use lib.Dec.{eqb, leb}
 use lib.ListN.{length}
-use Rattle.base.specs.Refusals.{textLimit}
+use Rattle.base.specs.Refusals.{orElse, textLimit}
 use Rattle.base.specs.declared.Refusal.{Refusal}
-use Rattle.base.specs.declared.Refusal.the-variants.{NotAPolicy, NotWellFormed, TextTooLong}
+use Rattle.base.specs.declared.Refusal.the-variants.{NotWellFormed, TextTooLong}
 use Rattle.utf8.specs.Rfc3629.{validUpTo}
-use Rattle.policy.specs.PolicyBytes.{isPolicy}
+use Rattle.policy.specs.PolicyBytes.{policyRefusal}
 
 -- ---- limits
 
@@ -19,10 +19,10 @@ listLimit = 4194304
 
 -- ---- tests of a text and a policy
 
--- "Tested in this order": text over the limit, 1; not a policy, 2; text not well-formed, 3. None where all three pass.
+-- "Tested in this order": text over the limit, 1; no policy, by the refusal of its bytes; text not well-formed, 3. None where all pass.
 unfoldable pub intakeRefusal : List ℕ → List ℕ → Option Refusal
 intakeRefusal text policy =
     cond (not (leb (length text) textLimit)) (some TextTooLong)
-    (cond (not (isPolicy policy)) (some NotAPolicy)
+    (orElse (policyRefusal policy) some
     (cond (not (eqb (validUpTo text) (length text))) (some (NotWellFormed (validUpTo text)))
     none))

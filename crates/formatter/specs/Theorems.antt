@@ -5,22 +5,23 @@ use mathlib.Core.Option.{some, none}
 use mathlib.Core.List.{List, _++_}
 use Prim.Native.Nat.{ℕ, _≤_, _<_}
 use lib.ListN.{length}
+use Rattle.base.specs.Tables.{rowsBytes}
 use Rattle.utf8.specs.Rfc3629.{WellFormed, chars, encodeAll, validUpTo}
-use Rattle.policy.specs.PolicyBytes.{isPolicy, policyOf}
+use Rattle.policy.specs.PolicyBytes.{isPolicy, policyOf, policyRefusal}
 use Rattle.analysis.specs.CellView.{formatCells, totalCells}
 use Rattle.formatter.specs.Demand3.{Accepted, FormattedClaim, ListClaim}
 use Rattle.formatter.specs.Filed.{filedText}
 use Rattle.formatter.specs.Findings.{textTotals}
 use Rattle.formatter.specs.Format.{format, formatted}
-use Rattle.formatter.specs.List.{list, listBytes, rowNumbers, rowsBytes}
+use Rattle.formatter.specs.List.{list, listBytes, rowBytes, rowNumbers}
 use Rattle.formatter.specs.Mend.{Call, mend}
 use Rattle.formatter.specs.Intake.{intakeRefusal, listLimit}
 use Rattle.analysis.specs.declared.types.Finding.{Finding}
 use Rattle.formatter.specs.declared.FormatAnswer.the-variants as Format
-use Rattle.formatter.specs.declared.ListAnswer.the-variants.{Refused}
+use Rattle.base.specs.declared.ListAnswer.the-variants.{Refused}
 use Rattle.analysis.specs.declared.types.MendAnswer.the-variants as Mend
 use Rattle.base.specs.declared.Refusal.{Refusal}
-use Rattle.base.specs.declared.Refusal.the-variants.{NotAPolicy, NotWellFormed, TextTooLong}
+use Rattle.base.specs.declared.Refusal.the-variants.{NotWellFormed, TextTooLong}
 
 -- ---- refusals
 
@@ -29,7 +30,7 @@ unfoldable pub IntakeInOrder : Type 0
 IntakeInOrder =
     (text policy : List ℕ)
     → (16777217 ≤ length text → intakeRefusal text policy ≡ some TextTooLong)
-    × (length text ≤ 16777216 → isPolicy policy ≡ false → intakeRefusal text policy ≡ some NotAPolicy)
+    × ((r : Refusal) → length text ≤ 16777216 → policyRefusal policy ≡ some r → intakeRefusal text policy ≡ some r)
     × (length text ≤ 16777216 → isPolicy policy ≡ true → (WellFormed text → ⊥) → intakeRefusal text policy ≡ some (NotWellFormed (validUpTo text)))
     × (Accepted policy text → intakeRefusal text policy ≡ none)
 
@@ -49,7 +50,7 @@ IntakeComesFirst =
 -- `unlisted-bytes` of `ListClaim`.
 unfoldable pub ListedAsBytes : Type 0
 ListedAsBytes =
-    (text policy : List ℕ) (table : List Finding) (rest : List ℕ) → length rest < 80
+    (text policy : List ℕ) (table : List Finding) (rest : List ℕ) → length rest < rowBytes
     → listBytes text policy (rowsBytes rowNumbers table ++ rest)
     ≡ record { answer = list text policy table .answer; buffer = rowsBytes rowNumbers (list text policy table .buffer) ++ rest }
 

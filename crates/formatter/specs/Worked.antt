@@ -21,8 +21,8 @@ use Rattle.formatter.specs.Intake.{listLimit}
 use Rattle.analysis.specs.declared.types.Finding.{Finding}
 use Rattle.formatter.specs.declared.FormatAnswer.{FormatAnswer}
 use Rattle.formatter.specs.declared.FormatAnswer.the-variants as Format
-use Rattle.formatter.specs.declared.ListAnswer.{ListAnswer}
-use Rattle.formatter.specs.declared.ListAnswer.the-variants.{Listed, Refused}
+use Rattle.base.specs.declared.ListAnswer.{ListAnswer}
+use Rattle.base.specs.declared.ListAnswer.the-variants.{Listed, Refused}
 use Rattle.analysis.specs.declared.types.MendAnswer.{MendAnswer}
 use Rattle.analysis.specs.declared.types.MendAnswer.the-variants as Mend
 use Rattle.base.specs.declared.Refusal.the-variants.{BadDecision, NoFinding, OutputTooShort, TableTooShort, WrongNumberOfDecisions}

@@ -8,6 +8,7 @@ use base::Check;
 use base::Refusal;
 use base::TEXT_LIMIT;
 use policy::policy_bytes::is_policy;
+use policy::policy_bytes::policy_refusal;
 
 // The bytes of a text and of a policy: all three tests have passed, or the first refusal.
 pub fn intake(text: &[u8], policy: &[u8]) -> Check
@@ -17,7 +18,7 @@ pub fn intake(text: &[u8], policy: &[u8]) -> Check
         return Check::Refused(Refusal::TextTooLong);
     }
     if !is_policy(policy) {
-        return Check::Refused(Refusal::NotAPolicy);
+        return Check::Refused(policy_refusal(policy));
     }
     let valid_up_to = utf8::valid_up_to(text);
     if valid_up_to != text.len() {

@@ -11,9 +11,3 @@ pub enum FormatAnswer {
     Changed { len: usize },
     Refused(Refusal),
 }
-
-// What listing answers: so many findings are in the table, or a refusal.
-pub enum ListAnswer {
-    Listed { findings: usize },
-    Refused(Refusal),
-}

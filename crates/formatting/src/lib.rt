@@ -17,6 +17,7 @@ use base::Refusal;
 use base::TEXT_LIMIT;
 use formatter::FormatAnswer;
 use policy::policy_bytes::is_policy;
+use policy::policy_bytes::policy_refusal;
 use scanner::selectors::SELECTOR_BYTES;
 use text_pass::Change;
 use text_pass::next_change;
@@ -191,7 +192,7 @@ pub fn format_text(text: &[u8], policy: &[u8], out: &mut [u8]) -> FormatAnswer
         return FormatAnswer::Refused(Refusal::TextTooLong);
     }
     if !is_policy(policy) {
-        return FormatAnswer::Refused(Refusal::NotAPolicy);
+        return FormatAnswer::Refused(policy_refusal(policy));
     }
     let first = next_change(text, policy, 0);
     let end = first.end;

@@ -28,8 +28,8 @@ use Rattle.formatter.specs.Findings.{findingRow, findings}
 use Rattle.formatter.specs.Intake.{intakeRefusal}
 use Rattle.formatter.specs.List.{list}
 use Rattle.listing.specs.Table.{firstFinding, firstOr, listingPlan, noFinding}
-use Rattle.formatter.specs.declared.ListAnswer.{ListAnswer}
-use Rattle.formatter.specs.declared.ListAnswer.the-variants.{Listed, Refused}
+use Rattle.base.specs.declared.ListAnswer.{ListAnswer}
+use Rattle.base.specs.declared.ListAnswer.the-variants.{Listed, Refused}
 use Rattle.listing.specs.declared.table.ListingPlan.{ListingPlan}
 use Rattle.scanner.proofs.ItemAt.{item-at}
 use Rattle.formatter.proofs.Steps.{Says, analysis-says, rowsFrom}

@@ -16,8 +16,8 @@ use Rattle.analysis.specs.Findings.{findingsFrom}
 use Rattle.formatter.specs.Findings.{findingRow, findings}
 use Rattle.formatter.specs.Intake.{intakeRefusal}
 use Rattle.formatter.specs.List.{list}
-use Rattle.formatter.specs.declared.ListAnswer.{ListAnswer}
-use Rattle.formatter.specs.declared.ListAnswer.the-variants.{Listed, Refused}
+use Rattle.base.specs.declared.ListAnswer.{ListAnswer}
+use Rattle.base.specs.declared.ListAnswer.the-variants.{Listed, Refused}
 use Rattle.listing.specs.declared.table.FewFindings.{FewFindings}
 use Rattle.listing.specs.declared.table.ListingPlan.{ListingPlan}
 

@@ -4,15 +4,15 @@ ghost use mathlib.Core.Path.{_≡_};
 ghost use mathlib.Core.Bool.{cond};
 ghost use Prim.Native.Nat.{_+_, _≤_};
 ghost use lib.ListN.{length};
+ghost use Rattle.base.specs.Tables.{rowsBytes};
+ghost use Rattle.base.specs.Words.{bytesOf};
 ghost use Rattle.base.specs.Output.{PutAt};
-ghost use Rattle.policy.specs.PolicyBytes.{bytesOf};
 ghost use Rattle.scanner.specs.Spans.{scan};
-ghost use Rattle.formatter.specs.List.{itemNumbers, kindNumber, listItems, rowsBytes};
-use crate::put_numbers;
+ghost use Rattle.formatter.specs.List.{itemBytes, itemNumbers, kindNumber, listItems};
 use base::Check;
+use base::ListAnswer;
 use base::Refusal;
 use base::WORD_BYTES;
-use formatter::ListAnswer;
 use scanner::ScanItem;
 use scanner::ScanKind;
 use scanner::ScanStep;
@@ -60,14 +60,15 @@ fn flag_number(flag: bool) -> usize
 
 // Puts the row of an item, for which there is room.
 fn put_item(table: &mut [u8], start: usize, item: ScanItem) -> usize
-    requires { ⌜ start + 32 ≤ length (now table) ⌝ }
+    requires { ⌜ start + itemBytes ≤ length (now table) ⌝ }
     ensures { λ r. ⌜ PutAt (now (table .entry)) start (bytesOf (itemNumbers item)) (now (table .exit)) r ⌝ }
 {
     let kind = item.kind;
     let number = kind_number(kind);
     let complete = flag_number(item.tags_complete);
     let numbers = [item.start, item.end, number, complete];
-    put_numbers(table, start, &numbers)
+    base::write_numbers(table, start, &numbers);
+    start + ROW_BYTES
 }
 
 // Puts the row of each item, for which there is room.

@@ -9,19 +9,21 @@ ghost use mathlib.Core.Path.{_≡_};
 ghost use mathlib.Core.List.{map};
 ghost use Prim.Native.Nat.{_+_, _*_, _≤_};
 ghost use lib.ListN.{length};
+ghost use Rattle.base.specs.Tables.{fillTable, rowsBytes};
 ghost use Rattle.base.specs.Output.{PutAt};
-ghost use Rattle.base.specs.Words.{wordBytes};
+ghost use Rattle.base.specs.Words.{bytesOf};
 ghost use Rattle.utf8.specs.Rfc3629.{validUpTo};
-ghost use Rattle.policy.specs.PolicyBytes.{bytesOf, policyOf};
+ghost use Rattle.policy.specs.PolicyBytes.{policyOf};
 ghost use Rattle.analysis.specs.Findings.{findingsFrom};
 ghost use Rattle.formatter.specs.Findings.{findingRow};
-ghost use Rattle.formatter.specs.List.{fillTable, listBytes, rowNumbers, rowsBytes};
+ghost use Rattle.formatter.specs.List.{listBytes, rowBytes, rowNumbers};
 use analysis::types::Finding;
+use base::ListAnswer;
 use base::Refusal;
 use base::TEXT_LIMIT;
 use base::WORD_BYTES;
-use formatter::ListAnswer;
 use policy::policy_bytes::is_policy;
+use policy::policy_bytes::policy_refusal;
 use text_pass::findings::FindingSpan;
 use text_pass::findings::next_finding;
 
@@ -54,29 +56,6 @@ pub(crate) fn count_findings(text: &[u8], policy: &[u8]) -> FindingCount
     }
 }
 
-// Puts a number, for which there is room, and says where it ends.
-fn put_number(table: &mut [u8], at: usize, n: usize) -> usize
-    requires { ⌜ at + 8 ≤ length (now table) ⌝ }
-    ensures { λ r. ⌜ PutAt (now (table .entry)) at (wordBytes n) (now (table .exit)) r ⌝ }
-{
-    base::write_word(table, at, n as u64);
-    at + WORD_BYTES
-}
-
-// Puts the numbers of a row, for which there is room, and says where they end.
-pub(crate) fn put_numbers(table: &mut [u8], start: usize, numbers: &[usize]) -> usize
-    requires { ⌜ start + length (now numbers) * 8 ≤ length (now table) ⌝ }
-    ensures { λ r. ⌜ PutAt (now (table .entry)) start (bytesOf (now (numbers .entry))) (now (table .exit)) r ⌝ }
-{
-    let mut at = start;
-    let mut i = 0;
-    while i < numbers.len() {
-        at = put_number(table, at, numbers[i]);
-        i += 1;
-    }
-    at
-}
-
 // The numbers of a finding's row.
 pub fn row_numbers(finding: Finding) -> [usize; ROW_NUMBERS]
     ensures { λ r. ⌜ r ≡ rowNumbers finding ⌝ }
@@ -98,11 +77,12 @@ pub fn row_numbers(finding: Finding) -> [usize; ROW_NUMBERS]
 
 // Puts the row of a finding, for which there is room.
 fn put_row(table: &mut [u8], start: usize, finding: Finding) -> usize
-    requires { ⌜ start + 80 ≤ length (now table) ⌝ }
+    requires { ⌜ start + rowBytes ≤ length (now table) ⌝ }
     ensures { λ r. ⌜ PutAt (now (table .entry)) start (bytesOf (rowNumbers finding)) (now (table .exit)) r ⌝ }
 {
     let numbers = row_numbers(finding);
-    put_numbers(table, start, &numbers)
+    base::write_numbers(table, start, &numbers);
+    start + ROW_BYTES
 }
 
 // Puts the row of each finding, for which there is room.
@@ -131,7 +111,7 @@ fn put_findings(text: &[u8], policy: &[u8], table: &mut [u8]) -> usize
 // Lists the findings, of which there are so many, if the table has a place for each.
 fn fill_table(text: &[u8], policy: &[u8], findings: usize, table: &mut [u8]) -> ListAnswer
     requires { ⌜ findings ≡ length (findingsFrom (policyOf (now policy)) (now text) 0) ⌝ }
-    ensures { λ r. ⌜ record { answer = r; buffer = now (table .exit) } ≡ fillTable rowNumbers 80 (map (findingRow (policyOf (now (policy .entry)))) (findingsFrom (policyOf (now (policy .entry))) (now (text .entry)) 0)) (now (table .entry)) ⌝ }
+    ensures { λ r. ⌜ record { answer = r; buffer = now (table .exit) } ≡ fillTable rowNumbers rowBytes (map (findingRow (policyOf (now (policy .entry)))) (findingsFrom (policyOf (now (policy .entry))) (now (text .entry)) 0)) (now (table .entry)) ⌝ }
 {
     if findings == 0 {
         return ListAnswer::Listed { findings };
@@ -151,7 +131,7 @@ pub fn list_findings(text: &[u8], policy: &[u8], table: &mut [u8]) -> ListAnswer
         return ListAnswer::Refused(Refusal::TextTooLong);
     }
     if !is_policy(policy) {
-        return ListAnswer::Refused(Refusal::NotAPolicy);
+        return ListAnswer::Refused(policy_refusal(policy));
     }
     let FindingCount {
         findings,

@@ -23,6 +23,7 @@ use base::TEXT_LIMIT;
 use policy::Policy;
 use policy::ReadPolicy;
 use policy::policy_bytes::is_policy;
+use policy::policy_bytes::policy_refusal;
 use text_pass::findings::FindingSpan;
 use text_pass::findings::next_finding;
 
@@ -131,7 +132,7 @@ pub fn mend(
         return MendAnswer::Refused(Refusal::TextTooLong);
     }
     if !is_policy(policy) {
-        return MendAnswer::Refused(Refusal::NotAPolicy);
+        return MendAnswer::Refused(policy_refusal(policy));
     }
     let FindingSpan {
         start: _,

@@ -8,10 +8,10 @@ use lib.ListN.{drop, length}
 use lib.Seq.{drop-length}
 use borrow.Author.Tests.{le-leb}
 use Rattle.base.specs.Output.{Wrote, bufferOf}
-use Rattle.base.specs.Words.{littleEndian, wordBytes}
+use Rattle.base.specs.Words.{bytesOf, littleEndian, wordBytes}
 use Rattle.base.specs.declared.WriteAnswer.{WriteAnswer}
 use Rattle.policy.specs.DefaultPolicy.{bareAsText, bareAsTextKeycap, defaultPolicy, preferBare, preferBareKeycap}
-use Rattle.policy.specs.PolicyBytes.{bytesOf, keyWords, policyBytes, policyWords}
+use Rattle.policy.specs.PolicyBytes.{keyWords, policyBytes, policyWords}
 use Rattle.policy.specs.declared.Policy.{Policy}
 
 -- a result as long as the buffer is all of it

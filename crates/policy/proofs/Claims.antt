@@ -6,12 +6,15 @@ use Prim.Native.Nat.{ℕ, _^_, _<_}
 use native.Mathlib.Omega.{arith}
 use lib.ListN.{getD, length}
 use borrow.Author.Tests.{eq-eqb, ltb-true}
+use Rattle.base.proofs.Numbers.{length-bytesOf}
+use Rattle.base.specs.Words.{bytesOf}
 use Rattle.unicode.specs.Tables.{inRanges, member as Tables·member}
 use Rattle.unicode.specs.Unicode.{hasVariationSequence, isEmojiDefault, isEmojiPresentation, isTextDefault}
 use Rattle.unicode.specs.UnicodeData.{emojiPresentationRanges, variationEntries}
 use Rattle.unicode.specs.Theorems.{NoIndexNoEntry}
 use Rattle.unicode.specs.declared.VariationSequenceIndex.{VariationSequenceIndex}
 use Rattle.unicode.proofs.Claims.{no-index-no-entry}
+use Rattle.base.specs.declared.Refusal.the-variants.{NotAPolicy}
 use Rattle.base.specs.Bits.{one}
 use Rattle.policy_key_set.specs.Sets.{allBelow, contains, entryCount, member, memberAt}
 use Rattle.policy_key_set.specs.KeySets.{isAscii, rightWords}
@@ -19,7 +22,7 @@ use Rattle.policy_key_set.proofs.Contains.{contains-chars}
 use Rattle.policy_key_set.proofs.Entries.{right-words}
 use Rattle.policy.specs.Policy.{holdsBase, ruleOf, singletonRule}
 use Rattle.policy.specs.DefaultPolicy.{bareAsText, bareAsTextKeycap, defaultPolicy, preferBare, preferBareKeycap}
-use Rattle.policy.specs.PolicyBytes.{PolicyValue, bytesOf, isPolicy, keyWords, noUnusedBits, policyBytes, policyOf, policyWords, wordCount, wordsFrom}
+use Rattle.policy.specs.PolicyBytes.{PolicyValue, isPolicy, keyWords, noUnusedBits, policyBytes, policyFault, policyOf, policyWords, wordCount, wordsFrom}
 use Rattle.policy.specs.declared.Policy.{Policy}
 use Rattle.policy.specs.declared.SingletonRule.the-variants.{BareToText, EmojiToBare, TextToBare}
 use Rattle.policy.specs.Theorems.{
@@ -34,8 +37,8 @@ use Rattle.policy.specs.Theorems.{
   WriteRead,
 }
 use Rattle.policy.proofs.ByEntry.{ascii-rule-bare, rule-by-entry}
-use Rattle.policy.proofs.Bytes.{length-bytesOf}
 use Rattle.policy.proofs.RoundTrips.{Sixes, append-below, many-words, read-words, same-words, sixes-of, words-of, write-words}
+use Rattle.policy.proofs.Refusals.{passed-policy, policy-passes, policy-refused, refused-policy}
 use Rattle.policy.proofs.Unused.{refused-by, refused-for}
 
 -- what each of the default policy's sets holds, by one computed test
@@ -146,5 +149,8 @@ unfolding WriteRead policyBytes wordCount entryCount variationEntries
 write-read bs t l = ap bytesOf (words-of bs) ∙ write-words 24 bs l t
 
 pub no-policy-means : NoPolicyMeans
-unfolding NoPolicyMeans
-no-policy-means bs = (refused-for bs, refused-by bs)
+unfolding NoPolicyMeans policyFault
+no-policy-means bs = (
+  ((λ e. refused-for bs (refused-policy bs NotAPolicy e)), (λ h. policy-refused bs (refused-by bs h))),
+  (passed-policy bs, policy-passes bs),
+)

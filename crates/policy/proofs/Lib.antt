@@ -1,6 +1,7 @@
 -- Laws about a policy's words and bytes, and the theorems.
 pub mod Bounds
 pub mod Unused
+pub mod Refusals
 pub mod Bytes
 pub mod ByteBits
 pub mod ByEntry

@@ -1,12 +1,15 @@
 -- A policy as bytes: document 01, "A policy is 4W words: prefer_bare ordinary, prefer_bare keycap, then bare_as_text
 -- likewise", a word being 8 bytes, lowest first; and the test of a policy handed in (refusal 2).
 use mathlib.Core.Path.{_≡_}
-use mathlib.Core.Bool.{Bool, true, _&&_, _||_, not}
+use mathlib.Core.Bool.{Bool, true, cond, _&&_, _||_, not}
 use mathlib.Core.List.{List, [], _∷_, _++_}
+use mathlib.Core.Option.{Option, none, some}
 use Prim.Native.Nat.{ℕ, zero, suc, _+_, _*_, _/_, _^_, _≤_, _<_}
 use lib.Dec.{eqb, ltb}
 use lib.ListN.{drop, getD, length, take}
-use Rattle.base.specs.Words.{number, wordBytes}
+use Rattle.base.specs.Words.{bytesOf, number}
+use Rattle.base.specs.declared.Refusal.{Refusal}
+use Rattle.base.specs.declared.Refusal.the-variants.{NotAPolicy}
 use Rattle.unicode.specs.UnicodeData.{variationEntries}
 use Rattle.policy_key_set.specs.Sets.{allBelow, entryCount, member}
 use Rattle.policy_key_set.specs.KeySets.{isAscii, ordinary}
@@ -25,11 +28,6 @@ keyWords s = s .chars .bits ++ s .«keycap_chars» .bits
 
 unfoldable pub policyWords : Policy → List ℕ
 policyWords p = keyWords (p .«prefer_bare») ++ keyWords (p .«bare_as_text»)
-
--- the bytes of words
-unfoldable pub bytesOf : List ℕ → List ℕ
-bytesOf [] = []
-bytesOf (w ∷ ws) = wordBytes w ++ bytesOf ws
 
 unfoldable pub policyBytes : Policy → List ℕ
 policyBytes p = bytesOf (policyWords p)
@@ -61,6 +59,14 @@ noUnusedBits p =
 -- bytes are a policy: 4W words, and no unused bit set. "policy not 4W words, or an unused bit set" is refusal 2
 unfoldable pub isPolicy : List ℕ → Bool
 isPolicy bs = eqb (length bs) (4 * (wordCount * 8)) && noUnusedBits (policyOf bs)
+
+-- the refusal of bytes that are no policy: number 2
+unfoldable pub policyFault : List ℕ → Refusal
+policyFault bs = NotAPolicy
+
+-- what is wrong with bytes that are handed in as a policy, or nothing
+unfoldable pub policyRefusal : List ℕ → Option Refusal
+policyRefusal bs = cond (isPolicy bs) none (some (policyFault bs))
 
 -- what reading a policy answers
 unfoldable pub readPolicy : List ℕ → ReadPolicy

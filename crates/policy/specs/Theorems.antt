@@ -3,9 +3,11 @@ use mathlib.Core.Path.{_≡_}
 use mathlib.Core.Logic.{_↔_, _⊎_}
 use mathlib.Core.Bool.{Bool, true, false, cond, _||_}
 use mathlib.Core.List.{List}
+use mathlib.Core.Option.{none, some}
 use Prim.Native.Nat.{ℕ, _*_}
 use lib.ListN.{getD, length}
 use Rattle.base.specs.Words.{allBytes}
+use Rattle.base.specs.declared.Refusal.the-variants.{NotAPolicy}
 use Rattle.unicode.specs.Unicode.{hasVariationSequence, isEmojiDefault, isTextDefault, variationSequenceIndex}
 use Rattle.unicode.specs.UnicodeData.{variationEntries}
 use Rattle.unicode.specs.declared.VariationSequenceIndex.the-variants.{At}
@@ -20,6 +22,7 @@ use Rattle.policy.specs.PolicyBytes.{
   noUnusedBits,
   policyBytes,
   policyOf,
+  policyRefusal,
   policyWords,
   wordCount,
 }
@@ -73,6 +76,8 @@ unfoldable pub WriteRead : Type 0
 WriteRead =
     (bs : List ℕ) → allBytes bs ≡ true → length bs ≡ 4 * (wordCount * 8) → policyBytes (policyOf bs) ≡ bs
 
--- Bytes are no policy, which is refusal 2, exactly when they are not 4W words or have an unused bit set.
+-- Bytes get refusal 2 exactly when they are not 4W words or have an unused bit set, and none exactly when they are a policy.
 unfoldable pub NoPolicyMeans : Type 0
-NoPolicyMeans = (bs : List ℕ) → (isPolicy bs ≡ false) ↔ NoPolicy bs
+NoPolicyMeans =
+    (bs : List ℕ)
+    → ((policyRefusal bs ≡ some NotAPolicy) ↔ NoPolicy bs) × ((policyRefusal bs ≡ none) ↔ (isPolicy bs ≡ true))

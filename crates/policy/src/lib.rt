@@ -6,17 +6,11 @@ pub mod policy_bytes;
 ghost use mathlib.Core.Path.{_≡_};
 ghost use Prim.Native.Nat.{_+_, _≤_};
 ghost use lib.ListN.{length};
+ghost use Rattle.base.specs.Words.{bytesOf};
 ghost use Rattle.base.specs.Output.{PutAt, Wrote};
 ghost use Rattle.policy.specs.Policy.{Cleared, holdsBase, ruleOf, singletonRule};
 ghost use Rattle.policy.specs.DefaultPolicy.{defaultPolicy};
-ghost use Rattle.policy.specs.PolicyBytes.{
-  bytesOf,
-  keyWords,
-  policyBytes,
-  readPolicy,
-  wordCount,
-  wordsFrom,
-};
+ghost use Rattle.policy.specs.PolicyBytes.{keyWords, policyBytes, readPolicy, wordCount, wordsFrom};
 use base::WORD_BYTES;
 use base::WriteAnswer;
 use default_policy::PREFER_BARE_BITS;

@@ -8,10 +8,11 @@ ghost use lib.Dec.{ltb};
 ghost use Rattle.base.specs.Bits.{one};
 ghost use Rattle.policy_key_set.specs.Sets.{allBelow, member};
 ghost use Rattle.policy.specs.Policy.{entryRule};
-ghost use Rattle.policy.specs.PolicyBytes.{asciiKeysBare, isPolicy, noUnusedBit, policyOf, wordCount, wordsFrom};
+ghost use Rattle.policy.specs.PolicyBytes.{asciiKeysBare, isPolicy, noUnusedBit, policyFault, policyOf, wordCount, wordsFrom};
 use crate::POLICY_BYTES;
 use crate::SET_BYTES;
 use crate::SingletonRule;
+use base::Refusal;
 use base::WORD_BYTES;
 use policy_key_set::named_sets::ALL_BITS;
 use policy_key_set::named_sets::CHARSET_WORDS;
@@ -54,6 +55,13 @@ pub fn is_policy(bytes: &[u8]) -> bool
         return false;
     }
     has_no_unused_bit(bytes, 3 * SET_BYTES)
+}
+
+// The refusal of bytes that are no policy: the calls ask for it where `is_policy` answers no. Each such refusal is number 2.
+pub fn policy_refusal(bytes: &[u8]) -> Refusal
+    ensures { λ r. ⌜ r ≡ policyFault (now (bytes .entry)) ⌝ }
+{
+    Refusal::NotAPolicy
 }
 
 // Whether the set whose bytes begin at a place holds an entry. Behind the set's bits there is none.

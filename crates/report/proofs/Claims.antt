@@ -1,7 +1,7 @@
 -- The statements of specs/, each with its proof.
 use mathlib.Core.Path.{refl}
 use Rattle.base.specs.Texts.{parted}
-use Rattle.base.specs.Words.{littleEndian, number, wordBytes}
+use Rattle.base.specs.Words.{bytesOf, littleEndian, number, wordBytes}
 use Rattle.utf8.specs.Rfc3629.{chars, encode, encodeAll, foldChars, foldStep, readChar, readFour, utf8-1, utf8-2, utf8-3, utf8-4, validUpTo}
 use Rattle.unicode.specs.Presentation.{asSelector, fromSelector, isSelector}
 use Rattle.unicode.specs.Tables.{inRanges, indexOf, member, next}
@@ -11,7 +11,7 @@ use Rattle.base.specs.Bits.{one}
 use Rattle.policy_key_set.specs.Sets.{allBelow, contains, entryCount, member as Sets·member, memberAt}
 use Rattle.policy.specs.DefaultPolicy.{bareAsText, bareAsTextKeycap, defaultPolicy, preferBare, preferBareKeycap}
 use Rattle.policy.specs.Policy.{holdsBase, ruleOf, singletonRule}
-use Rattle.policy.specs.PolicyBytes.{bytesOf, isPolicy, keyWords, noUnusedBit, noUnusedBits, policyBytes, policyOf, policyWords, wordCount, wordsFrom}
+use Rattle.policy.specs.PolicyBytes.{isPolicy, keyWords, noUnusedBit, noUnusedBits, policyBytes, policyOf, policyRefusal, policyWords, wordCount, wordsFrom}
 use Rattle.scanner.specs.Classes.{classOf}
 use Rattle.scanner.specs.Items.{begin, cut, items, kindOf, step}
 use Rattle.scanner.specs.Spans.{found, width}
@@ -32,5 +32,5 @@ pub lines-are-reported : LinesAreReported
 lines-are-reported = reports
 
 pub example-reported : ExampleReported
-unfolding ExampleReported findingLine totalLine line parted decimal decimalBy tagsComplete tagModifications tagRuns withTags allComplete intakeRefusal findingRow findings totals littleEndian number wordBytes chars encode encodeAll foldChars foldStep readChar readFour utf8-1 utf8-2 utf8-3 utf8-4 validUpTo asSelector fromSelector isSelector inRanges indexOf member next hasVariationSequence isEmoji isEmojiDefault isEmojiModifier isEmojiModifierBase isEmojiPresentation isRi isTag variationSequenceIndex emojiModifierBases emojiModifiers emojiPresentationRanges emojiRanges riRanges variationEntries allBelow contains entryCount Sets·member memberAt one bareAsText bareAsTextKeycap defaultPolicy preferBare preferBareKeycap holdsBase ruleOf singletonRule bytesOf isPolicy keyWords noUnusedBit noUnusedBits policyBytes policyOf policyWords wordCount wordsFrom classOf begin cut items kindOf step found width addChar split countCells countsOf following nonCanonicality render renew replacement replacementOf byFirst byKeycap byModifier byTags isBareSide outcome rule1 rule2 rule3 rule4 rule5 rule6 textFirst withoutSelector reported linesFrom rowLines totalsAt countNumbers rowNumbers
+unfolding ExampleReported findingLine totalLine line parted decimal decimalBy tagsComplete tagModifications tagRuns withTags allComplete intakeRefusal policyRefusal findingRow findings totals littleEndian number wordBytes chars encode encodeAll foldChars foldStep readChar readFour utf8-1 utf8-2 utf8-3 utf8-4 validUpTo asSelector fromSelector isSelector inRanges indexOf member next hasVariationSequence isEmoji isEmojiDefault isEmojiModifier isEmojiModifierBase isEmojiPresentation isRi isTag variationSequenceIndex emojiModifierBases emojiModifiers emojiPresentationRanges emojiRanges riRanges variationEntries allBelow contains entryCount Sets·member memberAt one bareAsText bareAsTextKeycap defaultPolicy preferBare preferBareKeycap holdsBase ruleOf singletonRule bytesOf isPolicy keyWords noUnusedBit noUnusedBits policyBytes policyOf policyWords wordCount wordsFrom classOf begin cut items kindOf step found width addChar split countCells countsOf following nonCanonicality render renew replacement replacementOf byFirst byKeycap byModifier byTags isBareSide outcome rule1 rule2 rule3 rule4 rule5 rule6 textFirst withoutSelector reported linesFrom rowLines totalsAt countNumbers rowNumbers
 example-reported = refl

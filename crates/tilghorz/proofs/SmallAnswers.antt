@@ -8,10 +8,12 @@ use native.Mathlib.Omega.{arith}
 use lib.Dec.{eqb, leb}
 use lib.ListN.{drop, length, length-append, length-drop, length-map, length-take, take}
 use borrow.Author.Tests.{eqb-true, leb-true}
+use Rattle.base.specs.Tables.{fillTable, rowsBytes}
+use Rattle.base.proofs.Numbers.{length-bytesOf}
 use Rattle.base.specs.Output.{answerOf}
 use Rattle.base.specs.Refusals.{After, RefusalRow, kept, orElse, refusalRow, textLimit, written}
 use Rattle.base.specs.declared.Refusal.{Refusal}
-use Rattle.base.specs.declared.Refusal.the-variants.{NotAPolicy, NotWellFormed, OutputTooShort, TableTooShort, TextTooLong, WrongNumberOfDecisions}
+use Rattle.base.specs.declared.Refusal.the-variants.{NotWellFormed, OutputTooShort, TableTooShort, TextTooLong, WrongNumberOfDecisions}
 use Rattle.base.specs.declared.WriteAnswer.the-variants as Write
 use Rattle.base.proofs.Tests.{both-true}
 use Rattle.utf8.specs.Rfc3629.{chars, encodeAll, validUpTo}
@@ -21,9 +23,9 @@ use Rattle.unicode.specs.Unicode.{variationEntry}
 use Rattle.unicode.specs.UnicodeData.{variationEntries}
 use Rattle.unicode.proofs.Between.{every}
 use Rattle.policy.specs.DefaultPolicy.{bareAsText, bareAsTextKeycap, defaultPolicy, preferBare, preferBareKeycap}
-use Rattle.policy.specs.PolicyBytes.{isPolicy, keyWords, policyBytes, policyOf, policyWords}
+use Rattle.policy.specs.PolicyBytes.{isPolicy, keyWords, policyBytes, policyFault, policyOf, policyWords}
 use Rattle.policy.specs.declared.Policy.{Policy}
-use Rattle.policy.proofs.Bytes.{length-bytesOf}
+use Rattle.policy.proofs.Refusals.{fault-value}
 use Rattle.scanner.specs.Items.{Item, items}
 use Rattle.scanner.specs.Spans.{scan, size, width}
 use Rattle.scanner.specs.TextCheck.{textRefusal}
@@ -38,10 +40,10 @@ use Rattle.formatter.specs.Demand3.{Accepted}
 use Rattle.formatter.specs.Findings.{findingRow, findings}
 use Rattle.formatter.specs.Format.{format, formatted, sameBytes}
 use Rattle.formatter.specs.Intake.{intakeRefusal}
-use Rattle.formatter.specs.List.{fillTable, itemNumbers, listBytes, listItems, rowNumbers, rowsBytes}
+use Rattle.formatter.specs.List.{itemBytes, itemNumbers, listBytes, listItems, rowBytes, rowNumbers}
 use Rattle.formatter.specs.Mend.{exchanged, findingAt, mend}
 use Rattle.formatter.specs.declared.FormatAnswer.the-variants as Format
-use Rattle.formatter.specs.declared.ListAnswer.the-variants as Listing
+use Rattle.base.specs.declared.ListAnswer.the-variants as Listing
 use Rattle.formatter.proofs.Formatting.{formatTests}
 use Rattle.formatter.proofs.FormattedClaim.{formatted-claim}
 use Rattle.formatter.proofs.Judging.{some-bad}
@@ -64,25 +66,27 @@ tested row refused same (some r) out next h k = omega (arith, h r refl, ap (λ (
 tested row refused same none out next h k = k refl
 
 -- The tests of a text and a policy, by their answers: a refusal's value is small, and a text that passes is short.
-tests-small : (text : List ℕ) (a b f : Bool) → leb (length text) textLimit ≡ a → (r : Refusal) → byTests a b f text ≡ some r → refusalRow r .value ≤ most
-tests-small text a b f p r e = go a b f p e
+tests-small : (fault : Refusal) → refusalRow fault .value ≤ most → (text : List ℕ) (a b f : Bool) → leb (length text) textLimit ≡ a
+    → (r : Refusal) → byTests a b f fault text ≡ some r → refusalRow r .value ≤ most
+tests-small fault s text a b f p r e = go a b f p e
   where
     is : (s : Refusal) → s ≡ r → refusalRow s .value ≤ most → refusalRow r .value ≤ most
     is s z h = subst (λ (r : Refusal). refusalRow r .value ≤ most) z h
 
-    go : (a b f : Bool) → leb (length text) textLimit ≡ a → byTests a b f text ≡ some r → refusalRow r .value ≤ most
+    go : (a b f : Bool) → leb (length text) textLimit ≡ a → byTests a b f fault text ≡ some r → refusalRow r .value ≤ most
     go true true true p e = let z : _≡_ {A = ℕ} 0 1 = cc in absurd (omega arith)
     go true true false p e = is (NotWellFormed (validUpTo text)) (cc) (omega (arith, validUpTo-le text, leb-true (length text) textLimit p))
-    go true false f p e = is NotAPolicy (cc) (omega arith)
+    go true false f p e = is fault (cc) s
     go false b f p e = is TextTooLong (cc) (omega arith)
 
-tests-short : (text : List ℕ) (a f : Bool) → leb (length text) textLimit ≡ a → byTests a true f text ≡ none → length text ≤ textLimit
+tests-short : (text : List ℕ) (a f : Bool) → leb (length text) textLimit ≡ a → byTests a true f TextTooLong text ≡ none → length text ≤ textLimit
 tests-short text true f p e = leb-true (length text) textLimit p
 tests-short text false f p e = let z : _≡_ {A = ℕ} 0 1 = cc in absurd (omega arith)
 
 intake-small : (text policy : List ℕ) (r : Refusal) → intakeRefusal text policy ≡ some r → refusalRow r .value ≤ most
 intake-small text policy r e =
-    tests-small text (leb (length text) textLimit) (isPolicy policy) (eqb (validUpTo text) (length text)) refl r (sym (intake-is text policy refl refl refl) ∙ e)
+    tests-small (policyFault policy) (omega (arith, fault-value policy)) text (leb (length text) textLimit) (isPolicy policy)
+    (eqb (validUpTo text) (length text)) refl r (sym (intake-is text policy refl refl refl) ∙ e)
 
 -- ---- the calls
 
@@ -118,15 +122,15 @@ list-small text policy table =
     let p = policyOf policy in
     let f = few-found (isFinding p) 0 (items (chars text)) in
     tested listRow Listing.Refused (λ r. refl) (intakeRefusal text policy) table _ (intake-small text policy)
-    (λ e. table-small rowNumbers 80 (map (findingRow p) (findings text policy)) table text (omega (arith, length-map (findings text policy) (findingRow p), f, few-items text)) (passed-accepted text policy e .short))
+    (λ e. table-small rowNumbers rowBytes (map (findingRow p) (findings text policy)) table text (omega (arith, length-map (findings text policy) (findingRow p), f, few-items text)) (passed-accepted text policy e .short))
 
 pub items-small : (text table : List ℕ) → listRow (listItems text table .answer) .value ≤ most
 unfolding listItems listRow
 items-small text table =
     let a = leb (length text) textLimit in
     let f = eqb (validUpTo text) (length text) in
-    tested listRow Listing.Refused (λ r. refl) (textRefusal text) table _ (λ r e. tests-small text a true f refl r (sym (text-is text refl refl) ∙ e))
-    (λ e. table-small itemNumbers 32 (scan text) table text (few-spans text) (tests-short text a f refl (sym (text-is text refl refl) ∙ e)))
+    tested listRow Listing.Refused (λ r. refl) (textRefusal text) table _ (λ r e. tests-small TextTooLong (omega arith) text a true f refl r (sym (text-is text refl refl) ∙ e))
+    (λ e. table-small itemNumbers itemBytes (scan text) table text (few-spans text) (tests-short text a f refl (sym (text-is text refl refl) ∙ e)))
 
 module _ (text policy : List ℕ) (offset : ℕ) (decisions out : List ℕ) where
   abbrev P : Policy

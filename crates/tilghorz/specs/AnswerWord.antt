@@ -11,8 +11,8 @@ use Rattle.analysis.specs.declared.types.MendAnswer.{MendAnswer}
 use Rattle.analysis.specs.declared.types.MendAnswer.the-variants as Mend
 use Rattle.formatter.specs.declared.FormatAnswer.{FormatAnswer}
 use Rattle.formatter.specs.declared.FormatAnswer.the-variants as Format
-use Rattle.formatter.specs.declared.ListAnswer.{ListAnswer}
-use Rattle.formatter.specs.declared.ListAnswer.the-variants as Listing
+use Rattle.base.specs.declared.ListAnswer.{ListAnswer}
+use Rattle.base.specs.declared.ListAnswer.the-variants as Listing
 
 -- The word of a number and a value. No answer has a value of 2^56 or more: specs/Theorems.antt, WordsTellAnswers.
 abbrev pub word : RefusalRow → ℕ

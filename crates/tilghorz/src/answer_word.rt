@@ -11,12 +11,12 @@ ghost use Rattle.tilghorz.specs.AnswerWord.{
   writeRow,
 };
 use analysis::types::MendAnswer;
+use base::ListAnswer;
 use base::Refusal;
 use base::WriteAnswer;
 use base::refusals::refusal_number;
 use base::refusals::refusal_value;
 use formatter::FormatAnswer;
-use formatter::ListAnswer;
 use unicode::VariationEntry;
 
 // One more than the largest value.

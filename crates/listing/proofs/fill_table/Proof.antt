@@ -3,11 +3,12 @@ use mathlib.Core.Path.{sym, _∙_}
 use native.Mathlib.Omega.{arith}
 use lib.ListN.{length-map}
 use borrow.Author.Needs.{needs}
+use Rattle.base.proofs.TableBytes.{no-rows, rows-refused, rows-room, rows-written}
 use Rattle.policy.specs.PolicyBytes.{policyOf}
 use Rattle.analysis.specs.Findings.{findingsFrom}
 use Rattle.formatter.specs.Findings.{findingRow}
-use Rattle.formatter.specs.List.{rowNumbers}
-use Rattle.formatter.proofs.RowBytes.{length-row, no-rows, rows-refused, rows-room, rows-written}
+use Rattle.formatter.specs.List.{rowBytes, rowNumbers}
+use Rattle.formatter.proofs.RowBytes.{length-row}
 use Rattle.formatter.proofs.Steps.{rowsFrom}
 use Rattle.listing.proofs.fill_table.Statement.{statement}
 use Rattle.listing.proofs.fill_table.Tie as tie
@@ -18,7 +19,7 @@ returns c =
     let p = policyOf (x .policy .now) in
     let t = x .text .now in
     let n = c .before .before .before .before .pre ∙ sym (length-map (findingsFrom p t 0) (findingRow p)) in
-    no-rows (rowsFrom p t 0) (x .table .now) n (c .if1 .taken)
+    no-rows rowNumbers rowBytes length-row (omega arith) (rowsFrom p t 0) (x .table .now) n (c .if1 .taken)
 
 returns-2 : tie.Need-returns-2
 returns-2 c =
@@ -26,7 +27,7 @@ returns-2 c =
     let p = policyOf (x .policy .now) in
     let t = x .text .now in
     let n = c .before .before .before .before .before .pre ∙ sym (length-map (findingsFrom p t 0) (findingRow p)) in
-    rows-refused rowNumbers 80 length-row (omega arith) (rowsFrom p t 0) (x .table .now) n (omega arith)
+    rows-refused rowNumbers rowBytes length-row (omega arith) (rowsFrom p t 0) (x .table .now) n (omega arith)
 
 put-findings-requires : tie.Need-put-findings-requires
 put-findings-requires c κs =
@@ -34,7 +35,7 @@ put-findings-requires c κs =
     let p = policyOf (x .policy .now) in
     let t = x .text .now in
     let n = c .before .before .before .before .before .before .pre ∙ sym (length-map (findingsFrom p t 0) (findingRow p)) in
-    rows-room rowNumbers 80 length-row (omega arith) (rowsFrom p t 0) (x .table .now) n (omega arith)
+    rows-room rowNumbers rowBytes length-row (omega arith) (rowsFrom p t 0) (x .table .now) n (omega arith)
 
 returns-3 : tie.Need-returns-3
 returns-3 c =
@@ -42,7 +43,7 @@ returns-3 c =
     let p = policyOf (x .policy .now) in
     let t = x .text .now in
     let n = c .before .before .before .before .before .before .before .before .before .pre ∙ sym (length-map (findingsFrom p t 0) (findingRow p)) in
-    rows-written rowNumbers 80 length-row (omega arith) (rowsFrom p t 0) (x .table .now) n (omega arith) (c .before .before .put-findings .ensures)
+    rows-written rowNumbers rowBytes length-row (omega arith) (rowsFrom p t 0) (x .table .now) n (omega arith) (c .before .before .put-findings .ensures)
 
 pub fill-table-spec : {M : Type 1} → statement M
 fill-table-spec = tie.close (tie.spec returns returns-2 put-findings-requires (λ c. search needs) returns-3)

@@ -1,12 +1,13 @@
 -- `listing::list_findings` meets its contract.
-use mathlib.Core.Path.{sym, _∙_}
+use mathlib.Core.Path.{ap, sym, _∙_}
+use mathlib.Core.Option.{some}
 use Prim.Native.Nat.{_≤_}
 use native.Mathlib.Omega.{arith}
 use lib.ListN.{length}
 use borrow.Author.Needs.{needs}
 use borrow.Author.Tests.{not-false, not-true}
 use Rattle.base.specs.Refusals.{textLimit}
-use Rattle.base.specs.declared.Refusal.the-variants.{NotAPolicy, NotWellFormed, TextTooLong}
+use Rattle.base.specs.declared.Refusal.the-variants.{NotWellFormed, TextTooLong}
 use Rattle.formatter.specs.Findings.{findings}
 use Rattle.formatter.specs.Theorems.{IntakeComesFirst}
 use Rattle.formatter.proofs.Calls.{pass-intake}
@@ -26,9 +27,12 @@ returns c =
 returns-2 : tie.Need-returns-2
 unfolding IntakeComesFirst
 returns-2 c =
-    let x = c .before .before .before .before .before .before .args in
+    let x = c .before .before .before .before .before .before .before .args in
     let t = x .text .now in
-    sym (comes-first t (x .policy .now) NotAPolicy (no-policy t (x .policy .now) (omega (arith, c .before .before .if1 .left)) (sym (c .before .is-policy .ensures) ∙ not-true _ (c .if2 .taken))) .2 (x .table .now))
+    let p = x .policy .now in
+    let fails = sym (c .before .before .is-policy .ensures) ∙ not-true _ (c .before .if2 .taken) in
+    let refused = no-policy t p (omega (arith, c .before .before .before .if1 .left)) fails ∙ ap some (sym (c .policy-refusal .ensures)) in
+    sym (comes-first t p (c .policy-refusal .result) refused .2 (x .table .now))
 
 returns-3 : tie.Need-returns-3
 unfolding IntakeComesFirst
@@ -57,6 +61,7 @@ list-findings-spec =
     tie.close
     (tie.spec
     returns
+    (λ c κs. search needs)
     (λ c κs. search needs)
     returns-2
     (λ c κs. search needs)

@@ -6,13 +6,15 @@ use native.Mathlib.Omega.{arith}
 use borrow.Author.Needs.{needs}
 use borrow.Author.Tests.{not-false, not-true}
 use lib.ListN.{length}
+use Rattle.base.specs.Tables.{rowsBytes}
+use Rattle.base.specs.Words.{bytesOf}
 use Rattle.base.proofs.Writer.{Writing, begin, finish, put, room}
-use Rattle.policy.specs.PolicyBytes.{bytesOf, policyOf}
+use Rattle.policy.specs.PolicyBytes.{policyOf}
 use Rattle.scanner.specs.Spans.{Found}
 use Rattle.analysis.specs.declared.types.Finding.{Finding}
 use Rattle.text_pass.proofs.Passing.{over-none}
 use Rattle.formatter.specs.Findings.{findingRow}
-use Rattle.formatter.specs.List.{rowNumbers, rowsBytes}
+use Rattle.formatter.specs.List.{rowNumbers}
 use Rattle.listing.proofs.NextFindings.{finds-row, next-ahead, next-row}
 use Rattle.formatter.proofs.RowBytes.{length-row}
 use Rattle.formatter.proofs.Steps.{none-found, rowsFrom}

@@ -1,7 +1,7 @@
 -- The two sets one behind the other.
 use native.Mathlib.Omega.{arith}
+use Rattle.base.proofs.Numbers.{length-both}
 use Rattle.policy.specs.PolicyBytes.{keyWords}
-use Rattle.policy.proofs.Bytes.{length-both}
 use borrow.Author.Needs.{needs}
 use Rattle.policy.proofs.keys_len.Statement.{statement}
 use Rattle.policy.proofs.keys_len.Tie as tie

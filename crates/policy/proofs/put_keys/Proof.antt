@@ -3,8 +3,9 @@ use mathlib.Core.Path.{ap, _∙_}
 use native.Mathlib.Omega.{arith}
 use lib.ListN.{length}
 use lib.Seq.{length-sets}
-use Rattle.policy.specs.PolicyBytes.{bytesOf, keyWords}
-use Rattle.policy.proofs.Bytes.{length-both, put-both}
+use Rattle.base.proofs.Numbers.{length-both, put-both}
+use Rattle.base.specs.Words.{bytesOf}
+use Rattle.policy.specs.PolicyBytes.{keyWords}
 use borrow.Author.Needs.{needs}
 use Rattle.policy.proofs.put_keys.Statement.{statement}
 use Rattle.policy.proofs.put_keys.Tie as tie

@@ -4,9 +4,9 @@ use Prim.Native.Nat.{_-_, _≤_}
 use native.Mathlib.Omega.{arith}
 use borrow.Author.Needs.{needs}
 use lib.ListN.{drop, drop-of-length-le, length, length-map}
+use Rattle.base.proofs.Numbers.{word-room, word-written}
+use Rattle.base.specs.Words.{bytesOf}
 use Rattle.base.proofs.Writer.{Writing, begin, finish}
-use Rattle.policy.specs.PolicyBytes.{bytesOf}
-use Rattle.policy.proofs.Bytes.{word-room, word-written}
 use Rattle.policy.proofs.put_set.Statement.{statement}
 use Rattle.policy.proofs.put_set.Tie as tie
 

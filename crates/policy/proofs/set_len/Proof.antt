@@ -2,7 +2,7 @@
 use mathlib.Core.Path.{_≡_, sym, _∙_}
 use native.Mathlib.Omega.{arith}
 use lib.ListN.{length, length-map}
-use Rattle.policy.proofs.Bytes.{length-bytesOf}
+use Rattle.base.proofs.Numbers.{length-bytesOf}
 use Rattle.policy.proofs.set_len.Statement.{statement}
 use Rattle.policy.proofs.set_len.Tie as tie
 

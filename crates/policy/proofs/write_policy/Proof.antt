@@ -1,8 +1,8 @@
 -- The two key sets one behind the other.
 use native.Mathlib.Omega.{arith}
+use Rattle.base.proofs.Numbers.{length-both, put-both}
 use Rattle.base.proofs.Output.{too-short, wrote}
 use Rattle.policy.specs.PolicyBytes.{keyWords, policyBytes, policyWords}
-use Rattle.policy.proofs.Bytes.{length-both, put-both}
 use borrow.Author.Needs.{needs}
 use Rattle.policy.proofs.write_policy.Statement.{statement}
 use Rattle.policy.proofs.write_policy.Tie as tie

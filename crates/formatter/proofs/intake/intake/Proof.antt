@@ -7,6 +7,7 @@ use borrow.Author.Needs.{needs}
 use borrow.Author.Tests.{eq-eqb, le-leb, ne-eqb, not-false, not-true}
 use Rattle.base.specs.Refusals.{checked}
 use Rattle.base.specs.declared.Check.the-variants.{Refused}
+use Rattle.base.specs.declared.Refusal.{Refusal}
 use Rattle.base.specs.declared.Refusal.the-variants.{NotWellFormed}
 use Rattle.utf8.specs.Rfc3629.{validUpTo}
 use Rattle.formatter.proofs.Passing.{intake-is, no-policy, too-long}
@@ -21,10 +22,11 @@ returns c =
 
 returns-2 : tie.Need-returns-2
 returns-2 c =
-    let x = c .before .before .before .before .before .args in
+    let x = c .before .before .before .before .before .before .args in
     let t = x .text .now in
-    let p = sym (c .before .is-policy .ensures) ∙ not-true (c .before .is-policy .result) (c .if2 .taken) in
-    sym (ap checked (no-policy t (x .policy .now) (omega arith) p))
+    let i = c .before .before .is-policy in
+    let p = sym (i .ensures) ∙ not-true (i .result) (c .before .if2 .taken) in
+    ap (λ (r : Refusal). Refused r) (c .policy-refusal .ensures) ∙ sym (ap checked (no-policy t (x .policy .now) (omega arith) p))
 
 returns-3 : tie.Need-returns-3
 returns-3 c =
@@ -47,4 +49,4 @@ returns-4 c =
 
 pub intake-spec : {M : Type 1} → statement M
 intake-spec =
-    tie.close (tie.spec returns (λ c κs. search needs) returns-2 (λ c κs. search needs) returns-3 returns-4)
+    tie.close (tie.spec returns (λ c κs. search needs) (λ c κs. search needs) returns-2 (λ c κs. search needs) returns-3 returns-4)

@@ -4,10 +4,11 @@ use Prim.Native.Nat.{_-_, _≤_}
 use native.Mathlib.Omega.{arith}
 use borrow.Author.Needs.{needs}
 use lib.ListN.{length}
+use Rattle.base.specs.Tables.{rowsBytes}
+use Rattle.base.specs.Words.{bytesOf}
 use Rattle.base.proofs.Writer.{Writing, begin, finish, put, room}
-use Rattle.policy.specs.PolicyBytes.{bytesOf}
 use Rattle.scanner.specs.Spans.{scan, scanFrom}
-use Rattle.formatter.specs.List.{itemNumbers, rowsBytes}
+use Rattle.formatter.specs.List.{itemNumbers}
 use Rattle.formatter.proofs.RowBytes.{length-item}
 use Rattle.formatter.proofs.Steps.{cursor-goes}
 use Rattle.listing.proofs.items.put_items.Statement.{statement}

@@ -54,10 +54,10 @@ use Rattle.analysis.proofs.types.Finding.Laws as T′
 use Rattle.base.specs.Refusals.{After}
 use Rattle.formatter.specs.List.{list}
 use Rattle.listing.specs.Table.{fewFindings, noFinding}
-use Rattle.formatter.specs.declared.ListAnswer.{ListAnswer}
+use Rattle.base.specs.declared.ListAnswer.{ListAnswer}
 use Rattle.listing.specs.declared.table.FewFindings.{FewFindings}
-use Rattle.formatter.proofs.ListAnswer as E
-use Rattle.formatter.proofs.ListAnswer.Laws as E′
+use Rattle.base.proofs.ListAnswer as E
+use Rattle.base.proofs.ListAnswer.Laws as E′
 use Rattle.listing.proofs.table.FewFindings as F
 use Rattle.listing.proofs.table.FewFindings.Laws as F′
 use Rattle.listing.proofs.table.no_finding as no-finding

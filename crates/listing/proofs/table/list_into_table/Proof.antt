@@ -61,10 +61,10 @@ use Rattle.analysis.proofs.types.Finding as T
 use Rattle.analysis.proofs.types.Finding.Laws as T′
 use Rattle.formatter.specs.List.{list}
 use Rattle.listing.specs.Table.{firstFinding, listingPlan}
-use Rattle.formatter.specs.declared.ListAnswer.{ListAnswer}
+use Rattle.base.specs.declared.ListAnswer.{ListAnswer}
 use Rattle.listing.specs.declared.table.ListingPlan.{ListingPlan}
-use Rattle.formatter.proofs.ListAnswer as E
-use Rattle.formatter.proofs.ListAnswer.Laws as E′
+use Rattle.base.proofs.ListAnswer as E
+use Rattle.base.proofs.ListAnswer.Laws as E′
 use Rattle.formatter.proofs.Steps.{rowsFrom}
 use Rattle.listing.proofs.Storing.{Planned, length-stored, planned, stored, turn}
 use Rattle.listing.proofs.table.ListingPlan as S
