@@ -15,11 +15,15 @@ use listing::table::FEW;
 use listing::table::FewFindings;
 use listing::table::list_few;
 use message_io::Ending;
-use message_io::MESSAGE_ROOM;
 use message_io::Message;
 use policy::POLICY_BYTES;
 use std::num::wrapping_add_usize;
 use tilghorz::answer_word::list_word;
+
+// The longest input, and one byte more, so that a longer one is seen.
+const INPUT_LIMIT: usize = 12_288;
+
+const INPUT_ROOM: usize = INPUT_LIMIT + 1;
 
 // As many bytes as a table of structs has room for.
 const TABLE_BYTES: usize = FEW * ROW_BYTES;
@@ -158,7 +162,7 @@ fn say_too_long() {
 }
 
 fn main() {
-    let mut buf = [0u8; MESSAGE_ROOM];
+    let mut buf = [0u8; INPUT_ROOM];
     let Message { ending, len } = message_io::read_message(&mut buf);
     match ending {
         Ending::Whole => list_message(&buf[..len]),

@@ -12,6 +12,10 @@ use Rattle.formatter.specs.Intake.{intakeRefusal}
 use Rattle.formatter.specs.declared.FormatAnswer.{FormatAnswer}
 use Rattle.formatter.specs.declared.FormatAnswer.the-variants.{Changed, Refused, Unchanged}
 
+-- "Programs read at most 12,288 bytes under the default policy; more gives `refused 1`"
+abbrev pub messageLimit : ℕ
+messageLimit = 12288
+
 -- The policy is the default.
 abbrev pub policy : List ℕ
 policy = policyBytes defaultPolicy

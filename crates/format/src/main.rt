@@ -1,18 +1,23 @@
 // Formats the message on standard input under the default policy, and writes the filed text to standard output (document 01,
 // "Programs"). On a refusal it writes the refusal's line, and nothing else. Everything that matters is in the library.
-ghost use Prim.Native.Nat.{_*_, _≤_};
+ghost use mathlib.Core.Path.{_≡_};
+ghost use Prim.Native.Nat.{_+_, _*_, _≤_};
 ghost use lib.ListN.{length};
-ghost use Rattle.format.specs.Answers.{Answers};
+ghost use Rattle.format.specs.Answers.{Answers, messageLimit};
 use base::Refusal;
 use formatter::FormatAnswer;
 use formatter::filed::filed_text;
 use formatting::format_text;
 use message_io::Ending;
-use message_io::MESSAGE_LIMIT;
-use message_io::MESSAGE_ROOM;
 use message_io::Message;
 use message_io::line::LINE_ROOM;
 use policy::POLICY_BYTES;
+
+// "Programs read at most 12,288 bytes under the default policy; more gives `refused 1`."
+const MESSAGE_LIMIT: usize = 12_288;
+
+// One byte more, so that a longer message is seen.
+const MESSAGE_ROOM: usize = MESSAGE_LIMIT + 1;
 
 // "Formatted text is at most 4 times the input."
 const OUTPUT_ROOM: usize = 4 * MESSAGE_LIMIT;
@@ -44,7 +49,7 @@ fn format_message(message: &[u8], out: &mut [u8]) -> FormatAnswer
 
 // Writes the filed text of a message, or the line of a refusal.
 fn say_formatted(message: &[u8])
-    requires { ⌜ length (now message) ≤ 12288 ⌝ }
+    requires { ⌜ length (now message) ≤ messageLimit ⌝ }
 {
     let mut out = [0u8; OUTPUT_ROOM];
     match format_message(message, &mut out) {
@@ -54,12 +59,19 @@ fn say_formatted(message: &[u8])
     }
 }
 
-fn main() {
-    let mut buf = [0u8; MESSAGE_ROOM];
-    let Message { ending, len } = message_io::read_message(&mut buf);
+// Reads a message, into a buffer of one byte more than the limit, and writes its filed text or the line of a refusal.
+fn format_input(buf: &mut [u8])
+    requires { ⌜ length (now buf) ≡ messageLimit + 1 ⌝ }
+{
+    let Message { ending, len } = message_io::read_message(buf);
     match ending {
         Ending::Whole => say_formatted(&buf[..len]),
         Ending::TooLong => say_refusal(Refusal::TextTooLong),
         Ending::Failed => os::fail(b"standard input"),
     }
+}
+
+fn main() {
+    let mut buf = [0u8; MESSAGE_ROOM];
+    format_input(&mut buf);
 }

@@ -1,5 +1,6 @@
 -- The laws that the functions' proofs cite, and the claims.
 pub mod Digits
+pub mod Reading
 pub mod Texts
 pub mod DefaultBytes
 pub mod Claims

@@ -1,23 +1,17 @@
-// What the two programs share: a message read from standard input, the default policy as bytes (document 01: "Programs read at most
-// 12,288 bytes under the default policy"), and the lines that they write.
+// What the programs share: a message read from standard input, the default policy as bytes, and the lines that they write
+// (document 01, "Programs"). How long a message may be is the program's to say, by the length of the buffer that it lends.
 pub mod line;
 
 ghost use mathlib.Core.Path.{_≡_};
-ghost use Prim.Native.Nat.{_<_, _≤_};
+ghost use Prim.Native.Nat.{_+_, _<_, _≤_};
 ghost use lib.ListN.{length};
 ghost use Rattle.policy.specs.DefaultPolicy.{defaultPolicy};
 ghost use Rattle.policy.specs.PolicyBytes.{policyBytes};
-ghost use Rattle.message_io.specs.Message.{Fits, NoneUnlessWhole, Reads, messageLimit};
+ghost use Rattle.message_io.specs.Message.{Fits, Reads};
 use policy::POLICY_BYTES;
 use policy::Policy;
 
-// "at most 12,288 bytes"
-pub const MESSAGE_LIMIT: usize = 12_288;
-
-// One byte more, so that a longer message is seen.
-pub const MESSAGE_ROOM: usize = MESSAGE_LIMIT + 1;
-
-// How reading ended: at the message's end, behind the limit, or at a read that failed.
+// How reading ended: at the message's end, with a full buffer, or at a read that failed.
 pub enum Ending {
     Whole,
     TooLong,
@@ -37,43 +31,45 @@ enum Turn {
     More { count: usize },
 }
 
-// Reads once, into the buffer from a place on.
-fn read_some(buf: &mut [u8], from: usize) -> Turn
-    requires { ⌜ from < length (now buf) ⌝ }
-    ensures { λ r. ⌜ Reads from r (now (buf .exit)) ⌝ }
+// The smaller of two numbers.
+fn least(a: usize, b: usize) -> usize
+    ensures { λ r. ⌜ (r ≤ a) × (r ≤ b) ⌝ }
 {
-    let rest = &mut buf[from..];
-    let got = libc::read(libc::STDIN_FILENO, rest);
+    if a < b { a } else { b }
+}
+
+// Reads once, into a piece, and puts what was read into the buffer from a place on. It does not read into the buffer itself: no
+// contract says what stands after the bytes read in a buffer that `libc::read` was lent.
+fn read_piece(buf: &mut [u8], from: usize, piece: &mut [u8]) -> Turn
+    requires { ⌜ from + length (now piece) ≤ length (now buf) ⌝ }
+    ensures { λ r. ⌜ Reads (now (buf .entry)) from r (now (buf .exit)) ⌝ }
+{
+    let got = libc::read(libc::STDIN_FILENO, piece);
     if got < 0 {
         return Turn::Failed;
     }
-    let count = io::count(got, rest);
+    let count = io::count(got, piece);
     if count == 0 {
         return Turn::Ended;
     }
+    base::write_bytes(buf, from, &piece[..count]);
     Turn::More { count }
 }
 
-// A message of so many bytes that has ended.
-fn ended(len: usize) -> Message
-    ensures { λ r. ⌜ (r .len ≤ len) × (r .len ≤ messageLimit) × NoneUnlessWhole (r .ending) (r .len) ⌝ }
+// Reads once, no more bytes than there is room for from a place on, and puts them there.
+fn read_some(buf: &mut [u8], from: usize) -> Turn
+    requires { ⌜ from < length (now buf) ⌝ }
+    ensures { λ r. ⌜ Reads (now (buf .entry)) from r (now (buf .exit)) ⌝ }
 {
-    if MESSAGE_LIMIT < len {
-        return Message {
-            ending: Ending::TooLong,
-            len: 0,
-        };
-    }
-    Message {
-        ending: Ending::Whole,
-        len,
-    }
+    let mut piece = io::buffer();
+    let room = least(buf.len() - from, piece.len());
+    read_piece(buf, from, &mut piece[..room])
 }
 
-// Reads a message to its end, into a buffer that it does not fill: of `MESSAGE_ROOM` bytes if every message that is not too long is
-// to be read. A read that gives fewer bytes than there is room for is not taken for the end, and neither is one that fails.
+// Reads a message to its end, into a buffer that it must not fill: the longest message has one byte fewer than the buffer. A read that
+// gives fewer bytes than there is room for is not taken for the end, and neither is one that fails.
 pub fn read_message(buf: &mut [u8]) -> Message
-    ensures { λ r. ⌜ Fits r (now (buf .exit)) ⌝ }
+    ensures { λ r. ⌜ Fits (now (buf .entry)) r (now (buf .exit)) ⌝ }
 {
     let mut len = 0;
     while len < buf.len() {
@@ -85,7 +81,10 @@ pub fn read_message(buf: &mut [u8]) -> Message
                 };
             }
             Turn::Ended => {
-                return ended(len);
+                return Message {
+                    ending: Ending::Whole,
+                    len,
+                };
             }
             Turn::More { count } => {
                 len += count;

@@ -27,8 +27,7 @@ use Rattle.formatter.specs.Intake.{intakeRefusal}
 use Rattle.formatter.specs.List.{countNumbers, rowNumbers}
 use Rattle.formatter.proofs.Steps.{analysis-says}
 use Rattle.message_io.specs.Lines.{findingLine, refusalLine, totalLine}
-use Rattle.message_io.specs.Message.{messageLimit}
-use Rattle.report.specs.Report.{LineAt, Walked, end-reached, linesFrom, one-more, reported, rowLines, totalsAt}
+use Rattle.report.specs.Report.{LineAt, Walked, end-reached, linesFrom, messageLimit, one-more, reported, rowLines, totalsAt}
 use Rattle.report.specs.Theorems.{LinesAreReported}
 
 module _ (p : Policy) (text : List ℕ) (at : ℕ) (line : List ℕ) where

@@ -19,8 +19,11 @@ use Rattle.formatter.specs.Findings.{findingRow}
 use Rattle.formatter.specs.Intake.{intakeRefusal}
 use Rattle.formatter.specs.List.{countNumbers, rowNumbers}
 use Rattle.message_io.specs.Lines.{findingLine, refusalLine, totalLine}
-use Rattle.message_io.specs.Message.{messageLimit}
 use Rattle.report.specs.declared.lines.Line.{Line}
+
+-- "Programs read at most 12,288 bytes under the default policy; more gives `refused 1`"
+abbrev pub messageLimit : ℕ
+messageLimit = 12288
 
 -- Findings, a line for each.
 unfoldable pub rowLines : List Finding → List ℕ

@@ -12,8 +12,7 @@ use Rattle.formatter.specs.Intake.{intakeRefusal}
 use Rattle.formatter.specs.List.{countNumbers}
 use Rattle.formatter.specs.Worked.{exampleBytes}
 use Rattle.message_io.specs.Lines.{findingLine, refusalLine, totalLine}
-use Rattle.message_io.specs.Message.{messageLimit}
-use Rattle.report.specs.Report.{Walked, reported, totalsAt}
+use Rattle.report.specs.Report.{Walked, messageLimit, reported, totalsAt}
 
 -- What the program's functions put is the report. Any answers of `next_line` from the start to the end have the lines of the
 -- findings, and with the line that `total_of` puts behind them they are the report of a message that passes the tests; of any other

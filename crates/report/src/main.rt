@@ -4,10 +4,13 @@
 mod lines;
 
 ghost use mathlib.Core.Path.{_≡_};
+ghost use Prim.Native.Nat.{_+_, _≤_};
+ghost use lib.ListN.{length};
 ghost use Rattle.base.specs.Refusals.{checked};
 ghost use Rattle.policy.specs.DefaultPolicy.{defaultPolicy};
 ghost use Rattle.policy.specs.PolicyBytes.{policyBytes};
 ghost use Rattle.formatter.specs.Intake.{intakeRefusal};
+ghost use Rattle.report.specs.Report.{messageLimit};
 use base::Check;
 use base::Refusal;
 use formatter::intake::intake;
@@ -15,11 +18,16 @@ use lines::Line;
 use lines::next_line;
 use lines::total_of;
 use message_io::Ending;
-use message_io::MESSAGE_ROOM;
 use message_io::Message;
 use message_io::line::LINE_ROOM;
 use policy::POLICY_BYTES;
 use policy::Policy;
+
+// "Programs read at most 12,288 bytes under the default policy; more gives `refused 1`."
+const MESSAGE_LIMIT: usize = 12_288;
+
+// One byte more, so that a longer message is seen.
+const MESSAGE_ROOM: usize = MESSAGE_LIMIT + 1;
 
 // Writes bytes to standard output, and says so where that fails.
 fn say(bytes: &[u8]) -> bool {
@@ -68,7 +76,9 @@ fn check_message(message: &[u8]) -> Check
 }
 
 // Writes the report of a message, or the line of a refusal.
-fn report_message(message: &[u8]) {
+fn report_message(message: &[u8])
+    requires { ⌜ length (now message) ≤ messageLimit ⌝ }
+{
     if let Check::Refused(refusal) = check_message(message) {
         say_refusal(refusal);
         return;
@@ -78,12 +88,19 @@ fn report_message(message: &[u8]) {
     }
 }
 
-fn main() {
-    let mut buf = [0u8; MESSAGE_ROOM];
-    let Message { ending, len } = message_io::read_message(&mut buf);
+// Reads a message, into a buffer of one byte more than the limit, and writes its report or the line of a refusal.
+fn report_input(buf: &mut [u8])
+    requires { ⌜ length (now buf) ≡ messageLimit + 1 ⌝ }
+{
+    let Message { ending, len } = message_io::read_message(buf);
     match ending {
         Ending::Whole => report_message(&buf[..len]),
         Ending::TooLong => say_refusal(Refusal::TextTooLong),
         Ending::Failed => os::fail(b"standard input"),
     }
+}
+
+fn main() {
+    let mut buf = [0u8; MESSAGE_ROOM];
+    report_input(&mut buf);
 }
