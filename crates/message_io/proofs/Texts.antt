@@ -5,12 +5,12 @@ use Prim.Native.Nat.{ℕ, zero, suc, _+_, _<_, _≤_}
 use native.Mathlib.Nat.{add-zero, not-suc-le-zero, zero-add}
 use native.Mathlib.Omega.{arith}
 use lib.ListN.{drop, getD, length, take}
-use lib.Seq.{drop-append-seam, drop-cons, length-sets, sets-eq, take-append-seam}
+use lib.Seq.{drop-append-seam, length-sets, sets-eq, take-append-seam}
 use Rattle.io.specs.Counts.{Counts}
 use Rattle.base.specs.Output.{PutAt}
 use Rattle.base.specs.Texts.{parted}
 use Rattle.base.proofs.Writer.{put-as, put-then}
-use Rattle.message_io.specs.Lines.{behindBlanks, decimal, findingLine, line}
+use Rattle.message_io.specs.Lines.{behindBlanks, decimal, line}
 
 -- a line is its first text, and the others behind blanks
 blanks : (t : List ℕ) (ts : List (List ℕ)) → parted 0x20 (t ∷ ts) ≡ t ++ behindBlanks ts
@@ -46,11 +46,6 @@ numbers-next (suc i) (n ∷ ns) h =
     let x : List ℕ = 0x20 ∷ decimal (getD ns i 0) in
     ap (λ (xs : List ℕ). 0x20 ∷ (decimal n ++ xs)) (numbers-next i ns (omega arith))
     ∙ ap (λ (xs : List ℕ). 0x20 ∷ xs) (sym (append-assoc (decimal n) m x))
-
--- ten numbers are the first and the others
-pub first-number : (ns : List ℕ) → 0 < length ns → line (decimal (getD ns 0 0) ∷ map decimal (drop 1 ns)) ≡ findingLine ns
-unfolding findingLine
-first-number ns h = ap (λ (xs : List ℕ). line (map decimal xs)) (sym (drop-cons ns 0 0 h))
 
 -- what is returned with a refusal: a number, or nothing; 21 bytes have room for it
 pub value-put : {o o₁ : List ℕ} {s r n : ℕ} (ns : List ℕ) → ns ≡ n ∷ [] → PutAt o s (0x20 ∷ decimal n) o₁ r × (r ≤ s + 21)

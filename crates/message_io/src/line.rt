@@ -59,14 +59,19 @@ fn put_numbers(out: &mut [u8], start: usize, numbers: &[usize]) -> usize
 }
 
 // Puts the line of a finding, by its start, its end and its eight counts, and answers its length.
-pub fn finding_line(numbers: &[usize; 10], out: &mut [u8; LINE_ROOM]) -> usize
+pub fn finding_line(
+    start: usize,
+    end: usize,
+    counts: &[usize; 8],
+    out: &mut [u8; LINE_ROOM],
+) -> usize
     ensures { λ r. ⌜ Counts r (now (out .exit)) ⌝ }
-    ensures { λ r. ⌜ take r (now (out .exit)) ≡ findingLine (now (numbers .entry)) ⌝ }
+    ensures { λ r. ⌜ take r (now (out .exit)) ≡ findingLine (start ∷ end ∷ now (counts .entry)) ⌝ }
     ensures { λ r. ⌜ drop r (now (out .exit)) ≡ drop r (now (out .entry)) ⌝ }
 {
-    let all = &numbers[..];
-    let mut at = put_decimal(out, 0, all[0]);
-    at = put_numbers(out, at, &all[1..]);
+    let mut at = put_decimal(out, 0, start);
+    at = put_number(out, at, end);
+    at = put_numbers(out, at, counts);
     put_bytes(out, at, b"\n")
 }
 

@@ -24,10 +24,10 @@ use Rattle.analysis.specs.declared.types.Finding.{Finding}
 use Rattle.analysis.specs.Findings.{findingsFrom}
 use Rattle.formatter.specs.Findings.{findingRow}
 use Rattle.formatter.specs.Intake.{intakeRefusal}
-use Rattle.formatter.specs.List.{countNumbers, rowNumbers}
+use Rattle.formatter.specs.List.{countNumbers}
 use Rattle.formatter.proofs.Steps.{analysis-says}
 use Rattle.message_io.specs.Lines.{findingLine, refusalLine, totalLine}
-use Rattle.report.specs.Report.{LineAt, Walked, end-reached, linesFrom, messageLimit, one-more, reported, rowLines, totalsAt}
+use Rattle.report.specs.Report.{LineAt, Walked, end-reached, linesFrom, messageLimit, one-more, reportNumbers, reported, rowLines, totalsAt}
 use Rattle.report.specs.Theorems.{LinesAreReported}
 
 module _ (p : Policy) (text : List ℕ) (at : ℕ) (line : List ℕ) where
@@ -54,7 +54,7 @@ module _ (p : Policy) (text : List ℕ) (at : ℕ) (line : List ℕ) where
         inside = s .0 .room;
       }
 
-  pub a-finding : {f : Finding} {n : ℕ} → NonCanonical f ≡ analysisAt p text at → take n line ≡ findingLine (rowNumbers f)
+  pub a-finding : {f : Finding} {n : ℕ} → NonCanonical f ≡ analysisAt p text at → take n line ≡ findingLine (reportNumbers f)
       → LineAt p text at line (record { len = n; next = f .end })
   unfolding linesFrom rowLines
   a-finding {f} e l =

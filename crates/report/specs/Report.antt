@@ -17,7 +17,7 @@ use Rattle.scanner.specs.Spans.{Found}
 use Rattle.analysis.specs.Findings.{findingsFrom, totals}
 use Rattle.formatter.specs.Findings.{findingRow}
 use Rattle.formatter.specs.Intake.{intakeRefusal}
-use Rattle.formatter.specs.List.{countNumbers, rowNumbers}
+use Rattle.formatter.specs.List.{countNumbers}
 use Rattle.message_io.specs.Lines.{findingLine, refusalLine, totalLine}
 use Rattle.report.specs.declared.lines.Line.{Line}
 
@@ -25,10 +25,14 @@ use Rattle.report.specs.declared.lines.Line.{Line}
 abbrev pub messageLimit : ℕ
 messageLimit = 12288
 
+-- "The report writes, per finding, start, end and eight counts": the ten columns of its line.
+unfoldable pub reportNumbers : Finding → List ℕ
+reportNumbers f = f .start ∷ f .end ∷ countNumbers (f .counts)
+
 -- Findings, a line for each.
 unfoldable pub rowLines : List Finding → List ℕ
 rowLines [] = []
-rowLines (f ∷ fs) = findingLine (rowNumbers f) ++ rowLines fs
+rowLines (f ∷ fs) = findingLine (reportNumbers f) ++ rowLines fs
 
 -- The lines of the findings from a place on.
 unfoldable pub linesFrom : Policy → List ℕ → ℕ → List ℕ

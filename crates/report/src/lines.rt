@@ -4,15 +4,14 @@ ghost use mathlib.Core.Path.{_≡_};
 ghost use lib.ListN.{take};
 ghost use Rattle.io.specs.Counts.{Counts};
 ghost use Rattle.message_io.specs.Lines.{findingLine, totalLine};
-ghost use Rattle.formatter.specs.List.{countNumbers, rowNumbers};
-ghost use Rattle.report.specs.Report.{LineAt, totalsAt};
+ghost use Rattle.formatter.specs.List.{countNumbers};
+ghost use Rattle.report.specs.Report.{LineAt, reportNumbers, totalsAt};
 use analysis::ItemAnalysis;
 use analysis::analyze_scan_item;
 use analysis::measure::Measure;
 use analysis::measure::measure_cells;
 use analysis::types::Finding;
 use analysis::types::NonCanonicality;
-use listing::row_numbers;
 use message_io::line::LINE_ROOM;
 use policy::Policy;
 
@@ -22,13 +21,29 @@ pub(crate) struct Line {
     pub next: usize,
 }
 
+// The eight counts, in document 01's order.
+fn count_numbers(counts: NonCanonicality) -> [usize; 8]
+    ensures { λ r. ⌜ r ≡ countNumbers counts ⌝ }
+{
+    [
+        counts.unsanctioned_selectors,
+        counts.modifier_defective_selectors,
+        counts.additional_defective_selectors,
+        counts.tag_conflicting_selectors,
+        counts.tag_forced_presentations,
+        counts.tag_redundant_selectors,
+        counts.policy_redundant_selectors,
+        counts.presentation_decisions,
+    ]
+}
+
 // Puts the line of a finding.
 fn put_finding(finding: Finding, line: &mut [u8; LINE_ROOM]) -> usize
     ensures { λ r. ⌜ Counts r (now (line .exit)) ⌝ }
-    ensures { λ r. ⌜ take r (now (line .exit)) ≡ findingLine (rowNumbers finding) ⌝ }
+    ensures { λ r. ⌜ take r (now (line .exit)) ≡ findingLine (reportNumbers finding) ⌝ }
 {
-    let numbers = row_numbers(finding);
-    message_io::line::finding_line(&numbers, line)
+    let numbers = count_numbers(finding.counts);
+    message_io::line::finding_line(finding.start, finding.end, &numbers, line)
 }
 
 // Puts the line of the item at a place, if it is a finding.
@@ -60,16 +75,7 @@ fn put_totals(counts: NonCanonicality, line: &mut [u8; LINE_ROOM]) -> usize
     ensures { λ r. ⌜ Counts r (now (line .exit)) ⌝ }
     ensures { λ r. ⌜ take r (now (line .exit)) ≡ totalLine (countNumbers counts) ⌝ }
 {
-    let numbers = [
-        counts.unsanctioned_selectors,
-        counts.modifier_defective_selectors,
-        counts.additional_defective_selectors,
-        counts.tag_conflicting_selectors,
-        counts.tag_forced_presentations,
-        counts.tag_redundant_selectors,
-        counts.policy_redundant_selectors,
-        counts.presentation_decisions,
-    ];
+    let numbers = count_numbers(counts);
     message_io::line::total_line(&numbers, line)
 }
 
