@@ -61,6 +61,8 @@ value-put {n = n} ns e p = (
 pub nothing-put : {o : List ℕ} {s : ℕ} (ns : List ℕ) → ns ≡ [] → PutAt o s (behindBlanks (map decimal ns)) o s × (s ≤ s + 21)
 unfolding behindBlanks
 nothing-put {s = s} ns e = (
-  put-as (behindBlanks (map decimal ns)) (ap (λ (ns : List ℕ). behindBlanks (map decimal ns)) (sym e)) (record { ends = sym (add-zero s); bytes = refl }),
+  put-as (behindBlanks (map decimal ns))
+      (ap (λ (ns : List ℕ). behindBlanks (map decimal ns)) (sym e))
+      (record { ends = sym (add-zero s); bytes = refl }),
   omega arith,
 )

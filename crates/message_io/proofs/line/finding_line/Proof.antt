@@ -11,8 +11,8 @@ use Rattle.message_io.proofs.line.finding_line.Tie as tie
 returns : tie.Need-returns
 unfolding findingLine behindBlanks
 returns c =
-    let x = c .before .before .before .before .before .before .before .before .before .before .before .before .args in
-    let first = c .before .before .before .before .before .before .before .before .before .put-decimal .ensures in
+    let x = c .before .before .before .before .before .before .before .before .before .before .args in
+    let first = c .before .before .before .before .before .before .before .before .put-decimal .ensures in
     let second = c .before .before .before .before .before .before .put-number .ensures in
     let others = c .before .before .before .put-numbers .ensures in
     let ended = c .put-bytes .ensures in
@@ -26,5 +26,6 @@ finding-line-spec =
     (λ c κs. search needs)
     (λ c κs. search needs)
     (λ c κs. search needs)
+    (λ c. search needs)
     (λ c κs. search needs)
     returns)
