@@ -26,8 +26,8 @@ use Rattle.analysis.specs.Analysis.{following, upToLink}
 use Rattle.analysis.specs.Cells.{Cell, cells, leading, split, unsplit}
 use Rattle.analysis.specs.ChoicesAt.{addChoiceAt, cellsLength, cellsFrom, cellsStart, choiceAt, choicesFrom, firstChoice, frontUnit}
 use Rattle.analysis.specs.Rules.{Outcome, Slot, bare, decided, fixed, outcome}
-use Rattle.analysis.specs.declared.choice.ChoiceStep.the-variants.{Choice, End}
-use Rattle.analysis.specs.declared.choice.ReplacementChoice.{ReplacementChoice}
+use Rattle.analysis.specs.declared.types.ChoiceStep.the-variants.{Choice, End}
+use Rattle.analysis.specs.declared.types.ReplacementChoice.{ReplacementChoice}
 use Rattle.analysis.proofs.Cells.{by-chars, split-char, split-selector}
 use Rattle.analysis.proofs.CellsAt.{selectors-end, split-at}
 use Rattle.analysis.proofs.singleton.Slot.{the-type as the-slot}

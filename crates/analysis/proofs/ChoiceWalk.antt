@@ -29,7 +29,7 @@ use Rattle.analysis.specs.ChoicesAt.{
   one-more,
 }
 use Rattle.analysis.specs.Rules.{Slot, bare, decided, fixed}
-use Rattle.analysis.specs.declared.choice.ReplacementChoice.{ReplacementChoice}
+use Rattle.analysis.specs.declared.types.ReplacementChoice.{ReplacementChoice}
 use Rattle.analysis.proofs.Cells.{Clean, cell-and, clean-cells, split-unsplit, split-whole}
 use Rattle.analysis.proofs.ChoicePlaces.{cells-behind}
 use Rattle.analysis.proofs.ChoiceUnits.{unit-cells}

@@ -14,9 +14,9 @@ use Rattle.analysis.specs.Analysis.{Choice, outcomeAt, render, upToLink}
 use Rattle.analysis.specs.Cells.{Cell, cells, leading, unsplit}
 use Rattle.analysis.specs.Decisions.{withinLimit, writeOut}
 use Rattle.analysis.specs.Rules.{Slot, bare, decided, fixed}
-use Rattle.analysis.specs.declared.choice.ChoiceStep.{ChoiceStep}
-use Rattle.analysis.specs.declared.choice.ChoiceStep.the-variants as Step
-use Rattle.analysis.specs.declared.choice.ReplacementChoice.{ReplacementChoice}
+use Rattle.analysis.specs.declared.types.ChoiceStep.{ChoiceStep}
+use Rattle.analysis.specs.declared.types.ChoiceStep.the-variants as Step
+use Rattle.analysis.specs.declared.types.ReplacementChoice.{ReplacementChoice}
 use Rattle.analysis.specs.declared.types.MendAnswer.{MendAnswer}
 
 -- The bytes of cells.

@@ -1,20 +1,9 @@
-// Counts, findings and replacements of items under a policy: analysis.rs, types.rs and render.rs of the crate evfmt; document 01,
-// "Counts and finding", "Replacement and text". An item is read here from the text itself: no field of one handed in is believed.
-// `analyze_scan_item` equals `analysisAt` of specs/ItemAt.antt.
-pub mod choice;
-pub mod decisions;
-pub mod measure;
-pub mod render;
+// Counts, findings and replacements of items under a policy: the definitions, their laws, the types and the six rules. They are from
+// analysis.rs and types.rs of the crate evfmt; document 01, "Counts and finding", "Replacement and text". The crate replacing has the
+// functions that read an item from a text.
 pub mod singleton;
 pub mod types;
 
-ghost use mathlib.Core.Path.{_≡_};
-ghost use Rattle.analysis.specs.ItemAt.{analysisAt};
-use measure::Measure;
-use measure::measure_cells;
-use policy::Policy;
-use scanner::ScanKind;
-use scanner::ScanStep;
 use types::Finding;
 
 // What an item is under a policy: canonical, or a finding; or the text has ended.
@@ -22,27 +11,4 @@ pub enum ItemAnalysis {
     End,
     Canonical { end: usize },
     NonCanonical(Finding),
-}
-
-// The item of a text at an offset under a policy.
-pub fn analyze_scan_item(text: &[u8], at: usize, policy: Policy) -> ItemAnalysis
-    ensures { λ r. ⌜ r ≡ analysisAt policy (now (text .entry)) at ⌝ }
-{
-    let ScanStep::Item(item) = scanner::next_item(text, at) else {
-        return ItemAnalysis::End;
-    };
-    let end = item.end;
-    let kind = item.kind;
-    if let ScanKind::Passthrough = kind {
-        return ItemAnalysis::Canonical { end };
-    }
-    let Measure { counts, len: _ } = measure_cells(&text[at..end], policy);
-    if counts.is_empty() {
-        return ItemAnalysis::Canonical { end };
-    }
-    ItemAnalysis::NonCanonical(Finding {
-        start: at,
-        end,
-        counts,
-    })
 }

@@ -1,10 +1,11 @@
-// The eight counts of an item, and a finding: types.rs of the crate evfmt; document 01, "Counts and finding".
-// `empty`, `unsanctioned`, `is_empty` and `add` equal the definitions of specs/Counts.antt.
+// The eight counts of an item, a finding and a choice: types.rs of the crate evfmt; document 01, "Counts and finding".
+// `add_count`, `empty`, `unsanctioned`, `is_empty` and `add` equal the definitions of specs/Counts.antt.
 ghost use mathlib.Core.Path.{_≡_};
 ghost use Prim.Native.Nat.{_+_};
 ghost use lib.Dec.{eqb};
 ghost use Rattle.analysis.specs.Counts.{capped, cappedSum, empty, total, unsanctioned};
 use base::Refusal;
+use unicode::presentation::Presentation;
 
 // The eight counts of an item, in document 01's order.
 pub struct NonCanonicality {
@@ -25,6 +26,20 @@ pub struct Finding {
     pub counts: NonCanonicality,
 }
 
+// A choice: the bytes of its unit, from start up to end, where the next choice is looked for, and its default.
+pub struct ReplacementChoice {
+    pub start: usize,
+    pub end: usize,
+    pub next: usize,
+    pub default: Presentation,
+}
+
+// What a cursor over choices answers: the next choice, or that there is none.
+pub enum ChoiceStep {
+    Choice(ReplacementChoice),
+    End,
+}
+
 // What mending answers: so many bytes are written, or a refusal.
 pub enum MendAnswer {
     Mended { len: usize },
@@ -35,7 +50,7 @@ pub enum MendAnswer {
 const MOST: usize = 18_446_744_073_709_551_615;
 
 // The sum of two counts, or the largest count where it is more.
-pub(crate) fn add_count(a: usize, b: usize) -> usize
+pub fn add_count(a: usize, b: usize) -> usize
     ensures { λ r. ⌜ r ≡ capped (a + b) ⌝ }
 {
     if MOST - a < b {

@@ -8,7 +8,6 @@ ghost use Rattle.listing.specs.Table.{fewFindings, firstFinding, listing
 use crate::FindingCount;
 use crate::count_findings;
 use analysis::ItemAnalysis;
-use analysis::analyze_scan_item;
 use analysis::types::Finding;
 use analysis::types::NonCanonicality;
 use base::Check;
@@ -17,6 +16,7 @@ use base::Refusal;
 use formatter::intake::intake;
 use policy::Policy;
 use policy::ReadPolicy;
+use replacing::analyze_scan_item;
 
 // How many findings are few.
 pub const FEW: usize = 8;

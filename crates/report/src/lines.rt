@@ -7,13 +7,13 @@ ghost use Rattle.message_io.specs.Lines.{findingLine, totalLine};
 ghost use Rattle.formatter.specs.List.{countNumbers};
 ghost use Rattle.report.specs.Report.{LineAt, reportNumbers, totalsAt};
 use analysis::ItemAnalysis;
-use analysis::analyze_scan_item;
-use analysis::measure::Measure;
-use analysis::measure::measure_cells;
 use analysis::types::Finding;
 use analysis::types::NonCanonicality;
 use message_io::line::LINE_ROOM;
 use policy::Policy;
+use replacing::analyze_scan_item;
+use replacing::measure::Measure;
+use replacing::measure::measure_cells;
 
 // A line of so many bytes, none where there is no finding, and the place behind the item.
 pub(crate) struct Line {

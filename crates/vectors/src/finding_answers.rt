@@ -10,15 +10,15 @@ use crate::notation::selector;
 use crate::notation::span;
 use crate::parse::Place;
 use analysis::ItemAnalysis;
-use analysis::analyze_scan_item;
-use analysis::choice::ChoiceStep;
-use analysis::choice::next_choice;
-use analysis::render::canonical_replacement_with_decisions;
-use analysis::render::default_canonical_replacement;
+use analysis::types::ChoiceStep;
 use analysis::types::Finding;
 use analysis::types::MendAnswer;
 use analysis::types::NonCanonicality;
 use policy::Policy;
+use replacing::analyze_scan_item;
+use replacing::choice::next_choice;
+use replacing::render::canonical_replacement_with_decisions;
+use replacing::render::default_canonical_replacement;
 
 // The room for a replacement.
 const ROOM: usize = 2048;

@@ -1,0 +1,31 @@
+// Decisions handed in as bytes, 0 text, 1 emoji, and their tests (document 01, "Replacement and text", refusals 5 and 6).
+// `check_decisions` equals `decisionsRefusal` of crate analysis, specs/Decisions.antt.
+ghost use mathlib.Core.Path.{_≡_};
+ghost use Rattle.base.specs.Refusals.{checked};
+ghost use Rattle.analysis.specs.Decisions.{badDecision, decisionsRefusal};
+use base::Check;
+use base::Refusal;
+
+// The first decision byte above 1 is refused.
+fn check_bytes(decisions: &[u8]) -> Check
+    ensures { λ r. ⌜ r ≡ checked (badDecision 0 (now (decisions .entry))) ⌝ }
+{
+    let mut i = 0;
+    while i < decisions.len() {
+        if 1 < decisions[i] {
+            return Check::Refused(Refusal::BadDecision { index: i });
+        }
+        i += 1;
+    }
+    Check::Passed
+}
+
+// Decisions that are to be so many, each 0 or 1.
+pub fn check_decisions(decisions: &[u8], wanted: usize) -> Check
+    ensures { λ r. ⌜ r ≡ checked (decisionsRefusal wanted (now (decisions .entry))) ⌝ }
+{
+    if decisions.len() != wanted {
+        return Check::Refused(Refusal::WrongNumberOfDecisions { wanted });
+    }
+    check_bytes(decisions)
+}

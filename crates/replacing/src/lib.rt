@@ -1,0 +1,41 @@
+// Counts, findings and replacements of the items of a text under a policy: the functions of analysis.rs and render.rs of the crate evfmt;
+// document 01, "Counts and finding", "Replacement and text". The crate analysis has the definitions, the types and the six rules. An
+// item is read here from the text itself: no field of one handed in is believed.
+// `analyze_scan_item` equals `analysisAt` of crate analysis, specs/ItemAt.antt.
+pub mod choice;
+pub mod decisions;
+pub mod measure;
+pub mod render;
+
+ghost use mathlib.Core.Path.{_≡_};
+ghost use Rattle.analysis.specs.ItemAt.{analysisAt};
+use analysis::ItemAnalysis;
+use analysis::types::Finding;
+use measure::Measure;
+use measure::measure_cells;
+use policy::Policy;
+use scanner::ScanKind;
+use scanner::ScanStep;
+
+// The item of a text at an offset under a policy.
+pub fn analyze_scan_item(text: &[u8], at: usize, policy: Policy) -> ItemAnalysis
+    ensures { λ r. ⌜ r ≡ analysisAt policy (now (text .entry)) at ⌝ }
+{
+    let ScanStep::Item(item) = scanner::next_item(text, at) else {
+        return ItemAnalysis::End;
+    };
+    let end = item.end;
+    let kind = item.kind;
+    if let ScanKind::Passthrough = kind {
+        return ItemAnalysis::Canonical { end };
+    }
+    let Measure { counts, len: _ } = measure_cells(&text[at..end], policy);
+    if counts.is_empty() {
+        return ItemAnalysis::Canonical { end };
+    }
+    ItemAnalysis::NonCanonical(Finding {
+        start: at,
+        end,
+        counts,
+    })
+}

@@ -1,0 +1,118 @@
+// The cells of a slice, one after the other: a character that is no selector, the selectors behind it, and of the next cell only
+// its character's class. A cell is read once. This pass serves the analysis of an item, mending and the report; listing sums up the
+// same outcomes on its way (crate text_pass).
+// document 01, "Counts and finding". `measure_cells` equals `totalCells` and the length of `formatCells` of crate analysis,
+// specs/CellView.antt.
+ghost use mathlib.Core.Path.{_≡_};
+ghost use Prim.Native.Nat.{_+_, _*_};
+ghost use lib.ListN.{drop, length};
+ghost use Rattle.utf8.specs.Rfc3629.{chars};
+ghost use Rattle.analysis.specs.Analysis.{following};
+ghost use Rattle.analysis.specs.CellView.{classInFront, formatCells, slotLength, totalCells};
+ghost use Rattle.analysis.specs.Cells.{cells, leading};
+ghost use Rattle.analysis.specs.Counts.{capped};
+ghost use Rattle.analysis.specs.Rules.{outcome};
+ghost use Rattle.scanner.specs.Spans.{size, width};
+use analysis::singleton::Outcome;
+use analysis::singleton::Slot;
+use analysis::singleton::analyze_singleton_base_selectors;
+use analysis::types::NonCanonicality;
+use analysis::types::add_count;
+use policy::Policy;
+use scanner::char_class::Class;
+use scanner::char_class::Peeked;
+use scanner::char_class::peek;
+use scanner::selectors::PresentationSelectors;
+use scanner::selectors::SELECTOR_BYTES;
+use scanner::selectors::consume_presentation_selectors;
+use scanner::selectors::selectors_end;
+
+// What the rules say of a cell, and the offset of its end.
+pub struct CellOutcome {
+    pub outcome: Outcome,
+    pub end: usize,
+}
+
+// The class of the character at an offset; `Other` where none stands.
+fn class_at(text: &[u8], at: usize) -> Class
+    ensures { λ r. ⌜ r ≡ classInFront (chars (drop at (now (text .entry)))) ⌝ }
+{
+    match peek(text, at) {
+        Peeked::Char {
+            value: _,
+            class,
+            end: _,
+        } => class,
+        Peeked::NoChar => Class::Other,
+    }
+}
+
+// What the rules say of the cell whose character is the base and whose selectors begin at the offset.
+pub fn cell_outcome(text: &[u8], at: usize, base: u32, policy: Policy) -> CellOutcome
+    ensures outcome { λ r. ⌜ r .outcome ≡ outcome policy base (following (cells (chars (drop at (now (text .entry)))))) (leading (chars (drop at (now (text .entry))))) ⌝ }
+    ensures end { λ r. ⌜ r .end ≡ at + 3 * length (leading (chars (drop at (now (text .entry))))) ⌝ }
+{
+    let PresentationSelectors {
+        first,
+        second: _,
+        count,
+        end,
+    } = consume_presentation_selectors(text, at);
+    let next = class_at(text, end);
+    let outcome = analyze_singleton_base_selectors(base, next, first, count, policy);
+    CellOutcome { outcome, end }
+}
+
+// The counts of a slice, and the length of its cells written out, which is the same under all decisions.
+pub struct Measure {
+    pub counts: NonCanonicality,
+    pub len: usize,
+}
+
+// The bytes of the selector that a slot holds.
+fn slot_len(slot: Slot) -> usize
+    ensures { λ r. ⌜ r ≡ slotLength slot ⌝ }
+{
+    match slot {
+        Slot::Bare => 0,
+        Slot::Fixed(_) => SELECTOR_BYTES,
+        Slot::Decided(_) => SELECTOR_BYTES,
+    }
+}
+
+// Counts and measures a slice: its cells, and the selectors before the first of them, which are unsanctioned. A character without a
+// variation entry (rule 1) needs no look at what follows its selectors.
+pub fn measure_cells(text: &[u8], policy: Policy) -> Measure
+    ensures counts { λ r. ⌜ r .counts ≡ totalCells policy (chars (now (text .entry))) ⌝ }
+    ensures len { λ r. ⌜ r .len ≡ capped (size width (formatCells policy (chars (now (text .entry))))) ⌝ }
+{
+    let PresentationSelectors {
+        first: _,
+        second: _,
+        count,
+        end: start,
+    } = consume_presentation_selectors(text, 0);
+    let mut counts = NonCanonicality::unsanctioned(count);
+    let mut len = 0;
+    let mut at = start;
+    loop {
+        let packed = utf8::decode(text, at);
+        if packed == 0 {
+            return Measure { counts, len };
+        }
+        let width = (packed % 8) as usize;
+        let behind = at + width;
+        if unicode::has_variation_sequence(packed / 8) {
+            let CellOutcome { outcome, end } = cell_outcome(text, behind, packed / 8, policy);
+            let slot = outcome.slot;
+            counts = counts.add(outcome.counts);
+            len = add_count(len, width + slot_len(slot));
+            at = end;
+        } else {
+            let end = selectors_end(text, behind);
+            counts = counts.add(NonCanonicality::unsanctioned((end - behind) / SELECTOR_BYTES));
+            len = add_count(len, width);
+            at = end;
+        }
+    }
+}

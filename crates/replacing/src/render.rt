@@ -1,0 +1,193 @@
+// Replacements as bytes: render.rs of the crate evfmt, and what analysis.rs puts together; document 01, "Replacement and text".
+// The cells of a slice are written with the selectors that the rules and the decisions give them (`render` of
+// crate analysis, specs/Analysis.antt). `canonical_replacement_with_decisions` equals `replaceAt` of its specs/ItemAt.antt.
+ghost use mathlib.Core.Path.{_≡_};
+ghost use mathlib.Core.Bool.{true};
+ghost use mathlib.Core.List.{map};
+ghost use Prim.Native.Nat.{_+_, _≤_};
+ghost use lib.ListN.{drop, length};
+ghost use Rattle.base.specs.Output.{PutAt};
+ghost use Rattle.utf8.specs.Rfc3629.{chars, encode, encodeAll, isScalar};
+ghost use Rattle.unicode.specs.Presentation.{asSelector};
+ghost use Rattle.analysis.specs.Analysis.{chosen, decide, render};
+ghost use Rattle.analysis.specs.Cells.{cells};
+ghost use Rattle.analysis.specs.Decisions.{cellBytes, decisionsUsed, meaning, withinLimit, writeOut};
+ghost use Rattle.analysis.specs.ItemAt.{replaceAt, replaceByDefault};
+ghost use Rattle.analysis.specs.Rules.{runWith};
+use crate::analyze_scan_item;
+use crate::decisions::check_decisions;
+use crate::measure::CellOutcome;
+use crate::measure::Measure;
+use crate::measure::cell_outcome;
+use crate::measure::measure_cells;
+use analysis::ItemAnalysis;
+use analysis::singleton::Slot;
+use analysis::types::Finding;
+use analysis::types::MendAnswer;
+use base::Check;
+use base::Refusal;
+use base::TEXT_LIMIT;
+use policy::Policy;
+use scanner::selectors::PresentationSelectors;
+use scanner::selectors::consume_presentation_selectors;
+use unicode::presentation::FromSelector;
+use unicode::presentation::Presentation;
+use utf8::WriteChar;
+
+// Puts a character's bytes, for which there is room.
+fn put_char(out: &mut [u8], at: usize, ch: u32) -> usize
+    requires { ⌜ (isScalar ch ≡ true) × (at + length (encode ch) ≤ length (now out)) ⌝ }
+    ensures { λ r. ⌜ PutAt (now (out .entry)) at (encode ch) (now (out .exit)) r ⌝ }
+{
+    match utf8::write_char(ch, out, at) {
+        WriteChar::Written { width } => at + width,
+        WriteChar::TooShort { width: _ } => at,
+        WriteChar::NotScalar => at,
+    }
+}
+
+// Puts a selector's bytes, if there is one, for which there is room.
+fn put_selector(out: &mut [u8], at: usize, selector: FromSelector) -> usize
+    requires { ⌜ at + length (encodeAll (map asSelector (runWith selector 1))) ≤ length (now out) ⌝ }
+    ensures { λ r. ⌜ PutAt (now (out .entry)) at (encodeAll (map asSelector (runWith selector 1))) (now (out .exit)) r ⌝ }
+{
+    match selector {
+        FromSelector::Selector(presentation) => put_char(out, at, presentation.as_selector()),
+        FromSelector::NoSelector => at,
+    }
+}
+
+// The decision at an index; a missing one means the default.
+fn decision_at(decisions: &[u8], i: usize, default: Presentation) -> Presentation
+    ensures { λ r. ⌜ r ≡ decide default (map meaning (drop i (now (decisions .entry)))) ⌝ }
+{
+    if decisions.len() <= i {
+        return default;
+    }
+    if decisions[i] == 0 {
+        return Presentation::Text;
+    }
+    Presentation::Emoji
+}
+
+// What a slot holds under the decisions from an index on.
+fn selector_of(slot: Slot, decisions: &[u8], i: usize) -> FromSelector
+    ensures { λ r. ⌜ runWith r 1 ≡ chosen slot (map meaning (drop i (now (decisions .entry)))) ⌝ }
+{
+    match slot {
+        Slot::Bare => FromSelector::NoSelector,
+        Slot::Fixed(presentation) => FromSelector::Selector(presentation),
+        Slot::Decided(default) => FromSelector::Selector(decision_at(decisions, i, default)),
+    }
+}
+
+// Puts a character and what its slot holds under the decisions from an index on, for which there is room.
+fn put_cell(out: &mut [u8], at: usize, ch: u32, slot: Slot, decisions: &[u8], i: usize) -> usize
+    requires { ⌜ (isScalar ch ≡ true) × (at + length (cellBytes ch slot (map meaning (drop i (now decisions)))) ≤ length (now out)) ⌝ }
+    ensures { λ r. ⌜ PutAt (now (out .entry)) at (cellBytes ch slot (map meaning (drop i (now (decisions .entry))))) (now (out .exit)) r ⌝ }
+{
+    let selector = selector_of(slot, decisions, i);
+    let behind = put_char(out, at, ch);
+    put_selector(out, behind, selector)
+}
+
+// How many decisions a slot takes.
+fn decisions_used(slot: Slot) -> usize
+    ensures { λ r. ⌜ r ≡ decisionsUsed slot ⌝ }
+{
+    match slot {
+        Slot::Bare => 0,
+        Slot::Fixed(_) => 0,
+        Slot::Decided(_) => 1,
+    }
+}
+
+// Puts the cells of a slice with the selectors that the rules and the decisions give them, for which there is room.
+fn put_cells(text: &[u8], policy: Policy, decisions: &[u8], out: &mut [u8]) -> usize
+    requires { ⌜ length (encodeAll (render policy (cells (chars (now text))) (map meaning (now decisions)))) ≤ length (now out) ⌝ }
+    ensures { λ r. ⌜ PutAt (now (out .entry)) 0 (encodeAll (render policy (cells (chars (now (text .entry)))) (map meaning (now (decisions .entry))))) (now (out .exit)) r ⌝ }
+{
+    let PresentationSelectors {
+        first: _,
+        second: _,
+        count: _,
+        end: start,
+    } = consume_presentation_selectors(text, 0);
+    let mut at = start;
+    let mut to = 0;
+    let mut used = 0;
+    loop {
+        let packed = utf8::decode(text, at);
+        if packed == 0 {
+            return to;
+        }
+        let width = (packed % 8) as usize;
+        let ch = packed / 8;
+        let CellOutcome { outcome, end } = cell_outcome(text, at + width, ch, policy);
+        let slot = outcome.slot;
+        to = put_cell(out, to, ch, slot, decisions, used);
+        used += decisions_used(slot);
+        at = end;
+    }
+}
+
+// Writes the cells of a slice at the front of the output, if there is room: for a caller that has the bytes of an item.
+pub fn write_cells(raw: &[u8], policy: Policy, decisions: &[u8], out: &mut [u8]) -> MendAnswer
+    ensures { λ r. ⌜ record { answer = r; buffer = now (out .exit) } ≡ withinLimit (now (raw .entry)) (now (out .entry)) (writeOut (encodeAll (render policy (cells (chars (now (raw .entry)))) (map meaning (now (decisions .entry))))) (now (out .entry))) ⌝ }
+{
+    if TEXT_LIMIT < raw.len() {
+        return MendAnswer::Refused(Refusal::TextTooLong);
+    }
+    let Measure { counts: _, len } = measure_cells(raw, policy);
+    if out.len() < len {
+        return MendAnswer::Refused(Refusal::OutputTooShort { wanted: len });
+    }
+    put_cells(raw, policy, decisions, out);
+    MendAnswer::Mended { len }
+}
+
+// Writes the replacement of the finding at an offset under decisions.
+pub fn canonical_replacement_with_decisions(
+    text: &[u8],
+    at: usize,
+    policy: Policy,
+    decisions: &[u8],
+    out: &mut [u8],
+) -> MendAnswer
+    ensures { λ r. ⌜ record { answer = r; buffer = now (out .exit) } ≡ replaceAt policy (now (text .entry)) at (now (decisions .entry)) (now (out .entry)) ⌝ }
+{
+    if TEXT_LIMIT < text.len() {
+        return MendAnswer::Refused(Refusal::TextTooLong);
+    }
+    let ItemAnalysis::NonCanonical(finding) = analyze_scan_item(text, at, policy) else {
+        return MendAnswer::Refused(Refusal::NoFinding);
+    };
+    let Finding {
+        start: _,
+        end,
+        counts,
+    } = finding;
+    match check_decisions(decisions, counts.presentation_decisions) {
+        Check::Refused(refusal) => MendAnswer::Refused(refusal),
+        Check::Passed => write_cells(&text[at..end], policy, decisions, out),
+    }
+}
+
+// Writes the replacement of the finding at an offset, every decision at its default.
+pub fn default_canonical_replacement(
+    text: &[u8],
+    at: usize,
+    policy: Policy,
+    out: &mut [u8],
+) -> MendAnswer
+    ensures { λ r. ⌜ record { answer = r; buffer = now (out .exit) } ≡ replaceByDefault policy (now (text .entry)) at (now (out .entry)) ⌝ }
+{
+    if TEXT_LIMIT < text.len() {
+        return MendAnswer::Refused(Refusal::TextTooLong);
+    }
+    let ItemAnalysis::NonCanonical(finding) = analyze_scan_item(text, at, policy) else {
+        return MendAnswer::Refused(Refusal::NoFinding);
+    };
+    let end = finding.end;
+    write_cells(&text[at..end], policy, b"", out)
+}
