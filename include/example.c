@@ -18,17 +18,17 @@ int main(void)
     tilghorz_default_policy(policy, sizeof policy);
     word = tilghorz_format((const uint8_t *)text, strlen(text), policy, sizeof policy, out, sizeof out);
     switch (TILGHORZ_NUMBER(word)) {
-    case 0:
+    case TILGHORZ_DONE:
         printf("changed:");
         for (uint64_t i = 0; i < TILGHORZ_VALUE(word); i++)
             printf(" %02X", out[i]);
         printf("\n");
         return 0;
-    case 255:
+    case TILGHORZ_NOTHING_TO_DO:
         printf("unchanged\n");
         return 0;
     default:
-        printf("refused %d\n", (int)TILGHORZ_NUMBER(word));
+        printf("refused %u\n", TILGHORZ_NUMBER(word));
         return 1;
     }
 }

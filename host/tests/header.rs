@@ -223,10 +223,47 @@ fn the_refusals_agree_with_the_source() {
     assert_eq!(numbers, [1, 2, 3, 4, 5, 6, 7, 8]);
     assert_eq!(refusals(&file("tilghorz/src/refusal.rs"), "Self::"), source);
     let header = file("../include/tilghorz.h");
-    for number in numbers {
+    for (name, number) in source {
         let mut lines = header.lines();
         assert!(lines.any(|line| line.starts_with(&format!(" *   {number}          "))));
+        let define = format!("\n#define TILGHORZ_{} {number}\n", screaming(&name));
+        assert!(header.contains(&define), "{define}");
     }
+}
+
+/// A name in capitals, with `_` before each word but the first.
+fn screaming(name: &str) -> String {
+    let mut out = String::new();
+    for letter in name.chars() {
+        if letter.is_ascii_uppercase() && !out.is_empty() {
+            out.push('_');
+        }
+        out.push(letter.to_ascii_uppercase());
+    }
+    out
+}
+
+/// The number that follows a beginning in a file.
+fn number_after(path: &str, beginning: &str) -> u64 {
+    let text = file(path);
+    let (_, rest) = text.split_once(beginning).expect(beginning);
+    let digits: String = rest
+        .chars()
+        .filter(|letter| *letter != '_')
+        .take_while(char::is_ascii_digit)
+        .collect();
+    digits.parse().expect("a number")
+}
+
+#[test]
+fn the_limit_and_the_entries_agree_with_the_source() {
+    let limit = number_after("../crates/base/src/lib.rt", "TEXT_LIMIT: usize = ");
+    let header = "../include/tilghorz.h";
+    assert_eq!(number_after(header, "TILGHORZ_TEXT_LIMIT "), limit);
+    let tables = "../crates/unicode/src/unicode_data.rt";
+    let entries = number_after(tables, "VARIATION_ENTRY_COUNT: usize = ");
+    assert_eq!(number_after(header, "TILGHORZ_ENTRIES "), entries);
+    assert_eq!(number_after(header, "There are "), entries);
 }
 
 #[test]
@@ -240,6 +277,9 @@ fn the_parts_of_a_word_agree_with_the_source() {
     );
     assert!(file("tilghorz/src/answer.rs").contains("NUMBER_SHIFT: u32 = 56;\n"));
     let header = file("../include/tilghorz.h");
-    assert!(header.contains("#define TILGHORZ_NUMBER(word) ((word) >> 56)\n"));
+    assert!(
+        header.contains("#define TILGHORZ_NUMBER(word) ((unsigned)((uint64_t)(word) >> 56))\n")
+    );
+    assert!(header.contains("\n#define TILGHORZ_NOTHING_TO_DO 255\n"));
     assert!(header.contains("\n *   255        nothing to do "));
 }

@@ -1,5 +1,8 @@
 -- The proof of each statement of specs/Theorems.antt and specs/Worked.antt.
-use Rattle.formatter.specs.Theorems.{CellByCell, EveryFormattedText, EveryList, FiledIsFormatted, IntakeComesFirst, IntakeInOrder, ListedAsBytes}
+use mathlib.Core.Path.{refl}
+use Rattle.base.specs.Words.{bytesOf, littleEndian, wordBytes}
+use Rattle.formatter.specs.List.{countNumbers, rowNumbers}
+use Rattle.formatter.specs.Theorems.{CellByCell, ColumnsInOrder, EveryFormattedText, EveryList, FiledIsFormatted, IntakeComesFirst, IntakeInOrder, ListedAsBytes}
 use Rattle.formatter.specs.Worked.{WorkedList, WorkedListClaimed, WorkedTexts}
 use Rattle.formatter.proofs.CellView.{cell-view}
 use Rattle.formatter.proofs.FormattedClaim.{formatted-claim}
@@ -13,6 +16,10 @@ intake-in-order = in-order
 
 pub intake-comes-first : IntakeComesFirst
 intake-comes-first = comes-first
+
+pub columns-in-order : ColumnsInOrder
+unfolding ColumnsInOrder rowNumbers countNumbers bytesOf wordBytes littleEndian
+columns-in-order = (refl, refl)
 
 pub listed-as-bytes : ListedAsBytes
 listed-as-bytes = listed-as

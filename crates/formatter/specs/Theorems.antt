@@ -2,13 +2,14 @@
 use mathlib.Core.Path.{_≡_}
 use mathlib.Core.Bool.{true, false}
 use mathlib.Core.Option.{some, none}
-use mathlib.Core.List.{List, _++_}
+use mathlib.Core.List.{List, [], _∷_, _++_}
 use Prim.Native.Nat.{ℕ, _≤_, _<_}
 use lib.ListN.{length}
 use Rattle.base.specs.Tables.{rowsBytes}
 use Rattle.utf8.specs.Rfc3629.{WellFormed, chars, encodeAll, validUpTo}
 use Rattle.policy.specs.PolicyBytes.{isPolicy, policyOf, policyRefusal}
 use Rattle.analysis.specs.CellView.{formatCells, totalCells}
+use Rattle.base.specs.Words.{bytesOf}
 use Rattle.formatter.specs.Demand3.{Accepted, FormattedClaim, ListClaim}
 use Rattle.formatter.specs.Filed.{filedText}
 use Rattle.formatter.specs.Findings.{textTotals}
@@ -44,6 +45,35 @@ IntakeComesFirst =
     × ((offset : ℕ) (decisions out : List ℕ) → mend text policy offset decisions out ≡ record { answer = Mend.Refused r; buffer = out })
 
 -- ---- listing
+
+-- A finding with another number in each place: start 9, end 10, and the counts 1 to 8 in document 01's order.
+abbrev pub numberedFinding : Finding
+numberedFinding = record {
+  start = 9;
+  end = 10;
+  counts = record {
+    «unsanctioned_selectors» = 1;
+    «modifier_defective_selectors» = 2;
+    «additional_defective_selectors» = 3;
+    «tag_conflicting_selectors» = 4;
+    «tag_forced_presentations» = 5;
+    «tag_redundant_selectors» = 6;
+    «policy_redundant_selectors» = 7;
+    «presentation_decisions» = 8;
+  };
+}
+
+-- A number below 256 as eight bytes, lowest first.
+abbrev pub lowByte : ℕ → List ℕ
+lowByte n = n ∷ 0 ∷ 0 ∷ 0 ∷ 0 ∷ 0 ∷ 0 ∷ 0 ∷ []
+
+-- "A listed finding is its start, its end and the eight counts", in the order "unsanctioned, modifier-defective, additional-defective,
+-- tag-conflicting, tag-forced, tag-redundant, policy-redundant, decisions": the numbers of such a row, and its bytes.
+unfoldable pub ColumnsInOrder : Type 0
+ColumnsInOrder =
+    (rowNumbers numberedFinding ≡ 9 ∷ 10 ∷ 1 ∷ 2 ∷ 3 ∷ 4 ∷ 5 ∷ 6 ∷ 7 ∷ 8 ∷ [])
+    × (bytesOf (rowNumbers numberedFinding)
+    ≡ lowByte 9 ++ lowByte 10 ++ lowByte 1 ++ lowByte 2 ++ lowByte 3 ++ lowByte 4 ++ lowByte 5 ++ lowByte 6 ++ lowByte 7 ++ lowByte 8)
 
 -- Listing into a table of bytes that are rows, and fewer bytes behind them than a row has, leaves the bytes of the rows that listing
 -- into the table of those rows leaves, and the bytes behind. What listing leaves in any table of bytes: `listed-bytes` and
