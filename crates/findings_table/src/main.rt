@@ -3,6 +3,7 @@
 // findings, how many refusals, and in how many lines the two differ.
 ghost use Prim.Native.Nat.{_+_, _≤_};
 ghost use lib.ListN.{length};
+ghost use Rattle.formatter.specs.List.{rowBytes};
 use analysis::types::Finding;
 use base::ListAnswer;
 use base::WORD_BYTES;
@@ -43,7 +44,7 @@ fn wide(n: usize) -> u64 {
 
 // Whether the bytes from a place on are the row of a finding.
 fn same_row(finding: Finding, bytes: &[u8], start: usize) -> bool
-    requires { ⌜ start + 80 ≤ length (now bytes) ⌝ }
+    requires { ⌜ start + rowBytes ≤ length (now bytes) ⌝ }
 {
     let numbers = row_numbers(finding);
     let mut i = 0;
@@ -56,7 +57,7 @@ fn same_row(finding: Finding, bytes: &[u8], start: usize) -> bool
     true
 }
 
-// Whether the two tables hold the same in every place, also behind the findings.
+// Whether the two tables hold the same in every place, also after the findings.
 fn same_tables(findings: [Finding; FEW], bytes: &[u8; TABLE_BYTES]) -> bool {
     let mut k = 0;
     while k < FEW {
