@@ -232,7 +232,7 @@ module _ (policy : List ℕ) where
           }
       pub unlisted : (table : List Finding) → length table < length (open-after cs)
           → list (text cs) policy table ≡ record { answer = Listing.Refused (TableTooShort (length (open-after cs))); buffer = table }
-      -- The same into any table of bytes: their rows' bytes at the front, the bytes behind as they were.
+      -- The same into any table of bytes: their rows' bytes at the front, the bytes after them as they were.
       pub listed-bytes : (table : List ℕ) → length (open-after cs) * rowBytes ≤ length table
           → listBytes (text cs) policy table ≡ record {
             answer = Listing.Listed (length (open-after cs));

@@ -1,5 +1,5 @@
--- A message that is read from standard input, into a buffer that it must not fill (document 01, "Programs": each reads at most so many
--- bytes; "more gives `refused 1`").
+-- A message that is read from standard input, into a buffer that it must not fill (document 01, "Programs": each program reads up to a
+-- limit, and "more gives `refused 1`").
 use mathlib.Core.Path.{_≡_}
 use mathlib.Core.List.{List}
 use Prim.Native.Nat.{ℕ, _+_, _-_, _<_, _≤_}

@@ -18,13 +18,13 @@ pub enum Ending {
     Failed,
 }
 
-// What was read: a whole message of so many bytes, or no byte of one.
+// What was read: a whole message of `len` bytes, or no byte of one.
 pub struct Message {
     pub ending: Ending,
     pub len: usize,
 }
 
-// What one read gives: a failure, the end, or so many bytes.
+// What one read gives: a failure, the end, or a number of bytes.
 enum Turn {
     Failed,
     Ended,

@@ -44,7 +44,7 @@ fn put_number(out: &mut [u8], start: usize, n: usize) -> usize
     put_decimal(out, at, n)
 }
 
-// Puts each number behind a blank.
+// Puts each number after a blank.
 fn put_numbers(out: &mut [u8], start: usize, numbers: &[usize]) -> usize
     requires { ⌜ start + 21 * length (now numbers) ≤ length (now out) ⌝ }
     ensures { λ r. ⌜ PutAt (now (out .entry)) start (behindBlanks (map decimal (now (numbers .entry)))) (now (out .exit)) r × (r ≤ start + 21 * length (now (numbers .entry))) ⌝ }
@@ -86,7 +86,7 @@ pub fn total_line(numbers: &[usize; 8], out: &mut [u8; LINE_ROOM]) -> usize
     put_bytes(out, at, b"\n")
 }
 
-// Puts what is returned with a refusal, behind a blank, if anything is.
+// Puts what is returned with a refusal, after a blank, if anything is.
 fn put_returned(out: &mut [u8], start: usize, refusal: Refusal) -> usize
     requires { ⌜ start + 21 ≤ length (now out) ⌝ }
     ensures { λ r. ⌜ PutAt (now (out .entry)) start (behindBlanks (map decimal (returned refusal))) (now (out .exit)) r × (r ≤ start + 21) ⌝ }

@@ -1,4 +1,4 @@
--- `formatting::format_at_once` meets its contract: the first change is put, and what is left behind it.
+-- `formatting::format_at_once` meets its contract: the first change is put, and then what is left after it.
 use mathlib.Core.Path.{sym}
 use native.Mathlib.Omega.{arith}
 use borrow.Author.Needs.{needs}

@@ -1,4 +1,4 @@
--- The loop has read so many bytes; the buffer is as long as it was, and from there on as it was.
+-- The loop has read `len` bytes. The buffer is as long as it was, and as it was from there on.
 use mathlib.Core.Path.{_≡_, sym, _∙_, ap, subst}
 use Prim.Native.Nat.{_-_, _≤_}
 use native.Mathlib.Omega.{arith}

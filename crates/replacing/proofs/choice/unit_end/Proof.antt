@@ -1,4 +1,4 @@
--- `replacing::choice::unit_end` meets its contract: the unit begins behind the selectors at the offset and ends where the next link begins.
+-- `replacing::choice::unit_end` meets its contract: the unit begins after the selectors at the offset and ends where the next link begins.
 use mathlib.Core.Path.{sym, _∙_}
 use borrow.Author.Needs.{needs}
 use Rattle.scanner.proofs.Peek.{seen, unseen}
