@@ -264,6 +264,11 @@ fn the_limit_and_the_entries_agree_with_the_source() {
     let entries = number_after(tables, "VARIATION_ENTRY_COUNT: usize = ");
     assert_eq!(number_after(header, "TILGHORZ_ENTRIES "), entries);
     assert_eq!(number_after(header, "There are "), entries);
+    let unused = 64 * entries.div_ceil(64) - entries;
+    let text = file(header);
+    assert!(text.contains(&format!("; the other {unused} bits of a set are unused")));
+    let version = number_after("../docs/UNICODE.md", "**Unicode ");
+    assert!(text.contains(&format!(", those of Unicode {version}.")));
 }
 
 #[test]

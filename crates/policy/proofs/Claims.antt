@@ -152,5 +152,6 @@ pub no-policy-means : NoPolicyMeans
 unfolding NoPolicyMeans policyFault
 no-policy-means bs = (
   ((λ e. refused-for bs (refused-policy bs NotAPolicy e)), (λ h. policy-refused bs (refused-by bs h))),
+  (refused-for bs, refused-by bs),
   (passed-policy bs, policy-passes bs),
 )

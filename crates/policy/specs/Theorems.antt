@@ -76,8 +76,11 @@ unfoldable pub WriteRead : Type 0
 WriteRead =
     (bs : List ℕ) → allBytes bs ≡ true → length bs ≡ 4 * (wordCount * 8) → policyBytes (policyOf bs) ≡ bs
 
--- Bytes get refusal 2 exactly when they are not 4W words or have an unused bit set, and none exactly when they are a policy.
+-- Bytes get refusal 2 exactly when they are not 4W words or have an unused bit set. They are no policy exactly then, and they get no
+-- refusal exactly when they are a policy.
 unfoldable pub NoPolicyMeans : Type 0
 NoPolicyMeans =
     (bs : List ℕ)
-    → ((policyRefusal bs ≡ some NotAPolicy) ↔ NoPolicy bs) × ((policyRefusal bs ≡ none) ↔ (isPolicy bs ≡ true))
+    → ((policyRefusal bs ≡ some NotAPolicy) ↔ NoPolicy bs)
+    × ((isPolicy bs ≡ false) ↔ NoPolicy bs)
+    × ((policyRefusal bs ≡ none) ↔ (isPolicy bs ≡ true))

@@ -1,4 +1,4 @@
--- `replacing::render::put_cell` meets its contract: the character's bytes, and behind them the selector's.
+-- `replacing::render::put_cell` meets its contract: the character's bytes, and then the selector's.
 use mathlib.Core.Path.{ap}
 use mathlib.Core.List.{List, map}
 use native.Mathlib.Omega.{arith}

@@ -1,4 +1,4 @@
--- `text_pass::base_selectors::selectors_behind` meets its contract: behind the first selector stand the others.
+-- `text_pass::base_selectors::selectors_behind` meets its contract: the other selectors stand after the first.
 use mathlib.Core.Path.{sym, _∙_}
 use native.Mathlib.Omega.{arith}
 use borrow.Author.Needs.{needs}
