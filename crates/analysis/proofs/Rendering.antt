@@ -42,7 +42,7 @@ use Rattle.analysis.proofs.Sums.{capped-held}
 -- With room for a scalar value, its bytes are put.
 module _ (v : ℕ) (o : List ℕ) (at : ℕ) (s : isScalar v ≡ true) (h : at + length (encode v) ≤ length o) (a : WriteChar) (e : a ≡ writeChar v o at) where
   answer-is : a ≡ Written (length (encode v))
-  answer-is = e ∙ sym (written v o at (length (encode v)) refl s h .0)
+  answer-is = e ∙ sym (written v o at (length (encode v)) refl s h .0 .same)
 
   pub width-is : (w : ℕ) → a ≡ Written w → w ≡ length (encode v)
   width-is w f = let g : Written w ≡ Written (length (encode v)) = sym f ∙ answer-is in cc g

@@ -5,7 +5,8 @@ use mathlib.Core.Option.{Option, none, some}
 use Prim.Native.Nat.{ℕ, suc}
 use lib.Dec.{eqb, leb}
 use lib.ListN.{length}
-use Rattle.base.specs.Refusals.{After, kept, orElse, textLimit, written}
+use Rattle.base.specs.Answers.{done}
+use Rattle.base.specs.Refusals.{After, RefusalRow, kept, orElse, refusalRow, textLimit, written}
 use Rattle.base.specs.declared.Refusal.{Refusal}
 use Rattle.base.specs.declared.Refusal.the-variants.{BadDecision, NoFinding, OutputTooShort, TextTooLong, WrongNumberOfDecisions}
 use Rattle.utf8.specs.Rfc3629.{encode, encodeAll}
@@ -46,6 +47,11 @@ decisionsUsed (decided d) = 1
 -- The bytes of a character and of what its slot holds under the decisions.
 abbrev pub cellBytes : ℕ → Slot → List Presentation → List ℕ
 cellBytes c o ds = encode c ++ encodeAll (map asSelector (chosen o ds))
+
+-- The bytes written, or the refusal.
+unfoldable pub mendRow : MendAnswer → RefusalRow
+mendRow (Mended n) = done n
+mendRow (Refused r) = refusalRow r
 
 -- "output too short | 8 | length wanted"; a success writes its result at the front.
 abbrev pub writeOut : List ℕ → List ℕ → After MendAnswer ℕ

@@ -1,10 +1,11 @@
 -- The proof of each statement of specs/Theorems.antt.
 use lib.ListN.{length}
 use borrow.Author.Tests.{le-leb, lt-leb}
-use Rattle.base.specs.Output.{answerOf, bufferOf, refusal}
+use Rattle.base.specs.Output.{answerOf, bufferOf}
+use Rattle.base.specs.Answers.{writeRow}
 use Rattle.base.specs.Words.{wordBytes}
-use Rattle.base.specs.Theorems.{BytesOfNumber, NumberOfWord, RowsTellRefusals, WrittenOrRefused}
-use Rattle.base.proofs.Rows.{rows-tell}
+use Rattle.base.specs.Theorems.{BytesOfNumber, NumberOfWord, RowsTellAnswers, RowsTellRefusals, WrittenOrRefused}
+use Rattle.base.proofs.Rows.{check-rows, list-rows, rows-tell, write-rows}
 use Rattle.base.proofs.Words.{littleEndian-number, number-littleEndian}
 
 pub number-of-word : NumberOfWord
@@ -16,7 +17,7 @@ unfolding BytesOfNumber
 bytes-of-number = littleEndian-number
 
 pub written-or-refused : WrittenOrRefused
-unfolding WrittenOrRefused answerOf bufferOf refusal
+unfolding WrittenOrRefused answerOf bufferOf writeRow
 written-or-refused result out = (
   λ h. let t = le-leb (length result) (length out) h in (simp t, simp t),
   λ h. let t = lt-leb (length result) (length out) h in (simp t, simp t),
@@ -24,3 +25,7 @@ written-or-refused result out = (
 
 pub rows-tell-refusals : RowsTellRefusals
 rows-tell-refusals = rows-tell
+
+pub rows-tell-answers : RowsTellAnswers
+unfolding RowsTellAnswers
+rows-tell-answers = (check-rows, list-rows, write-rows)

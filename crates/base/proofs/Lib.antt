@@ -4,6 +4,7 @@ pub mod Writer
 pub mod Words
 pub mod Bits
 pub mod ByteBits
+pub mod Answering
 pub mod Output
 pub mod Numbers
 pub mod TableBytes

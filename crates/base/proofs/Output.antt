@@ -9,6 +9,7 @@ use lib.ListN.{drop, length}
 use lib.Seq.{sets, sets-eq}
 use borrow.Author.Tests.{le-leb, lt-leb}
 use Rattle.base.specs.Output.{PutAt, Wrote, answerOf, bufferOf, roomFor}
+use Rattle.base.proofs.Answering.{answers}
 use Rattle.base.specs.declared.WriteAnswer.the-variants.{TooShort, Written}
 
 -- there is room, and the result stands at the front
@@ -19,7 +20,7 @@ wrote {before} {after} {result} {n} e h p =
     let l : length result ≤ length before = omega arith in
     let t = le-leb (length result) (length before) l in
     record {
-      answered = ap Written e ∙ simp t;
+      answered = answers (ap Written e ∙ simp t);
       buffer = p .bytes ∙ sets-eq result before 0 (omega arith) ∙ ap (λ (k : ℕ). result ++ drop k before) (zero-add (length result)) ∙ simp t;
     }
 
@@ -30,7 +31,7 @@ unfolding answerOf bufferOf
 too-short {before} {n} result e h =
     let l : length before < length result = omega arith in
     let t = lt-leb (length result) (length before) l in
-    record { answered = ap TooShort e ∙ simp t; buffer = simp t }
+    record { answered = answers (ap TooShort e ∙ simp t); buffer = simp t }
 
 -- what `write_bytes` ensures, where there is room
 pub bytes-put : (o o′ : List ℕ) (at : ℕ) (xs : List ℕ) → at + length xs ≤ length o → o′ ≡ cond (roomFor xs o at) (sets o at xs) o → PutAt o at xs o′ (at + length xs)

@@ -1,11 +1,19 @@
--- A row of the table of refusals tells the refusal, and its number leaves 0 and 255 to other answers.
+-- A row of the table of refusals tells the refusal, its number leaves 0 and 255 to other answers, and the row of an answer tells the
+-- answer.
 use mathlib.Core.Path.{_≡_, refl, ap, sym, _∙_}
 use mathlib.Core.Bool.{cond}
 use Prim.Native.Nat.{_≤_}
 use native.Mathlib.Omega.{arith}
 use lib.Dec.{eqb}
 use Rattle.base.specs.Refusals.{RefusalRow, refusalRow}
+use Rattle.base.specs.Answers.{checkRow, listRow, writeRow}
 use Rattle.base.specs.Theorems.{RowsTellRefusals}
+use Rattle.base.specs.declared.Check.{Check}
+use Rattle.base.specs.declared.Check.the-variants as Check
+use Rattle.base.specs.declared.ListAnswer.{ListAnswer}
+use Rattle.base.specs.declared.ListAnswer.the-variants as Listing
+use Rattle.base.specs.declared.WriteAnswer.{WriteAnswer}
+use Rattle.base.specs.declared.WriteAnswer.the-variants as Write
 use Rattle.base.specs.declared.Refusal.{Refusal}
 use Rattle.base.specs.declared.Refusal.the-variants.{
   BadDecision,
@@ -54,3 +62,36 @@ refusal-numbers (WrongNumberOfDecisions n) = (omega arith, omega arith)
 refusal-numbers (BadDecision n) = (omega arith, omega arith)
 refusal-numbers (TableTooShort n) = (omega arith, omega arith)
 refusal-numbers (OutputTooShort n) = (omega arith, omega arith)
+
+-- ---- rows of answers: a refusal has a number from 1 to 254, so none of a success or of nothing to do
+
+pub num : {r s : RefusalRow} → r ≡ s → r .number ≡ s .number
+num e = ap (λ (r : RefusalRow). r .number) e
+
+pub val : {r s : RefusalRow} → r ≡ s → r .value ≡ s .value
+val e = ap (λ (r : RefusalRow). r .value) e
+
+pub refusals : (r s : Refusal) → refusalRow r ≡ refusalRow s → r ≡ s
+unfolding RowsTellRefusals
+refusals = rows-tell
+
+pub check-rows : (a b : Check) → checkRow a ≡ checkRow b → a ≡ b
+unfolding checkRow
+check-rows Check.Passed Check.Passed e = refl
+check-rows Check.Passed (Check.Refused r) e = absurd (omega (arith, num e, refusal-numbers r))
+check-rows (Check.Refused r) Check.Passed e = absurd (omega (arith, num e, refusal-numbers r))
+check-rows (Check.Refused r) (Check.Refused s) e = ap Check.Refused (refusals r s e)
+
+pub list-rows : (a b : ListAnswer) → listRow a ≡ listRow b → a ≡ b
+unfolding listRow
+list-rows (Listing.Listed n) (Listing.Listed m) e = ap Listing.Listed (val e)
+list-rows (Listing.Listed n) (Listing.Refused r) e = absurd (omega (arith, num e, refusal-numbers r))
+list-rows (Listing.Refused r) (Listing.Listed n) e = absurd (omega (arith, num e, refusal-numbers r))
+list-rows (Listing.Refused r) (Listing.Refused s) e = ap Listing.Refused (refusals r s e)
+
+pub write-rows : (a b : WriteAnswer) → writeRow a ≡ writeRow b → a ≡ b
+unfolding writeRow
+write-rows (Write.Written n) (Write.Written m) e = ap Write.Written (val e)
+write-rows (Write.Written n) (Write.TooShort m) e = absurd (omega (arith, num e))
+write-rows (Write.TooShort n) (Write.Written m) e = absurd (omega (arith, num e))
+write-rows (Write.TooShort n) (Write.TooShort m) e = ap Write.TooShort (val e)

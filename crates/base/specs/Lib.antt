@@ -1,10 +1,11 @@
 -- What every layer shares: ranges of numbers, numbers of eight bytes, bits of a word, texts in a row, document 01's
--- table of refusals, results that are written into a lent buffer, and tables of rows of numbers.
+-- table of refusals, the rows of answers, results that are written into a lent buffer, and tables of rows of numbers.
 pub mod Ranges
 pub mod Words
 pub mod Bits
 pub mod Texts
 pub mod Refusals
+pub mod Answers
 pub mod Output
 pub mod Tables
 pub mod Theorems

@@ -3,22 +3,15 @@
 use mathlib.Core.Path.{_≡_}
 use mathlib.Core.Bool.{Bool, cond}
 use mathlib.Core.List.{List, _++_}
-use mathlib.Core.Option.{Option, none, some}
 use Prim.Native.Nat.{ℕ, _+_}
 use lib.Dec.{leb}
 use lib.ListN.{drop, length}
 use lib.Seq.{sets}
-use Rattle.base.specs.Refusals.{RefusalRow, refusalRow}
-use Rattle.base.specs.declared.Refusal.the-variants.{OutputTooShort}
+use Rattle.base.specs.Answers.{Answers, writeRow}
 use Rattle.base.specs.declared.WriteAnswer.{WriteAnswer}
 use Rattle.base.specs.declared.WriteAnswer.the-variants.{TooShort, Written}
 
--- "output too short | 8 | length wanted"
-unfoldable pub refusal : WriteAnswer → Option RefusalRow
-refusal (Written n) = none
-refusal (TooShort n) = some (refusalRow (OutputTooShort n))
-
--- the answer to writing a result into a buffer
+-- the answer to writing a result into a buffer; "output too short | 8 | length wanted"
 unfoldable pub answerOf : List ℕ → List ℕ → WriteAnswer
 answerOf result out = cond (leb (length result) (length out)) (Written (length result)) (TooShort (length result))
 
@@ -43,5 +36,5 @@ pub record PutAt (before : List ℕ) (at : ℕ) (xs after : List ℕ) (r : ℕ) 
 
 -- what a call that is to write a result answers, and what it leaves in the buffer
 pub record Wrote (result before after : List ℕ) (answer : WriteAnswer) : Type 0 where
-  pub answered : answer ≡ answerOf result before
+  pub answered : Answers writeRow (answerOf result before) answer
   pub buffer : after ≡ bufferOf result before

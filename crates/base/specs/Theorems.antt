@@ -1,13 +1,17 @@
--- A number and its eight bytes give each other back; a result is written or refused; the table's row tells the refusal.
+-- A number and its eight bytes give each other back; a result is written or refused; the row of a refusal and of an
+-- answer tells it.
 use mathlib.Core.Path.{_≡_}
 use mathlib.Core.Bool.{true}
 use mathlib.Core.List.{List, _++_}
-use mathlib.Core.Option.{none, some}
 use Prim.Native.Nat.{ℕ, _^_, _<_, _≤_}
 use lib.ListN.{drop, length}
 use Rattle.base.specs.Refusals.{refusalRow}
 use Rattle.base.specs.declared.Refusal.{Refusal}
-use Rattle.base.specs.Output.{answerOf, bufferOf, refusal}
+use Rattle.base.specs.Output.{answerOf, bufferOf}
+use Rattle.base.specs.Answers.{checkRow, done, listRow, writeRow}
+use Rattle.base.specs.declared.Check.{Check}
+use Rattle.base.specs.declared.ListAnswer.{ListAnswer}
+use Rattle.base.specs.declared.WriteAnswer.{WriteAnswer}
 use Rattle.base.specs.Words.{allBytes, littleEndian, number, wordBytes}
 
 -- The eight bytes of a number below 2 to the 64th make that number.
@@ -24,10 +28,17 @@ unfoldable pub WrittenOrRefused : Type 0
 WrittenOrRefused =
     (result out : List ℕ)
     → (length result ≤ length out
-    → (refusal (answerOf result out) ≡ none) × (bufferOf result out ≡ result ++ drop (length result) out))
+    → (writeRow (answerOf result out) ≡ done (length result)) × (bufferOf result out ≡ result ++ drop (length result) out))
     × (length out < length result
-    → (refusal (answerOf result out) ≡ some (record { number = 8; value = length result })) × (bufferOf result out ≡ out))
+    → (writeRow (answerOf result out) ≡ record { number = 8; value = length result }) × (bufferOf result out ≡ out))
 
 -- The row of the table tells the refusal: no two causes have the same number, and the value is returned whole.
 unfoldable pub RowsTellRefusals : Type 0
 RowsTellRefusals = (r s : Refusal) → refusalRow r ≡ refusalRow s → r ≡ s
+
+-- The row of an answer tells the answer: no two cases have the same number and value.
+unfoldable pub RowsTellAnswers : Type 0
+RowsTellAnswers =
+    ((a b : Check) → checkRow a ≡ checkRow b → a ≡ b)
+    × ((a b : ListAnswer) → listRow a ≡ listRow b → a ≡ b)
+    × ((a b : WriteAnswer) → writeRow a ≡ writeRow b → a ≡ b)

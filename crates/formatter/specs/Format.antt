@@ -9,7 +9,8 @@ use Rattle.policy.specs.declared.Policy.{Policy}
 use Rattle.policy.specs.PolicyBytes.{policyOf}
 use Rattle.scanner.specs.Items.{Item, items}
 use Rattle.analysis.specs.Analysis.{defaultReplacement, isFinding}
-use Rattle.base.specs.Refusals.{After, kept, orElse, written}
+use Rattle.base.specs.Answers.{done, nothing}
+use Rattle.base.specs.Refusals.{After, RefusalRow, kept, orElse, refusalRow, written}
 use Rattle.formatter.specs.Intake.{intakeRefusal}
 use Rattle.formatter.specs.declared.FormatAnswer.{FormatAnswer}
 use Rattle.formatter.specs.declared.FormatAnswer.the-variants.{Changed, Refused, Unchanged}
@@ -31,6 +32,12 @@ sameBytes [] [] = true
 sameBytes [] (b ∷ t) = false
 sameBytes (a ∷ s) [] = false
 sameBytes (a ∷ s) (b ∷ t) = eqb a b && sameBytes s t
+
+-- Nothing to do, the bytes written, or the refusal.
+unfoldable pub formatRow : FormatAnswer → RefusalRow
+formatRow Unchanged = nothing
+formatRow (Changed n) = done n
+formatRow (Refused r) = refusalRow r
 
 -- The call: refusals 1, 2, 3 and 8 in this order. "Formatting a text that needs no change says so, writes nothing and never
 -- gives 8."

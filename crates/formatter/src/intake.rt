@@ -1,7 +1,7 @@
 // The tests of a text and a policy that come first in every call (document 01, "Turned back", numbers 1, 2 and 3).
 // `intake` equals `intakeRefusal` of specs/Intake.antt. Formatting, listing and mending see the third in a pass that they make anyway
 // (format.rt, list.rt, mend.rt). The tests of a text alone are the crate scanner's (text_check.rt).
-ghost use mathlib.Core.Path.{_≡_};
+ghost use Rattle.base.specs.Answers.{Answers, checkRow};
 ghost use Rattle.base.specs.Refusals.{checked};
 ghost use Rattle.formatter.specs.Intake.{intakeRefusal};
 use base::Check;
@@ -12,7 +12,7 @@ use policy::policy_bytes::policy_refusal;
 
 // The bytes of a text and of a policy: all three tests have passed, or the first refusal.
 pub fn intake(text: &[u8], policy: &[u8]) -> Check
-    ensures { λ r. ⌜ r ≡ checked (intakeRefusal (now (text .entry)) (now (policy .entry))) ⌝ }
+    ensures { λ r. ⌜ Answers checkRow (checked (intakeRefusal (now (text .entry)) (now (policy .entry)))) r ⌝ }
 {
     if TEXT_LIMIT < text.len() {
         return Check::Refused(Refusal::TextTooLong);

@@ -6,13 +6,14 @@ ghost use mathlib.Core.Bool.{true, false};
 ghost use mathlib.Core.List.{[], _∷_, _++_};
 ghost use Prim.Native.Nat.{_+_, _*_, _-_, _≤_};
 ghost use lib.ListN.{drop, length, take};
+ghost use Rattle.base.specs.Answers.{EndsAs};
 ghost use Rattle.base.specs.Output.{PutAt};
 ghost use Rattle.base.specs.Refusals.{textLimit};
 ghost use Rattle.utf8.specs.Rfc3629.{validUpTo};
 ghost use Rattle.unicode.specs.declared.presentation.FromSelector.the-variants.{Selector};
 ghost use Rattle.policy.specs.PolicyBytes.{isPolicy, policyOf};
 ghost use Rattle.text_pass.specs.Changes.{NextChange, formattedFrom, selectorBytes};
-ghost use Rattle.formatter.specs.Format.{format};
+ghost use Rattle.formatter.specs.Format.{format, formatRow};
 use base::Refusal;
 use base::TEXT_LIMIT;
 use formatter::FormatAnswer;
@@ -186,7 +187,7 @@ fn format_at_once(text: &[u8], policy: &[u8], first: Change, out: &mut [u8]) -> 
 
 // Writes the formatted text at the front of the output, if it is another text and fits.
 pub fn format_text(text: &[u8], policy: &[u8], out: &mut [u8]) -> FormatAnswer
-    ensures { λ r. ⌜ record { answer = r; buffer = now (out .exit) } ≡ format (now (text .entry)) (now (policy .entry)) (now (out .entry)) ⌝ }
+    ensures { λ r. ⌜ EndsAs formatRow (format (now (text .entry)) (now (policy .entry)) (now (out .entry))) r (now (out .exit)) ⌝ }
 {
     if TEXT_LIMIT < text.len() {
         return FormatAnswer::Refused(Refusal::TextTooLong);

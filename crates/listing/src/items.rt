@@ -6,6 +6,7 @@ ghost use Prim.Native.Nat.{_+_, _≤_};
 ghost use lib.ListN.{length};
 ghost use Rattle.base.specs.Tables.{rowsBytes};
 ghost use Rattle.base.specs.Words.{bytesOf};
+ghost use Rattle.base.specs.Answers.{EndsAs, listRow};
 ghost use Rattle.base.specs.Output.{PutAt};
 ghost use Rattle.scanner.specs.Spans.{scan};
 ghost use Rattle.formatter.specs.List.{itemBytes, itemNumbers, kindNumber, listItems};
@@ -87,7 +88,7 @@ fn put_items(text: &[u8], table: &mut [u8]) -> usize
 
 // Lists the items of a text, if the table has a place for each.
 pub fn list_items(text: &[u8], table: &mut [u8]) -> ListAnswer
-    ensures { λ r. ⌜ record { answer = r; buffer = now (table .exit) } ≡ listItems (now (text .entry)) (now (table .entry)) ⌝ }
+    ensures { λ r. ⌜ EndsAs listRow (listItems (now (text .entry)) (now (table .entry))) r (now (table .exit)) ⌝ }
 {
     if let Check::Refused(refusal) = check_text(text) {
         return ListAnswer::Refused(refusal);

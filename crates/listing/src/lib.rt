@@ -10,6 +10,7 @@ ghost use mathlib.Core.List.{map};
 ghost use Prim.Native.Nat.{_+_, _*_, _≤_};
 ghost use lib.ListN.{length};
 ghost use Rattle.base.specs.Tables.{fillTable, rowsBytes};
+ghost use Rattle.base.specs.Answers.{EndsAs, listRow};
 ghost use Rattle.base.specs.Output.{PutAt};
 ghost use Rattle.base.specs.Words.{bytesOf};
 ghost use Rattle.utf8.specs.Rfc3629.{validUpTo};
@@ -125,7 +126,7 @@ fn fill_table(text: &[u8], policy: &[u8], findings: usize, table: &mut [u8]) -> 
 
 // Lists the findings of a text under a policy, by their bytes.
 pub fn list_findings(text: &[u8], policy: &[u8], table: &mut [u8]) -> ListAnswer
-    ensures { λ r. ⌜ record { answer = r; buffer = now (table .exit) } ≡ listBytes (now (text .entry)) (now (policy .entry)) (now (table .entry)) ⌝ }
+    ensures { λ r. ⌜ EndsAs listRow (listBytes (now (text .entry)) (now (policy .entry)) (now (table .entry))) r (now (table .exit)) ⌝ }
 {
     if TEXT_LIMIT < text.len() {
         return ListAnswer::Refused(Refusal::TextTooLong);

@@ -3,6 +3,7 @@
 // comes by value (`first_finding`): `list_into_table` only stores them. It equals `list` of specs/List.antt, to which
 // `ListedAsBytes` ties the table of bytes.
 ghost use mathlib.Core.Path.{_≡_};
+ghost use Rattle.base.specs.Answers.{EndsAs, listRow};
 ghost use Rattle.formatter.specs.List.{list};
 ghost use Rattle.listing.specs.Table.{fewFindings, firstFinding, listingPlan, noFinding};
 use crate::FindingCount;
@@ -104,7 +105,7 @@ fn plan_listing(text: &[u8], policy: &[u8], room: usize) -> ListingPlan
 
 // Lists the findings of a text under a policy, by its bytes: each is stored in the table at its place.
 pub fn list_into_table(text: &[u8], policy: &[u8], table: &mut [Finding]) -> ListAnswer
-    ensures { λ r. ⌜ record { answer = r; buffer = now (table .exit) } ≡ list (now (text .entry)) (now (policy .entry)) (now (table .entry)) ⌝ }
+    ensures { λ r. ⌜ EndsAs listRow (list (now (text .entry)) (now (policy .entry)) (now (table .entry))) r (now (table .exit)) ⌝ }
 {
     let plan = plan_listing(text, policy, table.len());
     let mut at = 0;

@@ -5,10 +5,11 @@ ghost use mathlib.Core.List.{_++_, map};
 ghost use Prim.Native.Nat.{_+_, _-_, _≤_};
 ghost use lib.ListN.{drop, length, take};
 ghost use lib.Seq.{sets};
+ghost use Rattle.base.specs.Answers.{EndsAs};
 ghost use Rattle.base.specs.Refusals.{textLimit};
 ghost use Rattle.utf8.specs.Rfc3629.{validUpTo};
 ghost use Rattle.policy.specs.PolicyBytes.{policyOf};
-ghost use Rattle.analysis.specs.Decisions.{meaning, writeOut};
+ghost use Rattle.analysis.specs.Decisions.{meaning, mendRow, writeOut};
 ghost use Rattle.formatter.specs.Demand3.{Accepted};
 ghost use Rattle.formatter.specs.Mend.{mend};
 ghost use Rattle.mending.specs.Parts.{FindingStarting, Starts, cellsWritten};
@@ -126,7 +127,7 @@ pub fn mend(
     decisions: &[u8],
     out: &mut [u8],
 ) -> MendAnswer
-    ensures { λ r. ⌜ record { answer = r; buffer = now (out .exit) } ≡ mend (now (text .entry)) (now (policy .entry)) offset (now (decisions .entry)) (now (out .entry)) ⌝ }
+    ensures { λ r. ⌜ EndsAs mendRow (mend (now (text .entry)) (now (policy .entry)) offset (now (decisions .entry)) (now (out .entry))) r (now (out .exit)) ⌝ }
 {
     if TEXT_LIMIT < text.len() {
         return MendAnswer::Refused(Refusal::TextTooLong);

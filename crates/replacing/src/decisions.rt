@@ -1,6 +1,7 @@
 // Decisions handed in as bytes, 0 text, 1 emoji, and their tests (document 01, "Replacement and text", refusals 5 and 6).
 // `check_decisions` equals `decisionsRefusal` of crate analysis, specs/Decisions.antt.
 ghost use mathlib.Core.Path.{_≡_};
+ghost use Rattle.base.specs.Answers.{Answers, checkRow};
 ghost use Rattle.base.specs.Refusals.{checked};
 ghost use Rattle.analysis.specs.Decisions.{badDecision, decisionsRefusal};
 use base::Check;
@@ -22,7 +23,7 @@ fn check_bytes(decisions: &[u8]) -> Check
 
 // Decisions that are to be so many, each 0 or 1.
 pub fn check_decisions(decisions: &[u8], wanted: usize) -> Check
-    ensures { λ r. ⌜ r ≡ checked (decisionsRefusal wanted (now (decisions .entry))) ⌝ }
+    ensures { λ r. ⌜ Answers checkRow (checked (decisionsRefusal wanted (now (decisions .entry)))) r ⌝ }
 {
     if decisions.len() != wanted {
         return Check::Refused(Refusal::WrongNumberOfDecisions { wanted });

@@ -1,6 +1,6 @@
 // The tests of a text alone, by whoever takes a text and no policy (document 01, "Turned back", numbers 1 and 3).
 // `check_text` equals `textRefusal` of specs/TextCheck.antt.
-ghost use mathlib.Core.Path.{_≡_};
+ghost use Rattle.base.specs.Answers.{Answers, checkRow};
 ghost use Rattle.base.specs.Refusals.{checked};
 ghost use Rattle.scanner.specs.TextCheck.{textRefusal};
 use base::Check;
@@ -9,7 +9,7 @@ use base::TEXT_LIMIT;
 
 // The bytes of a text: both of its tests have passed, or the first refusal.
 pub fn check_text(text: &[u8]) -> Check
-    ensures { λ r. ⌜ r ≡ checked (textRefusal (now (text .entry))) ⌝ }
+    ensures { λ r. ⌜ Answers checkRow (checked (textRefusal (now (text .entry)))) r ⌝ }
 {
     if TEXT_LIMIT < text.len() {
         return Check::Refused(Refusal::TextTooLong);

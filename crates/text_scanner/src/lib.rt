@@ -4,9 +4,10 @@
 // slice and numbers. The functions over the struct are proved by walks of their code; every other caller takes
 // `nth_item` and `nth_raw`, whose parameters are plain. Each equals a definition of specs/Scanner.antt, for all inputs.
 ghost use mathlib.Core.Path.{_≡_};
+ghost use Rattle.base.specs.Answers.{Answers, checkRow};
 ghost use Rattle.scanner.specs.Spans.{scanAt};
 ghost use Rattle.text_scanner.specs.Scanner.{advanced, atOffset, behind, itemOf, leftAfter, nthItem};
-ghost use Rattle.text_scanner.specs.Scanner.{opened, part, rawOf, scanned, skipped};
+ghost use Rattle.text_scanner.specs.Scanner.{opened, part, rawOf, scanned, skipped, verdictOf};
 use base::Check;
 use scanner::ScanItem;
 use scanner::ScanKind;
@@ -87,7 +88,7 @@ fn part(text: &[u8], start: usize, end: usize) -> &[u8]
 
 // A scanner of a text, which is tested. On a refusal the scanner says end at once.
 pub fn scan<'a>(text: &'a [u8]) -> Scanned<'a>
-    ensures { λ r. ⌜ r ≡ scanned (text .entry) ⌝ }
+    ensures { λ r. ⌜ (r ≡ scanned (text .entry)) × Answers checkRow (verdictOf (now (text .entry))) (r .verdict) ⌝ }
 {
     let start = open_text(text);
     Scanned {

@@ -1,10 +1,14 @@
 -- The proof of the statement of specs/Theorems.antt.
 use native.Mathlib.Omega.{arith}
 use Rattle.unicode.specs.Unicode.{variationEntry}
-use Rattle.tilghorz.specs.AnswerWord.{entryRow, formatRow, listRow, mendRow, writeRow}
+use Rattle.analysis.specs.Decisions.{mendRow}
+use Rattle.base.specs.Answers.{listRow, writeRow}
+use Rattle.formatter.specs.Format.{formatRow}
+use Rattle.unicode.specs.Rows.{entryRow}
 use Rattle.tilghorz.specs.Theorems.{WordsTellAnswers}
 use Rattle.tilghorz.proofs.SmallAnswers.{default-small, entry-small, format-small, items-small, list-small, mend-small}
-use Rattle.tilghorz.proofs.Telling.{entry-rows, format-rows, list-rows, mend-rows, tell, write-rows}
+use Rattle.base.proofs.Rows.{list-rows, write-rows}
+use Rattle.tilghorz.proofs.Telling.{entry-rows, format-rows, mend-rows, tell}
 
 pub words-tell-answers : WordsTellAnswers
 unfolding WordsTellAnswers

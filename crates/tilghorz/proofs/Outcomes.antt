@@ -2,9 +2,10 @@
 use mathlib.Core.Path.{_≡_, ap, _∙_}
 use mathlib.Core.List.{List}
 use Prim.Native.Nat.{ℕ}
+use Rattle.base.specs.Answers.{EndsAs}
 use Rattle.base.specs.Refusals.{After, RefusalRow}
 use Rattle.tilghorz.specs.AnswerWord.{word}
 
-pub outcome : {R : Type 0} (row : R → RefusalRow) {r : R} {out : List ℕ} {a : After R ℕ} {w : ℕ} → record { answer = r; buffer = out } ≡ a → w ≡ word (row r)
+pub outcome : {R : Type 0} (row : R → RefusalRow) {r : R} {out : List ℕ} {a : After R ℕ} {w : ℕ} → EndsAs row a r out → w ≡ word (row r)
     → (w ≡ word (row (a .answer))) × (out ≡ a .buffer)
-outcome {R} row e f = (f ∙ ap (λ (a : After R ℕ). word (row (a .answer))) e, ap (λ (a : After R ℕ). a .buffer) e)
+outcome row e f = (f ∙ ap word (e .answer .same-row), e .buffer)

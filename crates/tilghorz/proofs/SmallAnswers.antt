@@ -49,7 +49,10 @@ use Rattle.formatter.proofs.FormattedClaim.{formatted-claim}
 use Rattle.formatter.proofs.Judging.{some-bad}
 use Rattle.formatter.proofs.Passing.{byTests, intake-is, passed-accepted}
 use Rattle.formatter.proofs.Replacements.{four-times}
-use Rattle.tilghorz.specs.AnswerWord.{entryRow, formatRow, listRow, mendRow, writeRow}
+use Rattle.analysis.specs.Decisions.{mendRow}
+use Rattle.base.specs.Answers.{listRow, writeRow}
+use Rattle.formatter.specs.Format.{formatRow}
+use Rattle.unicode.specs.Rows.{entryRow}
 use Rattle.tilghorz.proofs.FewItems.{few-found, few-items, few-spans, few-wanted, found-item, within-all}
 
 -- ---- the tests of a call

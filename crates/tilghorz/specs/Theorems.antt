@@ -10,7 +10,11 @@ use Rattle.policy.specs.PolicyBytes.{policyBytes}
 use Rattle.formatter.specs.Format.{format}
 use Rattle.formatter.specs.List.{listBytes, listItems}
 use Rattle.formatter.specs.Mend.{Call, mendCall}
-use Rattle.tilghorz.specs.AnswerWord.{entryRow, formatRow, listRow, mendRow, word, writeRow}
+use Rattle.analysis.specs.Decisions.{mendRow}
+use Rattle.base.specs.Answers.{listRow, writeRow}
+use Rattle.formatter.specs.Format.{formatRow}
+use Rattle.tilghorz.specs.AnswerWord.{word}
+use Rattle.unicode.specs.Rows.{entryRow}
 
 -- The words of a function tell its answers: two outcomes with one word have the same answer, whatever was handed in; and a word's
 -- top 8 bits are the answer's number, its low 56 bits the answer's value.

@@ -2,14 +2,11 @@
 ghost use mathlib.Core.Path.{_≡_};
 ghost use Prim.Native.Nat.{_≤_};
 ghost use Rattle.base.specs.Refusals.{refusalRow};
-ghost use Rattle.tilghorz.specs.AnswerWord.{
-  entryRow,
-  formatRow,
-  listRow,
-  mendRow,
-  word,
-  writeRow,
-};
+ghost use Rattle.analysis.specs.Decisions.{mendRow};
+ghost use Rattle.base.specs.Answers.{listRow, writeRow};
+ghost use Rattle.formatter.specs.Format.{formatRow};
+ghost use Rattle.tilghorz.specs.AnswerWord.{word};
+ghost use Rattle.unicode.specs.Rows.{entryRow};
 use analysis::types::MendAnswer;
 use base::ListAnswer;
 use base::Refusal;

@@ -4,5 +4,6 @@ pub mod Tables
 pub mod Blocks
 pub mod BlockData
 pub mod Unicode
+pub mod Rows
 pub mod Presentation
 pub mod Theorems

@@ -6,28 +6,30 @@ use Prim.Native.Nat.{ℕ, _+_, _≤_, _<_}
 use lib.ListN.{length}
 use lib.Seq.{sets}
 use borrow.Author.Tests.{le-leb, lt-leb}
+use Rattle.base.specs.Answers.{Answers}
+use Rattle.base.proofs.Answering.{answers}
 use Rattle.utf8.specs.Rfc3629.{isScalar, encode}
-use Rattle.utf8.specs.Write.{writeChar, afterWriteChar}
+use Rattle.utf8.specs.Write.{charRow, writeChar, afterWriteChar}
 use Rattle.utf8.specs.declared.WriteChar.the-variants.{Written, TooShort, NotScalar}
 
 module _ (v : ℕ) (o : List ℕ) (at : ℕ) where
-  pub not-scalar : isScalar v ≡ false → (NotScalar ≡ writeChar v o at) × (o ≡ afterWriteChar v o at)
+  pub not-scalar : isScalar v ≡ false → Answers charRow (writeChar v o at) NotScalar × (o ≡ afterWriteChar v o at)
   unfolding writeChar afterWriteChar
-  not-scalar e = (simp e, simp e)
+  not-scalar e = (answers (simp e), simp e)
 
   pub too-short : (w : ℕ) → w ≡ length (encode v) → isScalar v ≡ true → length o < at + length (encode v)
-      → (TooShort w ≡ writeChar v o at) × (o ≡ afterWriteChar v o at)
+      → Answers charRow (writeChar v o at) (TooShort w) × (o ≡ afterWriteChar v o at)
   unfolding writeChar afterWriteChar
   too-short w p e h =
       let l = lt-leb (at + length (encode v)) (length o) h in
-      (simp (e, l, p), simp (e, l))
+      (answers (simp (e, l, p)), simp (e, l))
 
   pub written : (w : ℕ) → w ≡ length (encode v) → isScalar v ≡ true → at + length (encode v) ≤ length o
-      → (Written w ≡ writeChar v o at) × (sets o at (encode v) ≡ afterWriteChar v o at)
+      → Answers charRow (writeChar v o at) (Written w) × (sets o at (encode v) ≡ afterWriteChar v o at)
   unfolding writeChar afterWriteChar
   written w p e h =
       let l = le-leb (at + length (encode v)) (length o) h in
-      (simp (e, l, p), simp (e, l))
+      (answers (simp (e, l, p)), simp (e, l))
 
 -- What a caller that knows of the room goes by.
 pub afterWriteChar-sets : (v : ℕ) (o : List ℕ) (at : ℕ) → isScalar v ≡ true → at + length (encode v) ≤ length o → afterWriteChar v o at ≡ sets o at (encode v)

@@ -9,7 +9,8 @@ ghost use Prim.Native.Nat.{ℕ, _+_, _/_, _%_, _≤_};
 ghost use lib.ListN.{length, drop, getD};
 ghost use lib.Seq.{sets};
 ghost use Rattle.utf8.specs.Rfc3629.{readFour, readChar, charLen, packed, validUpTo, isScalar, encode};
-ghost use Rattle.utf8.specs.Write.{writeChar, afterWriteChar};
+ghost use Rattle.base.specs.Answers.{Answers};
+ghost use Rattle.utf8.specs.Write.{charRow, writeChar, afterWriteChar};
 
 pub mod ascii;
 
@@ -268,7 +269,8 @@ fn put_char(ch: u32, out: &mut [u8], at: usize)
 
 // Writes the bytes of a character at a place, or refuses.
 pub fn write_char(ch: u32, out: &mut [u8], at: usize) -> WriteChar
-    ensures { λ r. ⌜ (r ≡ writeChar ch (now (out .entry)) at) × (now (out .exit) ≡ afterWriteChar ch (now (out .entry)) at) ⌝ }
+    ensures answer { λ r. ⌜ Answers charRow (writeChar ch (now (out .entry)) at) r ⌝ }
+    ensures buffer { λ _. ⌜ now (out .exit) ≡ afterWriteChar ch (now (out .entry)) at ⌝ }
 {
     if !is_scalar(ch) {
         return WriteChar::NotScalar;

@@ -3,6 +3,7 @@ use mathlib.Core.Path.{subst, sym, ap, _∙_}
 use mathlib.Core.List.{List}
 use Prim.Native.Nat.{ℕ}
 use borrow.Author.Needs.{needs}
+use Rattle.base.proofs.Answering.{whole}
 use Rattle.formatter.specs.Format.{format}
 use Rattle.format.proofs.Rooms.{IsAnswer, answers}
 use Rattle.format.proofs.format_message.Statement.{statement}
@@ -14,7 +15,7 @@ returns c =
     let m = x .args .message .now in
     let out = x .args .out .now in
     let d = c .before .before .before .before .before .put-default-policy .ensures .1 in
-    let e = c .before .before .format-text .ensures ∙ ap (λ (p : List ℕ). format m p out) d in
+    let e = whole (c .before .before .format-text .ensures) ∙ ap (λ (p : List ℕ). format m p out) d in
     record { as-format = e; told = subst (IsAnswer m) (sym e) (answers m out (x .pre)) }
 
 pub format-message-spec : {M : Type 1} → statement M

@@ -6,6 +6,7 @@ use native.Mathlib.Omega.{arith}
 use borrow.Author.Needs.{needs}
 use borrow.Author.Tests.{not-false, not-true}
 use lib.ListN.{length}
+use Rattle.base.proofs.Answering.{ends-as}
 use Rattle.base.specs.Refusals.{textLimit}
 use Rattle.base.specs.declared.Refusal.the-variants.{TextTooLong}
 use Rattle.policy.specs.PolicyBytes.{policyOf}
@@ -22,7 +23,7 @@ unfolding IntakeComesFirst
 returns c =
     let x = c .before .before .before .before .args in
     let t = x .text .now in
-    sym (comes-first t (x .policy .now) TextTooLong (too-long t (x .policy .now) (c .if1 .taken)) .0 (x .out .now))
+    ends-as (sym (comes-first t (x .policy .now) TextTooLong (too-long t (x .policy .now) (c .if1 .taken)) .0 (x .out .now)))
 
 returns-2 : tie.Need-returns-2
 unfolding IntakeComesFirst
@@ -32,7 +33,7 @@ returns-2 c =
     let p = x .policy .now in
     let fails = sym (c .before .before .is-policy .ensures) ∙ not-true _ (c .before .if2 .taken) in
     let refused = no-policy t p (omega (arith, c .before .before .before .if1 .left)) fails ∙ ap some (sym (c .policy-refusal .ensures)) in
-    sym (comes-first t p (c .policy-refusal .result) refused .0 (x .out .now))
+    ends-as (sym (comes-first t p (c .policy-refusal .result) refused .0 (x .out .now)))
 
 returns-3 : tie.Need-returns-3
 unfolding IntakeComesFirst
@@ -43,7 +44,7 @@ returns-3 c =
     let short : length t ≤ textLimit = omega (arith, c .before .before .before .before .before .before .if1 .left) in
     let fit = sym (c .before .before .before .before .before .is-policy .ensures) ∙ not-false _ (c .before .before .before .before .if2 .left) in
     let f = c .before .before .before .next-change .ensures in
-    sym (comes-first t p _ (not-well-formed t p short fit (first-end (policyOf p) t f (not-true _ (c .before .if3 .taken))) (c .if4 .taken)) .0 (x .out .now))
+    ends-as (sym (comes-first t p _ (not-well-formed t p short fit (first-end (policyOf p) t f (not-true _ (c .before .if3 .taken))) (c .if4 .taken)) .0 (x .out .now)))
 
 returns-4 : tie.Need-returns-4
 returns-4 c =
@@ -54,7 +55,7 @@ returns-4 c =
     let fit = sym (c .before .before .before .before .before .is-policy .ensures) ∙ not-false _ (c .before .before .before .before .if2 .left) in
     let f = c .before .before .before .next-change .ensures in
     let m = not-true _ (c .before .if3 .taken) in
-    format-unchanged p t (all-well-formed t p short fit (first-end (policyOf p) t f m) (c .if4 .left)) (x .out .now) (first-none (policyOf p) t f m)
+    ends-as (format-unchanged p t (all-well-formed t p short fit (first-end (policyOf p) t f m) (c .if4 .left)) (x .out .now) (first-none (policyOf p) t f m))
 
 format-measured-requires : tie.Need-format-measured-requires
 format-measured-requires c κs =
@@ -67,7 +68,7 @@ format-measured-requires c κs =
     (short, fit, f, not-false _ (c .before .before .if3 .left))
 
 returns-5 : tie.Need-returns-5
-returns-5 c = c .before .before .format-measured .ensures
+returns-5 c = ends-as (c .before .before .format-measured .ensures)
 
 format-at-once-requires : tie.Need-format-at-once-requires
 format-at-once-requires c κs =
@@ -80,7 +81,7 @@ format-at-once-requires c κs =
     (short, fit, f, not-false _ (c .before .before .if3 .left), omega (arith, c .before .if5 .left))
 
 returns-6 : tie.Need-returns-6
-returns-6 c = c .before .before .format-at-once .ensures
+returns-6 c = ends-as (c .before .before .format-at-once .ensures)
 
 pub format-text-spec : {M : Type 1} → statement M
 format-text-spec =

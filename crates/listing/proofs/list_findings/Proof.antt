@@ -6,6 +6,7 @@ use native.Mathlib.Omega.{arith}
 use lib.ListN.{length}
 use borrow.Author.Needs.{needs}
 use borrow.Author.Tests.{not-false, not-true}
+use Rattle.base.proofs.Answering.{ends-as}
 use Rattle.base.specs.Refusals.{textLimit}
 use Rattle.base.specs.declared.Refusal.the-variants.{NotWellFormed, TextTooLong}
 use Rattle.formatter.specs.Findings.{findings}
@@ -22,7 +23,7 @@ unfolding IntakeComesFirst
 returns c =
     let x = c .before .before .before .before .args in
     let t = x .text .now in
-    sym (comes-first t (x .policy .now) TextTooLong (too-long t (x .policy .now) (c .if1 .taken)) .2 (x .table .now))
+    ends-as (sym (comes-first t (x .policy .now) TextTooLong (too-long t (x .policy .now) (c .if1 .taken)) .2 (x .table .now)))
 
 returns-2 : tie.Need-returns-2
 unfolding IntakeComesFirst
@@ -32,7 +33,7 @@ returns-2 c =
     let p = x .policy .now in
     let fails = sym (c .before .before .is-policy .ensures) ∙ not-true _ (c .before .if2 .taken) in
     let refused = no-policy t p (omega (arith, c .before .before .before .if1 .left)) fails ∙ ap some (sym (c .policy-refusal .ensures)) in
-    sym (comes-first t p (c .policy-refusal .result) refused .2 (x .table .now))
+    ends-as (sym (comes-first t p (c .policy-refusal .result) refused .2 (x .table .now)))
 
 returns-3 : tie.Need-returns-3
 unfolding IntakeComesFirst
@@ -43,7 +44,7 @@ returns-3 c =
     let short : length t ≤ textLimit = omega (arith, c .before .before .before .before .if1 .left) in
     let fit = sym (c .before .before .before .is-policy .ensures) ∙ not-false _ (c .before .before .if2 .left) in
     let n = c .before .count-findings in
-    sym (comes-first t p (NotWellFormed (n .result .«valid_up_to»)) (not-well-formed t p short fit (n .ensures .1) (c .if3 .taken)) .2 (x .table .now))
+    ends-as (sym (comes-first t p (NotWellFormed (n .result .«valid_up_to»)) (not-well-formed t p short fit (n .ensures .1) (c .if3 .taken)) .2 (x .table .now)))
 
 returns-4 : tie.Need-returns-4
 unfolding findings
@@ -54,7 +55,7 @@ returns-4 c =
     let short : length t ≤ textLimit = omega (arith, c .before .before .before .before .before .before .before .before .if1 .left) in
     let fit = sym (c .before .before .before .before .before .before .before .is-policy .ensures) ∙ not-false _ (c .before .before .before .before .before .before .if2 .left) in
     let n = c .before .before .before .before .before .count-findings .ensures in
-    c .before .before .fill-table .ensures ∙ list-passed t p (x .table .now) (pass-intake p t (all-well-formed t p short fit (n .1) (c .before .before .before .before .if3 .left)))
+    ends-as (c .before .before .fill-table .ensures ∙ list-passed t p (x .table .now) (pass-intake p t (all-well-formed t p short fit (n .1) (c .before .before .before .before .if3 .left))))
 
 pub list-findings-spec : {M : Type 1} → statement M
 list-findings-spec =

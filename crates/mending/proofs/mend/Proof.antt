@@ -6,6 +6,7 @@ use native.Mathlib.Omega.{arith}
 use borrow.Author.Needs.{needs}
 use borrow.Author.Tests.{not-false, not-true}
 use lib.ListN.{length}
+use Rattle.base.proofs.Answering.{ends-as}
 use Rattle.base.specs.Refusals.{textLimit}
 use Rattle.base.specs.declared.Refusal.the-variants.{TextTooLong}
 use Rattle.utf8.proofs.Texts.{validUpTo-le}
@@ -21,7 +22,7 @@ unfolding IntakeComesFirst
 returns c =
     let x = c .before .before .before .before .before .args in
     let t = x .text .now in
-    sym (comes-first t (x .policy .now) TextTooLong (too-long t (x .policy .now) (c .if1 .taken)) .3 (x .offset) (x .decisions .now) (x .out .now))
+    ends-as (sym (comes-first t (x .policy .now) TextTooLong (too-long t (x .policy .now) (c .if1 .taken)) .3 (x .offset) (x .decisions .now) (x .out .now)))
 
 returns-2 : tie.Need-returns-2
 unfolding IntakeComesFirst
@@ -31,7 +32,7 @@ returns-2 c =
     let p = x .policy .now in
     let fails = sym (c .before .before .is-policy .ensures) ∙ not-true _ (c .before .if2 .taken) in
     let refused = no-policy t p (omega (arith, c .before .before .before .if1 .left)) fails ∙ ap some (sym (c .policy-refusal .ensures)) in
-    sym (comes-first t p (c .policy-refusal .result) refused .3 (x .offset) (x .decisions .now) (x .out .now))
+    ends-as (sym (comes-first t p (c .policy-refusal .result) refused .3 (x .offset) (x .decisions .now) (x .out .now)))
 
 add-valid-up-to : tie.Need-add-valid-up-to
 add-valid-up-to c =
@@ -49,7 +50,7 @@ returns-3 c =
     let fit = sym (c .before .before .before .before .before .is-policy .ensures) ∙ not-false _ (c .before .before .before .before .if2 .left) in
     let f = c .before .before .before .finding-starting in
     let v = ap (λ (n : ℕ). f .result .end + n) (rest-valid t (f .result .end) (c .before .valid-up-to .ensures)) ∙ f .ensures .1 .1 in
-    sym (comes-first t p _ (not-well-formed t p short fit v (c .if3 .taken)) .3 (x .offset) (x .decisions .now) (x .out .now))
+    ends-as (sym (comes-first t p _ (not-well-formed t p short fit v (c .if3 .taken)) .3 (x .offset) (x .decisions .now) (x .out .now)))
 
 returns-4 : tie.Need-returns-4
 returns-4 c =
@@ -61,7 +62,7 @@ returns-4 c =
     let f = c .before .before .before .before .finding-starting in
     let v = ap (λ (n : ℕ). f .result .end + n) (rest-valid t (f .result .end) (c .before .before .valid-up-to .ensures)) ∙ f .ensures .1 .1 in
     let a = all-well-formed t p short fit v (c .before .if3 .left) in
-    mend-nothing p t a (x .offset) (x .decisions .now) (f .ensures .0 .1 (not-true (f .result .more) (c .if4 .taken))) (x .out .now)
+    ends-as (mend-nothing p t a (x .offset) (x .decisions .now) (f .ensures .0 .1 (not-true (f .result .more) (c .if4 .taken))) (x .out .now))
 
 mend-finding-requires : tie.Need-mend-finding-requires
 mend-finding-requires c κs =
@@ -92,4 +93,4 @@ mend-spec =
     returns-4
     mend-finding-requires
     (λ c. search needs)
-    (λ c. c .before .before .mend-finding .ensures))
+    (λ c. ends-as (c .before .before .mend-finding .ensures)))

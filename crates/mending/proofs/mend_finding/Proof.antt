@@ -28,7 +28,7 @@ returns c =
     let r = read-policy (x .policy .now) (c .before .before .before .before .before .before .before .before .read-policy .ensures) in
     let m = c .before .before .before .before .before .measure-cells in
     let g = c .before .refusal .given in
-    let d = checked-refused (decisionsRefusal (m .result .counts .«presentation_decisions») (x .decisions .now)) (g .0 .0) (sym (c .before .before .before .check-decisions .ensures) ∙ g .1) in
+    let d = checked-refused (decisionsRefusal (m .result .counts .«presentation_decisions») (x .decisions .now)) (g .0 .0) (sym (c .before .before .before .check-decisions .ensures .same) ∙ g .1) in
     mend-tested (x .policy .now) (x .text .now) (s .pre .0) (x .offset) (x .decisions .now) (s .pre .1) r (m .ensures .0) d (x .out .now) refl
 
 exchange-requires : tie.Need-exchange-requires
@@ -46,7 +46,7 @@ returns-2 c =
     let x = s .args in
     let r = read-policy (x .policy .now) (c .before .before .before .before .before .before .before .before .before .before .before .read-policy .ensures) in
     let m = c .before .before .before .before .before .before .before .before .measure-cells in
-    let d = checked-passed (decisionsRefusal (m .result .counts .«presentation_decisions») (x .decisions .now)) (sym (c .before .before .before .before .before .before .check-decisions .ensures) ∙ c .before .before .before .before .enum-told .given .1) in
+    let d = checked-passed (decisionsRefusal (m .result .counts .«presentation_decisions») (x .decisions .now)) (sym (c .before .before .before .before .before .before .check-decisions .ensures .same) ∙ c .before .before .before .before .enum-told .given .1) in
     mend-tested (x .policy .now) (x .text .now) (s .pre .0) (x .offset) (x .decisions .now) (s .pre .1) r (m .ensures .0) d (x .out .now) (c .before .before .exchange .ensures)
 
 pub mend-finding-spec : {M : Type 1} → statement M

@@ -11,7 +11,7 @@ use Rattle.report.proofs.check_message.Tie as tie
 returns : tie.Need-returns
 returns c =
     let m = c .before .before .before .before .before .args .message .now in
-    c .intake .ensures ∙ ap (λ (p : List ℕ). checked (intakeRefusal m p)) (c .before .before .put-default-policy .ensures .1)
+    c .intake .ensures .same ∙ ap (λ (p : List ℕ). checked (intakeRefusal m p)) (c .before .before .put-default-policy .ensures .1)
 
 pub check-message-spec : {M : Type 1} → statement M
 check-message-spec = tie.close (tie.spec (λ c κs. search needs) (λ c. search needs) (λ c κs. search needs) returns)

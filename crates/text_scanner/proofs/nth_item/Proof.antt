@@ -39,6 +39,7 @@ use denote.Triple.Spec.{Meets, tripleOf}
 use denote.Triple.Table.{entered, cited}
 use denote.Triple.Walked.{says, Stays, stay-none, stay-none-slice, walkOf, goes-none, goes-none-slice, Walks, ends-at, walked, walk-meets}
 use denote.Exit.{yes}
+use Rattle.base.specs.Answers.{Answers, checkRow}
 use Rattle.base.proofs.Check as K
 use Rattle.base.proofs.Check.Laws as K′
 use Rattle.text_scanner.specs.Scanner.{scanned, skipped, verdictOf}
@@ -157,8 +158,12 @@ module _ {M : Type 1} (𝓤 : URA M) (H : Heap 𝓤) (A : Atoms 𝓤) (W : Given
   asked-scan : ent 𝓤 (onEntry 𝓤 H A scan.signature (κ, tt) (q, tt) (s, tt) (v ∷ [], tt)) (Scan 𝓤 H A mem run .pre to-scan)
   asked-scan = qed W ((‵ (flft κ q) ⊛ ‵ ftrue) ∷ ‵ (owns (ShrSlice (named 0) κ u8 ∷ []) (s, tt) (v ∷ [], tt)) ∷ []) ∵ join ! $ frame ! $ done !
 
-  said-scan : (r : Scanned) → ent 𝓤 (ensured 𝓤 H A scan.ended (scan.clauses 𝓤 H A mem run) (κ, tt) (s, tt) tt r) (fact 𝓤 (r ≡ made))
-  said-scan r = exE 𝓤 _ (λ ws. snd∗ 𝓤 (sem 𝓤 H A (lasts scan.ended (κ, tt) (s, tt) ws)) (fact 𝓤 (r ≡ made)))
+  -- what the making of a scanner ensures
+  abbrev Made : Scanned → Type 0
+  Made r = (r ≡ made) × Answers checkRow (verdictOf (now s)) (r .verdict)
+
+  said-scan : (r : Scanned) → ent 𝓤 (ensured 𝓤 H A scan.ended (scan.clauses 𝓤 H A mem run) (κ, tt) (s, tt) tt r) (fact 𝓤 (Made r))
+  said-scan r = exE 𝓤 _ (λ ws. snd∗ 𝓤 (sem 𝓤 H A (lasts scan.ended (κ, tt) (s, tt) ws)) (fact 𝓤 (Made r)))
 
   abbrev skip-vals : List Val × (List Val × Unit {0})
   skip-vals = (T′.lowered first ∷ [], (vint w64 n ∷ [], tt))
@@ -246,7 +251,7 @@ module _ {M : Type 1} (𝓤 : URA M) (H : Heap 𝓤) (A : Atoms 𝓤) (W : Given
       -- [the callee's pre; what s owns; _9; …; _0; …]
       calls-at ! fm (Scan 𝓤 H A mem run) (known .of-scan) to-scan (and-then ! (load ! (from ! (stop !)) (look ! 18 refl)) (no-more !)) (λ u.
       use1 W (later (some (λ (r : Scanned). ((‵ (flft κ q) ⊛ ‵ ftrue) ⊛ ‵ (S.the-row α₀ .own r (u ∷ []))) ⊛ raw (ensured 𝓤 H A scan.ended (scan.clauses 𝓤 H A mem run) (κ, tt) (s, tt) tt r)))) (id⊢ 𝓤 _) $ await ! tt $ pick ! (λ r.
-      split ! $ move ! (1 ∷ []) $ use1 W (raw (fact 𝓤 (r ≡ made))) (said-scan r) $ heard ! (r ≡ made) (λ e. split ! $ move ! (1 ∷ []) $ rewrite ! 0 (λ (z : Scanned). ‵ (S.the-row α₀ .own z (u ∷ []))) e refl $
+      split ! $ move ! (1 ∷ []) $ use1 W (raw (fact 𝓤 (Made r))) (said-scan r) $ heard ! (Made r) (λ e. split ! $ move ! (1 ∷ []) $ rewrite ! 0 (λ (z : Scanned). ‵ (S.the-row α₀ .own z (u ∷ []))) (e .0) refl $
       peeks ! (S.the-row α₀) (Is (S.the-row α₀)) (shows 𝓤 H A (S.the-row α₀)) made (u ∷ []) (λ is.
       land ! (from ! (stop !)) (init ! 15 refl (LL.lawful (S.the-type αᵉ) (S′.the-laws αᵉ) 𝓤 H A W .typed made _ is .0)) $ rewrite ! 15 (λ (w : Val). ‵ (fat fullShare (S′.mir erased) l₃ 0 w)) (ap only (LL.tells (S.the-type α₀) (S′.the-laws α₀) made (u ∷ []) is)) refl $ drop ! $
       skips C Λ fm known l₀ l₁ l₂ l₃ l₄ l₅ l₆ l₇ l₈ l₉ (LL.owes (S.the-type α₀) (S′.the-laws α₀) made (LL.owed (S.the-type α₀) (S′.the-laws α₀) made _ is))))))))))))))))

@@ -39,6 +39,7 @@ use denote.Triple.Spec.{Meets, tripleOf}
 use denote.Triple.Table.{entered, cited}
 use denote.Triple.Walked.{says, Stays, stay-none-slice, walkOf, goes-none-slice, Walks, ends-at, walked, walk-meets}
 use denote.Exit.{yes}
+use Rattle.base.proofs.Answering.{answers}
 use Rattle.base.proofs.Check as K
 use Rattle.base.proofs.Check.Laws as K′
 use Rattle.text_scanner.specs.Scanner.{opened}
@@ -114,7 +115,7 @@ module _ {M : Type 1} (𝓤 : URA M) (H : Heap 𝓤) (A : Atoms 𝓤) (W : Given
   exits : (r : Opened) → Right r → r ≡ opened (now s) → ent 𝓤 (⋆ 𝓤 H A ((‵ (flft κ q) ⊛ ‵ ftrue) ∷ ‵ TO ∷ [])) (Post (mach r))
   exits r is e =
       qed W ((‵ (flft κ q) ⊛ ‵ ftrue) ∷ ‵ TO ∷ []) ∵
-      suffices ! _ (ends-at 𝓤 H A scan.ended stayed (scan.clauses 𝓤 H A mem run) W (((κ, tt), (q, tt), tt, (s, tt), at), tt) (mach r) (made r) (tt, tt) (tt, tt)) $ says ! (ap made e) $
+      suffices ! _ (ends-at 𝓤 H A scan.ended stayed (scan.clauses 𝓤 H A mem run) W (((κ, tt), (q, tt), tt, (s, tt), at), tt) (mach r) (made r) (tt, tt) (tt, tt)) $ says ! (ap made e, answers (ap (λ (o : Opened). o .verdict) e)) $
       frame ! $ use1 W (‵ TO ⊛ ‵ TO) (shr-slice-copy 𝓤 H A W (named 0) κ u8 .twice s (v ∷ [])) $ split ! $ nothing ! $ move ! (1 ∷ 0 ∷ []) $ fjoin ! $ frame ! $
       -- [what text owns]: with offset's facts it is what the scanner owns, and that with the verdict's what the outer struct owns
       nothing ! $ owned ! usize (Is usize) (uint-makes 𝓤 H A W w64) (r .offset) _ (refl, LL.owed P.the-type P′.the-laws r _ is .1 .0 .1) $ fjoin ! $ move ! (1 ∷ 0 ∷ []) $ fjoin ! $

@@ -7,7 +7,7 @@ returns : tie.Need-returns
 returns c =
     let w = c .before .before .before .write-policy .ensures in
     let d = c .before .before .before .before .before .default .ensures in
-    (simp (c .write-word .ensures, w .answered, d), simp (w .buffer, d))
+    (simp (c .write-word .ensures, w .answered .same, d), simp (w .buffer, d))
 
 pub tilghorz-default-policy-spec : {M : Type 1} → statement M
 tilghorz-default-policy-spec =

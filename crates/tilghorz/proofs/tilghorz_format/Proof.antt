@@ -1,6 +1,6 @@
 -- The outcome of `format_text`, and the word of its answer.
 use borrow.Author.Needs.{needs}
-use Rattle.tilghorz.specs.AnswerWord.{formatRow}
+use Rattle.formatter.specs.Format.{formatRow}
 use Rattle.tilghorz.proofs.Outcomes.{outcome}
 use Rattle.tilghorz.proofs.tilghorz_format.Statement.{statement}
 use Rattle.tilghorz.proofs.tilghorz_format.Tie as tie

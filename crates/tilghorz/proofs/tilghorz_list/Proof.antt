@@ -1,6 +1,6 @@
 -- The outcome of `list_findings`, and the word of its answer.
 use borrow.Author.Needs.{needs}
-use Rattle.tilghorz.specs.AnswerWord.{listRow}
+use Rattle.base.specs.Answers.{listRow}
 use Rattle.tilghorz.proofs.Outcomes.{outcome}
 use Rattle.tilghorz.proofs.tilghorz_list.Statement.{statement}
 use Rattle.tilghorz.proofs.tilghorz_list.Tie as tie

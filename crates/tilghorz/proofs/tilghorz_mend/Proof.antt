@@ -1,6 +1,6 @@
 -- The outcome of `mend`, and the word of its answer.
 use borrow.Author.Needs.{needs}
-use Rattle.tilghorz.specs.AnswerWord.{mendRow}
+use Rattle.analysis.specs.Decisions.{mendRow}
 use Rattle.tilghorz.proofs.Outcomes.{outcome}
 use Rattle.tilghorz.proofs.tilghorz_mend.Statement.{statement}
 use Rattle.tilghorz.proofs.tilghorz_mend.Tie as tie

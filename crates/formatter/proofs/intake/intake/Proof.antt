@@ -5,6 +5,7 @@ use native.Mathlib.Omega.{arith}
 use lib.ListN.{length}
 use borrow.Author.Needs.{needs}
 use borrow.Author.Tests.{eq-eqb, le-leb, ne-eqb, not-false, not-true}
+use Rattle.base.proofs.Answering.{answers}
 use Rattle.base.specs.Refusals.{checked}
 use Rattle.base.specs.declared.Check.the-variants.{Refused}
 use Rattle.base.specs.declared.Refusal.{Refusal}
@@ -18,7 +19,7 @@ returns : tie.Need-returns
 returns c =
     let x = c .before .before .before .args in
     let t = x .text .now in
-    sym (ap checked (too-long t (x .policy .now) (omega arith)))
+    answers (sym (ap checked (too-long t (x .policy .now) (omega arith))))
 
 returns-2 : tie.Need-returns-2
 returns-2 c =
@@ -26,7 +27,7 @@ returns-2 c =
     let t = x .text .now in
     let i = c .before .before .is-policy in
     let p = sym (i .ensures) ∙ not-true (i .result) (c .before .if2 .taken) in
-    ap (λ (r : Refusal). Refused r) (c .policy-refusal .ensures) ∙ sym (ap checked (no-policy t (x .policy .now) (omega arith) p))
+    answers (ap (λ (r : Refusal). Refused r) (c .policy-refusal .ensures) ∙ sym (ap checked (no-policy t (x .policy .now) (omega arith) p)))
 
 returns-3 : tie.Need-returns-3
 returns-3 c =
@@ -35,8 +36,8 @@ returns-3 c =
     let v = c .before .valid-up-to in
     let p = sym (c .before .before .before .is-policy .ensures) ∙ not-false (c .before .before .before .is-policy .result) (c .before .before .if2 .left) in
     let n = ne-eqb (validUpTo t) (length t) (λ e. omega arith) in
-    ap (λ (n : ℕ). Refused (NotWellFormed n)) (v .ensures)
-    ∙ sym (ap checked (intake-is t (x .policy .now) (le-leb (length t) 16777216 (omega arith)) p n))
+    answers (ap (λ (n : ℕ). Refused (NotWellFormed n)) (v .ensures)
+    ∙ sym (ap checked (intake-is t (x .policy .now) (le-leb (length t) 16777216 (omega arith)) p n)))
 
 returns-4 : tie.Need-returns-4
 returns-4 c =
@@ -45,7 +46,7 @@ returns-4 c =
     let v = c .before .valid-up-to in
     let p = sym (c .before .before .before .is-policy .ensures) ∙ not-false (c .before .before .before .is-policy .result) (c .before .before .if2 .left) in
     let n = eq-eqb (validUpTo t) (length t) (omega arith) in
-    sym (ap checked (intake-is t (x .policy .now) (le-leb (length t) 16777216 (omega arith)) p n))
+    answers (sym (ap checked (intake-is t (x .policy .now) (le-leb (length t) 16777216 (omega arith)) p n)))
 
 pub intake-spec : {M : Type 1} → statement M
 intake-spec =

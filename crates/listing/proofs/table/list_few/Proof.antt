@@ -48,6 +48,8 @@ use denote.Triple.Spec.{Meets, tripleOf}
 use denote.Triple.Table.{entered, cited}
 use denote.Triple.Walked.{says, Stays, stay-none-slice, walkOf, goes-none-slice, Walks, ends-at, walked, walk-meets}
 use denote.Exit.{yes}
+use Rattle.base.specs.Answers.{EndsAs, listRow}
+use Rattle.base.proofs.Answering.{whole}
 use Rattle.analysis.specs.declared.types.Finding.{Finding}
 use Rattle.analysis.proofs.types.Finding as T
 use Rattle.analysis.proofs.types.Finding.Laws as T′
@@ -313,10 +315,10 @@ module _ {M : Type 1} (𝓤 : URA M) (H : Heap 𝓤) (A : Atoms 𝓤) (W : Given
         use1 W (later (some (λ (r : ListAnswer). ((‵ (flft κ₀ q₀) ⊛ ‵ (flft κ₁ q₁) ⊛ ‵ (flft (α ∷ []) fullShare) ⊛ ‵ ftrue) ⊛ ‵ (E.the-row .own r (w ∷ []))) ⊛ raw (ensured 𝓤 H A listing.ended (listing.clauses 𝓤 H A mem run) (κ₀, (κ₁, (α ∷ [], tt))) (x, (z, (table r₀ l₃ α γ, tt))) tt r)))) (id⊢ 𝓤 _) $
         await ! tt $ pick ! (λ r.
         split ! $ move ! (1 ∷ []) $
-        use1 W (some (λ (zs : Unit {0} × (Unit {0} × (List Finding × Unit {0}))). ‵ (lasts listing.ended (κ₀, (κ₁, (α ∷ [], tt))) (x, (z, (table r₀ l₃ α γ, tt))) zs) ⊛ raw (fact 𝓤 (record { answer = r; buffer = zs .1 .1 .0 } ≡ list (x .now) (z .now) (replicate 8 r₀))))) (id⊢ 𝓤 _) $
+        use1 W (some (λ (zs : Unit {0} × (Unit {0} × (List Finding × Unit {0}))). ‵ (lasts listing.ended (κ₀, (κ₁, (α ∷ [], tt))) (x, (z, (table r₀ l₃ α γ, tt))) zs) ⊛ raw (fact 𝓤 (EndsAs listRow (list (x .now) (z .now) (replicate 8 r₀)) r (zs .1 .1 .0))))) (id⊢ 𝓤 _) $
         pick ! (λ zs.
         split ! $ move ! (1 ∷ []) $
-        heard ! (record { answer = r; buffer = zs .1 .1 .0 } ≡ list (x .now) (z .now) (replicate 8 r₀)) (λ e.
+        heard ! (EndsAs listRow (list (x .now) (z .now) (replicate 8 r₀)) r (zs .1 .1 .0)) (λ told. let e = whole told in
         fsplit ! $ move ! (1 ∷ []) $ fsplit ! $ move ! (1 ∷ []) $ fsplit ! $ fsplit ! $
         keep ! (0 ∷ 5 ∷ 6 ∷ 7 ∷ 8 ∷ 10 ∷ 11 ∷ 12 ∷ 13 ∷ 14 ∷ 15 ∷ 16 ∷ 17 ∷ 18 ∷ 19 ∷ 20 ∷ 21 ∷ 22 ∷ 23 ∷ 24 ∷ 25 ∷ 26 ∷ []) $
         -- [the table's last list; the tokens and the result; the text's; the policy's; the lender's; _8; …; _0; …]

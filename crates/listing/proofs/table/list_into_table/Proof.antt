@@ -53,6 +53,7 @@ use denote.Triple.Spec.{Meets, tripleOf}
 use denote.Triple.Table.{entered, cited}
 use denote.Triple.Walked.{says, Stays, stay-slice, stay-none-slice, walkOf, goes-slice, goes-none-slice, Walks, ends-at, walked, walk-meets}
 use denote.Exit.{yes}
+use Rattle.base.proofs.Answering.{ends-as}
 use Rattle.policy.specs.declared.Policy.{Policy}
 use Rattle.policy.proofs.Policy as P
 use Rattle.policy.proofs.Policy.Laws as P′
@@ -163,7 +164,7 @@ module _ {M : Type 1} (𝓤 : URA M) (H : Heap 𝓤) (A : Atoms 𝓤) (W : Given
   exits r v l is same e =
       qed W (Refs l) ∵
       suffices ! _ (ends-at 𝓤 H A listing.ended stayed (listing.clauses 𝓤 H A mem run) W (((κ₀, (κ₁, (κ₂, tt))), (q₀, (q₁, (q₂, tt))), tt, a, vals), tt) v r (tt, (tt, (l, tt))) (tt, (tt, (same, tt)))) $
-      says ! e $
+      says ! (ends-as e) $
       -- [obs; the borrow; 'c's token; 'a's token; the text's; 'b's token; the policy's]
       move ! (5 ∷ []) $ split ! $ move ! (4 ∷ 1 ∷ []) $ join ! $ move ! (1 ∷ 0 ∷ []) $ join ! $ move ! (3 ∷ []) $ split ! $
       move ! (0 ∷ 2 ∷ []) $ join ! $ frame ! $

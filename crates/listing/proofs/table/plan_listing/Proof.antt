@@ -24,7 +24,7 @@ returns c =
     let t = x .text .now in
     let p = x .policy .now in
     let g = c .before .refusal .given in
-    let e = checked-refused (intakeRefusal t p) (g .0 .0) (sym (c .before .before .before .intake .ensures) ∙ g .1) in
+    let e = checked-refused (intakeRefusal t p) (g .0 .0) (sym (c .before .before .before .intake .ensures .same) ∙ g .1) in
     plan-refused t p (x .room) (read-policy p (c .before .before .before .before .before .read-policy .ensures)) (g .0 .0) e
 
 returns-2 : tie.Need-returns-2
@@ -32,7 +32,7 @@ returns-2 c =
     let x = c .before .before .before .before .before .before .before .before .before .args in
     let t = x .text .now in
     let p = x .policy .now in
-    let e = checked-passed (intakeRefusal t p) (sym (c .before .before .before .before .intake .ensures) ∙ c .before .before .enum-told .given .1) in
+    let e = checked-passed (intakeRefusal t p) (sym (c .before .before .before .before .intake .ensures .same) ∙ c .before .before .enum-told .given .1) in
     let q = read-policy p (c .before .before .before .before .before .before .read-policy .ensures) in
     plan-short t p (x .room) q e (counted t p (c .before .count-findings .ensures .0)) (c .if1 .taken)
 
@@ -41,7 +41,7 @@ returns-3 c =
     let x = c .before .before .before .before .before .before .before .before .before .args in
     let t = x .text .now in
     let p = x .policy .now in
-    let e = checked-passed (intakeRefusal t p) (sym (c .before .before .before .before .intake .ensures) ∙ c .before .before .enum-told .given .1) in
+    let e = checked-passed (intakeRefusal t p) (sym (c .before .before .before .before .intake .ensures .same) ∙ c .before .before .enum-told .given .1) in
     let q = read-policy p (c .before .before .before .before .before .before .read-policy .ensures) in
     plan-all t p (x .room) q e (counted t p (c .before .count-findings .ensures .0)) (c .if1 .left)
 

@@ -44,7 +44,7 @@ returns-3 c =
     let g = c .before .before .before .before .before .before .finding .given in
     let h = found-at (x .policy) (x .text .now) (x .at) (g .0 .0) (sym (c .before .before .before .before .before .before .before .before .analyze-scan-item .ensures) ∙ g .1) in
     let k = c .before .before .before .check-decisions in
-    replace-refused (x .policy) (x .text .now) (x .at) (x .decisions .now) (x .out .now) (c .before .before .before .before .before .before .before .before .before .if1 .left) h _ (k .result) (k .ensures) (c .before .refusal .given .1)
+    replace-refused (x .policy) (x .text .now) (x .at) (x .decisions .now) (x .out .now) (c .before .before .before .before .before .before .before .before .before .if1 .left) h _ (k .result) (k .ensures .same) (c .before .refusal .given .1)
 
 returns-4 : tie.Need-returns-4
 returns-4 c =
@@ -52,7 +52,7 @@ returns-4 c =
     let g = c .before .before .before .before .before .before .before .before .before .before .finding .given in
     let h = found-at (x .policy) (x .text .now) (x .at) (g .0 .0) (sym (c .before .before .before .before .before .before .before .before .before .before .before .before .analyze-scan-item .ensures) ∙ g .1) in
     let k = c .before .before .before .before .before .before .before .check-decisions in
-    replace-written (x .policy) (x .text .now) (x .at) (x .decisions .now) (x .out .now) (c .before .before .before .before .before .before .before .before .before .before .before .before .before .if1 .left) h (k .result) _ (k .ensures) (c .before .before .before .before .before .enum-told .given .1) (part-written (x .text .now) (x .out .now) (x .at) (g .0 .0 .end) (c .before .before .before .before .before .before .before .before .before .before .before .before .before .if1 .left) (c .before .before .write-cells .ensures))
+    replace-written (x .policy) (x .text .now) (x .at) (x .decisions .now) (x .out .now) (c .before .before .before .before .before .before .before .before .before .before .before .before .before .if1 .left) h (k .result) _ (k .ensures .same) (c .before .before .before .before .before .enum-told .given .1) (part-written (x .text .now) (x .out .now) (x .at) (g .0 .0 .end) (c .before .before .before .before .before .before .before .before .before .before .before .before .before .if1 .left) (c .before .before .write-cells .ensures))
 
 pub canonical-replacement-with-decisions-spec : {M : Type 1} → statement M
 canonical-replacement-with-decisions-spec =

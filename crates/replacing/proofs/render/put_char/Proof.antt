@@ -12,7 +12,7 @@ add-result c =
     let w = c .before .before .before .before .before .write-char in
     let g = c .before .width .given in
     let r = s .pre .1 in
-    omega (arith, width-is (x .ch) (x .out .now) (x .at) (s .pre .0) r (w .result) (w .ensures .0) (g .0 .0) (g .1))
+    omega (arith, width-is (x .ch) (x .out .now) (x .at) (s .pre .0) r (w .result) (w .ensures .0 .same) (g .0 .0) (g .1))
 
 returns : tie.Need-returns
 returns c =
@@ -20,21 +20,21 @@ returns c =
     let x = s .args in
     let w = c .before .before .before .before .before .write-char in
     let g = c .before .width .given in
-    char-put (x .ch) (x .out .now) (x .at) (s .pre .0) (s .pre .1) (w .result) (w .ensures .0) (g .0 .0) _ (g .1) (w .ensures .1)
+    char-put (x .ch) (x .out .now) (x .at) (s .pre .0) (s .pre .1) (w .result) (w .ensures .0 .same) (g .0 .0) _ (g .1) (w .ensures .1)
 
 returns-2 : tie.Need-returns-2
 returns-2 c =
     let s = c .before .before .before .before .before .before .before in
     let x = s .args in
     let w = c .before .before .before .before .write-char in
-    absurd (not-short (x .ch) (x .out .now) (x .at) (s .pre .0) (s .pre .1) (w .result) (w .ensures .0) _ (c .enum-told .given .1))
+    absurd (not-short (x .ch) (x .out .now) (x .at) (s .pre .0) (s .pre .1) (w .result) (w .ensures .0 .same) _ (c .enum-told .given .1))
 
 returns-3 : tie.Need-returns-3
 returns-3 c =
     let s = c .before .before .before .before .before .before .before in
     let x = s .args in
     let w = c .before .before .before .before .write-char in
-    absurd (not-refused (x .ch) (x .out .now) (x .at) (s .pre .0) (s .pre .1) (w .result) (w .ensures .0) (c .enum-told2 .given .1))
+    absurd (not-refused (x .ch) (x .out .now) (x .at) (s .pre .0) (s .pre .1) (w .result) (w .ensures .0 .same) (c .enum-told2 .given .1))
 
 pub put-char-spec : {M : Type 1} → statement M
 put-char-spec =

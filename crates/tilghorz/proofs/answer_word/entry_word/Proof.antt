@@ -1,6 +1,6 @@
 -- Case by case, the word of the entry's row.
 use borrow.Author.Needs.{needs}
-use Rattle.tilghorz.specs.AnswerWord.{entryRow}
+use Rattle.unicode.specs.Rows.{entryRow}
 use Rattle.tilghorz.proofs.answer_word.entry_word.Statement.{statement}
 use Rattle.tilghorz.proofs.answer_word.entry_word.Tie as tie
 

@@ -1,6 +1,6 @@
 -- Case by case, the word of the answer's row.
 use borrow.Author.Needs.{needs}
-use Rattle.tilghorz.specs.AnswerWord.{formatRow}
+use Rattle.formatter.specs.Format.{formatRow}
 use Rattle.tilghorz.proofs.answer_word.format_word.Statement.{statement}
 use Rattle.tilghorz.proofs.answer_word.format_word.Tie as tie
 

@@ -1,6 +1,6 @@
 -- Case by case, the word of the answer's row.
 use borrow.Author.Needs.{needs}
-use Rattle.tilghorz.specs.AnswerWord.{listRow}
+use Rattle.base.specs.Answers.{listRow}
 use Rattle.tilghorz.proofs.answer_word.list_word.Statement.{statement}
 use Rattle.tilghorz.proofs.answer_word.list_word.Tie as tie
 

@@ -1,6 +1,6 @@
 -- Case by case, the word of the answer's row.
 use borrow.Author.Needs.{needs}
-use Rattle.tilghorz.specs.AnswerWord.{mendRow}
+use Rattle.analysis.specs.Decisions.{mendRow}
 use Rattle.tilghorz.proofs.answer_word.mend_word.Statement.{statement}
 use Rattle.tilghorz.proofs.answer_word.mend_word.Tie as tie
 

@@ -1,6 +1,6 @@
 -- Case by case, the word of the answer's row.
 use borrow.Author.Needs.{needs}
-use Rattle.tilghorz.specs.AnswerWord.{writeRow}
+use Rattle.base.specs.Answers.{writeRow}
 use Rattle.tilghorz.proofs.answer_word.write_word.Statement.{statement}
 use Rattle.tilghorz.proofs.answer_word.write_word.Tie as tie
 
