@@ -1,9 +1,9 @@
 // What a character is to the formatter: unicode.rs of the crate evfmt; document 01, "Character".
 // Each function answers for every number, and equals membership in the lists of specs/UnicodeData.antt.
-// A function with a name of the crate's lends its constant table to the one search of its kind. The search asks that the
-// table is in order: one computed test of the whole table (proofs/InOrder.antt), which the proof of each caller cites.
-// The questions that every character of a text is asked have a fast form beside it, with the same contract: by the words
-// of the character's block of 64 code points (blocks.rt), or by the first and the last number of the table.
+// A predicate over a table lends the constant to the one search of its kind. The search asks that its table is in order:
+// one computed test of the whole table (proofs/InOrder.antt), which the proof of each caller cites.
+// Questions that every character of a text is asked also have a fast form, with the same contract: by the words of the
+// character's block of 64 code points (blocks.rt), or by the first and the last number of the table.
 mod blocks;
 pub mod presentation;
 pub mod unicode_data;
@@ -237,7 +237,7 @@ pub fn is_ri(ch: u32) -> bool
     in_ranges(&RI_RANGES, ch)
 }
 
-// By the character's block: `is_emoji` and `variation_sequence_index`.
+// The fast form of `is_emoji` and `variation_sequence_index`, by the character's block.
 pub fn emoji_data(ch: u32) -> EmojiData
     ensures emoji { λ r. ⌜ r .«is_emoji» ≡ isEmoji ch ⌝ }
     ensures index { λ r. ⌜ r .index ≡ variationSequenceIndex ch ⌝ }
@@ -248,14 +248,14 @@ pub fn emoji_data(ch: u32) -> EmojiData
     EmojiData { is_emoji, index }
 }
 
-// By the character's block: `variation_sequence_index`.
+// The fast form of `variation_sequence_index`, by the character's block.
 pub fn variation_sequence_index_by_block(ch: u32) -> VariationSequenceIndex
     ensures { λ r. ⌜ r ≡ variationSequenceIndex ch ⌝ }
 {
     entry_in(blocks::block_of(ch / 64), ch)
 }
 
-// By the character's block: `has_variation_sequence`.
+// The fast form of `has_variation_sequence`, by the character's block.
 pub fn has_variation_sequence_by_block(ch: u32) -> bool
     ensures { λ r. ⌜ r ≡ hasVariationSequence ch ⌝ }
 {
@@ -263,7 +263,7 @@ pub fn has_variation_sequence_by_block(ch: u32) -> bool
     base::has_bit(block.entries, ch as usize)
 }
 
-// By the character's block: `is_emoji_default`.
+// The fast form of `is_emoji_default`: the entry by the character's block.
 pub fn is_emoji_default_by_block(ch: u32) -> bool
     ensures { λ r. ⌜ r ≡ isEmojiDefault ch ⌝ }
 {
@@ -273,14 +273,14 @@ pub fn is_emoji_default_by_block(ch: u32) -> bool
     false
 }
 
-// By the first and the last modifier: `is_emoji_modifier`.
+// The fast form of `is_emoji_modifier`, by the first and the last modifier.
 pub fn is_emoji_modifier_by_ends(ch: u32) -> bool
     ensures { λ r. ⌜ r ≡ isEmojiModifier ch ⌝ }
 {
     is_within(EMOJI_MODIFIERS[0], EMOJI_MODIFIERS[4], ch)
 }
 
-// By the first and the last regional indicator: `is_ri`.
+// The fast form of `is_ri`, by the first and the last regional indicator.
 pub fn is_ri_by_ends(ch: u32) -> bool
     ensures { λ r. ⌜ r ≡ isRi ch ⌝ }
 {
