@@ -237,7 +237,7 @@ fn with_entry(
 {
     match next {
         Class::Modifier => before_modifier(first, count, base),
-        Class::Tag => before_tags(first, count, unicode::is_emoji_default(base)),
+        Class::Tag => before_tags(first, count, unicode::is_emoji_default_by_block(base)),
         _ => by_policy(first, count, rule),
     }
 }
@@ -252,7 +252,7 @@ pub fn analyze_singleton_base_selectors(
 ) -> Outcome
     ensures { λ r. ⌜ r ≡ outcome policy base next (runWith first count) ⌝ }
 {
-    if !unicode::has_variation_sequence(base) {
+    if !unicode::has_variation_sequence_by_block(base) {
         return without_entry(first, count);
     }
     let rule = policy.singleton_rule(base, is_keycap(next));
@@ -269,7 +269,7 @@ pub fn analyze_by_policy_bytes(
 ) -> Outcome
     ensures { λ r. ⌜ r ≡ outcome (policyOf (now (policy .entry))) base next (runWith first count) ⌝ }
 {
-    match unicode::variation_sequence_index(base) {
+    match unicode::variation_sequence_index_by_block(base) {
         VariationSequenceIndex::NoEntry => without_entry(first, count),
         VariationSequenceIndex::At(index) => {
             let rule = policy::policy_bytes::rule_at(policy, index, is_keycap(next));

@@ -110,7 +110,7 @@ impl CharSet {
         ensures { λ r. ⌜ r ≡ contains ch (self .bits) ⌝ }
     {
         let words = self.bits;
-        match unicode::variation_sequence_index(ch) {
+        match unicode::variation_sequence_index_by_block(ch) {
             VariationSequenceIndex::At(index) => base::has_bit(words[index / 64], index),
             VariationSequenceIndex::NoEntry => false,
         }

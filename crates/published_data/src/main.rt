@@ -1,8 +1,10 @@
 // Holds the tables of the crate `unicode` to the two files that Unicode publishes, which stand in
 // data/: each table must have exactly the code points that its file lists, over all of 0 to 10FFFF.
-// It writes a line for each file and each table, and where they differ, the first difference.
+// It writes a line for each file and each table, and where they differ, the first difference. The last line says whether the
+// fast forms of the lookups answer as the plain ones, over the same code points.
 mod checksum;
 mod compare;
+mod forms;
 mod marks;
 mod parse;
 mod report;
@@ -102,4 +104,5 @@ fn main() {
     report::say_tables_version();
     check_file(b"emoji-data.txt", File::Properties);
     check_file(b"emoji-variation-sequences.txt", File::Sequences);
+    report::say_forms(forms::compare_forms());
 }

@@ -1,6 +1,7 @@
 // What the program writes to standard output, in lines.
 use crate::compare::Difference;
 use crate::compare::Entries;
+use crate::forms::Forms;
 use crate::marks::Size;
 use crate::survey::Survey;
 use crate::survey::Version;
@@ -175,6 +176,23 @@ pub(crate) fn say_entries(entries: Entries) {
         }
         Entries::Extra(ch) => {
             say(b": an entry after the last, ");
+            say_code_point(ch);
+            say(b"\n");
+        }
+    }
+}
+
+// How the fast forms compare: "fast forms: as the plain ones at 1114112 code points".
+pub(crate) fn say_forms(forms: Forms) {
+    say(b"fast forms");
+    match forms {
+        Forms::Same(count) => {
+            say(b": as the plain ones at ");
+            say_count(count as u64, b"code point");
+            say(b"\n");
+        }
+        Forms::Differ(ch) => {
+            say(b" differ from the plain ones first at ");
             say_code_point(ch);
             say(b"\n");
         }

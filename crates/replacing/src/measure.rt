@@ -102,7 +102,7 @@ pub fn measure_cells(text: &[u8], policy: Policy) -> Measure
         }
         let width = (packed % 8) as usize;
         let behind = at + width;
-        if unicode::has_variation_sequence(packed / 8) {
+        if unicode::has_variation_sequence_by_block(packed / 8) {
             let CellOutcome { outcome, end } = cell_outcome(text, behind, packed / 8, policy);
             let slot = outcome.slot;
             counts = counts.add(outcome.counts);

@@ -73,10 +73,10 @@ fn class_of_plain(ch: u32) -> Class
 fn class_of_emoji(ch: u32) -> Class
     ensures { λ r. ⌜ (isEmoji ch ≡ true → r ≡ classOf ch) ⌝ }
 {
-    if unicode::is_ri(ch) {
+    if unicode::is_ri_by_ends(ch) {
         return Class::Ri;
     }
-    if unicode::is_emoji_modifier(ch) {
+    if unicode::is_emoji_modifier_by_ends(ch) {
         return Class::Modifier;
     }
     Class::Emoji

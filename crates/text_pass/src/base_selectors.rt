@@ -41,7 +41,7 @@ fn rule_class(ch: u32) -> Class
     if ch == COMBINING_ENCLOSING_KEYCAP {
         return Class::Keycap;
     }
-    if unicode::is_emoji_modifier(ch) {
+    if unicode::is_emoji_modifier_by_ends(ch) {
         return Class::Modifier;
     }
     if unicode::is_tag(ch) {
@@ -105,7 +105,7 @@ pub(crate) fn kept_number(policy: &[u8], base: u32, index: usize, next: Class, f
 {
     match next {
         Class::Modifier => before_modifier(first),
-        Class::Tag => before_tags(unicode::is_emoji_default(base)),
+        Class::Tag => before_tags(unicode::is_emoji_default_by_block(base)),
         _ => by_policy(
             policy::policy_bytes::rule_at(policy, index, is_keycap(next)),
             first,

@@ -35,7 +35,7 @@ fn change_at(text: &[u8], policy: &[u8], at: usize, ch: u32, width: usize) -> Ch
     ensures { λ r. ⌜ ChangeAt (policyOf (now (policy .entry))) (now (text .entry)) at r ⌝ }
 {
     let next = at + width;
-    match unicode::variation_sequence_index(ch) {
+    match unicode::variation_sequence_index_by_block(ch) {
         VariationSequenceIndex::At(index) => base_change(text, policy, ch, index, next),
         VariationSequenceIndex::NoEntry => match Presentation::from_selector(ch) {
             FromSelector::Selector(_) => Change {

@@ -1,6 +1,6 @@
 -- Blocks of 64 code points: which characters of a block are emoji and which are variation entries, each as a word,
--- and how many entries stand before it. Not in document 01: the code looks up by them, and proofs/BlockTables.antt has
--- that they hold its tables.
+-- and how many entries stand before it. Not in document 01: the fast forms look up by them, and proofs/BlockTables.antt
+-- has that they hold its tables.
 use mathlib.Core.Bool.{cond}
 use mathlib.Core.List.{List, [], _∷_}
 use Prim.Native.Nat.{ℕ, _+_, _-_, _%_, _^_}

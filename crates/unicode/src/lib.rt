@@ -1,8 +1,9 @@
 // What a character is to the formatter: unicode.rs of the crate evfmt; document 01, "Character".
 // Each function answers for every number, and equals membership in the lists of specs/UnicodeData.antt.
-// The questions that every character is asked go by the words of its block of 64 code points (blocks.rt). The other
-// tables are lent to one search of each kind, which asks that its table is in order: a test that the proof of each
-// caller computes over the whole table.
+// A predicate over a table lends the constant to the one search of its kind. The search asks that its table is in order:
+// one computed test of the whole table (proofs/InOrder.antt), which the proof of each caller cites.
+// Questions that every character of a text is asked also have a fast form, with the same contract: by the words of the
+// character's block of 64 code points (blocks.rt), or by the first and the last number of the table.
 mod blocks;
 pub mod presentation;
 pub mod unicode_data;
@@ -31,6 +32,7 @@ use blocks::Block;
 use unicode_data::EMOJI_MODIFIER_BASES;
 use unicode_data::EMOJI_MODIFIERS;
 use unicode_data::EMOJI_PRESENTATION_RANGES;
+use unicode_data::EMOJI_RANGES;
 use unicode_data::RI_RANGES;
 use unicode_data::VARIATION_ENTRIES;
 use unicode_data::VARIATION_ENTRY_COUNT;
@@ -170,15 +172,14 @@ pub fn variation_entry(index: usize) -> VariationEntry
 pub fn variation_sequence_index(ch: u32) -> VariationSequenceIndex
     ensures { λ r. ⌜ r ≡ variationSequenceIndex ch ⌝ }
 {
-    entry_in(blocks::block_of(ch / 64), ch)
+    binary_search(&VARIATION_ENTRIES, ch)
 }
 
 // Whether a character is a variation entry.
 pub fn has_variation_sequence(ch: u32) -> bool
     ensures { λ r. ⌜ r ≡ hasVariationSequence ch ⌝ }
 {
-    let block = blocks::block_of(ch / 64);
-    base::has_bit(block.entries, ch as usize)
+    in_char_table(&VARIATION_ENTRIES, ch)
 }
 
 // Whether a character has the property Emoji_Presentation.
@@ -212,7 +213,7 @@ pub fn is_emoji_default(ch: u32) -> bool
 pub fn is_emoji_modifier(ch: u32) -> bool
     ensures { λ r. ⌜ r ≡ isEmojiModifier ch ⌝ }
 {
-    is_within(EMOJI_MODIFIERS[0], EMOJI_MODIFIERS[4], ch)
+    in_char_table(&EMOJI_MODIFIERS, ch)
 }
 
 // Whether a character has the property Emoji_Modifier_Base.
@@ -226,11 +227,17 @@ pub fn is_emoji_modifier_base(ch: u32) -> bool
 pub fn is_emoji(ch: u32) -> bool
     ensures { λ r. ⌜ r ≡ isEmoji ch ⌝ }
 {
-    let block = blocks::block_of(ch / 64);
-    base::has_bit(block.emoji, ch as usize)
+    in_ranges(&EMOJI_RANGES, ch)
 }
 
-// Whether a character has the property Emoji, and where it stands among the variation entries.
+// Whether a character is a regional indicator.
+pub fn is_ri(ch: u32) -> bool
+    ensures { λ r. ⌜ r ≡ isRi ch ⌝ }
+{
+    in_ranges(&RI_RANGES, ch)
+}
+
+// The fast form of `is_emoji` and `variation_sequence_index`, by the character's block.
 pub fn emoji_data(ch: u32) -> EmojiData
     ensures emoji { λ r. ⌜ r .«is_emoji» ≡ isEmoji ch ⌝ }
     ensures index { λ r. ⌜ r .index ≡ variationSequenceIndex ch ⌝ }
@@ -241,8 +248,40 @@ pub fn emoji_data(ch: u32) -> EmojiData
     EmojiData { is_emoji, index }
 }
 
-// Whether a character is a regional indicator.
-pub fn is_ri(ch: u32) -> bool
+// The fast form of `variation_sequence_index`, by the character's block.
+pub fn variation_sequence_index_by_block(ch: u32) -> VariationSequenceIndex
+    ensures { λ r. ⌜ r ≡ variationSequenceIndex ch ⌝ }
+{
+    entry_in(blocks::block_of(ch / 64), ch)
+}
+
+// The fast form of `has_variation_sequence`, by the character's block.
+pub fn has_variation_sequence_by_block(ch: u32) -> bool
+    ensures { λ r. ⌜ r ≡ hasVariationSequence ch ⌝ }
+{
+    let block = blocks::block_of(ch / 64);
+    base::has_bit(block.entries, ch as usize)
+}
+
+// The fast form of `is_emoji_default`: the entry by the character's block.
+pub fn is_emoji_default_by_block(ch: u32) -> bool
+    ensures { λ r. ⌜ r ≡ isEmojiDefault ch ⌝ }
+{
+    if has_variation_sequence_by_block(ch) {
+        return is_emoji_presentation(ch);
+    }
+    false
+}
+
+// The fast form of `is_emoji_modifier`, by the first and the last modifier.
+pub fn is_emoji_modifier_by_ends(ch: u32) -> bool
+    ensures { λ r. ⌜ r ≡ isEmojiModifier ch ⌝ }
+{
+    is_within(EMOJI_MODIFIERS[0], EMOJI_MODIFIERS[4], ch)
+}
+
+// The fast form of `is_ri`, by the first and the last regional indicator.
+pub fn is_ri_by_ends(ch: u32) -> bool
     ensures { λ r. ⌜ r ≡ isRi ch ⌝ }
 {
     is_within(RI_RANGES[0], RI_RANGES[1], ch)

@@ -21,13 +21,13 @@ add-next c =
     omega (arith, s .room, c .before .before .good .0 .0)
 
 base-change-requires : tie.Need-base-change-requires
-base-change-requires c κs = sym (c .before .before .before .variation-sequence-index .ensures) ∙ c .before .index .given .1
+base-change-requires c κs = sym (c .before .before .before .variation-sequence-index-by-block .ensures) ∙ c .before .index .given .1
 
 returns : tie.Need-returns
 returns c =
     let x = c .before .before .before .before .before .before .before .args in
     let s = step (x .text .now) (x .at) (x .ch) (x .width) (c .before .before .before .before .before .before .before .pre) in
-    change-at-base (policyOf (x .policy .now)) s (entry-no-selector (x .ch) _ (sym (c .before .before .before .before .variation-sequence-index .ensures) ∙ c .before .before .index .given .1)) (c .base-change .result) (c .base-change .ensures)
+    change-at-base (policyOf (x .policy .now)) s (entry-no-selector (x .ch) _ (sym (c .before .before .before .before .variation-sequence-index-by-block .ensures) ∙ c .before .before .index .given .1)) (c .base-change .result) (c .base-change .ensures)
 
 returns-2 : tie.Need-returns-2
 returns-2 c =
@@ -41,7 +41,7 @@ returns-3 : tie.Need-returns-3
 returns-3 c =
     let x = c .before .before .before .before .before .before .before .before .before .args in
     let s = step (x .text .now) (x .at) (x .ch) (x .width) (c .before .before .before .before .before .before .before .before .before .pre) in
-    let n = plain-char (x .ch) (sym (c .before .before .before .before .before .before .variation-sequence-index .ensures) ∙ c .before .before .before .before .enum-told .given .1) (sym (c .before .before .before .from-selector .ensures) ∙ c .before .enum-told3 .given .1) in
+    let n = plain-char (x .ch) (sym (c .before .before .before .before .before .before .variation-sequence-index-by-block .ensures) ∙ c .before .before .before .before .enum-told .given .1) (sym (c .before .before .before .from-selector .ensures) ∙ c .before .enum-told3 .given .1) in
     let more = c .skip-alike .ensures (policyOf (x .policy .now)) in
     (λ f. absurd (true≢false (sym f)), λ _. (stays-on (stays-plain (policyOf (x .policy .now)) s n) more, omega (arith, s .some, more .on)))
 

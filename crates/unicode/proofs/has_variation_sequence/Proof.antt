@@ -1,18 +1,18 @@
--- The character's bit in its block.
-use mathlib.Core.Path.{sym, ap, _∙_}
-use Prim.Native.Nat.{_%_}
+-- The table is in order, by the one test of it.
 use borrow.Author.Needs.{needs}
-use Rattle.base.specs.Bits.{one}
-use Rattle.unicode.specs.declared.blocks.Block.{Block}
-use Rattle.unicode.proofs.BlockTables.{entry-bit}
+use Rattle.unicode.specs.Unicode.{hasVariationSequence}
+use Rattle.unicode.specs.UnicodeData.{variationEntries}
+use Rattle.unicode.proofs.InOrder.{variation-entries-ascend}
 use Rattle.unicode.proofs.has_variation_sequence.Statement.{statement}
 use Rattle.unicode.proofs.has_variation_sequence.Tie as tie
 
+in-char-table-requires : tie.Need-in-char-table-requires
+unfolding variationEntries
+in-char-table-requires c κs = variation-entries-ascend
+
 returns : tie.Need-returns
-returns c =
-    let x = c .before in
-    let ch = x .before .args .ch in
-    c .has-bit .ensures ∙ ap (λ (b : Block). one (ch % 64) (b .entries)) (x .block-of .ensures) ∙ sym (entry-bit ch)
+unfolding hasVariationSequence variationEntries
+returns c = c .in-char-table .ensures
 
 pub has-variation-sequence-spec : {M : Type 1} → statement M
-has-variation-sequence-spec = tie.close (tie.spec (λ c κs. search needs) (λ c κs. search needs) returns)
+has-variation-sequence-spec = tie.close (tie.spec (λ c. search needs) in-char-table-requires returns)

@@ -1,18 +1,18 @@
--- The modifiers are the numbers of one range.
-use mathlib.Core.Path.{_∙_}
-use mathlib.Core.List.{[], _∷_}
+-- The table is in order, by the one test of it.
 use borrow.Author.Needs.{needs}
 use Rattle.unicode.specs.Unicode.{isEmojiModifier}
 use Rattle.unicode.specs.UnicodeData.{emojiModifiers}
-use Rattle.unicode.proofs.RangeNumbers.{in-numbers, numbersFrom, numbersOf, one-range}
+use Rattle.unicode.proofs.InOrder.{emoji-modifiers-ascend}
 use Rattle.unicode.proofs.is_emoji_modifier.Statement.{statement}
 use Rattle.unicode.proofs.is_emoji_modifier.Tie as tie
 
+in-char-table-requires : tie.Need-in-char-table-requires
+unfolding emojiModifiers
+in-char-table-requires c κs = emoji-modifiers-ascend
+
 returns : tie.Need-returns
-unfolding isEmojiModifier emojiModifiers numbersOf numbersFrom
-returns c =
-    let ch = c .before .args .ch in
-    c .is-within .ensures ∙ one-range 0x1F3FB 0x1F3FF ch ∙ in-numbers ch (0x1F3FB ∷ 0x1F3FF ∷ [])
+unfolding isEmojiModifier emojiModifiers
+returns c = c .in-char-table .ensures
 
 pub is-emoji-modifier-spec : {M : Type 1} → statement M
-is-emoji-modifier-spec = tie.close (tie.spec (λ c. search needs) (λ c. search needs) (λ c κs. search needs) returns)
+is-emoji-modifier-spec = tie.close (tie.spec (λ c. search needs) in-char-table-requires returns)

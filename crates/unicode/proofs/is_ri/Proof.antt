@@ -1,15 +1,18 @@
--- The one range of the table.
-use mathlib.Core.Path.{_∙_}
+-- The table is in order, by the one test of it.
 use borrow.Author.Needs.{needs}
 use Rattle.unicode.specs.Unicode.{isRi}
 use Rattle.unicode.specs.UnicodeData.{riRanges}
-use Rattle.unicode.proofs.RangeNumbers.{one-range}
+use Rattle.unicode.proofs.InOrder.{ri-ranges-apart}
 use Rattle.unicode.proofs.is_ri.Statement.{statement}
 use Rattle.unicode.proofs.is_ri.Tie as tie
 
+in-ranges-requires : tie.Need-in-ranges-requires
+unfolding riRanges
+in-ranges-requires c κs = ri-ranges-apart
+
 returns : tie.Need-returns
 unfolding isRi riRanges
-returns c = c .is-within .ensures ∙ one-range 0x1F1E6 0x1F1FF (c .before .args .ch)
+returns c = c .in-ranges .ensures
 
 pub is-ri-spec : {M : Type 1} → statement M
-is-ri-spec = tie.close (tie.spec (λ c. search needs) (λ c. search needs) (λ c κs. search needs) returns)
+is-ri-spec = tie.close (tie.spec (λ c. search needs) in-ranges-requires returns)

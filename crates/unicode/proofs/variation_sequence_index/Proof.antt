@@ -1,16 +1,18 @@
--- The character's place in its block.
-use mathlib.Core.Path.{sym, ap, _∙_}
-use Prim.Native.Nat.{_%_}
+-- The table is in order, by the one test of it.
 use borrow.Author.Needs.{needs}
-use Rattle.unicode.specs.Blocks.{entryIn}
-use Rattle.unicode.proofs.BlockTables.{entry-place}
+use Rattle.unicode.specs.Unicode.{variationSequenceIndex}
+use Rattle.unicode.specs.UnicodeData.{variationEntries}
+use Rattle.unicode.proofs.InOrder.{variation-entries-ascend}
 use Rattle.unicode.proofs.variation_sequence_index.Statement.{statement}
 use Rattle.unicode.proofs.variation_sequence_index.Tie as tie
 
+binary-search-requires : tie.Need-binary-search-requires
+unfolding variationEntries
+binary-search-requires c κs = variation-entries-ascend
+
 returns : tie.Need-returns
-returns c =
-    let ch = c .before .before .args .ch in
-    c .entry-in .ensures ∙ ap (entryIn (ch % 64)) (c .before .block-of .ensures) ∙ sym (entry-place ch)
+unfolding variationSequenceIndex variationEntries
+returns c = c .binary-search .ensures
 
 pub variation-sequence-index-spec : {M : Type 1} → statement M
-variation-sequence-index-spec = tie.close (tie.spec (λ c κs. search needs) (λ c κs. search needs) returns)
+variation-sequence-index-spec = tie.close (tie.spec (λ c. search needs) binary-search-requires returns)

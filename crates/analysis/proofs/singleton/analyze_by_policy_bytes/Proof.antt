@@ -16,7 +16,7 @@ returns : tie.Need-returns
 unfolding NoIndexNoEntry
 returns c =
     let x = c .before .before .before .before .before .args in
-    let e = sym (c .before .before .before .variation-sequence-index .ensures) ∙ c .before .enum-told .given .1 in
+    let e = sym (c .before .before .before .variation-sequence-index-by-block .ensures) ∙ c .before .enum-told .given .1 in
     c .without-entry .ensures ∙ sym (outcome-no-entry (policyOf (x .policy .now)) (x .base) (x .next) (runWith (x .first) (x .count)) (no-index-no-entry (x .base) .0 e))
 
 returns-2 : tie.Need-returns-2
@@ -24,7 +24,7 @@ returns-2 c =
     let x = c .before .before .before .before .before .before .before .before .args in
     let p = policyOf (x .policy .now) in
     let i = c .before .before .before .before .index .given in
-    let e = sym (c .before .before .before .before .before .before .variation-sequence-index .ensures) ∙ i .1 in
+    let e = sym (c .before .before .before .before .before .before .variation-sequence-index-by-block .ensures) ∙ i .1 in
     c .with-entry .ensures p (has-entry (x .base) (i .0 .0) e)
     (c .before .rule-at .ensures ∙ ap (λ (b : Bool). entryRule p (i .0 .0) b) (c .before .before .is-keycap .ensures) ∙ sym (rule-by-entry p (x .base) (i .0 .0) (byKeycap (x .next)) e))
 

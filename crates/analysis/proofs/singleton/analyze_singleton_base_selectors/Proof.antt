@@ -11,13 +11,13 @@ use Rattle.analysis.proofs.singleton.analyze_singleton_base_selectors.T
 returns : tie.Need-returns
 returns c =
     let x = c .before .before .before .args in
-    let v = c .before .before .has-variation-sequence in
+    let v = c .before .before .has-variation-sequence-by-block in
     c .without-entry .ensures ∙ sym (outcome-no-entry (x .policy) (x .base) (x .next) _ (sym (v .ensures) ∙ not-true (v .result) (c .before .if1 .taken)))
 
 returns-2 : tie.Need-returns-2
 returns-2 c =
     let x = c .before .before .before .before .before .args in
-    let v = c .before .before .before .before .has-variation-sequence in
+    let v = c .before .before .before .before .has-variation-sequence-by-block in
     c .with-entry .ensures (x .policy) (sym (v .ensures) ∙ not-false (v .result) (c .before .before .before .if1 .left))
     (c .before .singleton-rule .ensures ∙ ap (λ (b : Bool). singletonRule (x .policy) (x .base) b) (c .before .before .is-keycap .ensures))
 

@@ -20,7 +20,7 @@ returns c =
 returns-2 : tie.Need-returns-2
 returns-2 c =
     let x = c .before .before .before .before .args in
-    λ p e _. simp (c .before-tags .ensures, c .before .is-emoji-default .ensures, c .before .before .enum-told2 .given .1, outcome-entry p (x .base) tag (runWith (x .first) (x .count)) e)
+    λ p e _. simp (c .before-tags .ensures, c .before .is-emoji-default-by-block .ensures, c .before .before .enum-told2 .given .1, outcome-entry p (x .base) tag (runWith (x .first) (x .count)) e)
 
 returns-3 : tie.Need-returns-3
 unfolding byKeycap

@@ -74,7 +74,7 @@ loop-again-2 c =
     let d = c .before .before .before .before .before .before .before .decode in
     let k = packed-step (x .text .now) (l .at) (d .result) (d .ensures) (c .before .before .before .before .before .before .if1 .left) in
     let e = c .before .before .before .selectors-end in
-    let v = sym (c .before .before .before .before .before .has-variation-sequence .ensures) ∙ c .before .before .before .before .if2 .left in
+    let v = sym (c .before .before .before .before .before .has-variation-sequence-by-block .ensures) ∙ c .before .before .before .before .if2 .left in
     let a = ap (cappedSum (l .counts)) (c .before .before .unsanctioned2 .ensures) in
     rw (c .before .add2 .ensures, a, c .add-count2 .ensures)
     (measuring-plain (l .inv) k (omega (arith, c .before .before .before .before .before .before .before .before .before .before .before .before .good .0 .0)) v (e .result) _ (e .ensures ∙ selectors-end (x .text .now) (l .at + d .result % 8)) refl)

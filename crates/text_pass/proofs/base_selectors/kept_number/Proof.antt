@@ -24,7 +24,7 @@ returns-2 : tie.Need-returns-2
 returns-2 c =
     let s = c .before .before .before .before .before in
     let x = s .args in
-    let d = c .before .is-emoji-default in
+    let d = c .before .is-emoji-default-by-block in
     let r = c .before-tags in (
       r .ensures [] .few,
       λ f e. before-tags-kept (policyOf (x .policy .now)) (x .base) (x .index) (s .pre .0) f (selectorOf (r .result)) (x .next) (d .result) (c .before .before .enum-told2 .given .1) (d .ensures)

@@ -12,7 +12,7 @@ array-read-has-bit : tie.Need-array-read-has-bit
 array-read-has-bit c =
     let x = c .before .before .before in
     let h = index-has-place (x .before .before .args .ch) (c .before .index .given .0 .0)
-    (sym (x .variation-sequence-index .ensures) ∙ c .before .index .given .1) .0 in
+    (sym (x .variation-sequence-index-by-block .ensures) ∙ c .before .index .given .1) .0 in
     omega (arith, entry-count)
 
 returns : tie.Need-returns
@@ -21,14 +21,14 @@ returns c =
     let x = c .before .before .before .before in
     c .has-bit .ensures
     ∙ ap (λ (i : VariationSequenceIndex). memberAt i (x .before .before .args .self .bits))
-    (sym (c .before .before .index .given .1) ∙ x .variation-sequence-index .ensures)
+    (sym (c .before .before .index .given .1) ∙ x .variation-sequence-index-by-block .ensures)
 
 returns-2 : tie.Need-returns-2
 unfolding contains memberAt
 returns-2 c =
     let x = c .before .before in
     ap (λ (i : VariationSequenceIndex). memberAt i (x .before .before .args .self .bits))
-    (sym (c .enum-told .given .1) ∙ x .variation-sequence-index .ensures)
+    (sym (c .enum-told .given .1) ∙ x .variation-sequence-index-by-block .ensures)
 
 pub contains-spec : {M : Type 1} → statement M
 contains-spec =
