@@ -20,6 +20,7 @@ pub mod Structure
 pub mod Units
 pub mod ItemsAt
 pub mod Rendering
+pub mod StartingItems
 pub mod Replacing
 pub mod Components
 pub mod Claims

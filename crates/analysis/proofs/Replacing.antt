@@ -6,8 +6,9 @@ use mathlib.Core.List.{List, [], _∷_, _++_, map}
 use mathlib.Core.Option.{Option, none, some}
 use Prim.Native.Nat.{ℕ, _+_, _-_, _<_, _≤_}
 use native.Mathlib.Omega.{arith}
+use lib.Dec.{leb}
 use lib.ListN.{drop, length, length-drop, length-take, take}
-use borrow.Author.Tests.{le-leb, lt-leb}
+use borrow.Author.Tests.{le-leb, leb-true, lt-leb}
 use types.Run.{OneOf, miss}
 use denote.Enum.Declared.{tagOf}
 use Rattle.base.specs.Output.{PutAt, bufferOf}
@@ -22,22 +23,35 @@ use Rattle.unicode.specs.declared.presentation.Presentation.{Presentation}
 use Rattle.policy.specs.declared.Policy.{Policy}
 use Rattle.scanner.specs.Grammar.{Derives, emoji-headed, links-only, passthrough, selector-and, selector-run}
 use Rattle.scanner.specs.Items.{Item, items}
-use Rattle.scanner.specs.Spans.{size, width}
+use Rattle.scanner.specs.Spans.{scan, size, width}
+use Rattle.scanner.specs.TextCheck.{textRefusal}
 use Rattle.scanner.specs.declared.ScanKind.{ScanKind}
 use Rattle.scanner.specs.declared.ScanKind.the-variants.{Passthrough}
+use Rattle.scanner.proofs.TextTests.{text-is}
 use Rattle.analysis.proofs.ItemAnalysis.{the-type as the-analysis}
 use Rattle.analysis.specs.Analysis.{isFinding, nonCanonicality, render, renew, replacement, replacementOf}
 use Rattle.analysis.specs.Cells.{Cell, cells}
 use Rattle.analysis.specs.Decisions.{decisionsRefusal, judge, meaning, withinLimit, writeOut}
-use Rattle.analysis.specs.ItemAt.{analysisAt, analysisOf, findingFrom, headFinding, replaceAt, replaceByDefault, replacementBytes, writeFound}
+use Rattle.analysis.specs.ItemAt.{
+  analysisAt,
+  analysisOf,
+  findingStarting,
+  replaceAt,
+  replaceByDefault,
+  replacementBytes,
+  startingAnalysis,
+  startsAt,
+  writeFound,
+}
 use Rattle.analysis.specs.declared.ItemAnalysis.{ItemAnalysis}
-use Rattle.analysis.specs.declared.ItemAnalysis.the-variants.{Canonical, NonCanonical}
+use Rattle.analysis.specs.declared.ItemAnalysis.the-variants.{Canonical, End, NonCanonical}
 use Rattle.analysis.specs.declared.types.Finding.{Finding}
 use Rattle.analysis.specs.declared.types.NonCanonicality.{NonCanonicality}
 use Rattle.analysis.specs.declared.types.MendAnswer.{MendAnswer}
 use Rattle.analysis.specs.declared.types.MendAnswer.the-variants.{Mended, Refused}
 use Rattle.analysis.proofs.Items.{finding-no-passthrough}
 use Rattle.analysis.proofs.ItemsAt.{item-chars, item-derived, item-within}
+use Rattle.analysis.proofs.StartingItems.{finding-starting, headFinding}
 use Rattle.analysis.proofs.Units.{split-S}
 
 -- ---- writing out
@@ -79,10 +93,12 @@ part-within text at end = omega (arith, length-take (end - at) (drop at text), l
 pub part-written : (text out : List ℕ) (at end : ℕ) → length text ≤ textLimit → {a next : After MendAnswer ℕ} → a ≡ withinLimit (part text at end) out next → a ≡ next
 part-written text out at end l e = e ∙ sym (not-too-long (part text at end) out _ (omega (arith, part-within text at end)))
 
+-- The finding that starts at an offset.
 pub record FoundAt (p : Policy) (text : List ℕ) (at : ℕ) (f : Finding) : Type 0 where
   pub item : Item
   pub behind : List Item
   pub items-are : items (chars (drop at text)) ≡ item ∷ behind
+  pub starting : findingStarting p text at ≡ some item
   pub found : isFinding p item ≡ true
   pub end-is : f .end ≡ at + size width (item .chars)
   pub counts-are : f .counts ≡ nonCanonicality p item
@@ -96,24 +112,45 @@ abbrev testOf : Finding → List ℕ → Option Refusal
 testOf f decisions = decisionsRefusal (f .counts .«presentation_decisions») decisions
 
 module _ (p : Policy) (text : List ℕ) (at : ℕ) where
-  pub found-at : (f : Finding) → analysisAt p text at ≡ NonCanonical f → FoundAt p text at f
+  -- The finding that starts at the offset, by whether an item does, and by the items from there on.
+  starting-by : {b : Bool} → startsAt at (scan text) ≡ b → {l : List Item} → items (chars (drop at text)) ≡ l
+      → findingStarting p text at ≡ cond b (headFinding p l) none
+  starting-by {b} s {l} i =
+      finding-starting p text at ∙ ap (λ (b : Bool). cond b (headFinding p (items (chars (drop at text)))) none) s
+      ∙ ap (λ (l : List Item). cond b (headFinding p l) none) i
+
+  pub found-at : (f : Finding) → startingAnalysis p text at ≡ NonCanonical f → FoundAt p text at f
   unfolding analysisAt analysisOf
-  found-at f e = go (items (chars (drop at text))) refl e
+  found-at f e = starts (startsAt at (scan text)) refl e
     where
-      go : (l : List Item) → items (chars (drop at text)) ≡ l → analysisOf p at l ≡ NonCanonical f → FoundAt p text at f
-      go [] i g = absurd (true≢false cc)
-      go (x ∷ xs) i g = by (isFinding p x) refl g
+      go : startsAt at (scan text) ≡ true → (l : List Item) → items (chars (drop at text)) ≡ l → analysisOf p at l ≡ NonCanonical f
+          → FoundAt p text at f
+      go s [] i g = absurd (true≢false cc)
+      go s (x ∷ xs) i g = by (isFinding p x) refl g
         where
           by : (b : Bool) → isFinding p x ≡ b
               → cond b (NonCanonical (record { start = at; end = at + size width (x .chars); counts = nonCanonicality p x })) (Canonical (at + size width (x .chars))) ≡ NonCanonical f
               → FoundAt p text at f
-          by true h k = record { item = x; behind = xs; items-are = i; found = h; end-is = cc; counts-are = cc }
+          by true h k = record {
+            item = x;
+            behind = xs;
+            items-are = i;
+            starting = starting-by s i ∙ ap (λ (b : Bool). cond b (some x) none) h;
+            found = h;
+            end-is = cc;
+            counts-are = cc;
+          }
           by false h k = absurd (true≢false cc)
 
+      starts : (b : Bool) → startsAt at (scan text) ≡ b → cond b (analysisAt p text at) End ≡ NonCanonical f → FoundAt p text at f
+      starts true s g = go s (items (chars (drop at text))) refl g
+      starts false s g = absurd (true≢false cc)
+
   -- The arm for the answers that are no finding.
-  pub none-found : (a : ItemAnalysis) → OneOf (0 ∷ 1 ∷ []) (tagOf the-analysis a) → a ≡ analysisAt p text at → findingFrom p text at ≡ none
-  unfolding analysisAt analysisOf headFinding
-  none-found a o e = go (items (chars (drop at text))) e
+  pub none-found : (a : ItemAnalysis) → OneOf (0 ∷ 1 ∷ []) (tagOf the-analysis a) → a ≡ startingAnalysis p text at
+      → findingStarting p text at ≡ none
+  unfolding analysisAt analysisOf
+  none-found a o e = starts (startsAt at (scan text)) refl e
     where
       no : (f : Finding) → a ≡ NonCanonical f → ⊥
       no f g = miss (0 ∷ 1 ∷ []) 2 tt (subst (λ (y : ItemAnalysis). OneOf (0 ∷ 1 ∷ []) (tagOf the-analysis y)) g o)
@@ -127,6 +164,10 @@ module _ (p : Policy) (text : List ℕ) (at : ℕ) where
               → cond b (some x) none ≡ none
           by true h k = absurd (no _ k)
           by false h k = refl
+
+      starts : (b : Bool) → startsAt at (scan text) ≡ b → a ≡ cond b (analysisAt p text at) End → findingStarting p text at ≡ none
+      starts true s g = starting-by s refl ∙ go (items (chars (drop at text))) g
+      starts false s g = starting-by s refl
 
   -- ---- its bytes, written out
 
@@ -153,10 +194,6 @@ module _ (p : Policy) (text : List ℕ) (at : ℕ) where
     pub found-within : f .end ≤ length text
     found-within = omega (arith, h .end-is, item-within text at (h .item) (h .behind) (h .items-are))
 
-    finding-is : findingFrom p text at ≡ some (h .item)
-    unfolding headFinding
-    finding-is = ap (headFinding p) (h .items-are) ∙ ap (λ (b : Bool). cond b (some (h .item)) none) (h .found)
-
     written-out : (ds : List Presentation) → cellsWritten p text at f ds ≡ encodeAll (replacement p (h .item) ds)
     written-out ds = item-written (h .items-are) (finding-no-passthrough p (h .item) (h .found)) (h .end-is) ds
 
@@ -170,20 +207,42 @@ passed-is : (o : Option Refusal) → Check.Passed ≡ checked o → o ≡ none
 passed-is none e = refl
 passed-is (some s) e = absurd (true≢false cc)
 
+-- The answer of the text's tests.
+pub text-refused : (text : List ℕ) {r : Refusal} {k : Check} → k ≡ checked (textRefusal text) → k ≡ Check.Refused r
+    → textRefusal text ≡ some r
+text-refused text c e = refused-is (textRefusal text) (sym e ∙ c)
+
+pub text-passed : (text : List ℕ) {k : Check} → k ≡ checked (textRefusal text) → k ≡ Check.Passed → textRefusal text ≡ none
+text-passed text c e = passed-is (textRefusal text) (sym e ∙ c)
+
+-- A text that passes is within the limit.
+pub text-within : (text : List ℕ) → textRefusal text ≡ none → length text ≤ textLimit
+text-within text e = go (leb (length text) textLimit) refl
+  where
+    go : (b : Bool) → leb (length text) textLimit ≡ b → length text ≤ textLimit
+    go true l = leb-true (length text) textLimit l
+    go false l = let z : _≡_ {A = Option Refusal} (some TextTooLong) none = sym (text-is text l refl) ∙ e in absurd (true≢false cc)
+
+-- What comes after the text's tests, by their answer.
+after-tests : (text out : List ℕ) {o : Option Refusal} (next : After MendAnswer ℕ) → textRefusal text ≡ o
+    → orElse o (λ (r : Refusal). kept (Refused r) out) next ≡ orElse (textRefusal text) (λ (r : Refusal). kept (Refused r) out) next
+after-tests text out next e = ap (λ (o : Option Refusal). orElse o (λ (r : Refusal). kept (Refused r) out) next) (sym e)
+
 module _ (p : Policy) (text : List ℕ) (at : ℕ) (decisions out : List ℕ) where
-  pub replace-long : textLimit < length text → kept (Refused TextTooLong) out ≡ replaceAt p text at decisions out
+  pub replace-turned-back : {r : Refusal} → textRefusal text ≡ some r → kept (Refused r) out ≡ replaceAt p text at decisions out
   unfolding replaceAt
-  replace-long l = too-long text out _ l
+  replace-turned-back e = after-tests text out _ e
 
-  module _ (l : length text ≤ textLimit) where
-    judged : judge p (findingFrom p text at) decisions (replacementBytes p (findingFrom p text at) (map meaning decisions)) out ≡ replaceAt p text at decisions out
+  module _ (l : textRefusal text ≡ none) where
+    judged : (x : Option Item) → findingStarting p text at ≡ x
+        → judge p x decisions (replacementBytes p x (map meaning decisions)) out ≡ replaceAt p text at decisions out
     unfolding replaceAt
-    judged = not-too-long text out _ l
+    judged x e =
+        ap (λ (o : Option Item). judge p o decisions (replacementBytes p o (map meaning decisions)) out) (sym e) ∙ after-tests text out _ l
 
-    pub replace-none : findingFrom p text at ≡ none → kept (Refused NoFinding) out ≡ replaceAt p text at decisions out
+    pub replace-none : findingStarting p text at ≡ none → kept (Refused NoFinding) out ≡ replaceAt p text at decisions out
     unfolding judge
-    replace-none e =
-        ap (λ (o : Option Item). judge p o decisions (replacementBytes p o (map meaning decisions)) out) (sym e) ∙ judged
+    replace-none e = judged none e
 
     module _ {f : Finding} (h : FoundAt p text at f) where
       judged-found : (o : Option Refusal) → testOf f decisions ≡ o
@@ -192,9 +251,10 @@ module _ (p : Policy) (text : List ℕ) (at : ℕ) (decisions out : List ℕ) wh
       judged-found o e =
           let ds = map meaning decisions in
           let b = encodeAll (replacement p (h .item) ds) in
+          let t = sym e ∙ ap (λ (n : NonCanonicality). decisionsRefusal (n .«presentation_decisions») decisions) (h .counts-are) in
           ap (λ (y : List ℕ). orElse o (λ (r : Refusal). kept (Refused r) out) (writeOut y out)) (written-out p text at h ds)
-          ∙ ap (λ (q : Option Refusal). orElse q (λ (r : Refusal). kept (Refused r) out) (writeOut b out)) (sym e ∙ ap (λ (n : NonCanonicality). decisionsRefusal (n .«presentation_decisions») decisions) (h .counts-are))
-          ∙ ap (λ (y : Option Item). judge p y decisions (replacementBytes p y ds) out) (sym (finding-is p text at h)) ∙ judged
+          ∙ ap (λ (q : Option Refusal). orElse q (λ (r : Refusal). kept (Refused r) out) (writeOut b out)) t
+          ∙ judged (some (h .item)) (h .starting)
 
       pub replace-refused : (r : Refusal) (k : Check) → k ≡ checked (testOf f decisions) → k ≡ Check.Refused r
           → kept (Refused r) out ≡ replaceAt p text at decisions out
@@ -207,17 +267,21 @@ module _ (p : Policy) (text : List ℕ) (at : ℕ) (decisions out : List ℕ) wh
 -- ---- the call by default
 
 module _ (p : Policy) (text : List ℕ) (at : ℕ) (out : List ℕ) where
-  pub default-long : textLimit < length text → kept (Refused TextTooLong) out ≡ replaceByDefault p text at out
+  pub default-turned-back : {r : Refusal} → textRefusal text ≡ some r → kept (Refused r) out ≡ replaceByDefault p text at out
   unfolding replaceByDefault
-  default-long l = too-long text out _ l
+  default-turned-back e = after-tests text out _ e
 
-  pub default-none : length text ≤ textLimit → findingFrom p text at ≡ none → kept (Refused NoFinding) out ≡ replaceByDefault p text at out
-  unfolding replaceByDefault writeFound
-  default-none l e = ap (λ (o : Option Item). writeFound p o out) (sym e) ∙ not-too-long text out _ l
+  module _ (l : textRefusal text ≡ none) where
+    found-written : (x : Option Item) → findingStarting p text at ≡ x → writeFound p x out ≡ replaceByDefault p text at out
+    unfolding replaceByDefault
+    found-written x e = ap (λ (o : Option Item). writeFound p o out) (sym e) ∙ after-tests text out _ l
 
-  pub default-written : length text ≤ textLimit → {f : Finding} → FoundAt p text at f → (a : After MendAnswer ℕ)
-      → a ≡ writeOut (cellsWritten p text at f []) out → a ≡ replaceByDefault p text at out
-  unfolding replaceByDefault writeFound
-  default-written l {f} h a w =
-      w ∙ ap (λ (r : List ℕ). writeOut r out) (written-out p text at h [])
-      ∙ ap (λ (o : Option Item). writeFound p o out) (sym (finding-is p text at h)) ∙ not-too-long text out _ l
+    pub default-none : findingStarting p text at ≡ none → kept (Refused NoFinding) out ≡ replaceByDefault p text at out
+    unfolding writeFound
+    default-none e = found-written none e
+
+    pub default-written : {f : Finding} → FoundAt p text at f → (a : After MendAnswer ℕ)
+        → a ≡ writeOut (cellsWritten p text at f []) out → a ≡ replaceByDefault p text at out
+    unfolding writeFound
+    default-written {f} h a w =
+        w ∙ ap (λ (r : List ℕ). writeOut r out) (written-out p text at h []) ∙ found-written (some (h .item)) (h .starting)

@@ -6,8 +6,8 @@ pub mod Analysis
 pub mod Components
 pub mod Decisions
 pub mod CellView
-pub mod ItemAt
 pub mod Findings
+pub mod ItemAt
 pub mod ChoicesAt
 pub mod Worked
 pub mod Theorems

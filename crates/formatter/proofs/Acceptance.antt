@@ -16,7 +16,8 @@ use Rattle.scanner.specs.Items.{Item}
 use Rattle.formatter.specs.Book.{Entry, Opening, atPlace, bookText, marked, mends, openingAt, openings, place}
 use Rattle.formatter.specs.Demand3.{At, FirstRefusal, Names, above-one, few-or-many, isMended, no-finding, no-room}
 use Rattle.analysis.specs.Decisions.{badDecision, decisionsRefusal, judge, wanted}
-use Rattle.formatter.specs.Mend.{Call, findingAt}
+use Rattle.analysis.specs.Findings.{findingAt}
+use Rattle.formatter.specs.Mend.{Call}
 use Rattle.base.specs.Refusals.{After}
 use Rattle.analysis.specs.declared.types.MendAnswer.{MendAnswer}
 use Rattle.analysis.specs.declared.types.MendAnswer.the-variants.{Refused}

@@ -24,7 +24,8 @@ use Rattle.formatter.specs.Book.{Entry, atPlace, bookChars, bookStep, bo
 use Rattle.formatter.specs.Demand3.{Accepted, isMended, Each}
 use Rattle.formatter.specs.Findings.{findings}
 use Rattle.analysis.specs.Decisions.{decisionsRefusal, judge, meaning}
-use Rattle.formatter.specs.Mend.{Call, exchanged, findingAt, mend, mendCall, nextFrom, nextText}
+use Rattle.analysis.specs.Findings.{findingAt}
+use Rattle.formatter.specs.Mend.{Call, exchanged, mend, mendCall, nextFrom, nextText}
 use Rattle.base.specs.Refusals.{After, kept, orElse, written}
 use Rattle.formatter.specs.Intake.{intakeRefusal}
 use Rattle.analysis.specs.declared.types.MendAnswer.{MendAnswer}

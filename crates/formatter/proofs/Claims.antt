@@ -2,8 +2,20 @@
 use mathlib.Core.Path.{refl}
 use Rattle.base.specs.Words.{bytesOf, littleEndian, wordBytes}
 use Rattle.formatter.specs.List.{countNumbers, rowNumbers}
-use Rattle.formatter.specs.Theorems.{CellByCell, ColumnsInOrder, EveryFormattedText, EveryList, FiledIsFormatted, IntakeComesFirst, IntakeInOrder, ListedAsBytes}
+use Rattle.formatter.specs.Theorems.{
+  CellByCell,
+  ColumnsInOrder,
+  EveryFormattedText,
+  EveryList,
+  FiledIsFormatted,
+  IntakeComesFirst,
+  IntakeInOrder,
+  ListedAsBytes,
+  MendsByReplacement,
+  MendsTestAlike,
+}
 use Rattle.formatter.specs.Worked.{WorkedList, WorkedListClaimed, WorkedTexts}
+use Rattle.formatter.proofs.ByReplacement.{by-replacement, test-alike}
 use Rattle.formatter.proofs.CellView.{cell-view}
 use Rattle.formatter.proofs.FormattedClaim.{formatted-claim}
 use Rattle.formatter.proofs.ListClaim.{list-claim}
@@ -16,6 +28,12 @@ intake-in-order = in-order
 
 pub intake-comes-first : IntakeComesFirst
 intake-comes-first = comes-first
+
+pub mends-by-replacement : MendsByReplacement
+mends-by-replacement = by-replacement
+
+pub mends-test-alike : MendsTestAlike
+mends-test-alike = test-alike
 
 pub columns-in-order : ColumnsInOrder
 unfolding ColumnsInOrder rowNumbers countNumbers bytesOf wordBytes littleEndian

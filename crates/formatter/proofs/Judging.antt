@@ -14,7 +14,8 @@ use Rattle.scanner.specs.Items.{Item}
 use Rattle.formatter.specs.Book.{Entry, Opening, allBinary, atPlace, bookText, marked, mends, mendsAt, openingAt, openings, place}
 use Rattle.formatter.specs.Demand3.{Each, and-each, isMended, no-more}
 use Rattle.analysis.specs.Decisions.{badDecision, decisionsRefusal, judge, wanted}
-use Rattle.formatter.specs.Mend.{Call, findingAt}
+use Rattle.analysis.specs.Findings.{findingAt}
+use Rattle.formatter.specs.Mend.{Call}
 use Rattle.base.specs.Refusals.{After, kept, orElse, written}
 use Rattle.analysis.specs.declared.types.MendAnswer.{MendAnswer}
 use Rattle.analysis.specs.declared.types.MendAnswer.the-variants.{Mended, Refused}

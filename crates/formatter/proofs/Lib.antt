@@ -16,6 +16,7 @@ pub mod Runs
 pub mod Listing
 pub mod Formatting
 pub mod Outcomes
+pub mod ByReplacement
 pub mod FirstBook
 pub mod ListClaim
 pub mod FormattedClaim

@@ -17,9 +17,8 @@ use Rattle.analysis.specs.declared.types.NonCanonicality.{NonCanonicality}
 use Rattle.analysis.proofs.Counts.{empty-plus, plus-assoc, plus-swap}
 use Rattle.formatter.specs.Book.{Entry, Mark, entryChars, isOpen, itemsOf, mended, untouched}
 use Rattle.formatter.specs.Demand3.{Each, IsRight, Right, and-each, mendedItems, no-more, onlyMended}
-use Rattle.analysis.specs.Findings.{totals}
+use Rattle.analysis.specs.Findings.{findingAt, totals}
 use Rattle.analysis.specs.Decisions.{wanted}
-use Rattle.formatter.specs.Mend.{findingAt}
 use Rattle.formatter.proofs.Mending.{openFound}
 use Rattle.formatter.proofs.Splicing.{markAt}
 

@@ -19,7 +19,8 @@ use Rattle.formatter.specs.Findings.{findingRow, findings}
 use Rattle.formatter.specs.Format.{format, formatted, sameBytes}
 use Rattle.formatter.specs.List.{list, listBytes, rowBytes, rowNumbers}
 use Rattle.analysis.specs.Decisions.{judge, meaning}
-use Rattle.formatter.specs.Mend.{exchanged, findingAt, mend}
+use Rattle.analysis.specs.Findings.{findingAt}
+use Rattle.formatter.specs.Mend.{exchanged, mend}
 use Rattle.base.specs.Refusals.{After, kept, orElse, textLimit}
 use Rattle.formatter.specs.Intake.{intakeRefusal}
 use Rattle.formatter.specs.Theorems.{FiledIsFormatted, IntakeComesFirst, IntakeInOrder}

@@ -18,8 +18,8 @@ use Rattle.scanner.specs.Items.{Item, join}
 use Rattle.scanner.specs.Spans.{Found, size, width}
 use Rattle.scanner.proofs.Bytes.{size-width}
 use Rattle.analysis.specs.Analysis.{isFinding, replacement}
+use Rattle.analysis.specs.Findings.{findingAt}
 use Rattle.formatter.specs.Book.{Entry, Mark, atPlace, bookChars, entryChars, fresh, ifMended, isOpen, itemsOf, markFrom, mended, openingsFrom, placed, untouched}
-use Rattle.formatter.specs.Mend.{findingAt}
 use Rattle.formatter.proofs.Mending.{openFound}
 
 pub fresh-items : (xs : List Item) → itemsOf (fresh xs) ≡ xs

@@ -22,12 +22,12 @@ use Rattle.analysis.specs.Analysis.{countCells, countsOf, following, nonCanonic
 use Rattle.analysis.specs.Rules.{byFirst, byKeycap, byModifier, byTags, isBareSide, outcome, rule1, rule2, rule3, rule4, rule5, rule6, textFirst, withoutSelector}
 use Rattle.formatter.specs.Book.{allBinary, bookAfter, bookChars, markFrom, mendsAt, openingAt, openingsFrom}
 use Rattle.formatter.specs.Demand3.{Accepted}
-use Rattle.analysis.specs.Findings.{totals}
+use Rattle.analysis.specs.Findings.{findingAt, totals}
 use Rattle.formatter.specs.Findings.{findingRow, findings, textTotals}
 use Rattle.formatter.specs.Format.{format, formatItems, formatted, sameBytes}
 use Rattle.formatter.specs.List.{list}
 use Rattle.analysis.specs.Decisions.{badDecision, decisionsRefusal, judge}
-use Rattle.formatter.specs.Mend.{findingAt, mend, outcomes, textAfter}
+use Rattle.formatter.specs.Mend.{mend, outcomes, textAfter}
 use Rattle.formatter.specs.Intake.{intakeRefusal}
 use Rattle.formatter.specs.Worked.{WorkedList, WorkedListClaimed, WorkedTexts, theDefault, twoFindings, workedCalls, workedTable, workedText}
 use Rattle.formatter.proofs.ListClaim.{list-claim}

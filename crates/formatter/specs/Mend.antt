@@ -1,18 +1,16 @@
 -- Mending: the whole outcome of the call, `mend`, and a list of such calls, each reading what the last accepted one wrote (document 01, "Replacement and text", "Mending in sequence").
-use mathlib.Core.Bool.{cond}
 use mathlib.Core.List.{List, [], _∷_, _++_, map}
 use mathlib.Core.Option.{Option, none, some}
 use Prim.Native.Nat.{ℕ, _+_}
-use lib.Dec.{eqb}
 use lib.ListN.{drop, length, take}
 use Rattle.utf8.specs.Rfc3629.{chars, encodeAll}
 use Rattle.unicode.specs.declared.presentation.Presentation.{Presentation}
 use Rattle.policy.specs.declared.Policy.{Policy}
 use Rattle.policy.specs.PolicyBytes.{policyOf}
 use Rattle.scanner.specs.Items.{Item}
-use Rattle.scanner.specs.Spans.{Found}
 use Rattle.analysis.specs.Analysis.{replacement}
 use Rattle.analysis.specs.Decisions.{judge, meaning}
+use Rattle.analysis.specs.Findings.{findingAt}
 use Rattle.formatter.specs.Findings.{findings}
 use Rattle.base.specs.Refusals.{After, kept, orElse}
 use Rattle.formatter.specs.Intake.{intakeRefusal}
@@ -21,11 +19,6 @@ use Rattle.analysis.specs.declared.types.MendAnswer.the-variants.{Mended, Refus
 use Rattle.base.specs.declared.Refusal.{Refusal}
 
 -- ---- a call
-
--- "Mending takes a finding's first offset": the finding that starts there, if one does.
-unfoldable pub findingAt : ℕ → List Found → Option Item
-findingAt offset [] = none
-findingAt offset (f ∷ fs) = cond (eqb (f .start) offset) (some (f .item)) (findingAt offset fs)
 
 -- ".. and writes the whole text with that replacement": the bytes before the finding, its replacement, the bytes behind it.
 abbrev pub exchanged : List ℕ → Policy → ℕ → List Presentation → Option Item → List ℕ

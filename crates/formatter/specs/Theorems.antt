@@ -1,18 +1,23 @@
 -- What is claimed of formatting, listing and mending. Each statement is proved in proofs/Claims.antt.
 use mathlib.Core.Path.{_≡_}
+use mathlib.Core.Logic.{_↔_}
 use mathlib.Core.Bool.{true, false}
 use mathlib.Core.Option.{some, none}
 use mathlib.Core.List.{List, [], _∷_, _++_}
-use Prim.Native.Nat.{ℕ, _≤_, _<_}
-use lib.ListN.{length}
+use Prim.Native.Nat.{ℕ, _+_, _≤_, _<_}
+use lib.ListN.{drop, length, take}
+use Rattle.base.specs.Refusals.{refusalTable}
 use Rattle.base.specs.Tables.{rowsBytes}
 use Rattle.utf8.specs.Rfc3629.{WellFormed, chars, encodeAll, validUpTo}
 use Rattle.policy.specs.PolicyBytes.{isPolicy, policyOf, policyRefusal}
+use Rattle.scanner.specs.Items.{Item}
 use Rattle.analysis.specs.CellView.{formatCells, totalCells}
+use Rattle.analysis.specs.Findings.{findingAt}
+use Rattle.analysis.specs.ItemAt.{replaceAt}
 use Rattle.base.specs.Words.{bytesOf}
 use Rattle.formatter.specs.Demand3.{Accepted, FormattedClaim, ListClaim}
 use Rattle.formatter.specs.Filed.{filedText}
-use Rattle.formatter.specs.Findings.{textTotals}
+use Rattle.formatter.specs.Findings.{findings, textTotals}
 use Rattle.formatter.specs.Format.{format, formatted}
 use Rattle.formatter.specs.List.{list, listBytes, rowBytes, rowNumbers}
 use Rattle.formatter.specs.Mend.{Call, mend}
@@ -43,6 +48,27 @@ IntakeComesFirst =
     × ((table : List Finding) → list text policy table ≡ record { answer = Refused r; buffer = table })
     × ((table : List ℕ) → listBytes text policy table ≡ record { answer = Refused r; buffer = table })
     × ((offset : ℕ) (decisions out : List ℕ) → mend text policy offset decisions out ≡ record { answer = Mend.Refused r; buffer = out })
+
+-- ---- mending and the replacement alone
+
+-- "Mending .. writes the whole text with that replacement": where both succeed, what mending puts between the bytes before the finding and
+-- those after it is what `canonical_replacement_with_decisions` writes.
+unfoldable pub MendsByReplacement : Type 0
+MendsByReplacement =
+    (text policy : List ℕ) (offset : ℕ) (decisions out room : List ℕ) (x : Item) (n m : ℕ)
+    → findingAt offset (findings text policy) ≡ some x
+    → mend text policy offset decisions out .answer ≡ Mend.Mended n
+    → replaceAt (policyOf policy) text offset decisions room .answer ≡ Mend.Mended m
+    → take n (mend text policy offset decisions out .buffer)
+    ≡ take offset text ++ take m (replaceAt (policyOf policy) text offset decisions room .buffer)
+    ++ drop (offset + length (encodeAll (x .chars))) text
+
+-- Under an accepted policy the two are turned back alike by each test before that of the output.
+unfoldable pub MendsTestAlike : Type 0
+MendsTestAlike =
+    (text policy : List ℕ) (offset : ℕ) (decisions out room : List ℕ) (r : Refusal) → isPolicy policy ≡ true → refusalTable r .number ≤ 6
+    → (mend text policy offset decisions out .answer ≡ Mend.Refused r)
+    ↔ (replaceAt (policyOf policy) text offset decisions room .answer ≡ Mend.Refused r)
 
 -- ---- listing
 

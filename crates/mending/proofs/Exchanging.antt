@@ -24,14 +24,14 @@ use Rattle.analysis.specs.Decisions.{decisionsRefusal, judge, meaning, withinLi
 use Rattle.analysis.specs.declared.types.MendAnswer.{MendAnswer}
 use Rattle.analysis.specs.declared.types.MendAnswer.the-variants.{Mended, Refused}
 use Rattle.analysis.specs.declared.types.NonCanonicality.{NonCanonicality}
-use Rattle.analysis.specs.Findings.{findingsFrom}
+use Rattle.analysis.specs.Findings.{findingAt, findingsFrom}
 use Rattle.analysis.proofs.Items.{finding-no-passthrough}
 use Rattle.analysis.proofs.ItemsAt.{item-totals}
 use Rattle.analysis.proofs.Lengths.{render-bytes}
 use Rattle.analysis.proofs.Replacing.{item-written, out-short, out-written, part, part-within, part-written}
 use Rattle.formatter.specs.Demand3.{Accepted}
 use Rattle.formatter.specs.Findings.{findings}
-use Rattle.formatter.specs.Mend.{exchanged, findingAt, mend}
+use Rattle.formatter.specs.Mend.{exchanged, mend}
 use Rattle.mending.specs.Parts.{Starts, cellsWritten}
 use Rattle.mending.proofs.Around.{between}
 use Rattle.formatter.proofs.Calls.{pass-intake}

@@ -1,38 +1,24 @@
 -- The finding that starts at an offset: the first one that does not start before it, or none.
 use mathlib.Core.Path.{_≡_, refl, ap, sym, _∙_}
 use mathlib.Core.Bool.{Bool, true, false, cond, true≢false}
-use mathlib.Core.List.{List, [], _∷_}
-use mathlib.Core.Option.{none, some}
-use Prim.Native.Nat.{ℕ, _+_, _<_}
+use mathlib.Core.List.{List}
+use mathlib.Core.Option.{some}
+use Prim.Native.Nat.{ℕ, _+_}
 use native.Mathlib.Omega.{arith}
 use lib.Dec.{eqb}
 use lib.ListN.{drop}
 use borrow.Author.Tests.{eq-eqb, eqb-true, eqb-false, ne-eqb}
 use Rattle.utf8.specs.Rfc3629.{chars, validUpTo}
 use Rattle.policy.specs.declared.Policy.{Policy}
-use Rattle.scanner.specs.Items.{Item, items}
+use Rattle.scanner.specs.Items.{items}
 use Rattle.scanner.specs.Spans.{Found, found, size, width}
-use Rattle.analysis.specs.Analysis.{isFinding}
-use Rattle.analysis.specs.Findings.{findingsFrom}
+use Rattle.analysis.specs.Findings.{findingAt, findingsFrom}
 use Rattle.text_pass.specs.Findings.{Finds, Left, NextFinding, all-left, one-less}
 use Rattle.text_pass.specs.declared.findings.FindingSpan.{FindingSpan}
-use Rattle.formatter.specs.Mend.{findingAt}
 use Rattle.mending.specs.Parts.{FindingStarting, Starts}
 use Rattle.text_pass.proofs.Passing.{finds-here}
+use Rattle.analysis.proofs.StartingItems.{no-finding-past}
 use Rattle.formatter.proofs.Steps.{none-found}
-
--- Behind the offset no finding starts there.
-no-finding-past : (p : Policy) (o n : ℕ) (xs : List Item) → o < n → findingAt o (found (isFinding p) width n xs) ≡ none
-unfolding findingAt found
-no-finding-past p o n [] h = refl
-no-finding-past p o n (x ∷ xs) h = go (isFinding p x) (no-finding-past p o (n + size width (x .chars)) xs (omega arith))
-  where
-    F : List Found
-    F = found (isFinding p) width (n + size width (x .chars)) xs
-
-    go : (b : Bool) → findingAt o F ≡ none → findingAt o (cond b (record { start = n; item = x } ∷ F) F) ≡ none
-    go true i = ap (λ (b : Bool). cond b (some x) (findingAt o F)) (ne-eqb n o (λ e. omega arith)) ∙ i
-    go false i = i
 
 -- No finding that is passed starts at the limit.
 left-at : (o : ℕ) {n : ℕ} {fs gs : List Found} → Left o fs n gs → findingAt o fs ≡ findingAt o gs

@@ -10,10 +10,9 @@ use Rattle.unicode.specs.declared.presentation.Presentation.{Presentation}
 use Rattle.policy.specs.declared.Policy.{Policy}
 use Rattle.analysis.specs.Analysis.{render}
 use Rattle.analysis.specs.Cells.{cells}
-use Rattle.analysis.specs.Findings.{findingsFrom}
+use Rattle.analysis.specs.Findings.{findingAt, findingsFrom}
 use Rattle.text_pass.specs.Findings.{Finds}
 use Rattle.text_pass.specs.declared.findings.FindingSpan.{FindingSpan}
-use Rattle.formatter.specs.Mend.{findingAt}
 
 -- The finding that starts at an offset, up to its end ..
 pub record Starts (p : Policy) (text : List ℕ) (offset end : ℕ) : Type 0 where

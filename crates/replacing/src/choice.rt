@@ -4,7 +4,9 @@
 // every slice.
 ghost use mathlib.Core.Path.{_≡_};
 ghost use Prim.Native.Nat.{_+_};
+ghost use Rattle.base.specs.Answers.{EndsAs};
 ghost use Rattle.analysis.specs.Analysis.{upToLink};
+ghost use Rattle.analysis.specs.Decisions.{mendRow};
 ghost use Rattle.analysis.specs.ChoicesAt.{cellsLength, cellsFrom, cellsStart, choiceAt, frontUnit, replaceUnit};
 use crate::measure::CellOutcome;
 use crate::measure::cell_outcome;
@@ -106,7 +108,7 @@ pub fn choice_replacement(
     decision: Presentation,
     out: &mut [u8],
 ) -> MendAnswer
-    ensures { λ r. ⌜ record { answer = r; buffer = now (out .exit) } ≡ replaceUnit policy (now (raw .entry)) at decision (now (out .entry)) ⌝ }
+    ensures { λ r. ⌜ EndsAs mendRow (replaceUnit policy (now (raw .entry)) at decision (now (out .entry))) r (now (out .exit)) ⌝ }
 {
     if TEXT_LIMIT < raw.len() {
         return MendAnswer::Refused(Refusal::TextTooLong);

@@ -1,18 +1,21 @@
 // Replacements as bytes: render.rs of the crate evfmt, and what analysis.rs puts together; document 01, "Replacement and text".
 // The cells of a slice are written with the selectors that the rules and the decisions give them (`render` of
-// crate analysis, specs/Analysis.antt). `canonical_replacement_with_decisions` equals `replaceAt` of its specs/ItemAt.antt.
+// crate analysis, specs/Analysis.antt). `canonical_replacement_with_decisions` equals `replaceAt` of its specs/ItemAt.antt: it makes every
+// test of a call that takes a text, an offset and decisions, and an item counts only if the text's items, from its beginning on, have it.
 ghost use mathlib.Core.Path.{_≡_};
 ghost use mathlib.Core.Bool.{true};
 ghost use mathlib.Core.List.{map};
 ghost use Prim.Native.Nat.{_+_, _≤_};
 ghost use lib.ListN.{drop, length};
+ghost use Rattle.base.specs.Answers.{EndsAs};
 ghost use Rattle.base.specs.Output.{PutAt};
 ghost use Rattle.utf8.specs.Rfc3629.{chars, encode, encodeAll, isScalar};
 ghost use Rattle.unicode.specs.Presentation.{asSelector};
+ghost use Rattle.scanner.specs.Spans.{scan};
 ghost use Rattle.analysis.specs.Analysis.{chosen, decide, render};
 ghost use Rattle.analysis.specs.Cells.{cells};
-ghost use Rattle.analysis.specs.Decisions.{cellBytes, decisionsUsed, meaning, withinLimit, writeOut};
-ghost use Rattle.analysis.specs.ItemAt.{replaceAt, replaceByDefault};
+ghost use Rattle.analysis.specs.Decisions.{cellBytes, decisionsUsed, meaning, mendRow};
+ghost use Rattle.analysis.specs.ItemAt.{replaceAt, replaceByDefault, startingAnalysis, startsAt, writeCells};
 ghost use Rattle.analysis.specs.Rules.{runWith};
 use crate::analyze_scan_item;
 use crate::decisions::check_decisions;
@@ -28,8 +31,11 @@ use base::Check;
 use base::Refusal;
 use base::TEXT_LIMIT;
 use policy::Policy;
+use scanner::ScanStep;
+use scanner::next_item;
 use scanner::selectors::PresentationSelectors;
 use scanner::selectors::consume_presentation_selectors;
+use scanner::text_check::check_text;
 use unicode::presentation::FromSelector;
 use unicode::presentation::Presentation;
 use utf8::WriteChar;
@@ -133,7 +139,7 @@ fn put_cells(text: &[u8], policy: Policy, decisions: &[u8], out: &mut [u8]) -> u
 
 // Writes the cells of a slice at the front of the output, if there is room: for a caller that has the bytes of an item.
 pub fn write_cells(raw: &[u8], policy: Policy, decisions: &[u8], out: &mut [u8]) -> MendAnswer
-    ensures { λ r. ⌜ record { answer = r; buffer = now (out .exit) } ≡ withinLimit (now (raw .entry)) (now (out .entry)) (writeOut (encodeAll (render policy (cells (chars (now (raw .entry)))) (map meaning (now (decisions .entry))))) (now (out .entry))) ⌝ }
+    ensures { λ r. ⌜ EndsAs mendRow (writeCells policy (now (raw .entry)) (now (decisions .entry)) (now (out .entry))) r (now (out .exit)) ⌝ }
 {
     if TEXT_LIMIT < raw.len() {
         return MendAnswer::Refused(Refusal::TextTooLong);
@@ -146,7 +152,31 @@ pub fn write_cells(raw: &[u8], policy: Policy, decisions: &[u8], out: &mut [u8])
     MendAnswer::Mended { len }
 }
 
-// Writes the replacement of the finding at an offset under decisions.
+// Whether an item of the text starts at an offset: the items are walked from the beginning.
+fn item_starts_at(text: &[u8], offset: usize) -> bool
+    ensures { λ r. ⌜ r ≡ startsAt offset (scan (now (text .entry))) ⌝ }
+{
+    let mut at = 0;
+    while let ScanStep::Item(item) = next_item(text, at) {
+        if offset <= at {
+            return at == offset;
+        }
+        at = item.end;
+    }
+    false
+}
+
+// The item of the text that starts at an offset, or the end where none does.
+fn analyze_starting_item(text: &[u8], offset: usize, policy: Policy) -> ItemAnalysis
+    ensures { λ r. ⌜ r ≡ startingAnalysis policy (now (text .entry)) offset ⌝ }
+{
+    if !item_starts_at(text, offset) {
+        return ItemAnalysis::End;
+    }
+    analyze_scan_item(text, offset, policy)
+}
+
+// Writes the replacement of the finding that starts at an offset, under decisions.
 pub fn canonical_replacement_with_decisions(
     text: &[u8],
     at: usize,
@@ -154,12 +184,12 @@ pub fn canonical_replacement_with_decisions(
     decisions: &[u8],
     out: &mut [u8],
 ) -> MendAnswer
-    ensures { λ r. ⌜ record { answer = r; buffer = now (out .exit) } ≡ replaceAt policy (now (text .entry)) at (now (decisions .entry)) (now (out .entry)) ⌝ }
+    ensures { λ r. ⌜ EndsAs mendRow (replaceAt policy (now (text .entry)) at (now (decisions .entry)) (now (out .entry))) r (now (out .exit)) ⌝ }
 {
-    if TEXT_LIMIT < text.len() {
-        return MendAnswer::Refused(Refusal::TextTooLong);
+    if let Check::Refused(refusal) = check_text(text) {
+        return MendAnswer::Refused(refusal);
     }
-    let ItemAnalysis::NonCanonical(finding) = analyze_scan_item(text, at, policy) else {
+    let ItemAnalysis::NonCanonical(finding) = analyze_starting_item(text, at, policy) else {
         return MendAnswer::Refused(Refusal::NoFinding);
     };
     let Finding {
@@ -173,19 +203,19 @@ pub fn canonical_replacement_with_decisions(
     }
 }
 
-// Writes the replacement of the finding at an offset, every decision at its default.
+// Writes the replacement of the finding that starts at an offset, every decision at its default.
 pub fn default_canonical_replacement(
     text: &[u8],
     at: usize,
     policy: Policy,
     out: &mut [u8],
 ) -> MendAnswer
-    ensures { λ r. ⌜ record { answer = r; buffer = now (out .exit) } ≡ replaceByDefault policy (now (text .entry)) at (now (out .entry)) ⌝ }
+    ensures { λ r. ⌜ EndsAs mendRow (replaceByDefault policy (now (text .entry)) at (now (out .entry))) r (now (out .exit)) ⌝ }
 {
-    if TEXT_LIMIT < text.len() {
-        return MendAnswer::Refused(Refusal::TextTooLong);
+    if let Check::Refused(refusal) = check_text(text) {
+        return MendAnswer::Refused(refusal);
     }
-    let ItemAnalysis::NonCanonical(finding) = analyze_scan_item(text, at, policy) else {
+    let ItemAnalysis::NonCanonical(finding) = analyze_starting_item(text, at, policy) else {
         return MendAnswer::Refused(Refusal::NoFinding);
     };
     let end = finding.end;

@@ -22,11 +22,11 @@ use Rattle.scanner.proofs.Tiling.{Filled, and-item, filled, no-item, tiling}
 use Rattle.analysis.specs.Analysis.{addDefault, defaultDecisions, defaultsOf, defaultsOfCells, outcomeAt}
 use Rattle.analysis.specs.Cells.{Cell, cells}
 use Rattle.analysis.specs.Decisions.{wanted}
+use Rattle.analysis.specs.Findings.{findingAt}
 use Rattle.analysis.specs.declared.singleton.Slot.{Slot}
 use Rattle.analysis.specs.declared.singleton.Slot.the-variants.{Bare as bare, Decided as decided, Fixed as fixed}
 use Rattle.analysis.proofs.Cells.{charsOf, strip-split}
 use Rattle.analysis.proofs.Lengths.{bytes-some, length-parts}
-use Rattle.formatter.specs.Mend.{findingAt}
 use Rattle.formatter.proofs.Replacements.{default-number}
 
 -- ---- items and findings

@@ -35,13 +35,14 @@ use Rattle.scanner.proofs.TextTests.{text-is}
 use Rattle.scanner.proofs.Tiling.{tiling}
 use Rattle.analysis.specs.Analysis.{isFinding, replacement}
 use Rattle.analysis.specs.Decisions.{badDecision, decisionsRefusal, judge, meaning, wanted}
+use Rattle.analysis.specs.Findings.{findingAt}
 use Rattle.analysis.specs.declared.types.MendAnswer.the-variants as Mend
 use Rattle.formatter.specs.Demand3.{Accepted}
 use Rattle.formatter.specs.Findings.{findingRow, findings}
 use Rattle.formatter.specs.Format.{format, formatted, sameBytes}
 use Rattle.formatter.specs.Intake.{intakeRefusal}
 use Rattle.formatter.specs.List.{itemBytes, itemNumbers, listBytes, listItems, rowBytes, rowNumbers}
-use Rattle.formatter.specs.Mend.{exchanged, findingAt, mend}
+use Rattle.formatter.specs.Mend.{exchanged, mend}
 use Rattle.formatter.specs.declared.FormatAnswer.the-variants as Format
 use Rattle.base.specs.declared.ListAnswer.the-variants as Listing
 use Rattle.formatter.proofs.Formatting.{formatTests}

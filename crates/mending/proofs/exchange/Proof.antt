@@ -4,6 +4,7 @@ use mathlib.Core.List.{map}
 use Prim.Native.Nat.{_+_, _-_}
 use native.Mathlib.Omega.{arith}
 use borrow.Author.Needs.{needs}
+use Rattle.base.proofs.Answering.{whole}
 use Rattle.analysis.specs.Decisions.{meaning}
 use Rattle.mending.proofs.Exchanging.{cells-few, exchange-nothing, exchange-short, exchange-written}
 use Rattle.mending.proofs.exchange.Statement.{statement}
@@ -37,7 +38,7 @@ returns-3 c =
     let h = c .before .before .before .before .before .before .before .before .before .before .before .before .before .before .pre in
     let k : x .start + x .len - x .start ≡ x .len = omega arith in
     exchange-written (x .policy) (x .text .now) (x .start) (x .decisions .now) (h .0) (h .1) (h .2) (h .3) (x .out .now) (omega arith) k (c .before .before .before .before .before .before .before .before .put-around .ensures)
-    (c .before .before .write-cells .ensures)
+    (whole (c .before .before .write-cells .ensures))
 
 pub exchange-spec : {M : Type 1} → statement M
 exchange-spec =

@@ -4,6 +4,7 @@ use mathlib.Core.List.{List, map}
 use Prim.Native.Nat.{ℕ}
 use native.Mathlib.Omega.{arith}
 use borrow.Author.Needs.{needs}
+use Rattle.base.proofs.Answering.{ends-as}
 use Rattle.utf8.specs.Rfc3629.{chars, encodeAll}
 use Rattle.policy.specs.declared.Policy.{Policy}
 use Rattle.analysis.specs.Analysis.{render}
@@ -18,15 +19,15 @@ abbrev result : Policy → List ℕ → List ℕ → List ℕ
 result p raw decisions = encodeAll (render p (cells (chars raw)) (map meaning decisions))
 
 returns : tie.Need-returns
-returns c = let x = c .before .before .before .before .args in too-long (x .raw .now) (x .out .now) _ (c .if1 .taken)
+returns c = ends-as (let x = c .before .before .before .before .args in too-long (x .raw .now) (x .out .now) _ (c .if1 .taken))
 
 returns-2 : tie.Need-returns-2
 returns-2 c =
     let x = c .before .before .before .before .before .before .args in
     let m = c .before .measure-cells in
     let l = c .before .before .if1 .left in
-    out-short (result (x .policy) (x .raw .now) (x .decisions .now)) (x .out .now) (m .result .len) (m .ensures .1 ∙ measured (x .policy) (x .raw .now) (map meaning (x .decisions .now)) l) (c .if2 .taken)
-    ∙ not-too-long (x .raw .now) (x .out .now) _ l
+    ends-as (out-short (result (x .policy) (x .raw .now) (x .decisions .now)) (x .out .now) (m .result .len) (m .ensures .1 ∙ measured (x .policy) (x .raw .now) (map meaning (x .decisions .now)) l) (c .if2 .taken)
+    ∙ not-too-long (x .raw .now) (x .out .now) _ l)
 
 put-cells-requires : tie.Need-put-cells-requires
 put-cells-requires c κs =
@@ -40,8 +41,8 @@ returns-3 c =
     let x = c .before .before .before .before .before .before .before .before .before .before .args in
     let m = c .before .before .before .before .before .measure-cells in
     let l = c .before .before .before .before .before .before .if1 .left in
-    out-put (result (x .policy) (x .raw .now) (x .decisions .now)) (x .out .now) (m .result .len) (m .ensures .1 ∙ measured (x .policy) (x .raw .now) (map meaning (x .decisions .now)) l) _ _ (c .before .before .before .before .if2 .left) (c .before .before .put-cells .ensures)
-    ∙ not-too-long (x .raw .now) (x .out .now) _ l
+    ends-as (out-put (result (x .policy) (x .raw .now) (x .decisions .now)) (x .out .now) (m .result .len) (m .ensures .1 ∙ measured (x .policy) (x .raw .now) (map meaning (x .decisions .now)) l) _ _ (c .before .before .before .before .if2 .left) (c .before .before .put-cells .ensures)
+    ∙ not-too-long (x .raw .now) (x .out .now) _ l)
 
 pub write-cells-spec : {M : Type 1} → statement M
 write-cells-spec =

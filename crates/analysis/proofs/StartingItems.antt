@@ -1,0 +1,127 @@
+-- The finding that starts at an offset of a text: it is the item that a fresh scan from there gives, if an item of the text starts there
+-- and is a finding; and what a cursor that walks from item to item learns of whether one does.
+use mathlib.Core.Path.{_≡_, refl, ap, sym, _∙_, subst}
+use mathlib.Core.Bool.{Bool, true, false, cond, _||_}
+use mathlib.Core.List.{List, [], _∷_}
+use mathlib.Core.Option.{Option, none, some}
+use Prim.Native.Nat.{ℕ, _+_, _<_, _≤_}
+use native.Mathlib.Omega.{arith}
+use lib.Dec.{eqb}
+use lib.ListN.{drop, length}
+use borrow.Author.Tests.{eqb-true, ne-eqb}
+use Rattle.utf8.specs.Rfc3629.{chars}
+use Rattle.policy.specs.declared.Policy.{Policy}
+use Rattle.scanner.specs.Items.{Item, items}
+use Rattle.scanner.specs.Spans.{Found, firstOf, found, scan, scanAt, scanFrom, size, spans, width}
+use Rattle.scanner.specs.declared.ScanStep.{ScanStep}
+use Rattle.scanner.specs.declared.ScanStep.the-variants as Step
+use Rattle.scanner.proofs.ItemAt.{ItemAt, item-at}
+use Rattle.analysis.specs.Analysis.{isFinding}
+use Rattle.analysis.specs.Findings.{findingAt}
+use Rattle.analysis.specs.ItemAt.{findingStarting, startsAt}
+
+-- ---- the items past an offset
+
+-- No finding past an offset starts there ..
+pub no-finding-past : (p : Policy) (o n : ℕ) (xs : List Item) → o < n → findingAt o (found (isFinding p) width n xs) ≡ none
+unfolding findingAt found
+no-finding-past p o n [] h = refl
+no-finding-past p o n (x ∷ xs) h = go (isFinding p x) (no-finding-past p o (n + size width (x .chars)) xs (omega arith))
+  where
+    F : List Found
+    F = found (isFinding p) width (n + size width (x .chars)) xs
+
+    go : (b : Bool) → findingAt o F ≡ none → findingAt o (cond b (record { start = n; item = x } ∷ F) F) ≡ none
+    go true i = ap (λ (b : Bool). cond b (some x) (findingAt o F)) (ne-eqb n o (λ e. omega arith)) ∙ i
+    go false i = i
+
+-- .. and neither does an item.
+no-item-past : (o n : ℕ) (xs : List Item) → o < n → startsAt o (spans n xs) ≡ false
+unfolding startsAt spans
+no-item-past o n [] h = refl
+no-item-past o n (x ∷ xs) h =
+    ap (λ (b : Bool). b || startsAt o (spans (n + size width (x .chars)) xs)) (ne-eqb n o (λ e. omega arith))
+    ∙ no-item-past o (n + size width (x .chars)) xs (omega arith)
+
+-- ---- a walk from item to item
+
+or-none : (b : Bool) → (b || false) ≡ b
+or-none true = refl
+or-none false = refl
+
+module _ (text : List ℕ) (o at : ℕ) where
+  -- What the cursor's answer at an offset says of whether an item from there on starts at the other one.
+  abbrev pub Starting : ScanStep → Type 0
+  Starting Step.End = startsAt o (scanFrom text at) ≡ false
+  Starting (Step.Item x) =
+      (at < x .end) × (x .end ≤ length text) × (at < o → startsAt o (scanFrom text at) ≡ startsAt o (scanFrom text (x .end)))
+      × (o ≤ at → startsAt o (scanFrom text at) ≡ eqb at o)
+
+  starting-of : (xs : List Item) → items (chars (drop at text)) ≡ xs → Starting (firstOf (spans at xs))
+  unfolding scanFrom spans firstOf startsAt
+  starting-of [] e = ap (λ (l : List Item). startsAt o (spans at l)) e
+  starting-of (x ∷ xs) e =
+      let h = item-at text at e in
+      let end = at + size width (x .chars) in
+      let S = startsAt o (spans end xs) in
+      let here : startsAt o (scanFrom text at) ≡ (eqb at o || S) = ap (λ (l : List Item). startsAt o (spans at l)) e in
+      let on = ap (λ (l : List Item). startsAt o (spans end l)) (sym (h .behind)) in (
+        h .some,
+        h .room,
+        λ l. here ∙ ap (λ (b : Bool). b || S) (ne-eqb at o (λ e. omega arith)) ∙ on,
+        λ l. here ∙ ap (λ (b : Bool). eqb at o || b) (no-item-past o end xs (omega (arith, h .some))) ∙ or-none (eqb at o),
+      )
+
+  pub cursor-starting : {s : ScanStep} → s ≡ scanAt text at → Starting s
+  unfolding scanAt scanFrom
+  cursor-starting e = subst Starting (sym e) (starting-of (items (chars (drop at text))) refl)
+
+-- ---- the finding that starts at an offset
+
+module _ (p : Policy) where
+  -- The first of the items, if it is a finding.
+  abbrev pub headFinding : List Item → Option Item
+  headFinding [] = none
+  headFinding (x ∷ xs) = cond (isFinding p x) (some x) none
+
+  module _ (text : List ℕ) (o : ℕ) where
+    starting-from : (at : ℕ) (xs : List Item) → items (chars (drop at text)) ≡ xs
+        → findingAt o (found (isFinding p) width at xs) ≡ cond (startsAt o (spans at xs)) (headFinding (items (chars (drop o text)))) none
+    unfolding findingAt found startsAt spans
+    starting-from at [] e = refl
+    starting-from at (x ∷ xs) e = go (eqb at o) (isFinding p x) refl refl (starting-from end xs (h .behind))
+      where
+        h : ItemAt text at x xs
+        h = item-at text at e
+
+        end : ℕ
+        end = at + size width (x .chars)
+
+        F : List Found
+        F = found (isFinding p) width end xs
+
+        S : Bool
+        S = startsAt o (spans end xs)
+
+        R : Option Item
+        R = headFinding (items (chars (drop o text)))
+
+        here : at ≡ o → R ≡ cond (isFinding p x) (some x) none
+        here j = ap (λ (n : ℕ). headFinding (items (chars (drop n text)))) (sym j) ∙ ap headFinding e
+
+        found-by : (b f : Bool) → b ≡ f → cond b (some x) none ≡ cond f (some x) none
+        found-by b f j = ap (λ (b : Bool). cond b (some x) none) j
+
+        go : (q f : Bool) → eqb at o ≡ q → isFinding p x ≡ f → findingAt o F ≡ cond S R none
+            → findingAt o (cond f (record { start = at; item = x } ∷ F) F) ≡ cond (q || S) R none
+        go true true j k ih =
+            ap (λ (b : Bool). cond b (some x) (findingAt o F)) j ∙ sym (here (eqb-true at o j) ∙ found-by (isFinding p x) true k)
+        go true false j k ih =
+            let l = eqb-true at o j in
+            no-finding-past p o end xs (omega (arith, h .some)) ∙ sym (here l ∙ found-by (isFinding p x) false k)
+        go false true j k ih = ap (λ (b : Bool). cond b (some x) (findingAt o F)) j ∙ ih
+        go false false j k ih = ih
+
+    pub finding-starting : findingStarting p text o ≡ cond (startsAt o (scan text)) (headFinding (items (chars (drop o text)))) none
+    unfolding scan scanFrom
+    finding-starting = starting-from 0 (items (chars (drop 0 text))) refl
