@@ -16,6 +16,7 @@ use Rattle.policy.specs.PolicyBytes.{isPolicy, keyWords, noUnusedBit, noUnusedB
 use Rattle.scanner.specs.Classes.{classOf}
 use Rattle.scanner.specs.Items.{begin, cut, items, kindOf, step}
 use Rattle.scanner.specs.Spans.{found, scan, scanFrom, spans, width}
+use Rattle.scanner.specs.TextCheck.{textRefusal}
 use Rattle.scanner.specs.Tags.{allComplete, tagModifications, tagRuns, tagsComplete, withTags}
 use Rattle.analysis.specs.Cells.{addChar, split}
 use Rattle.analysis.specs.Analysis.{countCells, countsOf, following, nonCanonicality, render, renew, replacement, replacementOf}
@@ -23,6 +24,7 @@ use Rattle.analysis.specs.Rules.{byFirst, byKeycap, byModifier, byTags, isBareS
 use Rattle.formatter.specs.Book.{allBinary, bookAfter, bookChars, markFrom, mendsAt, openingAt, openingsFrom}
 use Rattle.formatter.specs.Demand3.{Accepted}
 use Rattle.analysis.specs.Findings.{findingAt, totals}
+use Rattle.analysis.specs.ItemAt.{replaceAt, replaceByDefault, replacementBytes, writeFound}
 use Rattle.formatter.specs.Findings.{findingRow, findings, textTotals}
 use Rattle.formatter.specs.Format.{format, formatItems, formatted, sameBytes}
 use Rattle.formatter.specs.List.{list}
@@ -33,8 +35,8 @@ use Rattle.formatter.specs.Worked.{WorkedList, WorkedListClaimed, Worked
 use Rattle.formatter.proofs.ListClaim.{list-claim}
 
 pub texts : WorkedTexts
-unfolding WorkedTexts workedTable workedText scan scanFrom spans tagsComplete tagModifications tagRuns withTags allComplete badDecision decisionsRefusal findingAt judge mend theDefault format formatItems formatted sameBytes list intakeRefusal policyRefusal findingRow findings textTotals totals littleEndian number wordBytes chars encode encodeAll foldChars foldStep readChar readFour utf8-1 utf8-2 utf8-3 utf8-4 validUpTo asSelector fromSelector isSelector inRanges indexOf member next hasVariationSequence isEmoji isEmojiDefault isEmojiModifier isEmojiModifierBase isEmojiPresentation isRi isTag variationSequenceIndex emojiModifierBases emojiModifiers emojiPresentationRanges emojiRanges riRanges variationEntries allBelow contains entryCount Sets·member memberAt one bareAsText bareAsTextKeycap defaultPolicy preferBare preferBareKeycap holdsBase ruleOf singletonRule bytesOf isPolicy keyWords noUnusedBit noUnusedBits policyBytes policyOf policyWords wordCount wordsFrom classOf begin cut items kindOf step found width addChar split countCells countsOf following nonCanonicality render renew replacement replacementOf byFirst byKeycap byModifier byTags isBareSide outcome rule1 rule2 rule3 rule4 rule5 rule6 textFirst withoutSelector
-texts = (refl, refl, refl, refl, refl, refl)
+unfolding WorkedTexts workedTable workedText replaceAt replaceByDefault replacementBytes writeFound textRefusal scan scanFrom spans tagsComplete tagModifications tagRuns withTags allComplete badDecision decisionsRefusal findingAt judge mend theDefault format formatItems formatted sameBytes list intakeRefusal policyRefusal findingRow findings textTotals totals littleEndian number wordBytes chars encode encodeAll foldChars foldStep readChar readFour utf8-1 utf8-2 utf8-3 utf8-4 validUpTo asSelector fromSelector isSelector inRanges indexOf member next hasVariationSequence isEmoji isEmojiDefault isEmojiModifier isEmojiModifierBase isEmojiPresentation isRi isTag variationSequenceIndex emojiModifierBases emojiModifiers emojiPresentationRanges emojiRanges riRanges variationEntries allBelow contains entryCount Sets·member memberAt one bareAsText bareAsTextKeycap defaultPolicy preferBare preferBareKeycap holdsBase ruleOf singletonRule bytesOf isPolicy keyWords noUnusedBit noUnusedBits policyBytes policyOf policyWords wordCount wordsFrom classOf begin cut items kindOf step found width addChar split countCells countsOf following nonCanonicality render renew replacement replacementOf byFirst byKeycap byModifier byTags isBareSide outcome rule1 rule2 rule3 rule4 rule5 rule6 textFirst withoutSelector
+texts = (refl, refl, refl, refl, refl, refl, refl, refl, refl, refl, refl, refl, refl)
 
 pub calls : WorkedList
 unfolding WorkedList workedCalls badDecision decisionsRefusal findingAt judge mend outcomes textAfter allBinary bookAfter bookChars markFrom mendsAt openingAt openingsFrom theDefault format formatItems formatted sameBytes list intakeRefusal policyRefusal findingRow findings textTotals totals littleEndian number wordBytes chars encode encodeAll foldChars foldStep readChar readFour utf8-1 utf8-2 utf8-3 utf8-4 validUpTo asSelector fromSelector isSelector inRanges indexOf member next hasVariationSequence isEmoji isEmojiDefault isEmojiModifier isEmojiModifierBase isEmojiPresentation isRi isTag variationSequenceIndex emojiModifierBases emojiModifiers emojiPresentationRanges emojiRanges riRanges variationEntries allBelow contains entryCount Sets·member memberAt one bareAsText bareAsTextKeycap defaultPolicy preferBare preferBareKeycap holdsBase ruleOf singletonRule bytesOf isPolicy keyWords noUnusedBit noUnusedBits policyBytes policyOf policyWords wordCount wordsFrom classOf begin cut items kindOf step found width addChar split countCells countsOf following nonCanonicality render renew replacement replacementOf byFirst byKeycap byModifier byTags isBareSide outcome rule1 rule2 rule3 rule4 rule5 rule6 textFirst withoutSelector

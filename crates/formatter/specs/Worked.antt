@@ -9,6 +9,7 @@ use Rattle.policy.specs.PolicyBytes.{policyBytes}
 use Rattle.scanner.specs.Spans.{scan}
 use Rattle.scanner.specs.declared.ScanItem.{ScanItem}
 use Rattle.analysis.specs.Counts.{eight, empty}
+use Rattle.analysis.specs.ItemAt.{replaceAt, replaceByDefault}
 use Rattle.analysis.specs.declared.types.NonCanonicality.{NonCanonicality}
 use Rattle.formatter.specs.Book.{bookAfter, firstBook, openings, place}
 use Rattle.formatter.specs.Demand3.{Accepted, ListClaim}
@@ -25,7 +26,14 @@ use Rattle.base.specs.declared.ListAnswer.{ListAnswer}
 use Rattle.base.specs.declared.ListAnswer.the-variants.{Listed, Refused}
 use Rattle.analysis.specs.declared.types.MendAnswer.{MendAnswer}
 use Rattle.analysis.specs.declared.types.MendAnswer.the-variants as Mend
-use Rattle.base.specs.declared.Refusal.the-variants.{BadDecision, NoFinding, OutputTooShort, TableTooShort, WrongNumberOfDecisions}
+use Rattle.base.specs.declared.Refusal.the-variants.{
+  BadDecision,
+  NoFinding,
+  NotWellFormed,
+  OutputTooShort,
+  TableTooShort,
+  WrongNumberOfDecisions,
+}
 
 -- ---- worked texts
 
@@ -122,7 +130,8 @@ abbrev pub exampleRows : List Finding
 exampleRows = finding 0 4 (eight 0 0 0 0 0 0 1 0) ∷ finding 5 8 (eight 0 0 0 0 0 0 0 1) ∷ []
 
 -- The starred texts are as the table says, through the definitions of items and of the calls; and the example of "Programs" gives
--- its two rows and its totals, by listing, formatting and mending.
+-- its two rows and its totals, by listing, formatting and mending. Its replacements alone: that at 0; at 1, inside the first item, no
+-- finding starts; that at 5, decided and by default; and the text with a byte after it that begins no character is turned back.
 unfoldable pub WorkedTexts : Type 0
 WorkedTexts =
     (map workedText (map (λ (w : WorkedText). w .text) workedTable) ≡ workedTable)
@@ -133,6 +142,16 @@ WorkedTexts =
     ≡ record { answer = Format.Changed 8; buffer = 0x31 ∷ 0x20 ∷ 0xE2 ∷ 0x9D ∷ 0xA4 ∷ 0xEF ∷ 0xB8 ∷ 0x8E ∷ 7 ∷ 7 ∷ 7 ∷ 7 ∷ [] })
     × (mend exampleBytes theDefault 5 (1 ∷ []) room
     ≡ record { answer = Mend.Mended 11; buffer = 0x31 ∷ 0xEF ∷ 0xB8 ∷ 0x8E ∷ 0x20 ∷ 0xE2 ∷ 0x9D ∷ 0xA4 ∷ 0xEF ∷ 0xB8 ∷ 0x8F ∷ 7 ∷ [] })
+    × (replaceAt defaultPolicy exampleBytes 0 [] room ≡ record { answer = Mend.Mended 1; buffer = 0x31 ∷ drop 1 room })
+    × (replaceAt defaultPolicy exampleBytes 1 [] room ≡ record { answer = Mend.Refused NoFinding; buffer = room })
+    × (replaceAt defaultPolicy exampleBytes 5 (1 ∷ []) room
+    ≡ record { answer = Mend.Mended 6; buffer = 0xE2 ∷ 0x9D ∷ 0xA4 ∷ 0xEF ∷ 0xB8 ∷ 0x8F ∷ drop 6 room })
+    × (replaceByDefault defaultPolicy exampleBytes 5 room
+    ≡ record { answer = Mend.Mended 6; buffer = 0xE2 ∷ 0x9D ∷ 0xA4 ∷ 0xEF ∷ 0xB8 ∷ 0x8E ∷ drop 6 room })
+    × (replaceByDefault defaultPolicy exampleBytes 1 room ≡ record { answer = Mend.Refused NoFinding; buffer = room })
+    × (replaceAt defaultPolicy (exampleBytes ++ 0xFF ∷ []) 0 [] room ≡ record { answer = Mend.Refused (NotWellFormed 8); buffer = room })
+    × (replaceByDefault defaultPolicy (exampleBytes ++ 0xFF ∷ []) 0 room
+    ≡ record { answer = Mend.Refused (NotWellFormed 8); buffer = room })
 
 -- ---- a worked list
 
