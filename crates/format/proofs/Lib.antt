@@ -1,2 +1,3 @@
--- Formatting a message never lacks room.
+-- Formatting a message never lacks room, and its answer tells the output.
 pub mod Rooms
+pub mod Filing

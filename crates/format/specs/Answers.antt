@@ -1,4 +1,5 @@
--- What formatting a message answers where the output has room for four times its length: what `format` says, and never refusal 8.
+-- What the program writes of a message, `outputOf` (document 01, "Programs": "One writes the formatted text"), and what formatting a
+-- message answers where the output has room for four times its length: what `format` says, and never refusal 8.
 use mathlib.Core.Path.{_≡_}
 use mathlib.Core.List.{List}
 use mathlib.Core.Option.{none, some}
@@ -9,6 +10,7 @@ use Rattle.policy.specs.PolicyBytes.{policyBytes}
 use Rattle.base.specs.Refusals.{After}
 use Rattle.formatter.specs.Format.{format, formatted}
 use Rattle.formatter.specs.Intake.{intakeRefusal}
+use Rattle.message_io.specs.Lines.{programOutput}
 use Rattle.formatter.specs.declared.FormatAnswer.{FormatAnswer}
 use Rattle.formatter.specs.declared.FormatAnswer.the-variants.{Changed, Refused, Unchanged}
 
@@ -19,6 +21,10 @@ messageLimit = 12288
 -- The policy is the default.
 abbrev pub policy : List ℕ
 policy = policyBytes defaultPolicy
+
+-- What the program writes: the formatted text, or the line of a refusal.
+unfoldable pub outputOf : List ℕ → List ℕ
+outputOf message = programOutput messageLimit message (intakeRefusal message policy) (formatted message policy)
 
 -- What the answer means: all tests passed, and the message is the formatted text itself, or the formatted text is the front of the
 -- output; or the message was turned back by a test that comes before any other. So no message that is not well-formed is answered

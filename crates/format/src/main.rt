@@ -1,9 +1,12 @@
 // Formats the message on standard input under the default policy, and writes the filed text to standard output (document 01,
-// "Programs"). On a refusal it writes the refusal's line, and nothing else. Everything that matters is in the library.
+// "Programs"). On a refusal it writes the refusal's line, and nothing else. What it writes is decided by `output_of`, which equals
+// `outputOf` of specs/Answers.antt; the functions after it read the message, call that, and write the bytes that it tells.
 ghost use mathlib.Core.Path.{_≡_};
 ghost use Prim.Native.Nat.{_+_, _*_, _≤_};
-ghost use lib.ListN.{length};
-ghost use Rattle.format.specs.Answers.{Answers, messageLimit};
+ghost use lib.ListN.{length, take};
+ghost use Rattle.message_io.specs.Lines.{refusalLine};
+ghost use Rattle.formatter.specs.Filed.{filedText};
+ghost use Rattle.format.specs.Answers.{Answers, messageLimit, outputOf};
 use base::Refusal;
 use formatter::FormatAnswer;
 use formatter::filed::filed_text;
@@ -22,18 +25,21 @@ const MESSAGE_ROOM: usize = MESSAGE_LIMIT + 1;
 // "Formatted text is at most 4 times the input."
 const OUTPUT_ROOM: usize = 4 * MESSAGE_LIMIT;
 
-// Writes bytes to standard output, and says so where that fails.
-fn say(bytes: &[u8]) {
-    if !io::write_all(libc::STDOUT_FILENO, bytes) {
-        os::fail(b"standard output");
-    }
+// What is to be written: the message's own bytes, or the buffer's front of so many.
+struct Output {
+    in_buffer: bool,
+    len: usize,
 }
 
-// Writes the line of a refusal.
-fn say_refusal(refusal: Refusal) {
+// Puts the line of a refusal at the front of a buffer that has room for every line.
+fn put_refusal(out: &mut [u8], refusal: Refusal) -> usize
+    requires { ⌜ 210 ≤ length (now out) ⌝ }
+    ensures { λ r. ⌜ take r (now (out .exit)) ≡ refusalLine refusal ⌝ }
+{
     let mut line = [0u8; LINE_ROOM];
     let len = message_io::line::refusal_line(refusal, &mut line);
-    say(&line[..len]);
+    base::write_bytes(out, 0, &line[..len]);
+    len
 }
 
 // Formats a message under the default policy, into an output that has room for every formatted text: it is never refused for want
@@ -47,26 +53,56 @@ fn format_message(message: &[u8], out: &mut [u8]) -> FormatAnswer
     format_text(message, &policy, out)
 }
 
-// Writes the filed text of a message, or the line of a refusal.
-fn say_formatted(message: &[u8])
-    requires { ⌜ length (now message) ≤ messageLimit ⌝ }
+// The output of a message: its filed text, or the line of a refusal.
+fn output_of(message: &[u8], out: &mut [u8]) -> Output
+    requires { ⌜ 4 * messageLimit ≤ length (now out) ⌝ }
+    ensures { λ r. ⌜ filedText (now (message .entry)) (now (out .exit)) (r .«in_buffer») (r .len) ≡ outputOf (now (message .entry)) ⌝ }
 {
-    let mut out = [0u8; OUTPUT_ROOM];
-    match format_message(message, &mut out) {
-        FormatAnswer::Unchanged => say(filed_text(message, &out, false, 0)),
-        FormatAnswer::Changed { len } => say(filed_text(message, &out, true, len)),
-        FormatAnswer::Refused(refusal) => say_refusal(refusal),
+    if MESSAGE_LIMIT < message.len() {
+        let len = put_refusal(out, Refusal::TextTooLong);
+        return Output {
+            in_buffer: true,
+            len,
+        };
+    }
+    match format_message(message, out) {
+        FormatAnswer::Unchanged => Output {
+            in_buffer: false,
+            len: 0,
+        },
+        FormatAnswer::Changed { len } => Output {
+            in_buffer: true,
+            len,
+        },
+        FormatAnswer::Refused(refusal) => {
+            let len = put_refusal(out, refusal);
+            Output {
+                in_buffer: true,
+                len,
+            }
+        }
     }
 }
 
-// Reads a message, into a buffer of one byte more than the limit, and writes its filed text or the line of a refusal.
+// Writes the output of a message to standard output, and says so where that fails.
+fn say_output(message: &[u8]) {
+    let mut out = [0u8; OUTPUT_ROOM];
+    let Output { in_buffer, len } = output_of(message, &mut out);
+    let text = filed_text(message, &out, in_buffer, len);
+    if !io::write_all(libc::STDOUT_FILENO, text) {
+        os::fail(b"standard output");
+    }
+}
+
+// Reads a message, into a buffer of one byte more than the limit, and writes its output. Of a message that is too long the buffer holds
+// the front, which is over the limit too.
 fn format_input(buf: &mut [u8])
     requires { ⌜ length (now buf) ≡ messageLimit + 1 ⌝ }
 {
     let Message { ending, len } = message_io::read_message(buf);
     match ending {
-        Ending::Whole => say_formatted(&buf[..len]),
-        Ending::TooLong => say_refusal(Refusal::TextTooLong),
+        Ending::Whole => say_output(&buf[..len]),
+        Ending::TooLong => say_output(buf),
         Ending::Failed => os::fail(b"standard input"),
     }
 }

@@ -2,5 +2,7 @@
 pub mod Digits
 pub mod Reading
 pub mod Texts
+pub mod LineLengths
+pub mod Outputs
 pub mod DefaultBytes
 pub mod Claims

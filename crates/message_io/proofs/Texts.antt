@@ -13,7 +13,7 @@ use Rattle.base.proofs.Writer.{put-as, put-then}
 use Rattle.message_io.specs.Lines.{behindBlanks, decimal, line}
 
 -- a line is its first text, and the others behind blanks
-blanks : (t : List ℕ) (ts : List (List ℕ)) → parted 0x20 (t ∷ ts) ≡ t ++ behindBlanks ts
+pub blanks : (t : List ℕ) (ts : List (List ℕ)) → parted 0x20 (t ∷ ts) ≡ t ++ behindBlanks ts
 unfolding parted behindBlanks
 blanks t [] = sym (append-nil t)
 blanks t (u ∷ ts) = ap (λ (xs : List ℕ). t ++ (0x20 ∷ xs)) (blanks u ts)

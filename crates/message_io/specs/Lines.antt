@@ -1,11 +1,14 @@
--- The lines that the programs write (document 01, "Programs"): of a finding, of the totals, of a refusal.
+-- The lines that the programs write (document 01, "Programs"), of a finding, of the totals, of a refusal; and what a program writes.
 use mathlib.Core.Bool.{cond}
 use mathlib.Core.List.{List, [], _∷_, _++_, map}
+use mathlib.Core.Option.{Option}
 use Prim.Native.Nat.{ℕ, zero, suc, _+_, _/_, _%_}
-use lib.Dec.{ltb}
+use lib.Dec.{leb, ltb}
+use lib.ListN.{length}
 use Rattle.base.specs.Texts.{parted}
-use Rattle.base.specs.Refusals.{refusalRow, returned}
+use Rattle.base.specs.Refusals.{orElse, refusalRow, returned}
 use Rattle.base.specs.declared.Refusal.{Refusal}
+use Rattle.base.specs.declared.Refusal.the-variants.{TextTooLong}
 
 -- ---- numbers
 
@@ -41,3 +44,11 @@ totalLine numbers = line ((0x74 ∷ 0x6F ∷ 0x74 ∷ 0x61 ∷ 0x6C ∷ []) ∷ 
 unfoldable pub refusalLine : Refusal → List ℕ
 refusalLine r =
     line ((0x72 ∷ 0x65 ∷ 0x66 ∷ 0x75 ∷ 0x73 ∷ 0x65 ∷ 0x64 ∷ []) ∷ map decimal (refusalRow r .number ∷ returned r))
+
+-- ---- what a program writes
+
+-- Of a message, under the program's limit: ".. more gives `refused 1`"; "On a refusal either program writes only one such line"; else the
+-- program's own result.
+unfoldable pub programOutput : ℕ → List ℕ → Option Refusal → List ℕ → List ℕ
+programOutput limit message refusal result =
+    cond (leb (length message) limit) (orElse refusal refusalLine result) (refusalLine TextTooLong)

@@ -97,9 +97,10 @@ fn put_returned(out: &mut [u8], start: usize, refusal: Refusal) -> usize
     start
 }
 
-// Puts the line of a refusal, and answers its length.
+// Puts the line of a refusal, and answers its length. That it is at most 210 is said for a caller that copies it.
 pub fn refusal_line(refusal: Refusal, out: &mut [u8; LINE_ROOM]) -> usize
     ensures { λ r. ⌜ Counts r (now (out .exit)) ⌝ }
+    ensures { λ r. ⌜ r ≤ 210 ⌝ }
     ensures { λ r. ⌜ take r (now (out .exit)) ≡ refusalLine refusal ⌝ }
     ensures { λ r. ⌜ drop r (now (out .exit)) ≡ drop r (now (out .entry)) ⌝ }
 {

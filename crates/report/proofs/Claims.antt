@@ -23,14 +23,15 @@ use Rattle.analysis.specs.Findings.{totals}
 use Rattle.formatter.specs.Findings.{findingRow, findings}
 use Rattle.formatter.specs.Intake.{intakeRefusal}
 use Rattle.formatter.specs.List.{countNumbers}
-use Rattle.message_io.specs.Lines.{decimal, decimalBy, findingLine, line, totalLine}
-use Rattle.report.specs.Report.{linesFrom, reportNumbers, reported, rowLines, totalsAt}
-use Rattle.report.specs.Theorems.{ExampleReported, LinesAreReported}
-use Rattle.report.proofs.Reports.{reports}
+use Rattle.message_io.specs.Lines.{decimal, decimalBy, findingLine, line, programOutput, totalLine}
+use Rattle.report.specs.Report.{linesFrom, reportLines, reportNumbers, reported, rowLines, totalsAt}
+use Rattle.report.specs.Theorems.{ExampleReported, ReportFits}
+use Rattle.report.proofs.Rooms.{report-fits}
 
-pub lines-are-reported : LinesAreReported
-lines-are-reported = reports
+pub report-has-room : ReportFits
+unfolding ReportFits
+report-has-room = report-fits
 
 pub example-reported : ExampleReported
-unfolding ExampleReported findingLine totalLine line parted decimal decimalBy tagsComplete tagModifications tagRuns withTags allComplete intakeRefusal policyRefusal findingRow findings totals littleEndian number wordBytes chars encode encodeAll foldChars foldStep readChar readFour utf8-1 utf8-2 utf8-3 utf8-4 validUpTo asSelector fromSelector isSelector inRanges indexOf member next hasVariationSequence isEmoji isEmojiDefault isEmojiModifier isEmojiModifierBase isEmojiPresentation isRi isTag variationSequenceIndex emojiModifierBases emojiModifiers emojiPresentationRanges emojiRanges riRanges variationEntries allBelow contains entryCount Sets·member memberAt one bareAsText bareAsTextKeycap defaultPolicy preferBare preferBareKeycap holdsBase ruleOf singletonRule bytesOf isPolicy keyWords noUnusedBit noUnusedBits policyBytes policyOf policyWords wordCount wordsFrom classOf begin cut items kindOf step found width addChar split countCells countsOf following nonCanonicality render renew replacement replacementOf byFirst byKeycap byModifier byTags isBareSide outcome rule1 rule2 rule3 rule4 rule5 rule6 textFirst withoutSelector reported linesFrom rowLines totalsAt countNumbers reportNumbers
+unfolding ExampleReported findingLine totalLine line parted decimal decimalBy tagsComplete tagModifications tagRuns withTags allComplete intakeRefusal policyRefusal findingRow findings totals littleEndian number wordBytes chars encode encodeAll foldChars foldStep readChar readFour utf8-1 utf8-2 utf8-3 utf8-4 validUpTo asSelector fromSelector isSelector inRanges indexOf member next hasVariationSequence isEmoji isEmojiDefault isEmojiModifier isEmojiModifierBase isEmojiPresentation isRi isTag variationSequenceIndex emojiModifierBases emojiModifiers emojiPresentationRanges emojiRanges riRanges variationEntries allBelow contains entryCount Sets·member memberAt one bareAsText bareAsTextKeycap defaultPolicy preferBare preferBareKeycap holdsBase ruleOf singletonRule bytesOf isPolicy keyWords noUnusedBit noUnusedBits policyBytes policyOf policyWords wordCount wordsFrom classOf begin cut items kindOf step found width addChar split countCells countsOf following nonCanonicality render renew replacement replacementOf byFirst byKeycap byModifier byTags isBareSide outcome rule1 rule2 rule3 rule4 rule5 rule6 textFirst withoutSelector programOutput reported reportLines linesFrom rowLines totalsAt countNumbers reportNumbers
 example-reported = refl

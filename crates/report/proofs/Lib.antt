@@ -1,3 +1,4 @@
--- The lines from a place on, and the claims.
+-- The parts of a report, the room for it, and the claims.
 pub mod Reports
+pub mod Rooms
 pub mod Claims

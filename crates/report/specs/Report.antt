@@ -1,13 +1,6 @@
--- The report of a message, `reported` (document 01, "Programs": "per finding, start, end and eight counts, then totals"), and what the
--- program's functions put of it.
-use mathlib.Core.Path.{_≡_}
-use mathlib.Core.Bool.{cond}
+-- The report of a message, `reported` (document 01, "Programs": "per finding, start, end and eight counts, then totals").
 use mathlib.Core.List.{List, [], _∷_, _++_, map}
-use Prim.Native.Nat.{ℕ, _<_, _≤_}
-use lib.Dec.{leb}
-use lib.ListN.{length, take}
-use Rattle.base.specs.Refusals.{orElse}
-use Rattle.base.specs.declared.Refusal.the-variants.{TextTooLong}
+use Prim.Native.Nat.{ℕ}
 use Rattle.policy.specs.declared.Policy.{Policy}
 use Rattle.policy.specs.DefaultPolicy.{defaultPolicy}
 use Rattle.policy.specs.PolicyBytes.{policyBytes}
@@ -18,8 +11,7 @@ use Rattle.analysis.specs.Findings.{findingsFrom, totals}
 use Rattle.formatter.specs.Findings.{findingRow}
 use Rattle.formatter.specs.Intake.{intakeRefusal}
 use Rattle.formatter.specs.List.{countNumbers}
-use Rattle.message_io.specs.Lines.{findingLine, refusalLine, totalLine}
-use Rattle.report.specs.declared.lines.Line.{Line}
+use Rattle.message_io.specs.Lines.{findingLine, programOutput, totalLine}
 
 -- "Programs read at most 12,288 bytes under the default policy; more gives `refused 1`"
 abbrev pub messageLimit : ℕ
@@ -42,24 +34,11 @@ linesFrom p text at = rowLines (map (findingRow p) (findingsFrom p text at))
 unfoldable pub totalsAt : Policy → List ℕ → NonCanonicality
 totalsAt p text = totals p (map (λ (f : Found). f .item) (findingsFrom p text 0))
 
--- What the program writes: "more gives `refused 1`"; "On a refusal either program writes only one such line"; else the lines of the
--- findings, and the totals.
+-- The lines of the findings, and the totals.
+unfoldable pub reportLines : Policy → List ℕ → List ℕ
+reportLines p text = linesFrom p text 0 ++ totalLine (countNumbers (totalsAt p text))
+
+-- What the program writes: the lines of the findings, and the totals, or the line of a refusal.
 unfoldable pub reported : List ℕ → List ℕ
 reported message =
-    cond (leb (length message) messageLimit)
-    (orElse (intakeRefusal message (policyBytes defaultPolicy)) refusalLine
-    (linesFrom defaultPolicy message 0 ++ totalLine (countNumbers (totalsAt defaultPolicy message))))
-    (refusalLine TextTooLong)
-
--- A line, or none, and a place further on: the lines from the place on are this one and those from the next place on.
-pub record LineAt (policy : Policy) (text : List ℕ) (at : ℕ) (line : List ℕ) (r : Line) : Type 0 where
-  pub lines : linesFrom policy text at ≡ take (r .len) line ++ linesFrom policy text (r .next)
-  pub further : at < length text → at < r .next
-  pub inside : r .next ≤ length text
-
--- Answers of `next_line` one after the other, each of which meets this contract, from a place on until the end is reached, and the
--- bytes that stand in their lines.
-pub data Walked (policy : Policy) (text : List ℕ) : ℕ → List ℕ → Type 0 where
-  end-reached : {at : ℕ} → length text ≤ at → Walked policy text at []
-  one-more : {at : ℕ} {line later : List ℕ} (r : Line) → LineAt policy text at line r → Walked policy text (r .next) later
-      → Walked policy text at (take (r .len) line ++ later)
+    programOutput messageLimit message (intakeRefusal message (policyBytes defaultPolicy)) (reportLines defaultPolicy message)

@@ -1,25 +1,36 @@
-// The lines of a report, one by one: of the item at a place, if it is a finding, and of the totals. What they add up to is set out in
-// specs/Report.antt.
+// The report of a message, written at the front of a lent buffer that has room for every report (document 01, "Programs"): a line for
+// each finding and the totals, or the line of a refusal. `write_report` equals `reported` of specs/Report.antt.
 ghost use mathlib.Core.Path.{_≡_};
-ghost use lib.ListN.{take};
+ghost use Prim.Native.Nat.{_+_, _≤_};
+ghost use lib.ListN.{drop, length, take};
 ghost use Rattle.io.specs.Counts.{Counts};
-ghost use Rattle.message_io.specs.Lines.{findingLine, totalLine};
+ghost use Rattle.base.specs.Output.{PutAt};
+ghost use Rattle.base.specs.Refusals.{checked};
+ghost use Rattle.policy.specs.DefaultPolicy.{defaultPolicy};
+ghost use Rattle.policy.specs.PolicyBytes.{policyBytes};
+ghost use Rattle.message_io.specs.Lines.{findingLine, refusalLine, totalLine};
+ghost use Rattle.formatter.specs.Intake.{intakeRefusal};
 ghost use Rattle.formatter.specs.List.{countNumbers};
-ghost use Rattle.report.specs.Report.{LineAt, reportNumbers, totalsAt};
+ghost use Rattle.report.specs.Report.{linesFrom, reportLines, reportNumbers, reported};
 use analysis::ItemAnalysis;
 use analysis::types::Finding;
 use analysis::types::NonCanonicality;
+use base::Check;
+use base::Refusal;
+use formatter::intake::intake;
 use message_io::line::LINE_ROOM;
+use policy::POLICY_BYTES;
 use policy::Policy;
 use replacing::analyze_scan_item;
 use replacing::measure::Measure;
 use replacing::measure::measure_cells;
 
-// A line of so many bytes, none where there is no finding, and the place behind the item.
-pub(crate) struct Line {
-    pub len: usize,
-    pub next: usize,
-}
+// "Programs read at most 12,288 bytes under the default policy; more gives `refused 1`."
+pub(crate) const MESSAGE_LIMIT: usize = 12_288;
+
+// Room for every report (specs/Theorems.antt, ReportFits): for each byte of a message the line of a finding, with ten numbers of up to
+// five digits and a blank or the line's end after each, and then the line of the totals.
+pub(crate) const REPORT_ROOM: usize = 60 * MESSAGE_LIMIT + 54;
 
 // The eight counts, in document 01's order.
 fn count_numbers(counts: NonCanonicality) -> [usize; 8]
@@ -37,53 +48,100 @@ fn count_numbers(counts: NonCanonicality) -> [usize; 8]
     ]
 }
 
-// Puts the line of a finding.
-fn put_finding(finding: Finding, line: &mut [u8; LINE_ROOM]) -> usize
-    ensures { λ r. ⌜ Counts r (now (line .exit)) ⌝ }
-    ensures { λ r. ⌜ take r (now (line .exit)) ≡ findingLine (reportNumbers finding) ⌝ }
+// Puts a line at a place, for which there is room, and says where it ends.
+fn put_line(out: &mut [u8], start: usize, line: &[u8]) -> usize
+    requires { ⌜ start + length (now line) ≤ length (now out) ⌝ }
+    ensures { λ r. ⌜ PutAt (now (out .entry)) start (now (line .entry)) (now (out .exit)) r ⌝ }
 {
-    let numbers = count_numbers(finding.counts);
-    message_io::line::finding_line(finding.start, finding.end, &numbers, line)
+    base::write_bytes(out, start, line);
+    start + line.len()
 }
 
-// Puts the line of the item at a place, if it is a finding.
-pub(crate) fn next_line(
-    message: &[u8],
-    policy: Policy,
-    at: usize,
-    line: &mut [u8; LINE_ROOM],
-) -> Line
-    ensures { λ r. ⌜ Counts (r .len) (now (line .exit)) ⌝ }
-    ensures { λ r. ⌜ LineAt policy (now (message .entry)) at (now (line .exit)) r ⌝ }
+// Puts the line of a finding.
+fn put_finding(out: &mut [u8], start: usize, finding: Finding) -> usize
+    requires { ⌜ start + length (findingLine (reportNumbers finding)) ≤ length (now out) ⌝ }
+    ensures { λ r. ⌜ PutAt (now (out .entry)) start (findingLine (reportNumbers finding)) (now (out .exit)) r ⌝ }
 {
-    match analyze_scan_item(message, at, policy) {
-        ItemAnalysis::End => Line {
-            len: 0,
-            next: message.len(),
-        },
-        ItemAnalysis::Canonical { end } => Line { len: 0, next: end },
-        ItemAnalysis::NonCanonical(finding) => {
-            let next = finding.end;
-            let len = put_finding(finding, line);
-            Line { len, next }
+    let numbers = count_numbers(finding.counts);
+    let mut line = [0u8; LINE_ROOM];
+    let len = message_io::line::finding_line(finding.start, finding.end, &numbers, &mut line);
+    put_line(out, start, &line[..len])
+}
+
+// Puts the line of the totals.
+fn put_totals(out: &mut [u8], start: usize, totals: NonCanonicality) -> usize
+    requires { ⌜ start + length (totalLine (countNumbers totals)) ≤ length (now out) ⌝ }
+    ensures { λ r. ⌜ PutAt (now (out .entry)) start (totalLine (countNumbers totals)) (now (out .exit)) r ⌝ }
+{
+    let numbers = count_numbers(totals);
+    let mut line = [0u8; LINE_ROOM];
+    let len = message_io::line::total_line(&numbers, &mut line);
+    put_line(out, start, &line[..len])
+}
+
+// Puts the line of a refusal.
+fn put_refusal(out: &mut [u8], refusal: Refusal) -> usize
+    requires { ⌜ 210 ≤ length (now out) ⌝ }
+    ensures { λ r. ⌜ PutAt (now (out .entry)) 0 (refusalLine refusal) (now (out .exit)) r × (r ≤ 210) ⌝ }
+{
+    let mut line = [0u8; LINE_ROOM];
+    let len = message_io::line::refusal_line(refusal, &mut line);
+    put_line(out, 0, &line[..len])
+}
+
+// Puts the line of each finding.
+fn put_findings(message: &[u8], policy: Policy, out: &mut [u8]) -> usize
+    requires { ⌜ length (linesFrom policy (now message) 0) ≤ length (now out) ⌝ }
+    ensures { λ r. ⌜ PutAt (now (out .entry)) 0 (linesFrom policy (now (message .entry)) 0) (now (out .exit)) r ⌝ }
+{
+    let mut at = 0;
+    let mut to = 0;
+    loop {
+        match analyze_scan_item(message, at, policy) {
+            ItemAnalysis::End => {
+                return to;
+            }
+            ItemAnalysis::Canonical { end } => {
+                at = end;
+            }
+            ItemAnalysis::NonCanonical(finding) => {
+                at = finding.end;
+                to = put_finding(out, to, finding);
+            }
         }
     }
 }
 
-// Puts the line of eight totals.
-fn put_totals(counts: NonCanonicality, line: &mut [u8; LINE_ROOM]) -> usize
-    ensures { λ r. ⌜ Counts r (now (line .exit)) ⌝ }
-    ensures { λ r. ⌜ take r (now (line .exit)) ≡ totalLine (countNumbers counts) ⌝ }
+// Puts the lines of the findings, and the totals.
+fn put_report(message: &[u8], policy: Policy, out: &mut [u8]) -> usize
+    requires { ⌜ length (reportLines policy (now message)) ≤ length (now out) ⌝ }
+    ensures { λ r. ⌜ PutAt (now (out .entry)) 0 (reportLines policy (now (message .entry))) (now (out .exit)) r ⌝ }
 {
-    let numbers = count_numbers(counts);
-    message_io::line::total_line(&numbers, line)
+    let end = put_findings(message, policy, out);
+    let Measure { counts, len: _ } = measure_cells(message, policy);
+    put_totals(out, end, counts)
 }
 
-// Puts the line of the totals of a message.
-pub(crate) fn total_of(message: &[u8], policy: Policy, line: &mut [u8; LINE_ROOM]) -> usize
-    ensures { λ r. ⌜ Counts r (now (line .exit)) ⌝ }
-    ensures { λ r. ⌜ take r (now (line .exit)) ≡ totalLine (countNumbers (totalsAt policy (now (message .entry)))) ⌝ }
+// The tests of a message, under the default policy.
+fn check_message(message: &[u8]) -> Check
+    ensures { λ r. ⌜ r ≡ checked (intakeRefusal (now (message .entry)) (policyBytes defaultPolicy)) ⌝ }
 {
-    let Measure { counts, len: _ } = measure_cells(message, policy);
-    put_totals(counts, line)
+    let mut policy = [0u8; POLICY_BYTES];
+    message_io::put_default_policy(&mut policy);
+    intake(message, &policy)
+}
+
+// Writes the report of a message, or the line of a refusal, at the front of the buffer, and answers how many bytes it has.
+pub(crate) fn write_report(message: &[u8], out: &mut [u8; REPORT_ROOM]) -> usize
+    ensures { λ r. ⌜ Counts r (now (out .exit)) ⌝ }
+    ensures { λ r. ⌜ take r (now (out .exit)) ≡ reported (now (message .entry)) ⌝ }
+    ensures { λ r. ⌜ drop r (now (out .exit)) ≡ drop r (now (out .entry)) ⌝ }
+{
+    if MESSAGE_LIMIT < message.len() {
+        return put_refusal(out, Refusal::TextTooLong);
+    }
+    if let Check::Refused(refusal) = check_message(message) {
+        return put_refusal(out, refusal);
+    }
+    put_report(message, Policy::default(), out)
 }

@@ -1,7 +1,7 @@
 -- The word, the number and what is returned.
 use mathlib.Core.Path.{ap, _∙_}
 use mathlib.Core.List.{List, [], _∷_, map}
-use Prim.Native.Nat.{ℕ}
+use Prim.Native.Nat.{ℕ, _≤_}
 use native.Mathlib.Omega.{arith}
 use Rattle.base.specs.Refusals.{returned}
 use Rattle.base.proofs.Writer.{put-then}
@@ -23,9 +23,10 @@ returns c =
     let n = c .before .before .before .before .before .before .refusal-number in
     let q = c .before .before .before .before .before .put-number .ensures in
     let v = c .before .before .before .put-returned .ensures in
-    let s = c .put-bytes2 .ensures in
-    let w = front (line-put (map decimal (n .result ∷ returned x)) p (put-then (q .0) (v .0)) s) (omega (arith, p .ends, q .1, v .1, s .ends)) in
-    (w .0, (w .1 .0 ∙ ap (λ (k : ℕ). line (word ∷ map decimal (k ∷ returned x))) (n .ensures .0), w .1 .1))
+    let s = c .put-bytes2 in
+    let short : s .result ≤ 210 = omega (arith, p .ends, q .1, v .1, s .ensures .ends) in
+    let w = front (line-put (map decimal (n .result ∷ returned x)) p (put-then (q .0) (v .0)) (s .ensures)) (omega (arith, short)) in
+    (w .0, (short, (w .1 .0 ∙ ap (λ (k : ℕ). line (word ∷ map decimal (k ∷ returned x))) (n .ensures .0), w .1 .1)))
 
 pub refusal-line-spec : {M : Type 1} → statement M
 refusal-line-spec =

@@ -5,8 +5,8 @@ use Prim.Native.Nat.{ℕ}
 use borrow.Author.Needs.{needs}
 use Rattle.base.specs.Refusals.{checked}
 use Rattle.formatter.specs.Intake.{intakeRefusal}
-use Rattle.report.proofs.check_message.Statement.{statement}
-use Rattle.report.proofs.check_message.Tie as tie
+use Rattle.report.proofs.lines.check_message.Statement.{statement}
+use Rattle.report.proofs.lines.check_message.Tie as tie
 
 returns : tie.Need-returns
 returns c =

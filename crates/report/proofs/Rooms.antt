@@ -1,0 +1,103 @@
+-- Every report has room: a text has no more findings than bytes, and neither the places nor the counts have more than five digits.
+use mathlib.Core.Path.{ap}
+use mathlib.Core.Bool.{Bool, true, false, cond}
+use mathlib.Core.List.{List, [], _∷_, _++_, map}
+use Prim.Native.Nat.{ℕ, _+_, _*_, _≤_}
+use native.Mathlib.Omega.{arith}
+use lib.ListN.{length, length-append, length-map}
+use Rattle.utf8.specs.Rfc3629.{chars}
+use Rattle.utf8.proofs.Texts.{validUpTo-le}
+use Rattle.unicode.specs.Presentation.{asSelector}
+use Rattle.policy.specs.declared.Policy.{Policy}
+use Rattle.scanner.specs.Items.{Item, items, join}
+use Rattle.scanner.specs.Spans.{Found, found, size, width}
+use Rattle.scanner.proofs.Bytes.{size-chars}
+use Rattle.scanner.proofs.Rescan.{size-append}
+use Rattle.scanner.proofs.Tiling.{Filled, and-item, filled, no-item, tiling}
+use Rattle.analysis.specs.Analysis.{countCells, following, isFinding, nonCanonicality}
+use Rattle.analysis.specs.CellView.{totalCells}
+use Rattle.analysis.specs.Cells.{Cell, cells, leading, unsplit}
+use Rattle.analysis.specs.Counts.{total}
+use Rattle.analysis.specs.Findings.{totals}
+use Rattle.analysis.specs.declared.types.Finding.{Finding}
+use Rattle.analysis.specs.declared.types.NonCanonicality.{NonCanonicality}
+use Rattle.analysis.proofs.Cells.{split-whole}
+use Rattle.analysis.proofs.Lengths.{bytes-some}
+use Rattle.analysis.proofs.Measuring.{few}
+use Rattle.formatter.specs.Findings.{findingRow}
+use Rattle.formatter.specs.List.{countNumbers}
+use Rattle.formatter.proofs.CellView.{totals-by-cells}
+use Rattle.formatter.proofs.Marks.{foundTotals}
+use Rattle.message_io.specs.Lines.{findingLine, totalLine}
+use Rattle.message_io.proofs.LineLengths.{finding-length, total-length}
+use Rattle.report.specs.Report.{linesFrom, messageLimit, reportLines, reportNumbers, rowLines, totalsAt}
+use Rattle.report.specs.Theorems.{reportRoom}
+
+module _ (p : Policy) where
+  -- ---- counts
+
+  -- No more is counted than there are characters.
+  cells-few : (xs : List Cell) → total (countCells p xs) ≤ length (unsplit xs)
+  unfolding countCells
+  cells-few [] = omega arith
+  cells-few (x ∷ xs) =
+      let l = length-append (map asSelector (x .after)) (unsplit xs) in
+      omega (arith, few p (x .char) (following xs) (x .after), cells-few xs, l, length-map (x .after) asSelector)
+
+  chars-few : (t : List ℕ) → total (totalCells p t) ≤ length t
+  unfolding totalCells
+  chars-few t =
+      let l = length-append (map asSelector (leading t)) (unsplit (cells t)) in
+      omega (arith, cells-few (cells t), ap length (split-whole t), l, length-map (leading t) asSelector)
+
+  -- ---- lines
+
+  -- The line of a finding of a short text has at most ten times six bytes.
+  row-length : (f : Finding) → f .start ≤ messageLimit → f .end ≤ messageLimit → total (f .counts) ≤ messageLimit
+      → length (findingLine (reportNumbers f)) ≤ 60
+  unfolding reportNumbers countNumbers
+  row-length f s e t = finding-length (f .start) (f .end ∷ countNumbers (f .counts)) (omega arith)
+
+  totals-length : (n : NonCanonicality) → total n ≤ messageLimit → length (totalLine (countNumbers n)) ≤ 54
+  unfolding countNumbers
+  totals-length n t = total-length (countNumbers n) (omega arith)
+
+  -- An item has a character, and so a byte for which its line has room.
+  lines-few : (n : ℕ) {xs : List Item} → Filled xs → n + size width (join xs) ≤ messageLimit
+      → total (foundTotals p (found (isFinding p) width n xs)) ≤ messageLimit
+      → length (rowLines (map (findingRow p) (found (isFinding p) width n xs))) ≤ 60 * length (join xs)
+  unfolding found rowLines totals findingRow
+  lines-few n no-item h k = omega arith
+  lines-few n (and-item {x = x} {xs = xs} c s l f) h k =
+      go (isFinding p x) (lines-few (n + size width (x .chars)) f (omega (arith, size-append width (x .chars) (join xs)))) k
+    where
+      F : List Found
+      F = found (isFinding p) width (n + size width (x .chars)) xs
+
+      row : Finding
+      row = record { start = n; end = n + size width (x .chars); counts = nonCanonicality p x }
+
+      go : (b : Bool) → (total (foundTotals p F) ≤ messageLimit → length (rowLines (map (findingRow p) F)) ≤ 60 * length (join xs))
+          → total (foundTotals p (cond b (record { start = n; item = x } ∷ F) F)) ≤ messageLimit
+          → length (rowLines (map (findingRow p) (cond b (record { start = n; item = x } ∷ F) F))) ≤ 60 * length (x .chars ++ join xs)
+      go true i k =
+          let l′ = length-append (findingLine (reportNumbers row)) (rowLines (map (findingRow p) F)) in
+          let w = size-append width (x .chars) (join xs) in
+          let r = row-length row (omega arith) (omega (arith, w)) (omega arith) in
+          omega (arith, i (omega arith), l′, r, length-append (x .chars) (join xs), ap length l)
+      go false i k = omega (arith, i k, length-append (x .chars) (join xs))
+
+-- No message of a length up to the limit has a longer report.
+pub report-fits : (p : Policy) (text : List ℕ) → length text ≤ messageLimit → length (reportLines p text) ≤ reportRoom
+unfolding reportLines linesFrom totalsAt
+report-fits p text h =
+    let t = chars text in
+    let fs = found (isFinding p) width 0 (items t) in
+    let n = ap total (totals-by-cells p t) in
+    let b = bytes-some t in
+    let v = validUpTo-le text in
+    let s = size-chars text in
+    let k : total (foundTotals p fs) ≤ messageLimit = omega (arith, n, chars-few p t, b, s, v) in
+    let f = lines-few p 0 (filled t) (omega (arith, ap (size width) (tiling t), s, v)) k in
+    let l = length-append (rowLines (map (findingRow p) fs)) (totalLine (countNumbers (foundTotals p fs))) in
+    omega (arith, l, f, totals-length p (foundTotals p fs) k, ap length (tiling t), b, s, v)
