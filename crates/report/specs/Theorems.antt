@@ -9,7 +9,7 @@ use Rattle.message_io.specs.Lines.{findingLine, totalLine}
 use Rattle.report.specs.Report.{messageLimit, reportLines, reported}
 
 -- How long a report can be: a message has no more findings than bytes; of the ten numbers of a line none has more than five digits, and a
--- blank or the line's end stands after each; the line of the totals has the word `total` in place of two of them.
+-- blank or the line's end stands after each; the line of the totals has the word `total` and eight numbers.
 abbrev pub reportRoom : ℕ
 reportRoom = 60 * messageLimit + 54
 
