@@ -1,13 +1,22 @@
 """The checks of the must-fail edits, beside that rt ci sees each refused. repository_checks.py makes them.
 
-An edit is a file crates/NAME/must-fail/LABEL.edit: a line `file: F` holds for the pairs of lines `old: ..` and `new: ..` behind
-it; other lines are words. rt ci applies it to a copy of the crate, and leaves what the prover says of it in
-target/must-fail/NAME/LABEL/.log.
+An edit is a file crates/NAME/must-fail/LABEL.edit: a line `file: F` holds for the pairs of lines `old: ..` and `new: ..` after
+it; a line `refused by: PLACE: NAME` says what must refuse it; other lines are words. PLACE is a function, for its contract, or a
+file of proofs/ without its ending, for a law or, in Claims, a theorem; with `::` between the parts of either. NAME is the
+declaration there that the edit leaves without a proof: of a function a need of its code, as `returns-2`.
+
+rt ci applies an edit to a copy of the crate, and leaves what the prover says of it in target/must-fail/NAME/LABEL/.log.
 """
 
 import re
 
-UNFIT = re.compile(r"that can be named from here|is not in scope")
+from crate_files import antt, rattle
+
+UNFIT = re.compile(r"that can be named from here|is not in scope|has no field `")
+FOLLOWS = re.compile(r"was not admitted .*cannot be checked")
+REFUSER = re.compile(r"^refused by: (\w+(?:::\w+)*): (\S+)$", re.M)
+ERROR = re.compile(r"^(?P<file>\S+?):\d+:\d+: error: (?:`(?P<name>[^`\s]+)`: )?(?P<message>.*(?:\n +has no field .*)?)$", re.M)
+LEFT_OPEN = re.compile(r"^fn (?P<place>\S+): no proof: .*`search` does not close (?P<names>.*)$", re.M)
 
 
 def must_fail_edits(root):
@@ -27,8 +36,14 @@ def replacements(edit):
             old = None
 
 
+def refusers(edit):
+    """What must refuse an edit: the place and the name of each such line."""
+    return REFUSER.findall(edit.read_text(encoding="utf-8"))
+
+
 def misfits(root):
-    """The edits that cannot be applied: rt ci would say so, half an hour later."""
+    """The edits that cannot be applied, that change a proof, or that do not name what must refuse them: rt ci would say the
+    first half an hour later."""
     for edit in must_fail_edits(root):
         where, crate = edit.relative_to(root), edit.parent.parent
         texts, pairs = {}, 0
@@ -38,12 +53,32 @@ def misfits(root):
             if not file or not old or not path.is_file():
                 yield f"{where}: a pair without its file or its old text"
                 continue
+            if not file.startswith(("src/", "specs/")):
+                yield f"{where}: it changes {file}, and shows nothing of the code or of a definition"
             text = texts.get(path) or path.read_text(encoding="utf-8")
             if text.count(old) != 1:
                 yield f"{where}: its old text is {text.count(old)} times in {file}: {old[:60]}"
             texts[path] = text.replace(old, new, 1)
         if not pairs:
             yield f"{where}: it has no pair of an old and a new text"
+        named = refusers(edit)
+        if len(named) != 1:
+            yield f"{where}: it has {len(named)} lines `refused by: PLACE: NAME`"
+        for place, name in named:
+            yield from (f"{where}: {fault}" for fault in unknown_place(crate, place, name))
+
+
+def unknown_place(crate, place, name):
+    """What is wrong with a place of a crate: neither a file of proofs/ that declares the name, nor a function without one."""
+    below = place.replace("::", "/")
+    for path in (crate / "proofs" / f"{below}.antt", crate / "proofs" / below / "Proof.antt"):
+        if path.is_file():
+            if not re.search(rf"^ *(?:\w+ )*{re.escape(name)}(?: :|$)", antt(path), re.M):
+                yield f"refused by: {path.relative_to(crate)} does not declare {name}"
+            return
+    function = re.compile(rf"\bfn {re.escape(place.rpartition('::')[2])}\b")
+    if not any(function.search(rattle(path)) for path in crate.glob("src/**/*.rt")):
+        yield f"refused by: there is no {place}"
 
 
 def first_error(log):
@@ -54,20 +89,38 @@ def first_error(log):
     return ""
 
 
+def own_errors(log, crate, label):
+    """The places and names in a log that have an error which is not a consequence of another: what is found false, or is left
+    open, there."""
+    found = set()
+    for error in ERROR.finditer(log):
+        below = error["file"].partition(f"/{crate}/{label}/proofs/")[2].removesuffix(".antt").removesuffix("/Proof")
+        if below and error["name"] and not FOLLOWS.search(error["message"]) and not UNFIT.search(error["message"]):
+            found.add((below.replace("/", "::"), error["name"]))
+    for function in LEFT_OPEN.finditer(log):
+        place = function["place"].removeprefix(f"{crate}::")
+        found.update((place, name) for name in re.findall(r"`([^`]+)`", function["names"]))
+    return found
+
+
 def telling_nothing(root):
-    """The edits whose first error is not that a fact no longer holds, but that the edit made a definition ill-formed, which rt
-    takes for a refusal, or the proof file unfit for the code."""
+    """The edits whose log does not show that a fact no longer holds at the place that they name: the edit made a definition
+    ill-formed, which rt takes for a refusal, or the proof file unfit for the code; or something else refuses it."""
     for edit in must_fail_edits(root):
         crate, label = edit.parent.parent.name, edit.stem
-        log = root / "target" / "must-fail" / crate / label / ".log"
+        path = root / "target" / "must-fail" / crate / label / ".log"
         where = f"crates/{crate}/must-fail/{label}.edit"
-        if not log.is_file():
+        if not path.is_file():
             yield f"{where}: it was not tried"
             continue
-        error = first_error(log.read_text(encoding="utf-8", errors="replace"))
+        log = path.read_text(encoding="utf-8", errors="replace")
+        error = first_error(log)
         if not error:
             yield f"{where}: its log has no error"
         elif f"/{crate}/{label}/specs/" in error.removeprefix("note: ").partition(": ")[0]:
             yield f"{where}: it only made a definition ill-formed: {error[:200]}"
         elif UNFIT.search(error):
             yield f"{where}: it only made the proof file unfit: {error[:200]}"
+        for place, name in refusers(edit):
+            if (place, name) not in own_errors(log, crate, label):
+                yield f"{where}: {place}: {name} does not refuse it by itself; the first error is {error[:200]}"

@@ -10,14 +10,14 @@ that is a finding too.
 
 - crates:     every folder of crates/ is listed in crates.txt, and every library has a must-fail edit.
 - calls of C: no library but message_io uses io, os, libc or a library that does. Their contracts are axioms.
-- misfits:    every must-fail edit fits the file that it changes (edit_checks.py).
-- contracts:  no public function has a `requires`, and each has an `ensures`.
+- misfits:    every must-fail edit fits the file that it changes, and names what must refuse it (edit_checks.py).
+- contracts:  no public function has a `requires`; each has an `ensures`, and none says nothing of the outcome.
 - audit:      docs/AUDIT.md has a row for every public function of a library, in the part of its crate, with what its
               contract rules out; and every must-fail edit that it names is there.
 - theorems:   every statement of a crate's specs/ has its proof, none is open, and docs/AUDIT.md lists just these
               (theorem_checks.py).
 - counts:     the last line of rt ci counts every crate and every must-fail edit.
-- edits:      the first error of a refused must-fail edit is that a fact no longer holds (edit_checks.py).
+- edits:      every must-fail edit is refused at the place that it names, for a fact (edit_checks.py).
 - proved:     the log of every crate says that it is proved.
 - axioms:     the static library rests on none. The prover counts axioms for programs and static libraries alone; a
               program's are the contracts of the C functions that it calls.
@@ -80,16 +80,27 @@ def closing(text, at, opening, closes):
 
 
 def clauses(text, at):
-    """The clauses of the function whose name ends at `at`, and what stands behind them."""
+    """The clauses of the function whose name ends at `at`, with what each says, and what stands behind them."""
     at = closing(text, text.index("(", at), "(", ")")
     result = re.compile(r"\s*->\s*(?:\[[^]]*\]|[^{])*?(?=\s*(?:\brequires\b|\bensures\b|\bghost\b|\{|;))").match(text, at)
     if result:
         at = result.end()
     found = []
     while clause := CLAUSE.match(text, at):
-        found.append(clause[1])
         at = closing(text, clause.end() - 1, "{", "}")
+        found.append((clause[1], text[clause.end() : at - 1].strip()))
     return found, text[at:].lstrip()
+
+
+def says_nothing(ensures):
+    """Whether an `ensures` says nothing of the outcome: it names neither the result nor what a buffer holds at the exit, or its
+    two sides are the same."""
+    said = re.fullmatch(r"λ (\S+)\. ⌜ (.*) ⌝", ensures, re.S)
+    if not said:
+        return True
+    result, fact = said[1], " ".join(said[2].split())
+    left, _, right = fact.partition(" ≡ ")
+    return left == right or not re.search(rf"(?<![^\s(){{}};,]){re.escape(result)}(?![^\s(){{}};,])|\.exit\b", fact)
 
 
 def public_functions(root, name):
@@ -105,10 +116,13 @@ def weak_contracts(root):
         for path, text, function in public_functions(root, name):
             found, rest = clauses(text, function.end())
             where = f"{path.relative_to(root)}: {function[1]}"
-            if "requires" in found:
+            if any(kind == "requires" for kind, _ in found):
                 yield f"{where}: a public function has a `requires`"
-            if "ensures" not in found:
+            if not any(kind == "ensures" for kind, _ in found):
                 yield f"{where}: a public function has no `ensures`"
+            for kind, said in found:
+                if kind == "ensures" and says_nothing(said):
+                    yield f"{where}: an `ensures` that says nothing of the outcome: {said[:80]}"
             if not rest.startswith(("{", ";")):
                 yield f"{where}: what stands behind its clauses is not understood: {rest[:20]!r}"
     for name in libraries(root):

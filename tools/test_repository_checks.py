@@ -32,7 +32,7 @@ fn private(x: u8) -> u8
 impl Thing {
     pub fn part<'a>(self, s: &'a [u8; 4], at: usize) -> &'a [u8]
         ensures first { λ r. ⌜ f (record { at = at }) ≡ r ⌝ }
-        ensures second { λ r. ⌜ r ≡ r ⌝ }
+        ensures second { λ _. ⌜ now (s .exit) ≡ now (s .entry) ⌝ }
     {
         &s[..]
     }
@@ -130,6 +130,11 @@ class Checks(unittest.TestCase):
 
     def test_public_without_ensures(self):
         self.finds("same: a public function has no `ensures`", checks.weak_contracts, lib_rt=("    ensures { λ r. ⌜ r ≡ x ⌝ }\n", ""))
+
+    def test_public_with_an_empty_ensures(self):
+        for empty in ("r ≡ r", "x ≡ x", "Unit", "f x ≡ x"):
+            self.finds("same: an `ensures` that says nothing", checks.weak_contracts, lib_rt=("λ r. ⌜ r ≡ x ⌝", f"λ r. ⌜ {empty} ⌝"))
+        self.finds("part: an `ensures` that says nothing", checks.weak_contracts, lib_rt=("now (s .exit)", "now (s .entry)"))
 
     def test_exported_without_ensures(self):
         self.finds(
