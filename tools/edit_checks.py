@@ -12,6 +12,8 @@ import re
 
 from crate_files import antt, rattle
 
+# Programs that take far more than 30 processor seconds to prove (docs/PROOFS.md, "Costs"); an edit costs that again.
+TOO_LARGE = ("published_data", "vectors")
 UNFIT = re.compile(r"that can be named from here|is not in scope|has no field `")
 FOLLOWS = re.compile(r"was not admitted .*cannot be checked")
 REFUSER = re.compile(r"^refused by: (\w+(?:::\w+)*): (\S+)$", re.M)
@@ -42,10 +44,12 @@ def refusers(edit):
 
 
 def misfits(root):
-    """The edits that cannot be applied, that change a proof, or that do not name what must refuse them: rt ci would say the
-    first half an hour later."""
+    """The edits that cannot be applied, that change a proof or a crate that is too large, or that do not name what must refuse
+    them: rt ci would say the first half an hour later."""
     for edit in must_fail_edits(root):
         where, crate = edit.relative_to(root), edit.parent.parent
+        if crate.name in TOO_LARGE:
+            yield f"{where}: {crate.name} takes too long to prove for an edit; a smaller crate is to show the same"
         texts, pairs = {}, 0
         for file, old, new in replacements(edit):
             pairs += 1
@@ -121,6 +125,8 @@ def telling_nothing(root):
             yield f"{where}: it only made a definition ill-formed: {error[:200]}"
         elif UNFIT.search(error):
             yield f"{where}: it only made the proof file unfit: {error[:200]}"
-        for place, name in refusers(edit):
-            if (place, name) not in own_errors(log, crate, label):
-                yield f"{where}: {place}: {name} does not refuse it by itself; the first error is {error[:200]}"
+        found = own_errors(log, crate, label)
+        for refuser in refusers(edit):
+            if refuser not in found:
+                told = ", ".join(f"{place}: {name}" for place, name in sorted(found)) or "nothing"
+                yield f"{where}: {': '.join(refuser)} does not refuse it by itself; {told} does"

@@ -74,6 +74,13 @@ class Checks(unittest.TestCase):
         change = ("wrong.edit", "file: specs/Lib.antt\nold: same x = x", "file: proofs/Laws.antt\nold: law = refl")
         self.finds("it changes proofs/Laws.antt", checks.misfits, change)
 
+    def test_edit_of_a_crate_that_is_too_large(self):
+        with tempfile.TemporaryDirectory() as folder:
+            root = pathlib.Path(folder)
+            (root / "crates/vectors/must-fail").mkdir(parents=True)
+            (root / "crates/vectors/must-fail/wrong.edit").write_text("", encoding="utf-8")
+            self.assertTrue(any("vectors takes too long" in finding for finding in checks.misfits(root)))
+
     def test_edit_that_names_no_refuser(self):
         self.finds("it has 0 lines `refused by", checks.misfits, ("wrong.edit", "refused by: same: returns\n", ""))
         self.finds("it has 0 lines `refused by", checks.misfits, ("wrong.edit", "same: returns", "same"))
@@ -96,7 +103,7 @@ class Checks(unittest.TestCase):
     def test_equivalent_rewriting_that_ends_elsewhere(self):
         """The proof of a law goes by the words of the definition, and what the edit names fails only with it."""
         change = ("wrong.edit", "same: returns", "Claims: theorem")
-        self.finds("Claims: theorem does not refuse it by itself; the first error is", checks.telling_nothing, change)
+        self.finds("Claims: theorem does not refuse it by itself; Laws: law, plain: index, plain: returns-2, same: returns does", checks.telling_nothing, change)
         self.finds("same: same-spec does not refuse it", checks.telling_nothing, ("wrong.edit", "same: returns", "same: same-spec"))
 
     def test_refuser_that_has_no_error(self):
