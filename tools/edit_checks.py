@@ -1,4 +1,7 @@
+#!/usr/bin/env python3
 """The checks of the must-fail edits, beside that rt ci sees each refused. repository_checks.py makes them.
+
+    tools/edit_checks.py    prints what refuses each edit that was tried: the places of its own errors, by its log
 
 An edit is a file crates/NAME/must-fail/LABEL.edit: a line `file: F` holds for the pairs of lines `old: ..` and `new: ..` after
 it; a line `refused by: PLACE: NAME` says what must refuse it; other lines are words. PLACE is a function, for its contract, or a
@@ -8,7 +11,9 @@ declaration there that the edit leaves without a proof: of a function a need of 
 rt ci applies an edit to a copy of the crate, and leaves what the prover says of it in target/must-fail/NAME/LABEL/.log.
 """
 
+import pathlib
 import re
+import sys
 
 from crate_files import antt, rattle
 
@@ -107,17 +112,26 @@ def own_errors(log, crate, label):
     return found
 
 
+def tried(root):
+    """Of each edit: its file, and its log, or nothing where it was not tried."""
+    for edit in must_fail_edits(root):
+        path = root / "target" / "must-fail" / edit.parent.parent.name / edit.stem / ".log"
+        yield edit, path.read_text(encoding="utf-8", errors="replace") if path.is_file() else None
+
+
+def places(found):
+    return ", ".join(f"{place}: {name}" for place, name in sorted(found)) or "nothing"
+
+
 def telling_nothing(root):
     """The edits whose log does not show that a fact no longer holds at the place that they name: the edit made a definition
     ill-formed, which rt takes for a refusal, or the proof file unfit for the code; or something else refuses it."""
-    for edit in must_fail_edits(root):
+    for edit, log in tried(root):
         crate, label = edit.parent.parent.name, edit.stem
-        path = root / "target" / "must-fail" / crate / label / ".log"
         where = f"crates/{crate}/must-fail/{label}.edit"
-        if not path.is_file():
+        if log is None:
             yield f"{where}: it was not tried"
             continue
-        log = path.read_text(encoding="utf-8", errors="replace")
         error = first_error(log)
         if not error:
             yield f"{where}: its log has no error"
@@ -128,5 +142,19 @@ def telling_nothing(root):
         found = own_errors(log, crate, label)
         for refuser in refusers(edit):
             if refuser not in found:
-                told = ", ".join(f"{place}: {name}" for place, name in sorted(found)) or "nothing"
-                yield f"{where}: {': '.join(refuser)} does not refuse it by itself; {told} does"
+                yield f"{where}: {': '.join(refuser)} does not refuse it by itself; {places(found)} does"
+
+
+def main(arguments):
+    if arguments:
+        print(__doc__, file=sys.stderr)
+        return 2
+    for edit, log in tried(pathlib.Path(__file__).resolve().parent.parent):
+        if log is not None:
+            crate, label = edit.parent.parent.name, edit.stem
+            print(f"{crate}/{label}: {places(own_errors(log, crate, label))}")
+    return 0
+
+
+if __name__ == "__main__":
+    sys.exit(main(sys.argv[1:]))

@@ -26,9 +26,9 @@ new: same x = 1
 """,
     "target/must-fail/one/wrong/.log": f"""{BELOW}/proofs/same/Proof.antt:1:2: error: `returns`: the two types differ
   expected type `x ≡ x`
-{BELOW}/proofs/same/Proof.antt:3:2: error: `same-spec`: `returns` was not admitted (it has holes, or was rejected), so this cannot be checked
+{BELOW}/proofs/same/Proof.antt:3:2: error: `same-spec`: `returns` was not admitted (it was rejected), so this cannot be checked
 {BELOW}/proofs/Laws.antt:4:5: error: `law`: the two types differ
-{BELOW}/proofs/Claims.antt:4:5: error: `theorem`: `law` was not admitted (it has holes, or was rejected), so this cannot be checked
+{BELOW}/proofs/Claims.antt:4:5: error: `theorem`: `law` was not admitted (it was rejected), so this cannot be checked
 note: {BELOW}/src/lib.rt:2:1: it is not proved that what the function ensures holds when it returns (`returns-2`)
 fn one::plain: no proof: expected `plain-spec` in {BELOW}/proofs/plain/Proof.antt; `search` does not close `returns-2`, `index`
 logic=not-proved
@@ -96,24 +96,37 @@ class Checks(unittest.TestCase):
 
     def test_edit_that_makes_the_proof_unfit(self):
         self.finds("unfit", checks.telling_nothing, (".log", "the two types differ", "`x` is not in scope"))
-        for error in ("`tie` has no `Need-add-x` that can be named from here", "`x` is not in scope", "`c .if1` has no field `before`", "record `Lts.Else1`\n  has no field `if2`"):
+        for error in (
+            "`tie` has no `Need-add-x` that can be named from here",
+            "`x` is not in scope",
+            "`c .if1` has no field `before`",
+            "record `Lts.Else1`\n  has no field `if2`",
+        ):
             change = (".log", "`returns`: the two types differ", f"`returns`: {error}")
             self.finds("same: returns does not refuse it by itself", checks.telling_nothing, change)
 
     def test_equivalent_rewriting_that_ends_elsewhere(self):
         """The proof of a law goes by the words of the definition, and what the edit names fails only with it."""
         change = ("wrong.edit", "same: returns", "Claims: theorem")
-        self.finds("Claims: theorem does not refuse it by itself; Laws: law, plain: index, plain: returns-2, same: returns does", checks.telling_nothing, change)
+        others = "Laws: law, plain: index, plain: returns-2, same: returns"
+        self.finds(f"Claims: theorem does not refuse it by itself; {others} does", checks.telling_nothing, change)
         self.finds("same: same-spec does not refuse it", checks.telling_nothing, ("wrong.edit", "same: returns", "same: same-spec"))
 
     def test_refuser_that_has_no_error(self):
-        self.finds("Laws: law does not refuse it", checks.telling_nothing, ("wrong.edit", "same: returns", "Laws: law"), (".log", "`law`: the", "`lemma`: the"))
-        self.finds("plain: index does not", checks.telling_nothing, ("wrong.edit", "same: returns", "plain: index"), (".log", ", `index`", ""))
+        named, log = ("wrong.edit", "same: returns", "Laws: law"), (".log", "`law`: the", "`lemma`: the")
+        self.finds("Laws: law does not refuse it", checks.telling_nothing, named, log)
+        named, log = ("wrong.edit", "same: returns", "plain: index"), (".log", ", `index`", "")
+        self.finds("plain: index does not refuse it", checks.telling_nothing, named, log)
 
     def test_refuser_of_the_same_name_elsewhere(self):
         change = (".log", "proofs/same/Proof.antt:1:2", "proofs/other/Proof.antt:1:2")
         self.finds("same: returns does not refuse it", checks.telling_nothing, change)
         self.finds("same: returns does not refuse it", checks.telling_nothing, (".log", "must-fail/one/wrong", "must-fail/two/wrong"))
+
+    def test_places_of_a_log(self):
+        found = self.findings(lambda root: [checks.places(checks.own_errors(log, "one", "wrong")) for _, log in checks.tried(root)])
+        self.assertEqual(found, ["Laws: law, plain: index, plain: returns-2, same: returns"])
+        self.assertEqual(checks.places(set()), "nothing")
 
     def test_log_without_error(self):
         self.finds("its log has no error", checks.telling_nothing, (".log", "error: ", "no "), (".log", "note: ", "no "))

@@ -137,7 +137,8 @@ class Checks(unittest.TestCase):
             (root / "crates.txt").write_text("formatter:\n", encoding="utf-8")
             gone = "formatter owes EveryList, which specs/ does not have"
             self.assertFalse([one for one in checks.other_statements(root) if "formatter" in one])
-            for name, taken in (("specs/Theorems.antt", r"unfoldable pub EveryList.*?\n\n"), ("proofs/Claims.antt", r"pub every-list.*?\n\n")):
+            theorem, claim = r"unfoldable pub EveryList.*?\n\n", r"pub every-list.*?\n\n"
+            for name, taken in (("specs/Theorems.antt", theorem), ("proofs/Claims.antt", claim)):
                 path = root / "crates" / "formatter" / name
                 text, times = re.subn(taken, "", path.read_text(encoding="utf-8"), flags=re.S)
                 self.assertEqual(times, 1)
@@ -148,7 +149,7 @@ class Checks(unittest.TestCase):
 
     def test_theorem_that_became_a_function(self):
         changes = (
-            ("Theorems.antt", "EveryList : Type 0\nEveryList = (policy : List ℕ) (calls", "EveryList : List ℕ → Type 0\nEveryList policy = (calls"),
+            ("Theorems.antt", "EveryList : Type 0\nEveryList = (policy : List ℕ)", "EveryList : List ℕ → Type 0\nEveryList policy ="),
             ("Claims.antt", "  EveryList,\n", ""),
             ("Claims.antt", "pub every-list : EveryList\nevery-list policy calls = list-claim policy calls\n", ""),
             ("AUDIT.md", ", `EveryList` |", " |"),

@@ -14,7 +14,10 @@ CLOSED_RECORD = re.compile(r"^pub record (\S+) : Type \d+ where$", re.M)
 HIDDEN_STATEMENT = re.compile(r"^(?:[ \t]+.*|(?!.*\bpub ).*)\s?(\S+) : Type \d+$", re.M)
 USE = re.compile(r"^use (\S+?)\.\{(.*?)\}", re.M | re.S)
 # A line that declares something: a name with its type, a record, a type by cases, a section, an import.
-DECLARES = re.compile(r"^(?P<indent> *)(?:(?:unfoldable|abbrev|pub|opaque) )*(?:(?P<made>record|data|module|use|mod) )?(?P<name>[^\s(){}=]+)(?P<rest>[^=]*)$")
+DECLARES = re.compile(
+    r"^(?P<indent> *)(?:(?:unfoldable|abbrev|pub|opaque) )*"
+    r"(?:(?P<made>record|data|module|use|mod) )?(?P<name>[^\s(){}=]+)(?P<rest>[^=]*)$"
+)
 OWED = "\n## The statements\n"
 CLAIMED_RECORDS = ("ListClaim", "FormattedClaim")
 # Names of Rust's own that docs/AUDIT.md quotes from document 01.
