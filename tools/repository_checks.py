@@ -14,8 +14,8 @@ that is a finding too.
 - contracts:  no public function has a `requires`; each has an `ensures`, and none says nothing of the outcome.
 - audit:      docs/AUDIT.md has a row for every public function of a library, in the part of its crate, with what its
               contract rules out; and every must-fail edit that it names is there.
-- theorems:   every statement of a crate's specs/ has its proof, none is open, and docs/AUDIT.md lists just these
-              (theorem_checks.py).
+- theorems:   every statement of a crate's specs/ has its proof, none is open or says nothing, and docs/AUDIT.md lists just
+              these (theorem_checks.py).
 - counts:     the last line of rt ci counts every crate and every must-fail edit.
 - edits:      every must-fail edit is refused at the place that it names, for a fact (edit_checks.py).
 - proved:     the log of every crate says that it is proved.
@@ -29,7 +29,7 @@ import sys
 
 from crate_files import libraries, listed, rattle, uses
 from edit_checks import misfits, must_fail_edits, telling_nothing
-from theorem_checks import open_statements, other_statements, unknown_names, unproved_statements
+from theorem_checks import empty_statements, open_statements, other_statements, unknown_names, unproved_statements
 
 CLAUSE = re.compile(r"\s*(requires|ensures|ghost)\b[^{]*\{")
 PUBLIC_FUNCTION = re.compile(r'\bpub\s+(?:const\s+)?(?:extern\s+"C"\s+)?fn\s+(\w+)')
@@ -190,6 +190,7 @@ SOURCE = (
     unaudited_functions,
     unproved_statements,
     open_statements,
+    empty_statements,
     other_statements,
     unknown_names,
 )

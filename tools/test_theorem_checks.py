@@ -30,6 +30,12 @@ module _ (policy : List ℕ) where
 unfoldable pub Same : Type 0
 Same = (x : ℕ) → Parted x × Through x
 
+pub Worked : Type 0
+Worked =
+    -- 1
+    (f 1 ≡ 1)
+    × (f 2 ≡ 2)
+
 pub record Whole : Type 0 where
   pub part : Same
 
@@ -59,6 +65,7 @@ use Rattle.one.specs.Theorems.{
   EveryList,
   Same,
   Whole,
+  Worked,
 }
 
 pub same : Same
@@ -70,6 +77,9 @@ whole = record { part = same }
 
 pub every-list : EveryList
 every-list policy calls = list-claim policy calls
+
+pub worked : Worked
+worked = (refl, refl)
 """,
     "docs/AUDIT.md": """
 `EveryList` is about `Some`, `Answer`, `Done` and `LIMIT`, and not about Rust's `Vec`; its proof is in `Laws`.
@@ -79,7 +89,7 @@ every-list policy calls = list-claim policy calls
 
 | crate | statements |
 |---|---|
-| one | `Same`, `Whole`, `EveryList` |
+| one | `Same`, `Worked`, `Whole`, `EveryList` |
 
 | record | clauses |
 |---|---|
@@ -91,7 +101,13 @@ every-list policy calls = list-claim policy calls
 | one | `nothing` |
 """,
 }
-CHECKS = (checks.unproved_statements, checks.open_statements, checks.other_statements, checks.unknown_names)
+CHECKS = (
+    checks.unproved_statements,
+    checks.open_statements,
+    checks.empty_statements,
+    checks.other_statements,
+    checks.unknown_names,
+)
 
 
 class Checks(unittest.TestCase):
@@ -165,10 +181,23 @@ class Checks(unittest.TestCase):
         section = ("Theorems.antt", "pub data Kind", "module _ (x : ℕ) where\n  pub Inside : Type 0\n  Inside = x ≡ x\n\npub data Kind")
         self.finds("Theorems.antt: Inside is an open statement", checks.open_statements, section)
 
+    def test_statement_that_says_nothing(self):
+        for empty in ("Unit {0}", "(x : ℕ) → Unit", "(x : ℕ) → f x ≡ f x", "\n    (x : ℕ)\n    → ⊤"):
+            change = ("Theorems.antt", "Same = (x : ℕ) → Parted x × Through x", f"Same = {empty}")
+            self.finds("Same says nothing", checks.empty_statements, change)
+        change = ("Theorems.antt", "→ ListClaim policy calls", "→ policy ≡ calls")
+        self.finds("EveryList does not claim ListClaim", checks.empty_statements, change)
+
+    def test_clause_that_says_nothing(self):
+        change = ("Claimed.antt", "pub others : text ≡ calls", "pub others : text ≡ text")
+        self.finds("the clause others of ListClaim says nothing", checks.empty_statements, change)
+        change = ("Claimed.antt", "→ n ≡ length calls", "→ Unit {0}")
+        self.finds("the clause number of ListClaim says nothing", checks.empty_statements, change)
+
     def test_statement_that_is_not_listed(self):
-        self.finds("one does not list Whole", checks.other_statements, ("AUDIT.md", "`Same`, `Whole`", "`Same`"))
-        self.finds("one does not list Same", checks.other_statements, ("AUDIT.md", "| one | `Same`, `Whole`, `EveryList` |\n", ""))
-        self.finds("one has Same twice", checks.other_statements, ("AUDIT.md", "`Same`, `Whole`", "`Same`, `Same`, `Whole`"))
+        self.finds("one does not list Whole", checks.other_statements, ("AUDIT.md", "`Worked`, `Whole`", "`Worked`"))
+        self.finds("one does not list Same", checks.other_statements, ("AUDIT.md", "| one | `Same`, `Worked`, `Whole`, `EveryList` |\n", ""))
+        self.finds("one has Same twice", checks.other_statements, ("AUDIT.md", "`Same`, `Worked`", "`Same`, `Same`, `Worked`"))
         self.finds("no row is found", checks.other_statements, ("AUDIT.md", "## The statements", "## Statements"))
 
     def test_statement_of_a_crate_that_is_not_there(self):

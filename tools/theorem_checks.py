@@ -19,7 +19,8 @@ DECLARES = re.compile(
     r"(?:(?P<made>record|data|module|use|mod) )?(?P<name>[^\s(){}=]+)(?P<rest>[^=]*)$"
 )
 OWED = "\n## The statements\n"
-CLAIMED_RECORDS = ("ListClaim", "FormattedClaim")
+# The records that hold the clauses of a theorem, and the theorem.
+CLAIMED_RECORDS = {"ListClaim": "EveryList", "FormattedClaim": "EveryFormattedText"}
 # Names of Rust's own that docs/AUDIT.md quotes from document 01.
 OF_RUST = {"Clone", "Debug", "Hash", "Option", "Peekable", "String", "Vec", "VecDeque"}
 
@@ -135,19 +136,44 @@ def open_statements(root):
 
 
 def clauses_of(root, record):
-    """The fields of a record of specs/, in their order."""
+    """The fields of a record of specs/, in their order, with their types."""
     for path in sorted(root.glob("crates/*/specs/**/*.antt")):
-        lines = antt(path).splitlines()
-        for at, line in enumerate(lines):
-            if found := re.match(rf"( *)pub record {record}\b", line):
-                inside = re.compile(rf"{found[1]}  +")
-                fields = []
-                for field in lines[at + 1 :]:
-                    if field and not inside.match(field):
-                        break
-                    fields += re.findall(rf"^{found[1]}  pub (\S+) :", field)
-                return fields
-    return []
+        text = antt(path)
+        if found := re.search(rf"^( *)pub record {record}\b.*\n((?:\1  .*\n|\n)*)", text, re.M):
+            fields = re.findall(rf"^{found[1]}  pub (\S+) :((?:.*\n)(?:{found[1]}   .*\n)*)", found[2], re.M)
+            return {name: " ".join(of_type.split()) for name, of_type in fields}
+    return {}
+
+
+def body_of(text, name):
+    """What a definition of an antt text says, up to the next one."""
+    found = re.search(rf"^{re.escape(name)} =(.*(?:\n+[ \t]+.*)*)", text, re.M)
+    return " ".join(found[1].split()) if found else ""
+
+
+def is_empty(claim):
+    """Whether a claim says nothing: after its hypotheses it is the type that always has a proof, or its two sides are the same."""
+    last = claim.rpartition("→ ")[2].strip()
+    left, equal, right = last.partition(" ≡ ")
+    return last.split(" ")[0] in ("", "Unit", "⊤") or bool(equal) and left == right
+
+
+def empty_statements(root):
+    """The statements and the clauses that say nothing, and the theorems that do not claim the record of their clauses."""
+    for name in listed(root):
+        crate = root / "crates" / name
+        text = "\n".join(antt(path) for path in sorted(crate.glob("specs/**/*.antt")))
+        for statement in statements(crate)[0]:
+            body = body_of(text, statement)
+            if is_empty(body) and not re.search(rf"^pub record {re.escape(statement)} :", text, re.M):
+                yield f"crates/{name}/specs: {statement} says nothing: {body[-80:]}"
+            for record in (record for record, theorem in CLAIMED_RECORDS.items() if theorem == statement):
+                if record not in body.split():
+                    yield f"crates/{name}/specs: {statement} does not claim {record}"
+    for record in CLAIMED_RECORDS:
+        for clause, of_type in clauses_of(root, record).items():
+            if is_empty(of_type):
+                yield f"crates/*/specs: the clause {clause} of {record} says nothing: {of_type[-80:]}"
 
 
 def owed(audit):
@@ -163,7 +189,7 @@ def other_statements(root):
     if not told:
         yield "docs/AUDIT.md, The statements: no row is found"
     there = {name: list(statements(root / "crates" / name)[0]) for name in listed(root)}
-    there.update({record: clauses_of(root, record) for record in CLAIMED_RECORDS})
+    there.update({record: list(clauses_of(root, record)) for record in CLAIMED_RECORDS})
     for first in sorted({*told, *(name for name in there if there[name]), *CLAIMED_RECORDS}):
         for name in told.get(first, ()):
             if name not in there.get(first, ()):
