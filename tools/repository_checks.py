@@ -2,58 +2,47 @@
 """The gate's own checks of the repository, beside what `rt ci` proves.
 
     tools/repository_checks.py source         before rt ci: the crates, the contracts, the theorems
-    tools/repository_checks.py products LINE  after rt ci, with its last line: what it counted, the must-fail edits' logs,
-                                              the axioms
+    tools/repository_checks.py products LINE  after rt ci, with its last line: what it counted, the must-fail edits' logs
+    tools/repository_checks.py staticlib      after `rt staticlib tilghorz`: the axioms that the library rests on
 
 Each finding is a line on standard error; the exit status is 1 if there is one. Where a check finds nothing to look at,
 that is a finding too.
 
 - crates:     every folder of crates/ is listed in crates.txt, and every library has a must-fail edit.
-- misfits:    every must-fail edit fits the file that it changes (edit_checks.py).
-- contracts:  no public function has a `requires`, and each has an `ensures`.
+- calls of C: no library but message_io uses io, os, libc or a library that does. Their contracts are axioms.
+- misfits:    every must-fail edit fits the file that it changes, and names what must refuse it (edit_checks.py).
+- contracts:  no public function has a `requires`; each has an `ensures`, and none says nothing of the outcome.
 - audit:      docs/AUDIT.md has a row for every public function of a library, in the part of its crate, with what its
               contract rules out; and every must-fail edit that it names is there.
-- theorems:   every statement of a crate's specs/ has its proof in proofs/Claims.antt. A statement is a closed
-              definition whose type is `Type N`, or a closed record in a file Theorems.antt. A claim is a line
-              `pub name : Statement` of Claims.antt, in no section, so with no further hypothesis; the statement
-              is imported under its own name from the file that makes it.
+- theorems:   every statement of a crate's specs/ has its proof, none is open or says nothing, and docs/AUDIT.md lists just
+              these (theorem_checks.py).
 - counts:     the last line of rt ci counts every crate and every must-fail edit.
-- edits:      the first error of a refused must-fail edit is that a fact no longer holds (edit_checks.py).
-- axioms:     no library rests on an axiom. A program counts the C functions of the kit that it calls.
+- edits:      every must-fail edit is refused at the place that it names, for a fact (edit_checks.py).
+- proved:     the log of every crate says that it is proved.
+- axioms:     the static library rests on none. The prover counts axioms for programs and static libraries alone; a
+              program's are the contracts of the C functions that it calls.
 """
 
 import pathlib
 import re
 import sys
 
+from crate_files import libraries, listed, rattle, uses
 from edit_checks import misfits, must_fail_edits, telling_nothing
+from theorem_checks import empty_statements, open_statements, other_statements, unknown_names, unproved_statements
 
 CLAUSE = re.compile(r"\s*(requires|ensures|ghost)\b[^{]*\{")
 PUBLIC_FUNCTION = re.compile(r'\bpub\s+(?:const\s+)?(?:extern\s+"C"\s+)?fn\s+(\w+)')
-STATEMENT = re.compile(r"^(?:unfoldable |abbrev )*pub (\S+) : Type \d+$", re.M)
-CLOSED_RECORD = re.compile(r"^pub record (\S+) : Type \d+ where$", re.M)
-HIDDEN_STATEMENT = re.compile(r"^(?:[ \t]+.*|(?!.*\bpub ).*)\s?(\S+) : Type \d+$", re.M)
-USE = re.compile(r"^use (\S+?)\.\{(.*?)\}", re.M | re.S)
+# The libraries of the kit that declare or call C functions, the one library that may use them, and the one that hosts link.
+OF_C = ("io", "libc", "os")
+MAY_CALL_C = ("message_io",)
+STATIC_LIBRARY = "tilghorz"
 RULED_OUT = "## What each contract rules out\n"
 NAMES = r"((?:`\w+`(?:, | and )?)+)"
 NAMED_EDITS = re.compile(rf"\b[Ee]dits? {NAMES}")
 # In the table whose last column is of edits, these stand in brackets.
 EDITS_OF_ROWS = re.compile(r"^\|.*with the edit that shows it \|\n((?:\|.*\n)+)", re.M)
 BRACKETED_EDITS = re.compile(rf"\((?:\w+: )?{NAMES}(?:\.\.)?\)")
-
-# Where comments begin and end.
-RATTLE = ("//", "/*", "*/")
-ANTT = (r"(?<![^\s(){}.;,@])--", "{-", "-}")
-
-
-def listed(root):
-    """The crates of crates.txt."""
-    lines = (line.split("#", 1)[0] for line in (root / "crates.txt").read_text(encoding="utf-8").splitlines())
-    return [line.split(":", 1)[0].strip() for line in lines if ":" in line]
-
-
-def libraries(root):
-    return [name for name in listed(root) if (root / "crates" / name / "src" / "lib.rt").is_file()]
 
 
 def unlisted_crates(root):
@@ -69,28 +58,15 @@ def unlisted_crates(root):
             yield f"crates/{name}: a library without a must-fail edit"
 
 
-def without_comments(text, marks=RATTLE):
-    """The text without its comments, with its lines where they were."""
-    line, opens, closes = marks
-    outside = re.compile(rf"""b'(?:\\.|[^'\\])'|b?"(?:\\.|[^"\\])*"|(?P<line>{line}[^\n]*)|(?P<block>{re.escape(opens)})""", re.S)
-    inside = re.compile(f"{re.escape(opens)}|{re.escape(closes)}|\n|\\Z")
-    kept, at = [], 0
-    while found := outside.search(text, at):
-        depth = 1 if found["block"] else 0
-        kept.append(text[at : found.start() if depth or found["line"] else found.end()])
-        at = found.end()
-        while depth and at < len(text):
-            mark = inside.search(text, at)
-            depth += (mark[0] == opens) - (mark[0] == closes)
-            kept.append("\n" if mark[0] == "\n" else "")
-            at = mark.end()
-    return "".join(kept) + text[at:]
-
-
-def antt(path):
-    """The text of a file of antt, without its comments and without blanks at the ends of lines."""
-    text = without_comments(path.read_text(encoding="utf-8"), ANTT)
-    return re.sub(r"[ \t]+$", "", text, flags=re.M)
+def libraries_that_call_c(root):
+    named = uses(root)
+    calling = set(OF_C)
+    for _ in named:
+        calling |= {name for name in named if calling & set(named[name])}
+    for name in libraries(root):
+        if name in calling and name not in MAY_CALL_C:
+            through = ", ".join(sorted(calling & set(named[name])))
+            yield f"crates.txt: {name}: a library that rests on contracts of C functions, through {through}"
 
 
 def closing(text, at, opening, closes):
@@ -104,22 +80,33 @@ def closing(text, at, opening, closes):
 
 
 def clauses(text, at):
-    """The clauses of the function whose name ends at `at`, and what stands behind them."""
+    """The clauses of the function whose name ends at `at`, with what each says, and what stands behind them."""
     at = closing(text, text.index("(", at), "(", ")")
     result = re.compile(r"\s*->\s*(?:\[[^]]*\]|[^{])*?(?=\s*(?:\brequires\b|\bensures\b|\bghost\b|\{|;))").match(text, at)
     if result:
         at = result.end()
     found = []
     while clause := CLAUSE.match(text, at):
-        found.append(clause[1])
         at = closing(text, clause.end() - 1, "{", "}")
+        found.append((clause[1], text[clause.end() : at - 1].strip()))
     return found, text[at:].lstrip()
+
+
+def says_nothing(ensures):
+    """Whether an `ensures` says nothing of the outcome: it names neither the result nor what a buffer holds at the exit, or its
+    two sides are the same."""
+    said = re.fullmatch(r"λ (\S+)\. ⌜ (.*) ⌝", ensures, re.S)
+    if not said:
+        return True
+    result, fact = said[1], " ".join(said[2].split())
+    left, _, right = fact.partition(" ≡ ")
+    return left == right or not re.search(rf"(?<![^\s(){{}};,]){re.escape(result)}(?![^\s(){{}};,])|\.exit\b", fact)
 
 
 def public_functions(root, name):
     """Of each public function of a crate: its file, the file's text without comments, and its match there."""
     for path in sorted((root / "crates" / name).glob("src/**/*.rt")):
-        text = without_comments(path.read_text(encoding="utf-8"))
+        text = rattle(path)
         for function in PUBLIC_FUNCTION.finditer(text):
             yield path, text, function
 
@@ -129,10 +116,13 @@ def weak_contracts(root):
         for path, text, function in public_functions(root, name):
             found, rest = clauses(text, function.end())
             where = f"{path.relative_to(root)}: {function[1]}"
-            if "requires" in found:
+            if any(kind == "requires" for kind, _ in found):
                 yield f"{where}: a public function has a `requires`"
-            if "ensures" not in found:
+            if not any(kind == "ensures" for kind, _ in found):
                 yield f"{where}: a public function has no `ensures`"
+            for kind, said in found:
+                if kind == "ensures" and says_nothing(said):
+                    yield f"{where}: an `ensures` that says nothing of the outcome: {said[:80]}"
             if not rest.startswith(("{", ";")):
                 yield f"{where}: what stands behind its clauses is not understood: {rest[:20]!r}"
     for name in libraries(root):
@@ -165,81 +155,46 @@ def unaudited_functions(root):
                 yield f"docs/AUDIT.md: there is no must-fail edit {edit}"
 
 
-def statements(crate):
-    """Of each statement of the crate's specs/, the module that makes it."""
-    found, faults = {}, []
-    for path in sorted(crate.glob("specs/**/*.antt")):
-        text = antt(path)
-        module = f"Rattle.{crate.name}.specs." + ".".join(path.relative_to(crate).with_suffix("").parts)
-        names = STATEMENT.findall(text)
-        if path.name == "Theorems.antt":
-            names += CLOSED_RECORD.findall(text)
-            if not names:
-                faults.append(f"{crate.name}/{path.relative_to(crate)}: no statement is found in it")
-        for name in names:
-            if name in found:
-                faults.append(f"crates/{crate.name}/specs: {name} is stated twice")
-            found[name] = module
-        for hidden in HIDDEN_STATEMENT.finditer(text):
-            faults.append(f"{crate.name}/{path.relative_to(crate)}: {hidden[1]} is a statement that no claim can name")
-    return found, faults
-
-
-def unproved_statements(root):
-    for name in listed(root):
-        crate = root / "crates" / name
-        stated, faults = statements(crate)
-        yield from faults
-        path = crate / "proofs" / "Claims.antt"
-        where = f"crates/{name}/proofs/Claims.antt"
-        if not path.is_file():
-            for statement in stated:
-                yield f"{where}: missing, so nothing proves {statement}"
-            continue
-        text = antt(path)
-        if re.search(r"^\s*module\b", text, re.M):
-            yield f"{where}: a section could give a claim further hypotheses"
-        imported = {}
-        for module, names in USE.findall(text):
-            for one in filter(None, (part.strip() for part in names.split(","))):
-                imported[one] = module
-        claims = re.findall(r"^pub \S+ : (.*)$", text, re.M)
-        for claim in claims:
-            if claim not in stated:
-                yield f"{where}: `{claim}` is no statement of specs/"
-            elif claims.count(claim) > 1:
-                yield f"{where}: {claim} is claimed twice"
-            elif imported.get(claim) != stated[claim]:
-                yield f"{where}: {claim} is not imported from {stated[claim]}"
-        for statement in stated:
-            if statement not in claims:
-                yield f"{where}: nothing proves {statement}"
-        root_file = crate / "proofs" / "Lib.antt"
-        if not root_file.is_file() or not re.search(r"^pub mod Claims$", antt(root_file), re.M):
-            yield f"crates/{name}/proofs/Lib.antt: no line `pub mod Claims`"
-
-
 def miscounted(root, last_line):
     wanted = f"{len(listed(root)) + len(must_fail_edits(root))} passed, 0 failed"
     if last_line != wanted:
         yield f"rt ci: its last line is `{last_line}`; the crates and the must-fail edits make `{wanted}`"
 
 
-def rests_on_axioms(root):
+def verdict(root, name):
+    """The last verdict in a crate's log, or nothing."""
+    said = root / "target" / "log" / f"{name}.say"
+    found = re.findall(r"^logic=.*$", said.read_text(encoding="utf-8", errors="replace"), re.M) if said.is_file() else []
+    return found[-1] if found else ""
+
+
+def unproved_crates(root):
     for name in listed(root):
-        said = root / "target" / "log" / f"{name}.say"
-        if not said.is_file():
-            yield f"crates/{name}: no log of its check"
-            continue
-        verdict = re.findall(r"^logic=.*$", said.read_text(encoding="utf-8", errors="replace"), re.M)
-        if not verdict or not verdict[-1].startswith("logic=proved "):
-            yield f"crates/{name}: its log does not say that it is proved"
-        elif (root / "crates" / name / "src" / "lib.rt").is_file() and re.search(r"\b(axioms|foreign)=", verdict[-1]):
-            yield f"crates/{name}: a library that rests on an axiom: {verdict[-1]}"
+        if not verdict(root, name).startswith("logic=proved "):
+            yield f"crates/{name}: no log says that it is proved"
 
 
-SOURCE = (unlisted_crates, misfits, weak_contracts, unaudited_functions, unproved_statements)
-PRODUCTS = (telling_nothing, rests_on_axioms)
+def rests_on_axioms(root):
+    said = verdict(root, STATIC_LIBRARY)
+    if not said.startswith("logic=proved ") or " target=" not in said:
+        yield f"{STATIC_LIBRARY}: its log is not that of a static library that is proved: {said}"
+    elif re.search(r"\b(axioms|foreign)=", said):
+        yield f"{STATIC_LIBRARY}: the static library rests on an axiom: {said}"
+
+
+SOURCE = (
+    unlisted_crates,
+    libraries_that_call_c,
+    misfits,
+    weak_contracts,
+    unaudited_functions,
+    unproved_statements,
+    open_statements,
+    empty_statements,
+    other_statements,
+    unknown_names,
+)
+PRODUCTS = (telling_nothing, unproved_crates)
 
 
 def main(arguments):
@@ -248,6 +203,8 @@ def main(arguments):
         findings = [finding for check in SOURCE for finding in check(root)]
     elif arguments[:1] == ["products"] and len(arguments) == 2:
         findings = [*miscounted(root, arguments[1]), *(finding for check in PRODUCTS for finding in check(root))]
+    elif arguments == ["staticlib"]:
+        findings = list(rests_on_axioms(root))
     else:
         print(__doc__, file=sys.stderr)
         return 2

@@ -1,4 +1,4 @@
-"""Tests of edit_checks.py."""
+"""Tests of edit_checks.py: planted faults of must-fail edits, and of the logs that they leave, are found."""
 
 import pathlib
 import tempfile
@@ -6,10 +6,15 @@ import unittest
 
 import edit_checks as checks
 
+BELOW = "/r/target/must-fail/one/wrong"
 SOUND = {
-    "crates/one/src/lib.rt": "pub fn same(x: u8) -> u8 { x }\n",
+    "crates/one/src/lib.rt": "pub fn same(x: u8) -> u8 { x }\npub fn plain(x: u8) -> u8 { x + 1 }\n",
     "crates/one/specs/Lib.antt": "same x = x\nother x = x\n",
+    "crates/one/proofs/Laws.antt": "pub law : Law\nlaw = refl\n",
+    "crates/one/proofs/Claims.antt": "pub theorem : Theorem\ntheorem = law\n",
+    "crates/one/proofs/same/Proof.antt": "returns : Need\nreturns = search\n\npub same-spec : Statement\nsame-spec = close\n",
     "crates/one/must-fail/wrong.edit": """Another number comes back, of both.
+refused by: same: returns
 file: src/lib.rt
 old: { x }
 new: { 0 }
@@ -19,49 +24,112 @@ new: same x = 0
 old: same x = 0
 new: same x = 1
 """,
-    "target/must-fail/one/wrong/.log": "/r/target/must-fail/one/wrong/proofs/same/Proof.antt:1:2: error: `returns`: the two types differ\n",
+    "target/must-fail/one/wrong/.log": f"""{BELOW}/proofs/same/Proof.antt:1:2: error: `returns`: the two types differ
+  expected type `x ≡ x`
+{BELOW}/proofs/same/Proof.antt:3:2: error: `same-spec`: `returns` was not admitted (it was rejected), so this cannot be checked
+{BELOW}/proofs/Laws.antt:4:5: error: `law`: the two types differ
+{BELOW}/proofs/Claims.antt:4:5: error: `theorem`: `law` was not admitted (it was rejected), so this cannot be checked
+note: {BELOW}/src/lib.rt:2:1: it is not proved that what the function ensures holds when it returns (`returns-2`)
+fn one::plain: no proof: expected `plain-spec` in {BELOW}/proofs/plain/Proof.antt; `search` does not close `returns-2`, `index`
+logic=not-proved
+""",
 }
 
 
 class Checks(unittest.TestCase):
-    def findings(self, check, changed="", old="", new=""):
+    def findings(self, check, *changes):
+        """What a check finds where each change (a file's last name, the old text, the new one) is made."""
+        texts = dict(SOUND)
+        for file, old, new in changes:
+            name = next(name for name in texts if name.endswith(file))
+            self.assertIn(old, texts[name])
+            texts[name] = texts[name].replace(old, new)
         with tempfile.TemporaryDirectory() as folder:
             root = pathlib.Path(folder)
-            for name, text in SOUND.items():
-                if name.endswith(changed or "/"):
-                    self.assertIn(old, text)
-                    text = text.replace(old, new)
-                path = root / name
-                path.parent.mkdir(parents=True, exist_ok=True)
-                path.write_text(text, encoding="utf-8")
+            for name, text in texts.items():
+                (root / name).parent.mkdir(parents=True, exist_ok=True)
+                (root / name).write_text(text, encoding="utf-8")
             return list(check(root))
 
-    def finds(self, words, *arguments):
-        findings = self.findings(*arguments)
+    def finds(self, words, check, *changes):
+        findings = self.findings(check, *changes)
         self.assertTrue(any(words in finding for finding in findings), findings)
 
     def test_sound(self):
-        self.assertEqual(self.findings(checks.misfits), [])
-        self.assertEqual(self.findings(checks.telling_nothing), [])
+        for refuser in ("same: returns", "Laws: law", "plain: returns-2", "plain: index"):
+            change = ("wrong.edit", "same: returns", refuser)
+            self.assertEqual(self.findings(checks.misfits, change), [])
+            self.assertEqual(self.findings(checks.telling_nothing, change), [])
 
     def test_old_text_that_is_not_there_once(self):
-        self.finds("is 0 times in src/lib.rt: { x }", checks.misfits, "lib.rt", "{ x }", "{ y }")
-        self.finds("is 2 times in specs/Lib.antt: same x = x", checks.misfits, "Lib.antt", "other", "same")
+        self.finds("is 0 times in src/lib.rt: { x }", checks.misfits, ("lib.rt", "{ x }", "{ y }"))
+        self.finds("is 2 times in specs/Lib.antt: same x = x", checks.misfits, ("Lib.antt", "other", "same"))
 
     def test_pair_that_is_not_whole(self):
-        self.finds("a pair without its file or its old text", checks.misfits, "wrong.edit", "src/lib.rt", "src/other.rt")
-        self.finds("a pair without its file or its old text", checks.misfits, "wrong.edit", "old: { x }\n", "")
-        self.finds("it has no pair", checks.misfits, "wrong.edit", "new: ", "now: ")
+        self.finds("a pair without its file or its old text", checks.misfits, ("wrong.edit", "src/lib.rt", "src/other.rt"))
+        self.finds("a pair without its file or its old text", checks.misfits, ("wrong.edit", "old: { x }\n", ""))
+        self.finds("it has no pair", checks.misfits, ("wrong.edit", "new: ", "now: "))
+
+    def test_edit_of_a_proof(self):
+        change = ("wrong.edit", "file: specs/Lib.antt\nold: same x = x", "file: proofs/Laws.antt\nold: law = refl")
+        self.finds("it changes proofs/Laws.antt", checks.misfits, change)
+
+    def test_edit_of_a_crate_that_is_too_large(self):
+        with tempfile.TemporaryDirectory() as folder:
+            root = pathlib.Path(folder)
+            (root / "crates/vectors/must-fail").mkdir(parents=True)
+            (root / "crates/vectors/must-fail/wrong.edit").write_text("", encoding="utf-8")
+            self.assertTrue(any("vectors takes too long" in finding for finding in checks.misfits(root)))
+
+    def test_edit_that_names_no_refuser(self):
+        self.finds("it has 0 lines `refused by", checks.misfits, ("wrong.edit", "refused by: same: returns\n", ""))
+        self.finds("it has 0 lines `refused by", checks.misfits, ("wrong.edit", "same: returns", "same"))
+        self.finds("it has 2 lines `refused by", checks.misfits, ("wrong.edit", "file: src", "refused by: Laws: law\nfile: src"))
+
+    def test_refuser_that_is_not_there(self):
+        self.finds("proofs/Laws.antt does not declare other", checks.misfits, ("wrong.edit", "same: returns", "Laws: other"))
+        self.finds("same/Proof.antt does not declare returns-9", checks.misfits, ("wrong.edit", "same: returns", "same: returns-9"))
+        self.finds("there is no another", checks.misfits, ("wrong.edit", "same: returns", "another: returns"))
 
     def test_edit_that_is_no_definition(self):
-        self.finds("ill-formed", checks.telling_nothing, ".log", "proofs/same/Proof", "specs/Lib")
+        self.finds("ill-formed", checks.telling_nothing, (".log", f"{BELOW}/proofs/same/Proof.antt:1", f"{BELOW}/specs/Lib.antt:1"))
 
     def test_edit_that_makes_the_proof_unfit(self):
-        for error in ("`tie` has no `Need-add-x` that can be named from here", "`x` is not in scope"):
-            self.finds("unfit", checks.telling_nothing, ".log", "the two types differ", error)
+        self.finds("unfit", checks.telling_nothing, (".log", "the two types differ", "`x` is not in scope"))
+        for error in (
+            "`tie` has no `Need-add-x` that can be named from here",
+            "`x` is not in scope",
+            "`c .if1` has no field `before`",
+            "record `Lts.Else1`\n  has no field `if2`",
+        ):
+            change = (".log", "`returns`: the two types differ", f"`returns`: {error}")
+            self.finds("same: returns does not refuse it by itself", checks.telling_nothing, change)
+
+    def test_equivalent_rewriting_that_ends_elsewhere(self):
+        """The proof of a law goes by the words of the definition, and what the edit names fails only with it."""
+        change = ("wrong.edit", "same: returns", "Claims: theorem")
+        others = "Laws: law, plain: index, plain: returns-2, same: returns"
+        self.finds(f"Claims: theorem does not refuse it by itself; {others} does", checks.telling_nothing, change)
+        self.finds("same: same-spec does not refuse it", checks.telling_nothing, ("wrong.edit", "same: returns", "same: same-spec"))
+
+    def test_refuser_that_has_no_error(self):
+        named, log = ("wrong.edit", "same: returns", "Laws: law"), (".log", "`law`: the", "`lemma`: the")
+        self.finds("Laws: law does not refuse it", checks.telling_nothing, named, log)
+        named, log = ("wrong.edit", "same: returns", "plain: index"), (".log", ", `index`", "")
+        self.finds("plain: index does not refuse it", checks.telling_nothing, named, log)
+
+    def test_refuser_of_the_same_name_elsewhere(self):
+        change = (".log", "proofs/same/Proof.antt:1:2", "proofs/other/Proof.antt:1:2")
+        self.finds("same: returns does not refuse it", checks.telling_nothing, change)
+        self.finds("same: returns does not refuse it", checks.telling_nothing, (".log", "must-fail/one/wrong", "must-fail/two/wrong"))
+
+    def test_places_of_a_log(self):
+        found = self.findings(lambda root: [checks.places(checks.own_errors(log, "one", "wrong")) for _, log in checks.tried(root)])
+        self.assertEqual(found, ["Laws: law, plain: index, plain: returns-2, same: returns"])
+        self.assertEqual(checks.places(set()), "nothing")
 
     def test_log_without_error(self):
-        self.finds("its log has no error", checks.telling_nothing, ".log", "error: ", "no ")
+        self.finds("its log has no error", checks.telling_nothing, (".log", "error: ", "no "), (".log", "note: ", "no "))
 
     def test_edit_not_tried(self):
         with tempfile.TemporaryDirectory() as folder:

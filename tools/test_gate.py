@@ -16,6 +16,7 @@ echo "$call" >> "$GATE/calls"
 [ "$call" != "$(cat "$GATE/failing")" ] || exit 9
 [ -z "${TILGHORZ_LIBRARY:-}" ] || exit 9
 case "$(basename "$0") $1" in
+    "rt version") cat "$GATE/kit" ;;
     "rt ci") echo proved; cat "$GATE/last" ;;
     "tilghorz format" | "tilghorz report") cat ;;
 esac
@@ -27,9 +28,10 @@ class Gate(unittest.TestCase):
         folder = tempfile.TemporaryDirectory()
         self.addCleanup(folder.cleanup)
         self.root = pathlib.Path(folder.name, "repository")
-        for name in (".ci", "bin", "host", "crates/format", "crates/report", "evfmt/src"):
+        for name in (".ci", "bin", "tools", "host", "crates/format", "crates/report", "evfmt/src"):
             (self.root / name).mkdir(parents=True)
         shutil.copy(ROOT / ".ci" / "run", self.root / ".ci" / "run")
+        (self.root / "tools" / "kits.txt").write_text("# kits\na kit logic 1\nanother kit logic 2\n", encoding="utf-8")
         for name in ("bin/rt", "bin/cargo", "bin/cargo-clippy", "bin/cargo-fmt", "bin/python3", "tilghorz"):
             (self.root / name).write_text(PROGRAM, encoding="utf-8")
             (self.root / name).chmod(0o755)
@@ -37,9 +39,9 @@ class Gate(unittest.TestCase):
             for file in ("stdin", "stdout"):
                 (self.root / "crates" / name / file).write_text("a text\n", encoding="utf-8")
 
-    def run_gate(self, last="3 passed, 0 failed\n", failing="", **variables):
+    def run_gate(self, last="3 passed, 0 failed\n", failing="", kit="a kit logic 1\n", **variables):
         """The status, the lines of standard output, and the calls."""
-        for name, text in (("calls", ""), ("last", last), ("failing", failing)):
+        for name, text in (("calls", ""), ("last", last), ("failing", failing), ("kit", kit)):
             (self.root / name).write_text(text, encoding="utf-8")
         path = f"{self.root / 'bin'}{os.pathsep}{os.environ['PATH']}"
         variables = {"PATH": path, "GATE": str(self.root), "EVFMT_SRC": str(self.root), **variables}
@@ -71,6 +73,17 @@ class Gate(unittest.TestCase):
     def test_other_output_of_a_program(self):
         (self.root / "crates" / "report" / "stdout").write_text("another text\n", encoding="utf-8")
         self.assertNotEqual(self.run_gate()[0], 0)
+
+    def test_another_kit(self):
+        for kit, said in (("a kit logic 1", 0), ("another kit logic 2", 0), ("a kit logic", 1), ("a kit logic 12", 1)):
+            with self.subTest(kit):
+                status, lines, _ = self.run_gate(kit=f"{kit}\n")
+                self.assertEqual((status, lines[-1]), (0, "3 passed, 0 failed"))
+                self.assertEqual(len([line for line in lines if line.startswith("gate: ANOTHER KIT: ") and line.endswith(kit)]), said)
+
+    def test_static_library_is_looked_at(self):
+        _, _, calls = self.run_gate()
+        self.assertLess(calls.index("rt staticlib tilghorz"), calls.index("python3 tools/repository_checks.py staticlib"))
 
     def test_without_the_crate(self):
         status, lines, calls = self.run_gate(EVFMT_SRC="nowhere")

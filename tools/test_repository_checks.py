@@ -3,11 +3,12 @@
 import pathlib
 import tempfile
 import unittest
+import unittest.mock
 
 import repository_checks as checks
 
 SOUND = {
-    "crates.txt": "# a comment\none:\ntwo: one io\n",
+    "crates.txt": "# a comment\none:\nmessage_io: one io\ntwo: one message_io io\n",
     "crates/one/src/lib.rt": """
 // pub fn in_a_comment(x: u8) -> u8 { x }
 pub fn same(x: u8) -> u8
@@ -31,50 +32,38 @@ fn private(x: u8) -> u8
 impl Thing {
     pub fn part<'a>(self, s: &'a [u8; 4], at: usize) -> &'a [u8]
         ensures first { λ r. ⌜ f (record { at = at }) ≡ r ⌝ }
-        ensures second { λ r. ⌜ r ≡ r ⌝ }
+        ensures second { λ _. ⌜ now (s .exit) ≡ now (s .entry) ⌝ }
     {
         &s[..]
     }
 }
 """,
-    "crates/one/specs/Lib.antt": "pub mod Theorems\n",
-    "crates/one/specs/Theorems.antt": """
--- a reader's words
-unfoldable pub Same : Type 0
-Same = (x : ℕ) → f x ≡ x
-
-pub record Whole : Type 0 where
-  pub part : Same
-
-pub record Parted (x : ℕ) : Type 0 where
-  pub part : Same
-
-pub data Kind : Type 0 where
-  one : Kind
-""",
+    "crates/one/specs/Theorems.antt": "pub Same : Type 0\nSame = (x : ℕ) → f x ≡ x\n",
+    "crates/one/specs/Claimed.antt": "pub record ListClaim (x : ℕ) : Type 0 where\n  pub all : f x ≡ x\n\n"
+    "pub record FormattedClaim (x : ℕ) : Type 0 where\n  pub all : f x ≡ x\n",
     "crates/one/proofs/Lib.antt": "pub mod Claims\n",
-    "crates/one/proofs/Claims.antt": """
-use mathlib.Core.Path.{refl}
-use Rattle.one.specs.Theorems.{
-  Same,
-  Whole,
-}
-
-pub same : Same
-unfolding Same
-same = refl
-
-pub whole : Whole
-whole = record { part = same }
-""",
-    "crates/one/must-fail/wrong.edit": "file: src/lib.rt\nold: [x, x]\nnew: [x, 0]\n",
+    "crates/one/proofs/Claims.antt": "use Rattle.one.specs.Theorems.{Same}\n\npub same : Same\nsame = refl\n",
+    "crates/one/must-fail/wrong.edit": "refused by: twice: returns\nfile: src/lib.rt\nold: [x, x]\nnew: [x, 0]\n",
+    "crates/message_io/src/lib.rt": "pub fn get() -> u8 ensures { λ r. ⌜ r ≡ 0 ⌝ } { 0 }\n",
+    "crates/message_io/must-fail/one.edit": "refused by: get: returns\nfile: src/lib.rt\nold: { 0 }\nnew: { 1 }\n",
     "crates/two/src/main.rt": "fn main() {}\n",
     "docs/AUDIT.md": """
 Each of `same`, `twice` and `part` has a row below.
 
 | demand | excludes, with the edit that shows it |
 |---|---|
-| `Any` | another letter (one: `wrong`, ..) |
+| any | another letter (one: `wrong`, ..) |
+
+## The statements
+
+| crate | statements |
+|---|---|
+| one | `Same` |
+
+| record | clauses |
+|---|---|
+| `ListClaim` | `all` |
+| `FormattedClaim` | `all` |
 
 ## What each contract rules out
 
@@ -84,9 +73,18 @@ Each of `same`, `twice` and `part` has a row below.
 |---|---|
 | `same`, `thing::twice` | edit `wrong` |
 | `Thing::part` | `ensures`; not as `same` |
+
+### message_io
+
+| function | what excludes wrong programs |
+|---|---|
+| `get` | edit `one` |
 """,
-    "target/must-fail/one/wrong/.log": "/r/target/must-fail/one/wrong/proofs/same/Proof.antt:1:2: error: `returns`: the two types differ\n",
+    "target/must-fail/one/wrong/.log": "/r/target/must-fail/one/wrong/proofs/twice/Proof.antt:1:2: error: `returns`: the two types differ\n",
     "target/log/one.say": "fn one::same: proved\nlogic=proved functions=2 sum=0\n",
+    "target/must-fail/message_io/one/.log": "note: /r/src/lib.rt:1:1: it is not proved that (`returns`)\n"
+    "fn message_io::get: no proof: expected `get-spec` in F; `search` does not close `returns`\n",
+    "target/log/message_io.say": "logic=proved functions=1 sum=0\n",
     "target/log/two.say": "logic=proved functions=1 sum=0 axioms=2\n",
 }
 
@@ -94,13 +92,16 @@ Each of `same`, `twice` and `part` has a row below.
 class Checks(unittest.TestCase):
     def findings(self, check, **changes):
         with tempfile.TemporaryDirectory() as folder:
-            root = pathlib.Path(folder)
+            root, changed = pathlib.Path(folder), set()
             for name, text in SOUND.items():
-                old, new = changes.get(pathlib.PurePath(name).name.replace(".", "_").replace("-", "_"), ("", ""))
-                self.assertIn(old, text)
+                key = pathlib.PurePath(name).name.replace(".", "_").replace("-", "_")
+                if key in changes and changes[key][0] in text:
+                    text = text.replace(*changes[key])
+                    changed.add(key)
                 path = root / name
                 path.parent.mkdir(parents=True, exist_ok=True)
-                path.write_text(text.replace(old, new) if old else text, encoding="utf-8")
+                path.write_text(text, encoding="utf-8")
+            self.assertEqual(changed | {"folders", "removed"}, {*changes, "folders", "removed"})
             for name in changes.get("folders", ()):
                 (root / name).mkdir(parents=True)
             for name in changes.get("removed", ()):
@@ -119,7 +120,7 @@ class Checks(unittest.TestCase):
         self.finds("crates/three", checks.unlisted_crates, folders=["crates/three"])
 
     def test_no_library(self):
-        self.finds("it lists no library", checks.unlisted_crates, crates_txt=("one:", "# one:"))
+        self.finds("it lists no library", checks.unlisted_crates, crates_txt=("one:\nmessage_io:", "# one:\n#"))
 
     def test_library_without_edit(self):
         self.finds("one: a library without a must-fail edit", checks.unlisted_crates, removed=["crates/one/must-fail/wrong.edit"])
@@ -129,6 +130,11 @@ class Checks(unittest.TestCase):
 
     def test_public_without_ensures(self):
         self.finds("same: a public function has no `ensures`", checks.weak_contracts, lib_rt=("    ensures { λ r. ⌜ r ≡ x ⌝ }\n", ""))
+
+    def test_public_with_an_empty_ensures(self):
+        for empty in ("r ≡ r", "x ≡ x", "Unit", "f x ≡ x"):
+            self.finds("same: an `ensures` that says nothing", checks.weak_contracts, lib_rt=("λ r. ⌜ r ≡ x ⌝", f"λ r. ⌜ {empty} ⌝"))
+        self.finds("part: an `ensures` that says nothing", checks.weak_contracts, lib_rt=("now (s .exit)", "now (s .entry)"))
 
     def test_exported_without_ensures(self):
         self.finds(
@@ -165,63 +171,47 @@ class Checks(unittest.TestCase):
     def test_edit_in_brackets_that_is_not_there(self):
         self.finds("no must-fail edit right", checks.unaudited_functions, AUDIT_md=("(one: `wrong`, ..)", "(one: `right`, ..)"))
 
-    def test_statement_without_claim(self):
-        self.finds("nothing proves Same", checks.unproved_statements, Claims_antt=("pub same : Same\n", "same : Same\n"))
-
-    def test_record_without_claim(self):
-        self.finds("nothing proves Whole", checks.unproved_statements, Claims_antt=("pub whole : Whole", "whole : Whole"))
-
-    def test_missing_claims(self):
-        self.finds("missing, so nothing proves Same", checks.unproved_statements, removed=["crates/one/proofs/Claims.antt"])
-
-    def test_claim_with_hypothesis(self):
-        self.finds("is no statement", checks.unproved_statements, Claims_antt=("pub same : Same", "pub same : (x : ⊥) → Same"))
-
-    def test_claim_in_a_comment(self):
-        self.finds("nothing proves Same", checks.unproved_statements, Claims_antt=("pub same : Same\n", "{-\npub same : Same\n-}\n"))
-
-    def test_statement_with_a_comment(self):
-        self.finds(
-            "nothing proves Other",
-            checks.unproved_statements,
-            Theorems_antt=("pub record Whole", "pub Other : Type 0 -- words\nOther = Same\n\npub record Whole"),
-        )
-
-    def test_no_statement(self):
-        self.finds("no statement is found", checks.unproved_statements, Theorems_antt=(": Type 0", ": Type zero"))
-
-    def test_claim_in_section(self):
-        self.finds("further hypotheses", checks.unproved_statements, Claims_antt=("pub same", "module _ (x : ⊥) where\npub same"))
-
-    def test_claim_of_another_statement(self):
-        self.finds("is not imported from", checks.unproved_statements, Claims_antt=("specs.specs.Theorems", "specs.specs.Others"))
-
-    def test_statement_in_section(self):
-        self.finds("that no claim can name", checks.unproved_statements, Theorems_antt=("unfoldable pub Same", "  unfoldable pub Same"))
-
-    def test_statement_not_public(self):
-        self.finds("that no claim can name", checks.unproved_statements, Theorems_antt=("unfoldable pub Same", "unfoldable Same"))
-
-    def test_claims_not_reached(self):
-        self.finds("no line `pub mod Claims`", checks.unproved_statements, Lib_antt=("pub mod ", "mod "))
-        self.finds("no line `pub mod Claims`", checks.unproved_statements, Lib_antt=("pub mod ", "{-\npub mod "))
-
     def test_what_rt_ci_counted(self):
         def of(line):
             return lambda root: checks.miscounted(root, line)
 
-        self.assertEqual(self.findings(of("3 passed, 0 failed")), [])
-        for line in ("0 passed, 0 failed", "2 passed, 0 failed", "3 passed, 1 failed", ""):
-            self.finds("the crates and the must-fail edits make `3 passed, 0 failed`", of(line))
+        self.assertEqual(self.findings(of("5 passed, 0 failed")), [])
+        for line in ("0 passed, 0 failed", "4 passed, 0 failed", "5 passed, 1 failed", ""):
+            self.finds("the crates and the must-fail edits make `5 passed, 0 failed`", of(line))
 
-    def test_library_on_an_axiom(self):
-        self.finds("rests on an axiom", checks.rests_on_axioms, one_say=("sum=0", "sum=0 axioms=1"))
+    def test_library_that_calls_c(self):
+        words = "one: a library that rests on contracts of C functions, through libc"
+        self.finds(words, checks.libraries_that_call_c, crates_txt=("one:", "one: libc"))
+
+    def test_library_that_calls_c_through_another(self):
+        words = "one: a library that rests on contracts of C functions, through message_io"
+        self.finds(words, checks.libraries_that_call_c, crates_txt=("one:\nmessage_io: one io", "one: message_io\nmessage_io: io"))
+
+    def test_static_library_on_an_axiom(self):
+        sound = "sum=0 target=x86_64 native=nat"
+        self.assertEqual(self.findings(self.of_static_library(), one_say=("sum=0", sound)), [])
+        for more in ("axioms=1", "foreign=1"):
+            self.finds("rests on an axiom", self.of_static_library(), one_say=("sum=0", f"{more} {sound}"))
+
+    def test_static_library_not_made(self):
+        self.finds("not that of a static library", self.of_static_library())
+        self.finds("not that of a static library", self.of_static_library(), removed=["target/log/one.say"])
+        self.finds("not that of a static library", self.of_static_library(), one_say=("=proved functions=2", "=not-proved target=x"))
+
+    def of_static_library(self):
+        """The check of the static library, with the crate `one` for it."""
+
+        def check(root):
+            with unittest.mock.patch.object(checks, "STATIC_LIBRARY", "one"):
+                return list(checks.rests_on_axioms(root))
+
+        return check
 
     def test_crate_not_checked(self):
-        self.finds("no log of its check", checks.rests_on_axioms, removed=["target/log/two.say"])
+        self.finds("crates/two: no log says", checks.unproved_crates, removed=["target/log/two.say"])
 
     def test_crate_not_proved(self):
-        self.finds("does not say that it is proved", checks.rests_on_axioms, one_say=("logic=proved", "logic=not-proved"))
+        self.finds("crates/one: no log says", checks.unproved_crates, one_say=("logic=proved", "logic=not-proved"))
 
 
 if __name__ == "__main__":
