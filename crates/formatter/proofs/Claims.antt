@@ -3,7 +3,7 @@ use mathlib.Core.Path.{refl}
 use Rattle.base.specs.Words.{bytesOf, littleEndian, wordBytes}
 use Rattle.formatter.specs.List.{countNumbers, rowNumbers}
 use Rattle.formatter.specs.Theorems.{CellByCell, ColumnsInOrder, EveryFormattedText, EveryList, FiledIsFormatted, IntakeComesFirst, IntakeInOrder, ListedAsBytes}
-use Rattle.formatter.specs.Worked.{WorkedList, WorkedListClaimed, WorkedTexts}
+use Rattle.formatter.specs.Worked.{ExampleCalls, WorkedList, WorkedListClaimed, WorkedTexts}
 use Rattle.formatter.proofs.CellView.{cell-view}
 use Rattle.formatter.proofs.FormattedClaim.{formatted-claim}
 use Rattle.formatter.proofs.ListClaim.{list-claim}
@@ -40,7 +40,10 @@ unfolding CellByCell
 cell-by-cell text policy = cell-view text policy
 
 pub worked-texts : WorkedTexts
-worked-texts = texts
+worked-texts = texts .0
+
+pub example-calls : ExampleCalls
+example-calls = texts .1
 
 pub worked-list : WorkedList
 worked-list = calls
