@@ -1,4 +1,5 @@
--- The grammar's parts at the front of a text, each the longest: S, tags, groups of tags, a modification, a stem, a unit, links, passthrough (document 01, "Item").
+-- The grammar's parts at the front of a text, each the longest: S, tags, groups of tags, a modification, a stem, a unit, links,
+-- passthrough (document 01, "Item").
 use mathlib.Core.Bool.{Bool, cond, not, _||_}
 use mathlib.Core.List.{List, [], _∷_, _++_}
 use Prim.Native.Nat.{ℕ}

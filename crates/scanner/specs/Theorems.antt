@@ -116,7 +116,8 @@ pub record LongestAt (Part : List ℕ → Type 0) (at : List ℕ → List ℕ) :
   pub front : (t : List ℕ) → take (length (at t)) t ≡ at t
   pub longest : (s r : List ℕ) → Part s → length s ≤ length (at (s ++ r))
 
--- "Each choice takes the longest run": so do S, tags, groups of tags, a modification, all modifications, a stem, a unit, a link and all links.
+-- "Each choice takes the longest run": so do S, tags, groups of tags, a modification, all modifications, a stem, a unit, a link
+-- and all links.
 unfoldable pub RunsAreLongest : Type 0
 RunsAreLongest =
     LongestAt S selectorsAt
