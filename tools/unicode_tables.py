@@ -126,10 +126,11 @@ def tables():
     ]
 
 
-def constant(name, kind, numbers, digits):
-    """A constant array in the layout of rt fmt: a short one on one line, a long one with a number to a line."""
+def constant(name, kind, numbers, digits, length=None):
+    """A constant array in the layout of rt fmt: a short one on one line, a long one with a number to a line. Its length is
+    the number of its elements, or a name for that."""
     written = [f"0x{n:0{digits}X}" for n in numbers]
-    line = f"pub const {name}: [{kind}; {len(numbers)}] = [" + ", ".join(written) + "];"
+    line = f"pub const {name}: [{kind}; {length or len(numbers)}] = [" + ", ".join(written) + "];"
     if len(line) <= 100:
         return [line]
     return [line[: line.index(" = [") + 4]] + [f"    {n}," for n in written] + ["];"]
@@ -354,6 +355,11 @@ def members(tables):
     }
 
 
+def set_words(name, held, entries):
+    """A set's words as a constant array of W words."""
+    return constant(name, "u64", words(held, entries), 16, "CHARSET_WORDS")
+
+
 def named_sets(numbered, tables):
     major, minor = numbered
     entries, sets = members(tables)
@@ -370,7 +376,7 @@ def named_sets(numbered, tables):
         f"pub const CHARSET_WORDS: usize = {len(words(set(), entries))};",
     ]
     for name, what in described.items():
-        out += ["", f"// {what}: {len(sets[name])}."] + constant(name + "_BITS", "u64", words(sets[name], entries), 16)
+        out += ["", f"// {what}: {len(sets[name])}."] + set_words(name + "_BITS", sets[name], entries)
     return "\n".join(out) + "\n"
 
 
@@ -393,10 +399,11 @@ def default_policy(numbered, tables):
     out = [
         f"// The words of the default policy that are no named set's, with the tables of Unicode {major}.{minor}, made by",
         "// tools/unicode_tables.py.",
+        "use policy_key_set::named_sets::CHARSET_WORDS;",
         "",
         f"// {what}: {len(held)}.",
     ]
-    return "\n".join(out + constant(name, "u64", words(held, entries), 16)) + "\n"
+    return "\n".join(out + set_words(name, held, entries)) + "\n"
 
 
 def default_policy_specs(numbered, tables):

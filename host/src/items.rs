@@ -34,9 +34,10 @@ pub const GRAMMAR: &str = "\
 # many there are. The blanks of this grammar do not stand in an item.
 # A finding F is its first byte, -, the byte behind its last, :, the counts that are not 0, each behind its letter, in
 # this order: u unsanctioned, m modifier-defective, a additional-defective, c tag-conflicting, f tag-forced,
-# r tag-redundant, p policy-redundant, d decisions; then :, the default decisions, t or e each, and replacements, each
+# r tag-redundant, p policy-redundant, d decisions; then :, the choices, one for each decision, and replacements, each
 # = and 2 hexadecimal digits a byte: by default; if there are decisions, with all text and with all emoji; and if there
-# are two decisions or more, with emoji and text by turns.
+# are two decisions or more, with emoji and text by turns. A choice is its default, t or e, and the two replacements of
+# its unit, as text and as emoji, each + and 2 hexadecimal digits a byte.
 ";
 
 /// The part with the worked texts and the short texts.

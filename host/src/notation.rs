@@ -13,6 +13,9 @@ use crate::beside::counts;
 /// The tag that ends a complete tag modification.
 const CANCEL_TAG: char = '\u{E007F}';
 
+/// The character of a link.
+const LINK: char = '\u{200D}';
+
 /// The field of an item: its kind, span, tag report and nested structure.
 #[must_use]
 pub fn item(item: &ScanItem) -> String {
@@ -22,24 +25,47 @@ pub fn item(item: &ScanItem) -> String {
     format!("{kind}{}-{}{report}{structure}", span.start, span.end)
 }
 
-/// The field of a finding: its span, counts, default decisions and replacements.
+/// The field of a finding: its span, counts, choices and replacements.
 #[must_use]
 pub fn finding(finding: &Finding) -> String {
     let decisions: Vec<Presentation> = finding.default_decisions().collect();
     let mut out = format!(
-        "{}-{}:{}:{}",
+        "{}-{}:{}:",
         finding.span.start,
         finding.span.end,
         lettered(counts(finding.non_canonicality())),
-        decisions.iter().copied().map(letter).collect::<String>(),
     );
-    push_replacement(&mut out, &finding.default_canonical_replacement());
+    let choices = choices(finding, decisions.len());
+    assert_eq!(choices.len(), decisions.len(), "{:?}", finding.raw);
+    for (default, [text, emoji]) in decisions.iter().zip(choices) {
+        out.push(letter(*default));
+        push_replacement(&mut out, '+', &text);
+        push_replacement(&mut out, '+', &emoji);
+    }
+    push_replacement(&mut out, '=', &finding.default_canonical_replacement());
     for decisions in decision_lists(decisions.len()) {
         if let Some(replacement) = finding.canonical_replacement_with_decisions(&decisions) {
-            push_replacement(&mut out, &replacement);
+            push_replacement(&mut out, '=', &replacement);
         }
     }
     out
+}
+
+/// The two replacements, text and emoji, of each of so many choices. The crate keeps its choices to itself. A choice is a
+/// unit, and a link stands between two units: so they are the parts in which the finding's replacements with all text
+/// and with all emoji differ.
+fn choices(finding: &Finding, length: usize) -> Vec<[String; 2]> {
+    let with_all = |decision| {
+        finding
+            .canonical_replacement_with_decisions(&vec![decision; length])
+            .unwrap_or_default()
+    };
+    let (text, emoji) = (with_all(Presentation::Text), with_all(Presentation::Emoji));
+    let units = text.split(LINK).zip(emoji.split(LINK));
+    units
+        .filter(|(text, emoji)| text != emoji)
+        .map(|(text, emoji)| [text.to_owned(), emoji.to_owned()])
+        .collect()
 }
 
 /// The lists of so many decisions that are tried beside the default ones.
@@ -55,9 +81,9 @@ fn decision_lists(length: usize) -> Vec<Vec<Presentation>> {
     lists
 }
 
-/// Adds a replacement, two hexadecimal digits a byte.
-fn push_replacement(out: &mut String, replacement: &str) {
-    out.push('=');
+/// Adds a replacement behind a sign, two hexadecimal digits a byte.
+fn push_replacement(out: &mut String, sign: char, replacement: &str) {
+    out.push(sign);
     out.push_str(&crate::hexadecimal(replacement));
 }
 

@@ -45,6 +45,17 @@ fn span(field: &str) -> (usize, usize) {
     (number(start), number(&rest[..digits]))
 }
 
+/// The choices of a finding's field: the default of each, and its two replacements.
+fn choices(field: &str) -> Vec<(char, [Vec<u8>; 2])> {
+    let choices = field.split([':', '=']).nth(2).expect("choices");
+    let defaults = choices.chars().filter(char::is_ascii_lowercase);
+    let replaced = choices.split(['t', 'e']).skip(1).map(|choice| {
+        let (text, emoji) = choice[1..].split_once('+').expect("two replacements");
+        [bytes(text), bytes(emoji)]
+    });
+    defaults.zip(replaced).collect()
+}
+
 /// The replacements of a finding's field.
 fn replacements(field: &str) -> Vec<Vec<u8>> {
     field.split('=').skip(1).map(bytes).collect()
@@ -151,7 +162,7 @@ fn findings_have_as_many_replacements_as_their_decisions_ask_for() {
     let findings = parts.iter().flat_map(|part| lines(part, "under"));
     let mut lists = HashSet::new();
     for field in findings.flat_map(|fields| fields.into_iter().skip(1)) {
-        let decisions = field.split([':', '=']).nth(2).expect("decisions");
+        let decisions: String = choices(field).iter().map(|(default, _)| default).collect();
         let wanted = match decisions.len() {
             0 => 1,
             1 => 3,
@@ -164,6 +175,27 @@ fn findings_have_as_many_replacements_as_their_decisions_ask_for() {
         lists.insert(decisions);
     }
     assert!(lists.len() > 8, "{lists:?}");
+}
+
+#[test]
+fn a_choice_is_a_part_of_each_replacement() {
+    let parts = parts();
+    let findings = parts.iter().flat_map(|part| lines(part, "under"));
+    let mut found = 0;
+    for field in findings.flat_map(|fields| fields.into_iter().skip(1)) {
+        // By default, with all text and with all emoji: which of a choice's two stands there.
+        let which: [fn(char) -> usize; 3] = [|default| usize::from(default == 'e'), |_| 0, |_| 1];
+        for (replacement, which) in replacements(field).iter().zip(which) {
+            let mut rest = &replacement[..];
+            for (default, replaced) in choices(field) {
+                let choice = &replaced[which(default)];
+                let at = rest.windows(choice.len()).position(|part| part == choice);
+                rest = &rest[at.expect("the choice's unit") + choice.len()..];
+                found += 1;
+            }
+        }
+    }
+    assert!(found > 1000, "{found}");
 }
 
 /// Whether a field of a line with the keyword passes a test; its first field, the text or the policy, is left out.

@@ -58,10 +58,9 @@ use Rattle.analysis.specs.Theorems.{
   SelectorsAddUp,
   SumsAreWhole,
   WithoutEntry,
-  WorkedChoices,
-  WorkedDecisions,
-  WorkedRules,
-  WorkedItemsAnalysed,
+  ChoiceExamples,
+  DecisionExamples,
+  RuleExamples,
 }
 use Rattle.analysis.proofs.ChoiceWalk.{walk-item}
 use Rattle.analysis.proofs.Choices.{choices-counted, decisions-defaults, replacement-defaults}
@@ -82,7 +81,7 @@ use Rattle.analysis.proofs.NumberRules.{by-numbers}
 use Rattle.analysis.proofs.RuleLaws.{keeps, settles}
 use Rattle.analysis.proofs.Rules.{by-policy, outcome-entry, outcome-no-entry}
 use Rattle.analysis.proofs.Sums.{whole-sum}
-use Rattle.analysis.proofs.Worked.{computed}
+use Rattle.analysis.proofs.Examples.{computed}
 
 pub without-entry : WithoutEntry
 unfolding WithoutEntry rule1
@@ -203,18 +202,14 @@ choices-by-structure p t x m o =
     let h = item-says p o (item-derives t x m) .chooses in
     of-structured (λ k. choicesOf p k (x .chars)) (choicesIn (elements p (structure (x .chars)))) o h h
 
-pub worked-items-analysed : WorkedItemsAnalysed
-unfolding WorkedItemsAnalysed
-worked-items-analysed = computed .0
+pub rule-examples : RuleExamples
+unfolding RuleExamples
+rule-examples = computed .0
 
-pub worked-rules : WorkedRules
-unfolding WorkedRules
-worked-rules = computed .1
+pub choice-examples : ChoiceExamples
+unfolding ChoiceExamples
+choice-examples = computed .1
 
-pub worked-choices : WorkedChoices
-unfolding WorkedChoices
-worked-choices = computed .2
-
-pub worked-decisions : WorkedDecisions
-unfolding WorkedDecisions
-worked-decisions = computed .3
+pub decision-examples : DecisionExamples
+unfolding DecisionExamples
+decision-examples = computed .2

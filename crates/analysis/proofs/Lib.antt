@@ -1,5 +1,5 @@
 -- The laws of the rules and of replacements, and the theorems.
-pub mod Worked
+pub mod Examples
 pub mod Counts
 pub mod Rules
 pub mod RuleLaws

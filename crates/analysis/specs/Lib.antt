@@ -9,5 +9,5 @@ pub mod CellView
 pub mod Findings
 pub mod ItemAt
 pub mod ChoicesAt
-pub mod Worked
+pub mod Examples
 pub mod Theorems

@@ -53,7 +53,7 @@ use Rattle.analysis.specs.Counts.{
 }
 use Rattle.analysis.specs.Rules.{bare, byKeycap, decided, firstAsked, fixed, gives, outcome, runWith}
 use Rattle.analysis.specs.declared.types.NonCanonicality.{NonCanonicality}
-use Rattle.analysis.specs.Worked.{worked, workedItems}
+use Rattle.analysis.specs.Examples.{analysed, analysedItems}
 
 -- ---- the rules, case by case
 
@@ -222,54 +222,26 @@ ChoicesByStructure =
     (p : Policy) (t : List ℕ) (x : Item) → List·Memᴰ x (items t) → Structured (x .kind)
     → choices p x ≡ choicesIn (elements p (structure (x .chars)))
 
--- ---- worked texts
+-- ---- examples; document 01's worked texts are in formatter, specs/Worked.antt
 
--- The items of document 01's worked texts, by its numbers, each with its counts and its replacement by default.
-unfoldable pub WorkedItemsAnalysed : Type 0
-WorkedItemsAnalysed =
-    -- 1
-    (workedItems [] ≡ [])
-    -- 2
-    × (workedItems (0x31 ∷ 0xFE0E ∷ []) ≡ worked (0x31 ∷ 0xFE0E ∷ []) policyRedundant (0x31 ∷ []) ∷ [])
-    -- 3
-    × (workedItems (0x31 ∷ 0x20E3 ∷ []) ≡ worked (0x31 ∷ 0x20E3 ∷ []) decision (0x31 ∷ 0xFE0E ∷ 0x20E3 ∷ []) ∷ [])
-    -- 4
-    × (workedItems (0x231A ∷ 0xFE0F ∷ []) ≡ worked (0x231A ∷ 0xFE0F ∷ []) policyRedundant (0x231A ∷ []) ∷ [])
-    -- 5
-    × (workedItems (0x231A ∷ 0xFE0E ∷ 0xFE0F ∷ []) ≡ worked (0x231A ∷ 0xFE0E ∷ 0xFE0F ∷ []) (unsanctioned 1) (0x231A ∷ 0xFE0E ∷ []) ∷ [])
-    -- 6
-    × (workedItems (0x231A ∷ 0xFE0F ∷ 0xFE0E ∷ []) ≡ worked (0x231A ∷ 0xFE0F ∷ 0xFE0E ∷ []) (policyRedundant ⊕ unsanctioned 1) (0x231A ∷ []) ∷ [])
-    -- 7
-    × (workedItems (0x261D ∷ 0xFE0F ∷ 0x1F3FB ∷ []) ≡ worked (0x261D ∷ 0xFE0F ∷ 0x1F3FB ∷ []) modifierDefective (0x261D ∷ 0x1F3FB ∷ []) ∷ [])
-    -- 8
-    × (workedItems (0x261D ∷ 0xFE0E ∷ 0x1F3FB ∷ []) ≡ worked (0x261D ∷ 0xFE0E ∷ 0x1F3FB ∷ []) empty (0x261D ∷ 0xFE0E ∷ 0x1F3FB ∷ []) ∷ [])
-    -- 9
-    × (workedItems (0x2764 ∷ 0xFE0F ∷ 0x1F3FB ∷ []) ≡ worked (0x2764 ∷ 0xFE0F ∷ 0x1F3FB ∷ []) additionalDefective (0x2764 ∷ 0x1F3FB ∷ []) ∷ [])
-    -- 10
-    × (workedItems (0x2764 ∷ 0xFE0E ∷ 0xE0061 ∷ []) ≡ worked (0x2764 ∷ 0xFE0E ∷ 0xE0061 ∷ []) (tagConflicting ⊕ tagForced) (0x2764 ∷ 0xFE0F ∷ 0xE0061 ∷ []) ∷ [])
-    -- 11
-    × (workedItems (0x1F1E6 ∷ 0xFE0F ∷ 0x1F1E7 ∷ []) ≡ worked (0x1F1E6 ∷ 0xFE0F ∷ 0x1F1E7 ∷ []) (unsanctioned 1) (0x1F1E6 ∷ 0x1F1E7 ∷ []) ∷ [])
-    -- 12
-    × (workedItems (0x231A ∷ 0x200D ∷ 0x200D ∷ 0x231A ∷ []) ≡ worked (0x231A ∷ 0x200D ∷ 0x200D ∷ []) empty (0x231A ∷ 0x200D ∷ 0x200D ∷ []) ∷ worked (0x231A ∷ []) empty (0x231A ∷ []) ∷ [])
-    -- 13
-    × (workedItems (0x61 ∷ 0xFE0F ∷ []) ≡ worked (0x61 ∷ []) empty (0x61 ∷ []) ∷ worked (0xFE0F ∷ []) (unsanctioned 1) [] ∷ [])
-    -- 14
-    × (workedItems (0x20E3 ∷ []) ≡ worked (0x20E3 ∷ []) empty (0x20E3 ∷ []) ∷ [])
-
--- Texts for what these leave open: rule 1 before rule 3 (1F476 is a modifier base without an entry), rule 4, tag-forced alone,
+-- Texts for what the worked ones leave open: rule 1 before rule 3 (1F476 is a modifier base without an entry), rule 4, tag-forced alone,
 -- and selectors after a link and after modifications.
-unfoldable pub WorkedRules : Type 0
-WorkedRules =
-    (workedItems (0x1F476 ∷ 0xFE0F ∷ 0x1F3FB ∷ []) ≡ worked (0x1F476 ∷ 0xFE0F ∷ 0x1F3FB ∷ []) (unsanctioned 1) (0x1F476 ∷ 0x1F3FB ∷ []) ∷ [])
-    × (workedItems (0x231A ∷ 0xFE0F ∷ 0xE0061 ∷ []) ≡ worked (0x231A ∷ 0xFE0F ∷ 0xE0061 ∷ []) tagRedundant (0x231A ∷ 0xE0061 ∷ []) ∷ [])
-    × (workedItems (0x231A ∷ 0xFE0E ∷ 0xE0061 ∷ []) ≡ worked (0x231A ∷ 0xFE0E ∷ 0xE0061 ∷ []) tagConflicting (0x231A ∷ 0xE0061 ∷ []) ∷ [])
-    × (workedItems (0x2764 ∷ 0xE0061 ∷ []) ≡ worked (0x2764 ∷ 0xE0061 ∷ []) tagForced (0x2764 ∷ 0xFE0F ∷ 0xE0061 ∷ []) ∷ [])
-    × (workedItems (0x2764 ∷ 0xFE0F ∷ 0x200D ∷ 0xFE0F ∷ 0x1F525 ∷ 0xFE0F ∷ []) ≡ worked (0x2764 ∷ 0xFE0F ∷ 0x200D ∷ 0xFE0F ∷ 0x1F525 ∷ 0xFE0F ∷ []) (unsanctioned 2) (0x2764 ∷ 0xFE0F ∷ 0x200D ∷ 0x1F525 ∷ []) ∷ [])
-    × (workedItems (0x31 ∷ 0xFE0F ∷ 0x20E3 ∷ 0xFE0F ∷ []) ≡ worked (0x31 ∷ 0xFE0F ∷ 0x20E3 ∷ 0xFE0F ∷ []) (unsanctioned 1) (0x31 ∷ 0xFE0F ∷ 0x20E3 ∷ []) ∷ [])
+unfoldable pub RuleExamples : Type 0
+RuleExamples =
+    (analysedItems (0x1F476 ∷ 0xFE0F ∷ 0x1F3FB ∷ [])
+    ≡ analysed (0x1F476 ∷ 0xFE0F ∷ 0x1F3FB ∷ []) (unsanctioned 1) (0x1F476 ∷ 0x1F3FB ∷ []) ∷ [])
+    × (analysedItems (0x231A ∷ 0xFE0F ∷ 0xE0061 ∷ []) ≡ analysed (0x231A ∷ 0xFE0F ∷ 0xE0061 ∷ []) tagRedundant (0x231A ∷ 0xE0061 ∷ []) ∷ [])
+    × (analysedItems (0x231A ∷ 0xFE0E ∷ 0xE0061 ∷ [])
+    ≡ analysed (0x231A ∷ 0xFE0E ∷ 0xE0061 ∷ []) tagConflicting (0x231A ∷ 0xE0061 ∷ []) ∷ [])
+    × (analysedItems (0x2764 ∷ 0xE0061 ∷ []) ≡ analysed (0x2764 ∷ 0xE0061 ∷ []) tagForced (0x2764 ∷ 0xFE0F ∷ 0xE0061 ∷ []) ∷ [])
+    × (analysedItems (0x2764 ∷ 0xFE0F ∷ 0x200D ∷ 0xFE0F ∷ 0x1F525 ∷ 0xFE0F ∷ [])
+    ≡ analysed (0x2764 ∷ 0xFE0F ∷ 0x200D ∷ 0xFE0F ∷ 0x1F525 ∷ 0xFE0F ∷ []) (unsanctioned 2) (0x2764 ∷ 0xFE0F ∷ 0x200D ∷ 0x1F525 ∷ []) ∷ [])
+    × (analysedItems (0x31 ∷ 0xFE0F ∷ 0x20E3 ∷ 0xFE0F ∷ [])
+    ≡ analysed (0x31 ∷ 0xFE0F ∷ 0x20E3 ∷ 0xFE0F ∷ []) (unsanctioned 1) (0x31 ∷ 0xFE0F ∷ 0x20E3 ∷ []) ∷ [])
 
 -- A decision's two replacements are the whole unit, without the selectors of its modifications; each unit has its own.
-unfoldable pub WorkedChoices : Type 0
-WorkedChoices =
+unfoldable pub ChoiceExamples : Type 0
+ChoiceExamples =
     (choices defaultPolicy (item EmojiHeaded (0x31 ∷ 0x20E3 ∷ 0xFE0F ∷ []))
     ≡ record { default = Text; text = 0x31 ∷ 0xFE0E ∷ 0x20E3 ∷ []; emoji = 0x31 ∷ 0xFE0F ∷ 0x20E3 ∷ [] } ∷ [])
     × (choices defaultPolicy (item EmojiHeaded (0x2764 ∷ 0x200D ∷ 0x231A ∷ 0x200D ∷ 0x23 ∷ 0x20E3 ∷ 0x200D ∷ []))
@@ -277,8 +249,8 @@ WorkedChoices =
     ∷ record { default = Text; text = 0x23 ∷ 0xFE0E ∷ 0x20E3 ∷ []; emoji = 0x23 ∷ 0xFE0F ∷ 0x20E3 ∷ [] } ∷ [])
 
 -- Decisions go in text order, and a missing one means the default.
-unfoldable pub WorkedDecisions : Type 0
-WorkedDecisions =
+unfoldable pub DecisionExamples : Type 0
+DecisionExamples =
     (replacement defaultPolicy (item EmojiHeaded (0x2764 ∷ 0x200D ∷ 0x23 ∷ 0x20E3 ∷ [])) (Emoji ∷ Text ∷ [])
     ≡ 0x2764 ∷ 0xFE0F ∷ 0x200D ∷ 0x23 ∷ 0xFE0E ∷ 0x20E3 ∷ [])
     × (replacement defaultPolicy (item EmojiHeaded (0x2764 ∷ 0x200D ∷ 0x23 ∷ 0x20E3 ∷ [])) (Text ∷ Emoji ∷ [])

@@ -1,6 +1,8 @@
 // The eight counts of an item, a finding and a choice: types.rs of the crate evfmt; document 01, "Counts and finding".
 // `add_count`, `empty`, `unsanctioned`, `is_empty` and `add` equal the definitions of specs/Counts.antt.
 ghost use mathlib.Core.Path.{_≡_};
+ghost use mathlib.Core.Logic.{_↔_};
+ghost use mathlib.Core.Bool.{true};
 ghost use Prim.Native.Nat.{_+_};
 ghost use lib.Dec.{eqb};
 ghost use Rattle.analysis.specs.Counts.{capped, cappedSum, empty, total, unsanctioned};
@@ -149,5 +151,47 @@ impl NonCanonicality {
                 rhs.presentation_decisions,
             ),
         }
+    }
+    // Whether two findings' counts are equal.
+    pub fn eq(self, rhs: Self) -> bool
+        ensures { λ r. ⌜ (r ≡ true) ↔ (self ≡ rhs) ⌝ }
+    {
+        if self.unsanctioned_selectors != rhs.unsanctioned_selectors {
+            return false;
+        }
+        if self.modifier_defective_selectors != rhs.modifier_defective_selectors {
+            return false;
+        }
+        if self.additional_defective_selectors != rhs.additional_defective_selectors {
+            return false;
+        }
+        if self.tag_conflicting_selectors != rhs.tag_conflicting_selectors {
+            return false;
+        }
+        if self.tag_forced_presentations != rhs.tag_forced_presentations {
+            return false;
+        }
+        if self.tag_redundant_selectors != rhs.tag_redundant_selectors {
+            return false;
+        }
+        if self.policy_redundant_selectors != rhs.policy_redundant_selectors {
+            return false;
+        }
+        self.presentation_decisions == rhs.presentation_decisions
+    }
+}
+
+impl Finding {
+    // Whether two findings are equal.
+    pub fn eq(self, rhs: Self) -> bool
+        ensures { λ r. ⌜ (r ≡ true) ↔ (self ≡ rhs) ⌝ }
+    {
+        if self.start != rhs.start {
+            return false;
+        }
+        if self.end != rhs.end {
+            return false;
+        }
+        NonCanonicality::eq(self.counts, rhs.counts)
     }
 }

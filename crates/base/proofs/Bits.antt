@@ -2,14 +2,14 @@
 use mathlib.Core.Path.{_≡_, refl, sym, ap, _∙_}
 use mathlib.Core.Bool.{true, false}
 use Prim.Native.Nat.{ℕ, zero, suc, _+_, _*_, _/_, _%_, _^_, _<_, _≤_}
-use native.Mathlib.Nat.{le-of-suc-le-suc, min-eq-left, mul-assoc, not-suc-le-zero, pow-suc, zero-div}
+use native.Mathlib.Nat.{le-of-suc-le-suc, min-eq-left, min-eq-right, mul-assoc, not-suc-le-zero, pow-suc, zero-div}
 use native.Mathlib.Numerals.{one-add}
 use native.Mathlib.Omega.{arith}
 use lib.Bits.{bitAnd, and-shr, and-step}
 use lib.Count.{trailingZeros, under}
 use lib.Dec.{eqb}
 use lib.Pow.{shr-shr}
-use borrow.Author.Tests.{eqb-true}
+use borrow.Author.Tests.{eqb-false, eqb-true, eq-eqb}
 use Rattle.base.specs.Bits.{one}
 
 -- the lowest bit, and the others: those of the half
@@ -54,6 +54,17 @@ and-bit k a b h =
     let e : bitAnd x y % 2 ≡ x % 2 = omega (arith, and-step x y, min-eq-left le) in
     ap (λ (n : ℕ). eqb (n % 2) 1) (and-shr a b k) ∙ ap (λ (n : ℕ). eqb n 1) e
 
+-- .. and where it has a zero, AND gives zero
+pub and-no-bit : (k a b : ℕ) → one k b ≡ false → one k (bitAnd a b) ≡ false
+unfolding one
+and-no-bit k a b h =
+    let x = a / 2 ^ k in
+    let y = b / 2 ^ k in
+    let even : y % 2 ≡ 0 = omega (arith, eqb-false (y % 2) 1 h) in
+    let le : y % 2 ≤ x % 2 = omega arith in
+    let e : bitAnd x y % 2 ≡ 0 = omega (arith, and-step x y, min-eq-right le) in
+    ap (λ (n : ℕ). eqb (n % 2) 1) (and-shr a b k) ∙ ap (λ (n : ℕ). eqb n 1) e
+
 -- the bits below the lowest one are zero
 even-below : (d t i : ℕ) → i < under d t → (d ≡ 0) × (i < suc t)
 even-below zero t i h = (refl, h)
@@ -67,3 +78,24 @@ trailing-bit (suc k) n zero h =
 trailing-bit (suc k) n (suc i) h =
     next-bit i n
     ∙ trailing-bit k (n / 2) i (le-of-suc-le-suc (even-below (n % 2) (trailingZeros k (n / 2)) (suc i) h .1))
+
+-- .. the lowest one is one
+pub trailing-one : (k n : ℕ) → trailingZeros k n < k → one (trailingZeros k n) n ≡ true
+unfolding trailingZeros
+trailing-one zero n h = absurd (not-suc-le-zero h)
+trailing-one (suc k) n h = go (n % 2) refl h (trailing-one k (n / 2))
+  where
+    go : (d : ℕ) → n % 2 ≡ d → under d (trailingZeros k (n / 2)) < suc k
+        → (trailingZeros k (n / 2) < k → one (trailingZeros k (n / 2)) (n / 2) ≡ true)
+        → one (under d (trailingZeros k (n / 2))) n ≡ true
+    go zero e l rest = next-bit (trailingZeros k (n / 2)) n ∙ rest (le-of-suc-le-suc l)
+    go (suc d) e l rest = low-bit n ∙ eq-eqb (n % 2) 1 (omega arith)
+
+-- .. and a word of k bits that has none is zero
+pub trailing-all : (k n : ℕ) → n < 2 ^ k → k ≤ trailingZeros k n → n ≡ 0
+unfolding trailingZeros
+trailing-all zero n h e = omega arith
+trailing-all (suc k) n h e =
+    let even = even-below (n % 2) (trailingZeros k (n / 2)) k e in
+    let half = trailing-all k (n / 2) (omega (arith, pow-suc 2 k)) (le-of-suc-le-suc (even .1)) in
+    omega (arith, even .0)

@@ -14,7 +14,7 @@ use Rattle.formatter.specs.Theorems.{
   MendsByReplacement,
   MendsTestAlike,
 }
-use Rattle.formatter.specs.Worked.{WorkedList, WorkedListClaimed, WorkedTexts}
+use Rattle.formatter.specs.Worked.{ExampleCalls, WorkedList, WorkedListClaimed, WorkedTexts}
 use Rattle.formatter.proofs.ByReplacement.{by-replacement, test-alike}
 use Rattle.formatter.proofs.CellView.{cell-view}
 use Rattle.formatter.proofs.FormattedClaim.{formatted-claim}
@@ -58,7 +58,10 @@ unfolding CellByCell
 cell-by-cell text policy = cell-view text policy
 
 pub worked-texts : WorkedTexts
-worked-texts = texts
+worked-texts = texts .0
+
+pub example-calls : ExampleCalls
+example-calls = texts .1
 
 pub worked-list : WorkedList
 worked-list = calls

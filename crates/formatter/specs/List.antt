@@ -5,11 +5,9 @@ use Prim.Native.Nat.{ℕ}
 use lib.Dec.{leb}
 use lib.ListN.{length}
 use Rattle.policy.specs.PolicyBytes.{policyOf}
-use Rattle.scanner.specs.Spans.{scan}
+use Rattle.scanner.specs.Spans.{kindNumber, scan}
 use Rattle.scanner.specs.TextCheck.{textRefusal}
 use Rattle.scanner.specs.declared.ScanItem.{ScanItem}
-use Rattle.scanner.specs.declared.ScanKind.{ScanKind}
-use Rattle.scanner.specs.declared.ScanKind.the-variants.{EmojiHeaded, LinksOnly, Passthrough, UnsanctionedPresentationSelectors}
 use Rattle.formatter.specs.Findings.{findingRow, findings}
 use Rattle.base.specs.Refusals.{After, kept, orElse, written}
 use Rattle.base.specs.Tables.{fillTable}
@@ -60,13 +58,6 @@ listBytes text policy table =
     (fillTable rowNumbers rowBytes (map (findingRow (policyOf policy)) (findings text policy)) table)
 
 -- ---- items
-
--- The kinds of items by number.
-unfoldable pub kindNumber : ScanKind → ℕ
-kindNumber Passthrough = 0
-kindNumber UnsanctionedPresentationSelectors = 1
-kindNumber LinksOnly = 2
-kindNumber EmojiHeaded = 3
 
 -- A listed item is its start, its end, its kind and whether its tags are complete: a row of four numbers.
 unfoldable pub itemNumbers : ScanItem → List ℕ

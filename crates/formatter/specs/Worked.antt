@@ -121,6 +121,13 @@ workedTable =
     ∷ stays (0x231A ∷ 0x200D ∷ 0x200D ∷ 0x231A ∷ []) ((0, 9) ∷ (9, 12) ∷ [])
     ∷ []
 
+-- "The starred ones, as one table of the definitions under one theorem": the texts are as the table says, through the definitions of
+-- items and of the calls. Programs check 13 and 14.
+unfoldable pub WorkedTexts : Type 0
+WorkedTexts = map workedText (map (λ (w : WorkedText). w .text) workedTable) ≡ workedTable
+
+-- ---- the example of "Programs"
+
 -- "Input bytes 31 EF B8 8E 20 E2 9D A4"
 abbrev pub exampleBytes : List ℕ
 exampleBytes = 0x31 ∷ 0xEF ∷ 0xB8 ∷ 0x8E ∷ 0x20 ∷ 0xE2 ∷ 0x9D ∷ 0xA4 ∷ []
@@ -129,13 +136,12 @@ exampleBytes = 0x31 ∷ 0xEF ∷ 0xB8 ∷ 0x8E ∷ 0x20 ∷ 0xE2 ∷ 0x9D ∷ 0x
 abbrev pub exampleRows : List Finding
 exampleRows = finding 0 4 (eight 0 0 0 0 0 0 1 0) ∷ finding 5 8 (eight 0 0 0 0 0 0 0 1) ∷ []
 
--- The starred texts are as the table says, through the definitions of items and of the calls; and the example of "Programs" gives
--- its two rows and its totals, by listing, formatting and mending. Its replacements alone: that at 0; at 1, inside the first item, no
--- finding starts; that at 5, decided and by default; and the text with a byte after it that begins no character is turned back.
-unfoldable pub WorkedTexts : Type 0
-WorkedTexts =
-    (map workedText (map (λ (w : WorkedText). w .text) workedTable) ≡ workedTable)
-    × (list exampleBytes theDefault (blank ∷ blank ∷ blank ∷ []) ≡ record { answer = Listed 2; buffer = exampleRows ++ blank ∷ [] })
+-- The example gives its two rows and its totals, by listing, formatting and mending. Its replacements alone: that at 0; at 1, inside the
+-- first item, no finding starts; that at 5, decided and by default; and the text with a byte after it that begins no character is
+-- turned back.
+unfoldable pub ExampleCalls : Type 0
+ExampleCalls =
+    (list exampleBytes theDefault (blank ∷ blank ∷ blank ∷ []) ≡ record { answer = Listed 2; buffer = exampleRows ++ blank ∷ [] })
     × (list exampleBytes theDefault (blank ∷ []) ≡ record { answer = Refused (TableTooShort 2); buffer = blank ∷ [] })
     × (textTotals exampleBytes theDefault ≡ eight 0 0 0 0 0 0 1 1)
     × (format exampleBytes theDefault room

@@ -9,13 +9,12 @@ ghost use Rattle.base.specs.Words.{bytesOf};
 ghost use Rattle.base.specs.Answers.{EndsAs, listRow};
 ghost use Rattle.base.specs.Output.{PutAt};
 ghost use Rattle.scanner.specs.Spans.{scan};
-ghost use Rattle.formatter.specs.List.{itemBytes, itemNumbers, kindNumber, listItems};
+ghost use Rattle.formatter.specs.List.{itemBytes, itemNumbers, listItems};
 use base::Check;
 use base::ListAnswer;
 use base::Refusal;
 use base::WORD_BYTES;
 use scanner::ScanItem;
-use scanner::ScanKind;
 use scanner::ScanStep;
 use scanner::text_check::check_text;
 
@@ -37,18 +36,6 @@ fn count_items(text: &[u8]) -> usize
     items
 }
 
-// The number of a kind.
-fn kind_number(kind: ScanKind) -> usize
-    ensures { λ r. ⌜ r ≡ kindNumber kind ⌝ }
-{
-    match kind {
-        ScanKind::Passthrough => 0,
-        ScanKind::UnsanctionedPresentationSelectors => 1,
-        ScanKind::LinksOnly => 2,
-        ScanKind::EmojiHeaded => 3,
-    }
-}
-
 // 1 for true and 0 for false.
 fn flag_number(flag: bool) -> usize
     ensures { λ r. ⌜ r ≡ cond flag 1 0 ⌝ }
@@ -65,7 +52,7 @@ fn put_item(table: &mut [u8], start: usize, item: ScanItem) -> usize
     ensures { λ r. ⌜ PutAt (now (table .entry)) start (bytesOf (itemNumbers item)) (now (table .exit)) r ⌝ }
 {
     let kind = item.kind;
-    let number = kind_number(kind);
+    let number = scanner::kind_number(kind);
     let complete = flag_number(item.tags_complete);
     let numbers = [item.start, item.end, number, complete];
     base::write_numbers(table, start, &numbers);

@@ -16,14 +16,14 @@ use Rattle.unicode.specs.UnicodeData.{variationEntries}
 use Rattle.unicode.specs.declared.VariationSequenceIndex.{VariationSequenceIndex}
 use Rattle.unicode.specs.declared.VariationSequenceIndex.the-variants as Index
 use Rattle.unicode.proofs.Ascent.{isAt}
-use Rattle.policy_key_set.specs.Sets.{allBelow, contains, entryCount, member, memberAt}
+use Rattle.policy_key_set.specs.Sets.{allBelow, contains, entryCount, member, memberAt, wordCount}
 use Rattle.policy_key_set.specs.KeySets.{isAscii, ordinary}
 use Rattle.policy_key_set.specs.declared.PolicyKeySet.{PolicyKeySet}
 use Rattle.policy_key_set.proofs.Below.{all-below, below-all}
 use Rattle.policy_key_set.proofs.Contains.{has-index}
 use Rattle.policy_key_set.proofs.Entries.{entry-count, index-has-place}
 use Rattle.policy.specs.Policy.{entryRule, holdsBase, holdsEntry, ruleOf, singletonRule}
-use Rattle.policy.specs.PolicyBytes.{asciiKeysBare, policyOf, wordCount, wordsFrom}
+use Rattle.policy.specs.PolicyBytes.{asciiKeysBare, policyOf, wordsFrom}
 use Rattle.policy.specs.declared.Policy.{Policy}
 use Rattle.policy.specs.declared.SingletonRule.the-variants.{EmojiToBare, TextToBare}
 use Rattle.policy.proofs.ByteBits.{low-ones}

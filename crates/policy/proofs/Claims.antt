@@ -16,13 +16,13 @@ use Rattle.unicode.specs.declared.VariationSequenceIndex.{VariationSequenceInde
 use Rattle.unicode.proofs.Claims.{no-index-no-entry}
 use Rattle.base.specs.declared.Refusal.the-variants.{NotAPolicy}
 use Rattle.base.specs.Bits.{one}
-use Rattle.policy_key_set.specs.Sets.{allBelow, contains, entryCount, member, memberAt}
+use Rattle.policy_key_set.specs.Sets.{allBelow, contains, entryCount, member, memberAt, wordCount}
 use Rattle.policy_key_set.specs.KeySets.{isAscii, rightWords}
 use Rattle.policy_key_set.proofs.Contains.{contains-chars}
 use Rattle.policy_key_set.proofs.Entries.{right-words}
 use Rattle.policy.specs.Policy.{holdsBase, ruleOf, singletonRule}
 use Rattle.policy.specs.DefaultPolicy.{bareAsText, bareAsTextKeycap, defaultPolicy, preferBare, preferBareKeycap}
-use Rattle.policy.specs.PolicyBytes.{PolicyValue, isPolicy, keyWords, noUnusedBits, policyBytes, policyFault, policyOf, policyWords, wordCount, wordsFrom}
+use Rattle.policy.specs.PolicyBytes.{PolicyValue, isPolicy, keyWords, noUnusedBits, policyBytes, policyFault, policyOf, policyWords, wordsFrom}
 use Rattle.policy.specs.declared.Policy.{Policy}
 use Rattle.policy.specs.declared.SingletonRule.the-variants.{BareToText, EmojiToBare, TextToBare}
 use Rattle.policy.specs.Theorems.{
@@ -33,10 +33,13 @@ use Rattle.policy.specs.Theorems.{
   ReadWritten,
   RuleByEntry,
   RuleWithoutEntry,
+  SamePolicyMeans,
+  SameRuleMeans,
   SameWordsSamePolicy,
   WriteRead,
 }
 use Rattle.policy.proofs.ByEntry.{ascii-rule-bare, rule-by-entry}
+use Rattle.policy.proofs.Equal.{equal-policy-same, equal-rule-same, same-policy-equal, same-rule-equal}
 use Rattle.policy.proofs.RoundTrips.{Sixes, append-below, many-words, read-words, same-words, sixes-of, words-of, write-words}
 use Rattle.policy.proofs.Refusals.{passed-policy, policy-passes, policy-refused, refused-policy}
 use Rattle.policy.proofs.Unused.{refused-by, refused-for}
@@ -123,6 +126,14 @@ sixes p v = record {
 pub same-words-same-policy : SameWordsSamePolicy
 unfolding SameWordsSamePolicy
 same-words-same-policy p q v w e = same-words p q (sixes p v) (sixes q w) e
+
+pub same-policy-means : SamePolicyMeans
+unfolding SamePolicyMeans
+same-policy-means p q v w e f = (same-policy-equal p q v w e f, equal-policy-same p q)
+
+pub same-rule-means : SameRuleMeans
+unfolding SameRuleMeans
+same-rule-means a b = (same-rule-equal a b, equal-rule-same a b)
 
 words-below : (p : Policy) → PolicyValue p → (k : ℕ) → getD (policyWords p) k 0 < 2 ^ 64
 unfolding policyWords keyWords

@@ -6,4 +6,5 @@ pub mod Bytes
 pub mod ByteBits
 pub mod ByEntry
 pub mod RoundTrips
+pub mod Equal
 pub mod Claims

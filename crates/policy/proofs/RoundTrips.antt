@@ -10,9 +10,9 @@ use lib.Seq.{drop-at, drop-drop, take-at}
 use Rattle.base.specs.Words.{allBytes, bytesOf, number, wordBytes}
 use Rattle.base.proofs.Words.{allBytes-drop, length-wordBytes, number-littleEndian, word-read}
 use Rattle.unicode.specs.UnicodeData.{variationEntries}
-use Rattle.policy_key_set.specs.Sets.{entryCount}
+use Rattle.policy_key_set.specs.Sets.{entryCount, wordCount}
 use Rattle.policy_key_set.specs.declared.char_set.CharSet.{CharSet}
-use Rattle.policy.specs.PolicyBytes.{keyWords, policyOf, policyWords, wordCount, wordsFrom}
+use Rattle.policy.specs.PolicyBytes.{keyWords, policyOf, policyWords, wordsFrom}
 use Rattle.policy.specs.declared.Policy.{Policy}
 use Rattle.policy.proofs.Bytes.{length-wordsFrom}
 

@@ -11,13 +11,13 @@ use lib.Pow.{pow-pos}
 use borrow.Author.Tests.{eqb-false, le-leb, le-ltb, leb-true, lt-ltb, ltb-false, ne-eqb, not-false, not-true}
 use Rattle.base.proofs.Tests.{le-or-lt, same-test}
 use Rattle.base.specs.Bits.{one}
-use Rattle.policy_key_set.specs.Sets.{allBelow, entryCount, member}
+use Rattle.policy_key_set.specs.Sets.{allBelow, entryCount, member, wordCount}
 use Rattle.policy_key_set.proofs.Below.{all-below, below-all}
-use Rattle.policy.specs.PolicyBytes.{NoPolicy, UnusedOne, isPolicy, noUnusedBit, noUnusedBits, not-4W-words, policyOf, setOf, unused-bit, wordCount}
+use Rattle.policy.specs.PolicyBytes.{NoPolicy, UnusedOne, isPolicy, noUnusedBit, noUnusedBits, not-4W-words, policyOf, setOf, unused-bit}
 use Rattle.policy.proofs.Bounds.{high-bits, low-word}
 
 -- a bit that is no entry's, and a test of it
-unused : (n i : ℕ) (b : Bool) → n ≤ i → (ltb i n || not b) ≡ not b
+pub unused : (n i : ℕ) (b : Bool) → n ≤ i → (ltb i n || not b) ≡ not b
 unused n i b h = simp (le-ltb i n h)
 
 used : (n i : ℕ) (b : Bool) → i < n → (ltb i n || not b) ≡ true

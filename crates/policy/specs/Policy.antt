@@ -1,8 +1,9 @@
 -- What a policy says of a base: document 01, "Key set and policy".
-use mathlib.Core.Bool.{Bool, true, false}
+use mathlib.Core.Bool.{Bool, true, false, _&&_}
 use Prim.Native.Nat.{ℕ}
+use lib.Dec.{eqb}
 use Rattle.policy_key_set.specs.Sets.{contains}
-use Rattle.policy_key_set.specs.KeySets.{HoldsKeys, keycap, ordinary}
+use Rattle.policy_key_set.specs.KeySets.{HoldsKeys, keycap, ordinary, sameKeys}
 use Rattle.policy_key_set.specs.declared.PolicyKeySet.{PolicyKeySet}
 use Rattle.policy.specs.declared.Policy.{Policy}
 use Rattle.policy.specs.declared.SingletonRule.{SingletonRule}
@@ -37,3 +38,18 @@ holdsEntry s i true = keycap s i
 -- the rule for entry i, ordinary or keycap; `RuleByEntry` says that it is the rule for the base at that entry
 unfoldable pub entryRule : Policy → ℕ → Bool → SingletonRule
 entryRule p i keycap = ruleOf (holdsEntry (p .«prefer_bare») i keycap) (holdsEntry (p .«bare_as_text») i keycap)
+
+-- two policies hold the same keys: `SamePolicyMeans` says that they are then equal, if no unused bit is one
+abbrev pub samePolicy : Policy → Policy → Bool
+samePolicy p q = sameKeys (p .«prefer_bare») (q .«prefer_bare») && sameKeys (p .«bare_as_text») (q .«bare_as_text»)
+
+-- the rules by number, in the order of their declaration
+abbrev pub ruleNumber : SingletonRule → ℕ
+ruleNumber BareToEmoji = 0
+ruleNumber BareToText = 1
+ruleNumber TextToBare = 2
+ruleNumber EmojiToBare = 3
+
+-- two rules are the same: `SameRuleMeans`
+abbrev pub sameRule : SingletonRule → SingletonRule → Bool
+sameRule a b = eqb (ruleNumber a) (ruleNumber b)

@@ -4,23 +4,19 @@ use mathlib.Core.Path.{_≡_}
 use mathlib.Core.Bool.{Bool, true, cond, _&&_, _||_, not}
 use mathlib.Core.List.{List, [], _∷_, _++_}
 use mathlib.Core.Option.{Option, none, some}
-use Prim.Native.Nat.{ℕ, zero, suc, _+_, _*_, _/_, _^_, _≤_, _<_}
+use Prim.Native.Nat.{ℕ, zero, suc, _+_, _*_, _^_, _≤_, _<_}
 use lib.Dec.{eqb, ltb}
 use lib.ListN.{drop, getD, length, take}
 use Rattle.base.specs.Words.{bytesOf, number}
 use Rattle.base.specs.declared.Refusal.{Refusal}
 use Rattle.base.specs.declared.Refusal.the-variants.{NotAPolicy}
 use Rattle.unicode.specs.UnicodeData.{variationEntries}
-use Rattle.policy_key_set.specs.Sets.{allBelow, entryCount, member}
+use Rattle.policy_key_set.specs.Sets.{allBelow, entryCount, member, wordCount}
 use Rattle.policy_key_set.specs.KeySets.{isAscii, ordinary}
 use Rattle.policy_key_set.specs.declared.char_set.CharSet.{CharSet}
 use Rattle.policy_key_set.specs.declared.PolicyKeySet.{PolicyKeySet}
 use Rattle.policy.specs.declared.Policy.{Policy}
 use Rattle.policy.specs.declared.ReadPolicy.{ReadPolicy}
-
--- "W = V/64 rounded up"
-unfoldable pub wordCount : ℕ
-wordCount = (entryCount + 63) / 64
 
 -- the words of a key set, ordinary first, and of a policy, `prefer_bare` first
 unfoldable pub keyWords : PolicyKeySet → List ℕ

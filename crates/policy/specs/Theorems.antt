@@ -12,7 +12,8 @@ use Rattle.unicode.specs.Unicode.{hasVariationSequence, isEmojiDefault, isTextD
 use Rattle.unicode.specs.UnicodeData.{variationEntries}
 use Rattle.unicode.specs.declared.VariationSequenceIndex.the-variants.{At}
 use Rattle.policy_key_set.specs.KeySets.{HoldsKeys, isAscii}
-use Rattle.policy.specs.Policy.{entryRule, singletonRule}
+use Rattle.policy_key_set.specs.Sets.{wordCount}
+use Rattle.policy.specs.Policy.{entryRule, samePolicy, sameRule, singletonRule}
 use Rattle.policy.specs.DefaultPolicy.{defaultPolicy}
 use Rattle.policy.specs.PolicyBytes.{
   NoPolicy,
@@ -24,9 +25,9 @@ use Rattle.policy.specs.PolicyBytes.{
   policyOf,
   policyRefusal,
   policyWords,
-  wordCount,
 }
 use Rattle.policy.specs.declared.Policy.{Policy}
+use Rattle.policy.specs.declared.SingletonRule.{SingletonRule}
 use Rattle.policy.specs.declared.SingletonRule.the-variants.{BareToEmoji, BareToText, EmojiToBare, TextToBare}
 
 -- The default policy: of the ordinary keys the ASCII entries and the emoji defaults prefer bare, and the text defaults
@@ -65,6 +66,15 @@ AsciiBasesBare =
 -- Two policies with the same words are equal.
 unfoldable pub SameWordsSamePolicy : Type 0
 SameWordsSamePolicy = (p q : Policy) → PolicyValue p → PolicyValue q → policyWords p ≡ policyWords q → p ≡ q
+
+-- `eq` of policies without an unused bit, and of rules, answers whether the two are equal.
+unfoldable pub SamePolicyMeans : Type 0
+SamePolicyMeans =
+    (p q : Policy) → PolicyValue p → PolicyValue q → noUnusedBits p ≡ true → noUnusedBits q ≡ true
+    → (samePolicy p q ≡ true) ↔ (p ≡ q)
+
+unfoldable pub SameRuleMeans : Type 0
+SameRuleMeans = (a b : SingletonRule) → (sameRule a b ≡ true) ↔ (a ≡ b)
 
 -- Reading the written words gives the policy, and it is accepted exactly when it has no unused bit.
 unfoldable pub ReadWritten : Type 0

@@ -8,9 +8,10 @@ ghost use Prim.Native.Nat.{_+_, _≤_};
 ghost use lib.ListN.{length};
 ghost use Rattle.base.specs.Words.{bytesOf};
 ghost use Rattle.base.specs.Output.{PutAt, Wrote};
-ghost use Rattle.policy.specs.Policy.{Cleared, holdsBase, ruleOf, singletonRule};
+ghost use Rattle.policy_key_set.specs.Sets.{wordCount};
+ghost use Rattle.policy.specs.Policy.{Cleared, holdsBase, ruleNumber, ruleOf, samePolicy, sameRule, singletonRule};
 ghost use Rattle.policy.specs.DefaultPolicy.{defaultPolicy};
-ghost use Rattle.policy.specs.PolicyBytes.{keyWords, policyBytes, readPolicy, wordCount, wordsFrom};
+ghost use Rattle.policy.specs.PolicyBytes.{keyWords, policyBytes, readPolicy, wordsFrom};
 use base::WORD_BYTES;
 use base::WriteAnswer;
 use default_policy::PREFER_BARE_BITS;
@@ -32,6 +33,27 @@ pub enum SingletonRule {
     BareToText,
     TextToBare,
     EmojiToBare,
+}
+
+// A rule's number.
+fn rule_number(rule: SingletonRule) -> u8
+    ensures { λ r. ⌜ r ≡ ruleNumber rule ⌝ }
+{
+    match rule {
+        SingletonRule::BareToEmoji => 0,
+        SingletonRule::BareToText => 1,
+        SingletonRule::TextToBare => 2,
+        SingletonRule::EmojiToBare => 3,
+    }
+}
+
+impl SingletonRule {
+    // Whether two rules are the same.
+    pub fn eq(self, rhs: Self) -> bool
+        ensures { λ r. ⌜ r ≡ sameRule self rhs ⌝ }
+    {
+        rule_number(self) == rule_number(rhs)
+    }
 }
 
 // Whether a key set holds a base, in its ordinary or in its keycap set.
@@ -110,6 +132,16 @@ impl Policy {
                 keycap_chars: CharSet { bits: ALL_BITS },
             },
         }
+    }
+
+    // Whether two policies hold the same keys.
+    pub fn eq(self, rhs: Self) -> bool
+        ensures { λ r. ⌜ r ≡ samePolicy self rhs ⌝ }
+    {
+        if PolicyKeySet::eq(self.prefer_bare, rhs.prefer_bare) {
+            return PolicyKeySet::eq(self.bare_as_text, rhs.bare_as_text);
+        }
+        false
     }
 
     // What the policy says of a base, ordinary or keycap.

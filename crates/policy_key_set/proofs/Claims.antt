@@ -9,7 +9,7 @@ use Rattle.unicode.specs.Unicode.{hasVariationSequence, isEmojiDefault, isEmoji
 use Rattle.unicode.specs.UnicodeData.{variationEntries}
 use Rattle.unicode.proofs.Between.{every, every-member}
 use Rattle.base.specs.Bits.{one}
-use Rattle.policy_key_set.specs.Sets.{countBelow, entryCount, member, sameEntries, sizeOf}
+use Rattle.policy_key_set.specs.Sets.{wordCount, countBelow, entryCount, member, sameEntries, sizeOf}
 use Rattle.policy_key_set.specs.KeySets.{isAscii, isKeycapRgi, keycap, ordinary}
 use Rattle.policy_key_set.specs.Display.{
   display,
@@ -56,7 +56,7 @@ use Rattle.policy_key_set.proofs.Entries.{entry-count, right-words}
 use Rattle.policy_key_set.proofs.Contains.{contains-chars, contains-complement, contains-made}
 
 pub entries-and-words : EntriesAndWords
-unfolding EntriesAndWords
+unfolding EntriesAndWords wordCount
 entries-and-words = (entry-count, omega (arith, entry-count))
 
 pub members-determine-words : MembersDetermineWords

@@ -28,6 +28,10 @@ member i ws = one (i % 64) (getD ws (i / 64) 0)
 unfoldable pub entryCount : ℕ
 entryCount = length variationEntries
 
+-- "W = V/64 rounded up": the words of a set
+unfoldable pub wordCount : ℕ
+wordCount = (entryCount + 63) / 64
+
 -- the words hold the entries below n that pass a test, and no other bit is one
 abbrev pub HoldsBelow : ℕ → (ℕ → Bool) → List ℕ → Type 0
 HoldsBelow n p ws = (i : ℕ) → member i ws ≡ (ltb i n && p i)

@@ -4,7 +4,7 @@ use mathlib.Core.Path.{_≡_}
 use mathlib.Core.Logic.{_↔_}
 use mathlib.Core.Bool.{Bool, true, false, not, _&&_, _||_}
 use mathlib.Core.List.{List, [], _∷_}
-use Prim.Native.Nat.{ℕ, _+_, _*_, _/_, _^_, _<_, _≤_}
+use Prim.Native.Nat.{ℕ, _+_, _*_, _^_, _<_, _≤_}
 use lib.Count.{ones}
 use lib.ListN.{getD, length}
 use Rattle.unicode.specs.Unicode.{hasVariationSequence, isEmojiDefault, isTextDefault}
@@ -19,6 +19,7 @@ use Rattle.policy_key_set.specs.Sets.{
   sameEntries,
   sizeOf,
   sumBelow,
+  wordCount,
 }
 use Rattle.policy_key_set.specs.KeySets.{isAscii, isKeycapRgi, keycap, keysSize, ordinary, rightWords}
 use Rattle.policy_key_set.specs.Display.{display}
@@ -26,7 +27,7 @@ use Rattle.policy_key_set.specs.declared.PolicyKeySet.{PolicyKeySet}
 
 -- "With V variation entries, W = V/64 rounded up": 354 and 6.
 unfoldable pub EntriesAndWords : Type 0
-EntriesAndWords = (entryCount ≡ 354) × ((entryCount + 63) / 64 ≡ 6)
+EntriesAndWords = (entryCount ≡ 354) × (wordCount ≡ 6)
 
 -- Words of 64 bits are determined by their members.
 unfoldable pub MembersDetermineWords : Type 0

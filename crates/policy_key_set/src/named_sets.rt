@@ -3,7 +3,7 @@
 pub const CHARSET_WORDS: usize = 6;
 
 // Every entry: 354.
-pub const ALL_BITS: [u64; 6] = [
+pub const ALL_BITS: [u64; CHARSET_WORDS] = [
     0xFFFFFFFFFFFFFFFF,
     0xFFFFFFFFFFFFFFFF,
     0xFFFFFFFFFFFFFFFF,
@@ -13,7 +13,7 @@ pub const ALL_BITS: [u64; 6] = [
 ];
 
 // The entries below 80: 12.
-pub const ASCII_BITS: [u64; 6] = [
+pub const ASCII_BITS: [u64; CHARSET_WORDS] = [
     0x0000000000000FFF,
     0x0000000000000000,
     0x0000000000000000,
@@ -23,7 +23,7 @@ pub const ASCII_BITS: [u64; 6] = [
 ];
 
 // The entries that default to text presentation: 219.
-pub const TEXT_DEFAULT_BITS: [u64; 6] = [
+pub const TEXT_DEFAULT_BITS: [u64; CHARSET_WORDS] = [
     0xF9FCFFDF33FFFFFF,
     0xA6BC32FF5FE001FF,
     0xBFF827DE1FE7FFF3,
@@ -33,7 +33,7 @@ pub const TEXT_DEFAULT_BITS: [u64; 6] = [
 ];
 
 // The entries that default to emoji presentation: 135.
-pub const EMOJI_DEFAULT_BITS: [u64; 6] = [
+pub const EMOJI_DEFAULT_BITS: [u64; CHARSET_WORDS] = [
     0x06030020CC000000,
     0x5943CD00A01FFE00,
     0x4007D821E018000C,
@@ -43,7 +43,7 @@ pub const EMOJI_DEFAULT_BITS: [u64; 6] = [
 ];
 
 // # and * and the digits: 12.
-pub const KEYCAP_RGI_BITS: [u64; 6] = [
+pub const KEYCAP_RGI_BITS: [u64; CHARSET_WORDS] = [
     0x0000000000000FFF,
     0x0000000000000000,
     0x0000000000000000,

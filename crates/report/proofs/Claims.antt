@@ -8,10 +8,10 @@ use Rattle.unicode.specs.Tables.{inRanges, indexOf, member, next}
 use Rattle.unicode.specs.Unicode.{hasVariationSequence, isEmoji, isEmojiDefault, isEmojiModifier, isEmojiModifierBase, isEmojiPresentation, isRi, isTag, variationSequenceIndex}
 use Rattle.unicode.specs.UnicodeData.{emojiModifierBases, emojiModifiers, emojiPresentationRanges, emojiRanges, riRanges, variationEntries}
 use Rattle.base.specs.Bits.{one}
-use Rattle.policy_key_set.specs.Sets.{allBelow, contains, entryCount, member as Sets·member, memberAt}
+use Rattle.policy_key_set.specs.Sets.{allBelow, contains, entryCount, member as Sets·member, memberAt, wordCount}
 use Rattle.policy.specs.DefaultPolicy.{bareAsText, bareAsTextKeycap, defaultPolicy, preferBare, preferBareKeycap}
 use Rattle.policy.specs.Policy.{holdsBase, ruleOf, singletonRule}
-use Rattle.policy.specs.PolicyBytes.{isPolicy, keyWords, noUnusedBit, noUnusedBits, policyBytes, policyOf, policyRefusal, policyWords, wordCount, wordsFrom}
+use Rattle.policy.specs.PolicyBytes.{isPolicy, keyWords, noUnusedBit, noUnusedBits, policyBytes, policyOf, policyRefusal, policyWords, wordsFrom}
 use Rattle.scanner.specs.Classes.{classOf}
 use Rattle.scanner.specs.Items.{begin, cut, items, kindOf, step}
 use Rattle.scanner.specs.Spans.{found, width}

@@ -34,7 +34,7 @@ use Rattle.scanner.specs.Structure.{
 }
 use Rattle.scanner.specs.Spans.{firstOf, scan, scanAt, scanFrom, size, spans, width}
 use Rattle.scanner.specs.Tags.{allComplete, complete, tagModifications, tagRuns, tagsComplete, withTags}
-use Rattle.scanner.specs.Theorems.{CursorAtItemEnd, CursorAtStart, CursorEnds, CursorInsideCharacter, CursorPastEnd, FirstItemByRuns, ItemAlone, ItemsAfresh, ItemsAreAReading, ItemsTile, NoItemIsEmpty, OnlyReading, RestByRuns, RunsAreDerived, RunsAreLongest, RunsByClass, SelectorsMoveNothing, SpansAfresh, SpansCover, SpansSpellItems, SpansTile, SpansTileFrom, Spells, span, StructureFlattens, StructureIsDerived, Structured, TagReportTells, TagsAreInStructure, TagsCompleteMeans, Tiles, WorkedItems, WorkedStructure, WorkedTags}
+use Rattle.scanner.specs.Theorems.{CursorAtItemEnd, CursorAtStart, CursorEnds, CursorInsideCharacter, CursorPastEnd, FirstItemByRuns, ItemAlone, ItemsAfresh, ItemsAreAReading, ItemsTile, NoItemIsEmpty, OnlyReading, RestByRuns, RunsAreDerived, RunsAreLongest, RunsByClass, SelectorsMoveNothing, SpansAfresh, SpansCover, SpansSpellItems, SpansTile, SpansTileFrom, Spells, span, StructureFlattens, StructureIsDerived, Structured, TagReportTells, TagsAreInStructure, TagsCompleteMeans, Tiles, ItemExamples, StructureExample, TagExamples}
 use Rattle.scanner.specs.Walks.{SequenceWalk, StructureIsWalked}
 use Rattle.scanner.specs.declared.ScanKind.{ScanKind}
 use Rattle.scanner.specs.declared.ScanItem.{ScanItem}
@@ -47,14 +47,26 @@ use Rattle.scanner.proofs.EmojiRuns.{unit-item}
 use Rattle.scanner.proofs.RestRuns.{unit-ends, unit-joins, unit-left}
 use Rattle.scanner.proofs.ItemRuns.{item-links, item-passthrough, item-selectors}
 use Rattle.scanner.proofs.ItemWalks.{structure-walk}
-use Rattle.scanner.proofs.LongestRuns.{longest-link, longest-links, longest-modification, longest-modifications, longest-selectors, longest-stem, longest-unit}
+use Rattle.scanner.proofs.LongestRuns.{
+  longest-groups,
+  longest-link,
+  longest-links,
+  longest-modification,
+  longest-modifications,
+  longest-selectors,
+  longest-stem,
+  longest-tags,
+  longest-unit,
+}
 use Rattle.scanner.proofs.RunLaws.{
+  groups-derived,
   link-derived,
   links-derived,
   modification-derived,
   modifications-derived,
   selectors-derived,
   stem-derived,
+  tags-derived,
   unit-derived,
 }
 use Rattle.scanner.proofs.Runs.{Stops, at-char, at-end}
@@ -94,11 +106,31 @@ selectors-move-nothing k c s t o e d = derives-alike c s t (derive-inner c s o d
 
 pub runs-are-derived : RunsAreDerived
 unfolding RunsAreDerived
-runs-are-derived = (selectors-derived, modification-derived, modifications-derived, stem-derived, unit-derived, link-derived, links-derived)
+runs-are-derived = (
+  selectors-derived,
+  tags-derived,
+  groups-derived,
+  modification-derived,
+  modifications-derived,
+  stem-derived,
+  unit-derived,
+  link-derived,
+  links-derived,
+)
 
 pub runs-are-longest : RunsAreLongest
 unfolding RunsAreLongest
-runs-are-longest = (longest-selectors, longest-modification, longest-modifications, longest-stem, longest-unit, longest-link, longest-links)
+runs-are-longest = (
+  longest-selectors,
+  longest-tags,
+  longest-groups,
+  longest-modification,
+  longest-modifications,
+  longest-stem,
+  longest-unit,
+  longest-link,
+  longest-links,
+)
 
 pub first-item-by-runs : FirstItemByRuns
 unfolding FirstItemByRuns items
@@ -185,17 +217,17 @@ tags-complete-means t x m k =
     (subst (λ (i : ScanKind). (tagsComplete i (x .chars) ≡ true) ↔ ((ts : List ℕ) → List·Memᴰ ts (tagModifications (x .chars)) → Ends ts)) (sym k)
     (all-complete-means (tagModifications (x .chars))))
 
-pub worked-items : WorkedItems
-unfolding WorkedItems classOf isSelector isTag isRi isEmojiModifier isEmoji inRanges member emojiModifiers emojiRanges riRanges step begin kindOf cut items utf8-1 utf8-2 utf8-3 utf8-4 readFour readChar foldStep foldChars chars encode encodeAll width spans scanFrom scan tagsComplete tagModifications tagRuns withTags allComplete
-worked-items = (refl, refl, refl, refl, refl, refl, refl, refl, refl)
+pub item-examples : ItemExamples
+unfolding ItemExamples classOf isSelector isTag isRi isEmojiModifier isEmoji inRanges member emojiModifiers emojiRanges riRanges step begin kindOf cut items
+item-examples = (refl, refl, refl, refl, refl)
 
-pub worked-tags : WorkedTags
-unfolding WorkedTags classOf isSelector isTag isRi isEmojiModifier isEmoji inRanges member emojiModifiers emojiRanges riRanges step begin kindOf cut items utf8-1 utf8-2 utf8-3 utf8-4 readFour readChar foldStep foldChars chars encode encodeAll width spans scanFrom scan tagsComplete tagModifications tagRuns withTags allComplete complete getLastD
-worked-tags = (refl, refl, refl, refl, refl)
+pub tag-examples : TagExamples
+unfolding TagExamples classOf isSelector isTag isRi isEmojiModifier isEmoji inRanges member emojiModifiers emojiRanges riRanges step begin kindOf cut items utf8-1 utf8-2 utf8-3 utf8-4 readFour readChar foldStep foldChars chars encode encodeAll width spans scanFrom scan tagsComplete tagModifications tagRuns withTags allComplete complete getLastD
+tag-examples = (refl, refl, refl, refl, refl)
 
-pub worked-structure : WorkedStructure
-unfolding WorkedStructure classOf isSelector isTag isRi isEmojiModifier isEmoji inRanges member emojiModifiers emojiRanges riRanges run behindRun tagToRuns tagToModifications toModifications modificationsOf riStem behindSecondRi emojiLike cutAtLinks joinOne joinedOf sequenceOf structure
-worked-structure = refl
+pub structure-example : StructureExample
+unfolding StructureExample classOf isSelector isTag isRi isEmojiModifier isEmoji inRanges member emojiModifiers emojiRanges riRanges run behindRun tagToRuns tagToModifications toModifications modificationsOf riStem behindSecondRi emojiLike cutAtLinks joinOne joinedOf sequenceOf structure
+structure-example = refl
 
 pub tag-report-tells : TagReportTells
 unfolding TagReportTells

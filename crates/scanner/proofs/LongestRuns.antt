@@ -51,7 +51,9 @@ use Rattle.scanner.specs.Runs.{
   secondRiAt,
   selectorsAt,
   stemAt,
+  tagGroupsAt,
   tagModificationAt,
+  tagsAt,
   unitAt,
 }
 use Rattle.scanner.specs.Theorems.{LongestAt}
@@ -71,7 +73,7 @@ use Rattle.scanner.proofs.Modifications.{
   run-selector,
   run-tag,
 }
-use Rattle.scanner.proofs.RunLaws.{modification-other, modification-tag, run-over}
+use Rattle.scanner.proofs.RunLaws.{groups-tag, modification-other, modification-tag, run-over}
 use Rattle.scanner.proofs.Runs.{Passes, all-pass, pass-and, S-passes, Stops, at-char, at-end, behind-all, run-all, run-behind}
 use Rattle.scanner.proofs.Units.{front-no-ri, front-stops}
 
@@ -123,11 +125,20 @@ longest-selectors = record {
 and-selectors : (c : ℕ) {u : List ℕ} {l : List ℕ} (r : List ℕ) → S u → l ≡ c ∷ selectorsAt (u ++ r) → length (c ∷ u) ≤ length l
 and-selectors c {u} r d e = as-long (c ∷ u) (selectorsAt r) (e ∙ ap (λ (l : List ℕ). c ∷ l) (run-on (S-passes d) r))
 
--- ---- a modification
+-- ---- tags and groups of tags
+
+all-tags : {t : List ℕ} → Tags t → Passes isTag t
+all-tags (one-tag e) = pass-and e all-pass
+all-tags (tag-and e h) = pass-and e (all-tags h)
+
+pub longest-tags : LongestAt Tags tagsAt
+longest-tags = record {
+  front = λ t. front-of (run-front isTag t);
+  longest = λ s r d. as-long s (tagsAt r) (run-on (all-tags d) r);
+}
 
 tags-pass : {t : List ℕ} → Tags t → Passes inTags t
-tags-pass (one-tag {c = c} e) = pass-and (either-left (isTag c) (isSelector c) e) all-pass
-tags-pass (tag-and {c = c} e h) = pass-and (either-left (isTag c) (isSelector c) e) (tags-pass h)
+tags-pass d = pass-all (λ c e. either-left (isTag c) (isSelector c) e) (all-tags d)
 
 selectors-in-tags : {s : List ℕ} → S s → Passes inTags s
 selectors-in-tags d = pass-all (λ c e. either-right (isTag c) (isSelector c) e) (S-passes d)
@@ -147,6 +158,27 @@ tags-first u (tag-and e h) = tag-first e
 groups-first : {t : List ℕ} → TagGroups t → TagFirst t
 groups-first (one-group {s = s} t d) = tags-first s t
 groups-first (group-and {s = s} {r = r} t d g) = tags-first (s ++ r) t
+
+groups-longest : (s r : List ℕ) → TagGroups s → length s ≤ length (tagGroupsAt (s ++ r))
+unfolding tagModificationAt
+groups-longest s r g = as-long s (run inTags r) (groups-at (groups-first g) ∙ run-on (groups-pass g) r)
+  where
+    groups-at : {s : List ℕ} → TagFirst s → tagGroupsAt (s ++ r) ≡ run inTags (s ++ r)
+    groups-at (tag-first {c = c} {t = t} e) = groups-tag c (t ++ r) e
+
+groups-front : (t : List ℕ) → Front (tagGroupsAt t) t
+unfolding tagGroupsAt tagModificationAt
+groups-front [] = nothing
+groups-front (c ∷ t) = go (isTag c)
+  where
+    go : (b : Bool) → Front (cond b (run inTags (c ∷ t)) []) (c ∷ t)
+    go true = run-front inTags (c ∷ t)
+    go false = nothing
+
+pub longest-groups : LongestAt TagGroups tagGroupsAt
+longest-groups = record { front = λ t. front-of (groups-front t); longest = groups-longest }
+
+-- ---- a modification
 
 tags-at : {s : List ℕ} (r : List ℕ) → TagFirst s → modificationAt (s ++ r) ≡ run inTags (s ++ r)
 unfolding tagModificationAt

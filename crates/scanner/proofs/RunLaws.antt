@@ -9,8 +9,8 @@ use borrow.Author.Tests.{eqb-true}
 use Rattle.base.proofs.Tests.{either-left, either-true}
 use Rattle.unicode.specs.Presentation.{isSelector}
 use Rattle.unicode.specs.Unicode.{isEmoji, isEmojiModifier, isTag}
-use Rattle.scanner.specs.Grammar.{S, no-selectors, selector-and, one-tag, TagGroups, one-group, group-and, Modification, by-modifier, by-keycap, by-tags, Stem, Modifications, unmodified, EmojiUnit, unit-of, Link, a-link, Links, no-links}
-use Rattle.scanner.specs.Runs.{behindStem, inLinks, inModifications, inTags, isModification, linkAt, linksAt, modificationAt, modificationsAt, run, selectorsAt, stemAt, tagModificationAt, unitAt}
+use Rattle.scanner.specs.Grammar.{S, no-selectors, selector-and, Tags, one-tag, tag-and, TagGroups, one-group, group-and, Modification, by-modifier, by-keycap, by-tags, Stem, Modifications, unmodified, EmojiUnit, unit-of, Link, a-link, Links, no-links}
+use Rattle.scanner.specs.Runs.{behindStem, inLinks, inModifications, inTags, isModification, linkAt, linksAt, modificationAt, modificationsAt, run, selectorsAt, stemAt, tagGroupsAt, tagModificationAt, tagsAt, unitAt}
 use Rattle.scanner.specs.Structure.{flattenModifications, modificationsOf}
 use Rattle.scanner.proofs.EmojiRuns as Emoji
 use Rattle.scanner.proofs.LinksTail.{LinksTail, links-tail, links-selector, tail-links}
@@ -34,6 +34,15 @@ use Rattle.scanner.proofs.Runs.{Passes, all-pass, pass-and, passes-S, r
 
 pub selectors-derived : (t : List ℕ) → S (selectorsAt t)
 selectors-derived t = passes-S (run-passes isSelector t)
+
+-- ---- tags
+
+tags-of : {c : ℕ} {s : List ℕ} → isTag c ≡ true → Passes isTag s → Tags (c ∷ s)
+tags-of e all-pass = one-tag e
+tags-of e (pass-and f h) = tag-and e (tags-of f h)
+
+pub tags-derived : (c : ℕ) (t : List ℕ) → isTag c ≡ true → Tags (tagsAt (c ∷ t))
+tags-derived c t e = subst Tags (sym (run-true isTag c t e)) (tags-of e (run-passes isTag t))
 
 -- ---- a tag modification
 
@@ -60,6 +69,13 @@ tag-run c t e = run-true inTags c t (either-left (isTag c) (isSelector c) e)
 
 tag-modification-derived : (c : ℕ) (t : List ℕ) → isTag c ≡ true → TagGroups (tagModificationAt (c ∷ t))
 tag-modification-derived c t e = subst TagGroups (sym (tag-run c t e)) (tag-before e (tag-tail (run-passes inTags t)))
+
+pub groups-tag : (c : ℕ) (t : List ℕ) → isTag c ≡ true → tagGroupsAt (c ∷ t) ≡ tagModificationAt (c ∷ t)
+unfolding tagGroupsAt
+groups-tag c t e = ap (λ (b : Bool). cond b (tagModificationAt (c ∷ t)) []) e
+
+pub groups-derived : (c : ℕ) (t : List ℕ) → isTag c ≡ true → TagGroups (tagGroupsAt (c ∷ t))
+groups-derived c t e = subst TagGroups (sym (groups-tag c t e)) (tag-modification-derived c t e)
 
 -- ---- a modification, and all of them
 

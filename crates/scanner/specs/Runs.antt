@@ -1,4 +1,5 @@
--- The grammar's parts at the front of a text, each the longest: S, a modification, a stem, a unit, links, passthrough (document 01, "Item").
+-- The grammar's parts at the front of a text, each the longest: S, tags, groups of tags, a modification, a stem, a unit, links,
+-- passthrough (document 01, "Item").
 use mathlib.Core.Bool.{Bool, cond, not, _||_}
 use mathlib.Core.List.{List, [], _∷_, _++_}
 use Prim.Native.Nat.{ℕ}
@@ -26,6 +27,10 @@ selectorsAt t = run isSelector t
 abbrev pub behindSelectors : List ℕ → List ℕ
 behindSelectors t = behindRun isSelector t
 
+-- The tags at the front.
+abbrev pub tagsAt : List ℕ → List ℕ
+tagsAt t = run isTag t
+
 -- A tag or a selector.
 abbrev pub inTags : ℕ → Bool
 inTags c = isTag c || isSelector c
@@ -33,6 +38,11 @@ inTags c = isTag c || isSelector c
 -- "A tag modification ends at the first character that is neither tag nor selector": what is left of one, from inside it on.
 unfoldable pub tagModificationAt : List ℕ → List ℕ
 tagModificationAt t = run inTags t
+
+-- The groups at the front, each of tags and S, if a tag stands there.
+unfoldable pub tagGroupsAt : List ℕ → List ℕ
+tagGroupsAt [] = []
+tagGroupsAt (c ∷ t) = cond (isTag c) (tagModificationAt (c ∷ t)) []
 
 -- A modification begins with a modifier, with 20E3 or with a tag.
 unfoldable pub isModification : ℕ → Bool

@@ -7,6 +7,8 @@ use Rattle.utf8.specs.Rfc3629.{chars, encode}
 use Rattle.scanner.specs.Items.{Item, Place, cut, items}
 use Rattle.scanner.specs.Tags.{tagsComplete}
 use Rattle.scanner.specs.declared.ScanItem.{ScanItem}
+use Rattle.scanner.specs.declared.ScanKind.{ScanKind}
+use Rattle.scanner.specs.declared.ScanKind.the-variants.{EmojiHeaded, LinksOnly, Passthrough, UnsanctionedPresentationSelectors}
 use Rattle.scanner.specs.declared.ScanStep.{ScanStep}
 use Rattle.scanner.specs.declared.ScanStep.the-variants as Step
 
@@ -19,6 +21,13 @@ module _ (weight : ℕ → ℕ) where
 -- The number of bytes of a character.
 unfoldable pub width : ℕ → ℕ
 width c = length (encode c)
+
+-- The kinds of items by number.
+unfoldable pub kindNumber : ScanKind → ℕ
+kindNumber Passthrough = 0
+kindNumber UnsanctionedPresentationSelectors = 1
+kindNumber LinksOnly = 2
+kindNumber EmojiHeaded = 3
 
 -- "Spans tile the text": the items one after the other, the first from the byte offset on.
 unfoldable pub spans : ℕ → List Item → List ScanItem

@@ -27,9 +27,11 @@ use Rattle.scanner.specs.Runs.{
   run,
   selectorsAt,
   stemAt,
+  tagGroupsAt,
+  tagsAt,
   unitAt,
 }
-use Rattle.scanner.specs.Grammar.{Derives, EmojiUnit, Link, Links, Modification, Modifications, Reads, S, Stem}
+use Rattle.scanner.specs.Grammar.{Derives, EmojiUnit, Link, Links, Modification, Modifications, Reads, S, Stem, TagGroups, Tags}
 use Rattle.scanner.specs.Structure.{
   EmojiLike,
   EmojiModification,
@@ -100,6 +102,8 @@ SelectorsMoveNothing =
 unfoldable pub RunsAreDerived : Type 0
 RunsAreDerived =
     ((t : List ℕ) → S (selectorsAt t))
+    × ((c : ℕ) (t : List ℕ) → isTag c ≡ true → Tags (tagsAt (c ∷ t)))
+    × ((c : ℕ) (t : List ℕ) → isTag c ≡ true → TagGroups (tagGroupsAt (c ∷ t)))
     × ((c : ℕ) (t : List ℕ) → isModification c ≡ true → Modification (modificationAt (c ∷ t)))
     × ((t : List ℕ) → Modifications (modificationsAt t))
     × ((c : ℕ) (t : List ℕ) → isEmoji c ≡ true → Stem (stemAt (c ∷ t)))
@@ -112,10 +116,13 @@ pub record LongestAt (Part : List ℕ → Type 0) (at : List ℕ → List ℕ) :
   pub front : (t : List ℕ) → take (length (at t)) t ≡ at t
   pub longest : (s r : List ℕ) → Part s → length s ≤ length (at (s ++ r))
 
--- "Each choice takes the longest run": so do S, a modification, all modifications, a stem, a unit, a link and all links.
+-- "Each choice takes the longest run": so do S, tags, groups of tags, a modification, all modifications, a stem, a unit, a link
+-- and all links.
 unfoldable pub RunsAreLongest : Type 0
 RunsAreLongest =
     LongestAt S selectorsAt
+    × LongestAt Tags tagsAt
+    × LongestAt TagGroups tagGroupsAt
     × LongestAt Modification modificationAt
     × LongestAt Modifications modificationsAt
     × LongestAt Stem stemAt
@@ -249,45 +256,40 @@ RunsByClass =
     → (runOf Run.Selectors t ≡ selectorsAt t)
     × (runOf Run.Links t ≡ run inLinks t)
     × (runOf Run.Modifications t ≡ run inModifications t)
-    × (runOf Run.Tags t ≡ run isTag t)
+    × (runOf Run.Tags t ≡ tagsAt t)
     × (runOf Run.Passthrough t ≡ passthroughAt t)
 
--- ---- worked texts
+-- ---- examples
 
--- An item as the worked texts write it.
+-- An item as the examples write it.
 abbrev pub item : ScanKind → List ℕ → Item
 item k t = record { kind = k; chars = t }
 
--- A span as the worked texts write it.
+-- A span as the examples write it.
 abbrev pub span : ℕ → ℕ → ScanKind → Bool → ScanItem
 span a e k b = record { start = a; end = e; kind = k; «tags_complete» = b }
 
--- Document 01's worked texts that concern items, by their bytes, and texts that a scanner can get wrong.
-unfoldable pub WorkedItems : Type 0
-WorkedItems =
-    -- 1: the empty text has no item
-    (items [] ≡ [])
-    -- 11: 1F1E6 FE0F 1F1E7 is one item
-    × (items (0x1F1E6 ∷ 0xFE0F ∷ 0x1F1E7 ∷ []) ≡ item EmojiHeaded (0x1F1E6 ∷ 0xFE0F ∷ 0x1F1E7 ∷ []) ∷ [])
-    -- 12: 231A 200D 200D 231A has the items 0 to 9 and 9 to 12
-    × (scan (encodeAll (0x231A ∷ 0x200D ∷ 0x200D ∷ 0x231A ∷ [])) ≡ span 0 9 EmojiHeaded true ∷ span 9 12 EmojiHeaded true ∷ [])
-    -- 14: 20E3 alone is passthrough
-    × (items (0x20E3 ∷ []) ≡ item Passthrough (0x20E3 ∷ []) ∷ [])
+-- Texts that a scanner can get wrong. Document 01's worked texts are in formatter, specs/Worked.antt.
+unfoldable pub ItemExamples : Type 0
+ItemExamples =
     -- 61 FE0E 61 has two passthroughs and a selector run
-    × (items (0x61 ∷ 0xFE0E ∷ 0x61 ∷ []) ≡ item Passthrough (0x61 ∷ []) ∷ item UnsanctionedPresentationSelectors (0xFE0E ∷ []) ∷ item Passthrough (0x61 ∷ []) ∷ [])
+    (items (0x61 ∷ 0xFE0E ∷ 0x61 ∷ [])
+    ≡ item Passthrough (0x61 ∷ []) ∷ item UnsanctionedPresentationSelectors (0xFE0E ∷ []) ∷ item Passthrough (0x61 ∷ []) ∷ [])
     -- tags after a link are passthrough
     × (items (0x231A ∷ 0x200D ∷ 0xE0061 ∷ []) ≡ item EmojiHeaded (0x231A ∷ 0x200D ∷ []) ∷ item Passthrough (0xE0061 ∷ []) ∷ [])
     -- a leading modifier is a stem
     × (items (0x1F3FB ∷ 0x200D ∷ 0x231A ∷ []) ≡ item EmojiHeaded (0x1F3FB ∷ 0x200D ∷ 0x231A ∷ []) ∷ [])
     -- links alone, with selectors
-    × (items (0x200D ∷ 0xFE0F ∷ 0x200D ∷ 0x231A ∷ []) ≡ item LinksOnly (0x200D ∷ 0xFE0F ∷ 0x200D ∷ []) ∷ item EmojiHeaded (0x231A ∷ []) ∷ [])
+    × (items (0x200D ∷ 0xFE0F ∷ 0x200D ∷ 0x231A ∷ [])
+    ≡ item LinksOnly (0x200D ∷ 0xFE0F ∷ 0x200D ∷ []) ∷ item EmojiHeaded (0x231A ∷ []) ∷ [])
     -- three regional indicators are a flag and a unit
-    × (items (0x1F1E6 ∷ 0x1F1E7 ∷ 0x1F1E8 ∷ []) ≡ item EmojiHeaded (0x1F1E6 ∷ 0x1F1E7 ∷ []) ∷ item EmojiHeaded (0x1F1E8 ∷ []) ∷ [])
+    × (items (0x1F1E6 ∷ 0x1F1E7 ∷ 0x1F1E8 ∷ [])
+    ≡ item EmojiHeaded (0x1F1E6 ∷ 0x1F1E7 ∷ []) ∷ item EmojiHeaded (0x1F1E8 ∷ []) ∷ [])
 
--- Tags: a flag whose tags end in E007F, one that has E007F only before its last tag, one with a selector behind E007F,
+-- Tags: a flag whose tags end in E007F, one that has E007F only before its last tag, one with a selector after E007F,
 -- two tag modifications of which one is not complete, and tags that are no modification.
-unfoldable pub WorkedTags : Type 0
-WorkedTags =
+unfoldable pub TagExamples : Type 0
+TagExamples =
     (scan (encodeAll (0x1F3F4 ∷ 0xE0067 ∷ 0xE007F ∷ [])) ≡ span 0 12 EmojiHeaded true ∷ [])
     × (scan (encodeAll (0x1F3F4 ∷ 0xE007F ∷ 0xE0067 ∷ [])) ≡ span 0 12 EmojiHeaded false ∷ [])
     × (scan (encodeAll (0x1F3F4 ∷ 0xE0067 ∷ 0xFE0F ∷ 0xE007F ∷ 0xFE0F ∷ [])) ≡ span 0 18 EmojiHeaded true ∷ [])
@@ -296,8 +298,8 @@ WorkedTags =
 
 -- The structure of 1F1E6 FE0F 1F1E7 E0067 FE0E E007F 200D 231A 20E3 FE0F 200D 200D: a flag with one tag modification of two runs,
 -- a further unit with a keycap, and two links left over.
-unfoldable pub WorkedStructure : Type 0
-WorkedStructure =
+unfoldable pub StructureExample : Type 0
+StructureExample =
     structure (0x1F1E6 ∷ 0xFE0F ∷ 0x1F1E7 ∷ 0xE0067 ∷ 0xFE0E ∷ 0xE007F ∷ 0x200D ∷ 0x231A ∷ 0x20E3 ∷ 0xFE0F ∷ 0x200D ∷ 0x200D ∷ [])
     ≡ emojiHeaded
     (record {

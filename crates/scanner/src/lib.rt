@@ -10,8 +10,10 @@ pub mod tag_report;
 pub mod text_check;
 
 ghost use mathlib.Core.Path.{_≡_};
+ghost use mathlib.Core.Logic.{_↔_};
+ghost use mathlib.Core.Bool.{true};
 ghost use Prim.Native.Nat.{_+_};
-ghost use Rattle.scanner.specs.Spans.{restAt, scanAt, size, width};
+ghost use Rattle.scanner.specs.Spans.{kindNumber, restAt, scanAt, size, width};
 ghost use Rattle.scanner.specs.TagReport.{noTags, tagsOver};
 use char_class::Peeked;
 use char_class::peek;
@@ -33,6 +35,38 @@ pub struct ScanItem {
     pub end: usize,
     pub kind: ScanKind,
     pub tags_complete: bool,
+}
+
+// A kind's number.
+pub fn kind_number(kind: ScanKind) -> usize
+    ensures { λ r. ⌜ r ≡ kindNumber kind ⌝ }
+{
+    match kind {
+        ScanKind::Passthrough => 0,
+        ScanKind::UnsanctionedPresentationSelectors => 1,
+        ScanKind::LinksOnly => 2,
+        ScanKind::EmojiHeaded => 3,
+    }
+}
+
+impl ScanItem {
+    // Whether two items are equal.
+    pub fn eq(self, rhs: Self) -> bool
+        ensures { λ r. ⌜ (r ≡ true) ↔ (self ≡ rhs) ⌝ }
+    {
+        if self.start != rhs.start {
+            return false;
+        }
+        if self.end != rhs.end {
+            return false;
+        }
+        let kind = self.kind;
+        let other = rhs.kind;
+        if kind_number(kind) != kind_number(other) {
+            return false;
+        }
+        self.tags_complete == rhs.tags_complete
+    }
 }
 
 // What a cursor answers: the item at its offset, or that there is none.

@@ -1,15 +1,16 @@
--- Runs of ASCII: how a run goes on, and each byte of a run is a character of its own.
+-- Runs of ASCII: how a run goes on, where the longest ends, and each byte of a run is a character of its own.
 use mathlib.Core.Path.{_≡_, refl, sym, ap, _∙_, subst}
 use mathlib.Core.Logic.{⊎-elim}
-use mathlib.Core.Bool.{true}
-use mathlib.Core.List.{List}
+use mathlib.Core.Bool.{Bool, true, false, cond, true≢false}
+use mathlib.Core.List.{List, [], _∷_}
 use Prim.Native.Nat.{ℕ, zero, suc, _+_, _-_, _≤_, _<_}
 use native.Mathlib.Omega.{arith}
-use lib.ListN.{getD, length, drop}
+use lib.ListN.{getD, length, length-drop, drop}
+use lib.Seq.{getD-drop}
 use Rattle.utf8.specs.Rfc3629.{utf8-1, readChar, validUpTo}
 use Rattle.utf8.specs.declared.ReadChar.the-variants.{Char}
-use Rattle.utf8.specs.Ascii.{AllUpTo, AsciiRun}
-use Rattle.base.proofs.Tests.{le-or-lt, within-true}
+use Rattle.utf8.specs.Ascii.{AllUpTo, AsciiRun, NoAsciiAt, asciiBytes, asciiEnd}
+use Rattle.base.proofs.Tests.{le-or-lt, within-in, within-true}
 use Rattle.utf8.proofs.Fronts.{readFour-1, readFour-at}
 use Rattle.utf8.proofs.Places.{Step, step}
 
@@ -31,11 +32,84 @@ run-on {s} {from} {at} top n r u t h = record {
   ascii = λ k l j. ⊎-elim (λ b. omega (arith, u .each k b j)) (λ b. r .ascii k l b) (le-or-lt at k);
 }
 
--- ---- an ASCII byte is a character of one byte
+-- ---- the longest run
 
 ascii-1 : (a : ℕ) → a ≤ 0x7F → utf8-1 a ≡ true
 unfolding utf8-1
 ascii-1 a h = within-true 0x00 0x7F a (omega arith) h
+
+ascii-up-to : (a : ℕ) → utf8-1 a ≡ true → a ≤ 0x7F
+unfolding utf8-1
+ascii-up-to a h = within-in 0x00 0x7F a h .high
+
+ascii-above : (a : ℕ) → utf8-1 a ≡ false → 0x7F < a
+ascii-above a h = ⊎-elim (λ l. absurd (true≢false (sym (ascii-1 a l) ∙ h))) (λ l. l) (le-or-lt a 0x7F)
+
+-- The ASCII bytes in front: they are bytes of s, they are ASCII, and the byte past them is not.
+record Front (s : List ℕ) (n : ℕ) : Type 0 where
+  room : n ≤ length s
+  ascii : (k : ℕ) → k < n → getD s k 0 ≤ 0x7F
+  ends : NoAsciiAt s n
+
+front : (s : List ℕ) → Front s (asciiBytes s)
+unfolding asciiBytes
+front [] = record { room = omega arith; ascii = λ k h. omega arith; ends = λ h. absurd (omega arith) }
+front (b ∷ s) = go (utf8-1 b) refl (front s)
+  where
+    go : (x : Bool) → utf8-1 b ≡ x → Front s (asciiBytes s) → Front (b ∷ s) (cond x (suc (asciiBytes s)) 0)
+    go false e f = record { room = omega arith; ascii = λ k h. absurd (omega arith); ends = λ h. ascii-above b e }
+    go true e f = record { room = let r = f .room in omega arith; ascii = each; ends = λ h. f .ends (omega arith) }
+      where
+        each : (k : ℕ) → k < suc (asciiBytes s) → getD (b ∷ s) k 0 ≤ 0x7F
+        each zero h = ascii-up-to b e
+        each (suc k) h = f .ascii k (omega arith)
+
+-- From a place on.
+run-longest : (s : List ℕ) (from : ℕ) → AsciiRun s from (asciiEnd s from)
+unfolding asciiEnd
+run-longest s from =
+    let f = front (drop from s) in
+    let d = length-drop from s in
+    record {
+      from-le = omega arith;
+      inside = λ h. omega (arith, f .room);
+      behind = λ h. omega (arith, f .room);
+      ascii = λ k l h.
+          let e : from + (k - from) ≡ k = omega arith in
+          omega (arith, f .ascii (k - from) (omega arith), getD-drop from s (k - from) 0, ap (λ (n : ℕ). getD s n 0) e);
+    }
+
+longest-ends : (s : List ℕ) (from : ℕ) → NoAsciiAt s (asciiEnd s from)
+unfolding asciiEnd
+longest-ends s from h =
+    let n = asciiBytes (drop from s) in
+    omega (arith, front (drop from s) .ends (omega (arith, length-drop from s)), getD-drop from s n 0)
+
+pub longest-at : {s : List ℕ} {from end : ℕ} → end ≡ asciiEnd s from → AsciiRun s from end × NoAsciiAt s end
+longest-at {s} {from} e =
+    subst (λ (n : ℕ). AsciiRun s from n × NoAsciiAt s n) (sym e) (run-longest s from, longest-ends s from)
+
+-- A run that cannot go on is the longest: neither of the two ends lies in the other's run.
+pub at-longest : {s : List ℕ} {from end : ℕ} → AsciiRun s from end → NoAsciiAt s end → end ≡ asciiEnd s from
+at-longest {s} {from} {end} r stop = ⊎-elim within-bytes past (le-or-lt from (length s))
+  where
+    last : ℕ
+    last = asciiEnd s from
+
+    q : AsciiRun s from last
+    q = run-longest s from
+
+    within-bytes : from ≤ length s → end ≡ last
+    within-bytes h =
+        let not-before : end < last → ⊥ = λ l. omega (arith, q .ascii end (r .from-le) l, stop (omega (arith, q .inside h))) in
+        let not-after : last < end → ⊥ =
+        λ l. omega (arith, r .ascii last (q .from-le) l, longest-ends s from (omega (arith, r .inside h))) in
+        omega (arith, not-before, not-after)
+
+    past : length s < from → end ≡ last
+    past h = omega (arith, r .behind (omega arith), q .behind (omega arith))
+
+-- ---- an ASCII byte is a character of one byte
 
 pub readChar-ascii-at : (s : List ℕ) (at : ℕ) → at < length s → getD s at 0 ≤ 0x7F → readChar (drop at s) ≡ Char (getD s at 0) 1
 readChar-ascii-at s at l h =

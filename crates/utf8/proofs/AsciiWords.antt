@@ -1,20 +1,22 @@
 -- ASCII in a word of eight bytes: a byte is ASCII where its highest bit is zero, and the zeros below the lowest one of
--- these bits tell how many such bytes stand in front.
+-- these bits tell how many such bytes stand in front, and that the byte past them is none.
 use mathlib.Core.Path.{_≡_, sym, ap, ap₂, _∙_, subst}
-use mathlib.Core.Bool.{true, false}
+use mathlib.Core.Logic.{⊎-elim}
+use mathlib.Core.Bool.{true, false, true≢false}
 use mathlib.Core.List.{List}
 use Prim.Native.Nat.{ℕ, zero, suc, _+_, _-_, _*_, _/_, _%_, _^_, _≤_, _<_}
 use native.Mathlib.Nat.{add-zero, div-one}
 use native.Mathlib.Omega.{arith}
-use lib.Bits.{bitAnd}
+use lib.Bits.{bitAnd, and-le-r}
 use lib.Count.{trailingZeros, trailing-le}
 use lib.ListN.{drop, getD, take}
 use lib.Seq.{getD-drop}
-use borrow.Author.Tests.{eqb-false, eq-eqb}
+use borrow.Author.Tests.{eqb-false, eqb-true, eq-eqb}
 use Rattle.base.specs.Bits.{one}
 use Rattle.base.specs.Words.{number}
-use Rattle.base.proofs.Bits.{and-bit, shifted-bit, trailing-bit}
+use Rattle.base.proofs.Bits.{and-bit, and-no-bit, low-bits, shifted-bit, trailing-all, trailing-bit, trailing-one, zero-one}
 use Rattle.base.proofs.ByteBits.{bit-of-bytes}
+use Rattle.base.proofs.Tests.{le-or-lt}
 use Rattle.utf8.specs.Ascii.{AllUpTo}
 
 -- the highest bit of each of n bytes
@@ -32,9 +34,33 @@ high-bit (suc n) (suc i) h =
     let rest : w / 2 ^ 8 ≡ highBits n = omega arith in
     ap (λ (x : ℕ). one x w) place ∙ shifted-bit 8 (i * 8 + 7) w ∙ ap (one (i * 8 + 7)) rest ∙ high-bit n i (omega arith)
 
+-- .. and no other bit
+high-zero : (n i : ℕ) → i % 8 < 7 → one i (highBits n) ≡ false
+unfolding highBits trailingZeros
+high-zero zero i h = zero-one i
+high-zero (suc n) i h = ⊎-elim (λ l. later l (high-zero n (i - 8) (omega arith))) here (le-or-lt 8 i)
+  where
+    w : ℕ
+    w = highBits (suc n)
+
+    here : i < 8 → one i w ≡ false
+    here l =
+        let split : w ≡ 0x80 + highBits n * 2 ^ 8 = omega arith in
+        ap (one i) split ∙ low-bits 8 i 0x80 (highBits n) l ∙ trailing-bit 8 0x80 i (omega arith)
+
+    later : 8 ≤ i → one (i - 8) (highBits n) ≡ false → one i w ≡ false
+    later l e =
+        let place : i ≡ 8 + (i - 8) = omega arith in
+        let rest : w / 2 ^ 8 ≡ highBits n = omega arith in
+        ap (λ (x : ℕ). one x w) place ∙ shifted-bit 8 (i - 8) w ∙ ap (one (i - 8)) rest ∙ e
+
 ascii-byte : (b : ℕ) → b < 256 → one 7 b ≡ false → b ≤ 0x7F
 unfolding one
 ascii-byte b h e = omega (arith, eqb-false (b / 2 ^ 7 % 2) 1 e)
+
+other-byte : (b : ℕ) → one 7 b ≡ true → 0x7F < b
+unfolding one
+other-byte b e = omega (arith, eqb-true (b / 2 ^ 7 % 2) 1 e)
 
 -- the highest bits of a word's bytes
 abbrev pub high : ℕ → ℕ
@@ -72,3 +98,31 @@ module _ (s : List ℕ) (at : ℕ) {w : ℕ} (e : w ≡ number (take 8 (drop at 
   front-bytes n h =
       subst (λ (k : ℕ). AllUpTo 0x7F s k n) (add-zero at)
       (low-bytes 0 n (omega (arith, trailing-le 64 (high w))) (omega (arith, ap (trailingZeros 64) (div-one (high w)))))
+
+  -- the byte past these is not ASCII, if it is one of the word's
+  pub next-byte : (p : ℕ) → p + trailingZeros 64 (high w / 2 ^ (8 * p)) / 8 < 8
+      → 0x7F < getD s (at + p + trailingZeros 64 (high w / 2 ^ (8 * p)) / 8) 0
+  unfolding highBits
+  next-byte p h =
+      let t = trailingZeros 64 (high w / 2 ^ (8 * p)) in
+      let i = p + t / 8 in
+      let set : one (8 * p + t) (high w) ≡ true =
+      shifted-bit (8 * p) t (high w) ∙ trailing-one 64 (high w / 2 ^ (8 * p)) (omega arith) in
+      let not-set : (8 * p + t) % 8 < 7 → one (8 * p + t) (high w) ≡ false =
+      λ l. and-no-bit (8 * p + t) w 0x8080808080808080 (high-zero 8 (8 * p + t) l) in
+      let seven : 7 ≤ (8 * p + t) % 8 =
+      ⊎-elim (λ l. l) (λ l. absurd (true≢false (sym set ∙ not-set l))) (le-or-lt 7 ((8 * p + t) % 8)) in
+      let place : i * 8 + 7 ≡ 8 * p + t = omega arith in
+      let here : at + i ≡ at + p + t / 8 = omega arith in
+      let same = getD-drop at s i 0 ∙ ap (λ (x : ℕ). getD s x 0) here in
+      omega (arith, same, other-byte (getD (drop at s) i 0) (byte-bit i h ∙ ap (λ (x : ℕ). one x (high w)) place ∙ set))
+
+  -- .. and where none has been passed
+  pub front-next : (high w ≡ 0 → ⊥) → 0x7F < getD s (at + trailingZeros 64 (high w) / 8) 0
+  front-next n =
+      let t = trailingZeros 64 (high w) in
+      let some : t < 64 =
+      ⊎-elim (λ l. absurd (n (trailing-all 64 (high w) (omega (arith, and-le-r w 0x8080808080808080)) l))) (λ l. l) (le-or-lt 64 t) in
+      let whole : trailingZeros 64 (high w / 2 ^ (8 * 0)) ≡ t = ap (trailingZeros 64) (div-one (high w)) in
+      let place : at + 0 + trailingZeros 64 (high w / 2 ^ (8 * 0)) / 8 ≡ at + t / 8 = omega arith in
+      subst (λ (k : ℕ). 0x7F < getD s k 0) place (next-byte 0 (omega arith))

@@ -1,7 +1,18 @@
 -- The statements of specs/Theorems, each proved under its own name.
 use mathlib.Core.Path.{refl, ap, _∙_}
 use Rattle.utf8.specs.Rfc3629.{utf8-1, utf8-2, utf8-3, utf8-4, readFour, readChar, foldStep, foldChars, chars, validUpTo, encode, encodeAll}
-use Rattle.utf8.specs.Theorems.{DecodeEncode, WellFormedIffEncoding, WellFormedIffWhole, LongestBeginning, ReadCharIff, CharsAreScalar, ReadEnd, Rfc3629Examples}
+use Rattle.utf8.specs.Theorems.{
+  AsciiEndIsLongest,
+  CharsAreScalar,
+  DecodeEncode,
+  LongestBeginning,
+  ReadCharIff,
+  ReadEnd,
+  Rfc3629Examples,
+  WellFormedIffEncoding,
+  WellFormedIffWhole,
+}
+use Rattle.utf8.proofs.AsciiRuns.{at-longest, longest-at}
 use Rattle.utf8.proofs.Fronts.{readChar-nil}
 use Rattle.utf8.proofs.Encoding.{end-empty}
 use Rattle.utf8.proofs.Texts.{chars-encodeAll-alone, encodeAll-chars, chars-allScalar, validUpTo-le, readChar-iff}
@@ -34,6 +45,10 @@ chars-are-scalar = chars-allScalar
 pub read-end : ReadEnd
 unfolding ReadEnd
 read-end s = (end-empty s, λ e. ap readChar e ∙ readChar-nil)
+
+pub ascii-end-is-longest : AsciiEndIsLongest
+unfolding AsciiEndIsLongest
+ascii-end-is-longest s from end = (longest-at, λ h. at-longest (h .0) (h .1))
 
 pub rfc3629-examples : Rfc3629Examples
 unfolding Rfc3629Examples utf8-1 utf8-2 utf8-3 utf8-4 readFour readChar foldStep foldChars chars validUpTo encode encodeAll

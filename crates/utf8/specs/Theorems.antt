@@ -6,6 +6,7 @@ use mathlib.Core.List.{List, [], _∷_, _++_, map}
 use Prim.Native.Nat.{ℕ, _≤_}
 use lib.ListN.{length, take, drop}
 use Rattle.utf8.specs.Rfc3629.{WellFormed, readChar, chars, validUpTo, isScalar, allScalar, encode, encodeAll}
+use Rattle.utf8.specs.Ascii.{AsciiRun, NoAsciiAt, asciiEnd}
 use Rattle.utf8.specs.declared.ReadChar.the-variants.{Char, IllFormed, End}
 
 -- Decoding the bytes of scalar values gives them back.
@@ -41,6 +42,12 @@ CharsAreScalar = (s : List ℕ) → allScalar (chars s) ≡ true
 -- The end is read exactly where no byte is left.
 unfoldable pub ReadEnd : Type 0
 ReadEnd = (s : List ℕ) → (readChar s ≡ End) ↔ (s ≡ [])
+
+-- asciiEnd is the end of the longest run of ASCII bytes: the bytes up to it are ASCII, and no byte is left there or the byte there is
+-- above 7F. No other place is such an end.
+unfoldable pub AsciiEndIsLongest : Type 0
+AsciiEndIsLongest =
+    (s : List ℕ) (from end : ℕ) → (end ≡ asciiEnd s from) ↔ (AsciiRun s from end × NoAsciiAt s end)
 
 -- The examples of RFC 3629, section 7, both ways; the forms that sections 3 and 10 rule out; the bounds of each length.
 unfoldable pub Rfc3629Examples : Type 0

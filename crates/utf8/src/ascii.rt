@@ -1,10 +1,11 @@
 // ASCII in words: the bytes up to 7F, each a character of its own (RFC 3629, section 4, UTF8-1), passed eight at a time.
-// Not in the Rust crate, which gets a `str`. `ascii_end` gives some end of a run of such bytes (`AsciiRun` of
-// specs/Ascii); that it is the longest run is not promised.
+// Not in the Rust crate, which gets a `str`. `ascii_end` gives where the longest run of such bytes ends (`asciiEnd` of
+// specs/Ascii).
 ghost use mathlib.Core.Path.{_≡_};
-ghost use Prim.Native.Nat.{_+_, _/_, _≤_};
+ghost use Prim.Native.Nat.{_+_, _/_, _≤_, _<_};
 ghost use lib.Count.{trailingZeros};
-ghost use Rattle.utf8.specs.Ascii.{AllUpTo, AsciiRun};
+ghost use lib.ListN.{getD};
+ghost use Rattle.utf8.specs.Ascii.{AllUpTo, asciiEnd};
 use base::WORD_BYTES;
 
 // The highest bit of each byte of a word, which is one where the byte is above 7F.
@@ -17,10 +18,11 @@ fn zero_bytes(w: u64) -> usize
     (u64::trailing_zeros(w) / 8) as usize
 }
 
-// How many ASCII bytes stand behind the first few of the eight bytes from a place on.
+// How many ASCII bytes stand after the first few of the eight bytes from a place on, before one that is none.
 fn ascii_in_word(s: &[u8], at: usize, passed: usize) -> usize
     requires { ⌜ passed ≤ 7 ⌝ }
-    ensures { λ r. ⌜ (AllUpTo 0x7F (now (s .entry)) (at + passed) r) × (passed + r ≤ 8) ⌝ }
+    ensures ascii { λ r. ⌜ (AllUpTo 0x7F (now (s .entry)) (at + passed) r) × (passed + r ≤ 8) ⌝ }
+    ensures next { λ r. ⌜ (passed + r < 8 → 0x7F < getD (now (s .entry)) (at + passed + r) 0) ⌝ }
 {
     let high = (base::read_word(s, at) & HIGH_BITS) >> (8 * passed);
     let left = WORD_BYTES - passed;
@@ -31,9 +33,9 @@ fn ascii_in_word(s: &[u8], at: usize, passed: usize) -> usize
     low
 }
 
-// The end of a run of ASCII bytes from a place on, byte by byte.
+// The end of the run of ASCII bytes from a place on, byte by byte.
 fn run_end(s: &[u8], from: usize) -> usize
-    ensures { λ r. ⌜ AsciiRun (now (s .entry)) from r ⌝ }
+    ensures { λ r. ⌜ r ≡ asciiEnd (now (s .entry)) from ⌝ }
 {
     let mut at = from;
     while at < s.len() {
@@ -45,10 +47,10 @@ fn run_end(s: &[u8], from: usize) -> usize
     at
 }
 
-// The end of a run of ASCII bytes from a place on. The last word ends where the bytes end, so some of its bytes may
+// The end of the run of ASCII bytes from a place on. The last word ends where the bytes end, so some of its bytes may
 // have been passed.
 pub fn ascii_end(s: &[u8], from: usize) -> usize
-    ensures { λ r. ⌜ AsciiRun (now (s .entry)) from r ⌝ }
+    ensures { λ r. ⌜ r ≡ asciiEnd (now (s .entry)) from ⌝ }
 {
     if s.len() < WORD_BYTES {
         return run_end(s, from);

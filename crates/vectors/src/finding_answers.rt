@@ -1,5 +1,5 @@
-// What the findings of a line must be: the proved analysis gives the counts, the default decisions and
-// the replacements of the items of the text, and each is held to what stands in the line.
+// What the findings of a line must be: the proved analysis gives the counts, the choices and the
+// replacements of the items of the text, and each is held to what stands in the line.
 use crate::notation::Read;
 use crate::notation::bytes_of;
 use crate::notation::is_end;
@@ -16,9 +16,11 @@ use analysis::types::MendAnswer;
 use analysis::types::NonCanonicality;
 use policy::Policy;
 use replacing::analyze_scan_item;
+use replacing::choice::choice_replacement;
 use replacing::choice::next_choice;
 use replacing::render::canonical_replacement_with_decisions;
 use replacing::render::default_canonical_replacement;
+use unicode::presentation::Presentation;
 
 // The room for a replacement.
 const ROOM: usize = 2048;
@@ -54,8 +56,33 @@ fn last_counts(line: &[u8], place: Place, counts: NonCanonicality) -> Place {
     count(line, p, b'd', counts.presentation_decisions)
 }
 
-// The default decisions of the bytes of an item, as its choices have them.
-fn decisions(line: &[u8], place: Place, raw: &[u8], policy: Policy) -> Place {
+// A replacement behind a sign, which was written at the front of the bytes.
+fn written(line: &[u8], place: Place, sign: u8, answer: MendAnswer, bytes: &[u8]) -> Place {
+    let MendAnswer::Mended { len } = answer else {
+        return Place::Missing;
+    };
+    if len > bytes.len() {
+        return Place::Missing;
+    }
+    bytes_of(line, mark(line, place, sign), &bytes[0..len])
+}
+
+// The unit at an offset of the bytes of an item, with a decision.
+fn chosen(
+    line: &[u8],
+    place: Place,
+    raw: &[u8],
+    at: usize,
+    policy: Policy,
+    decision: Presentation,
+) -> Place {
+    let mut bytes = [0u8; ROOM];
+    let answer = choice_replacement(raw, at, policy, decision, &mut bytes);
+    written(line, place, b'+', answer, &bytes)
+}
+
+// The choices of the bytes of an item, each its default and its two replacements.
+fn choices(line: &[u8], place: Place, raw: &[u8], policy: Policy) -> Place {
     let mut past = place;
     let mut at = 0;
     while at < raw.len() {
@@ -66,28 +93,33 @@ fn decisions(line: &[u8], place: Place, raw: &[u8], policy: Policy) -> Place {
             return Place::Missing;
         }
         let default = choice.default;
-        past = selector(line, past, default);
+        let past_default = selector(line, past, default);
+        let past_text = chosen(
+            line,
+            past_default,
+            raw,
+            choice.start,
+            policy,
+            Presentation::Text,
+        );
+        past = chosen(
+            line,
+            past_text,
+            raw,
+            choice.start,
+            policy,
+            Presentation::Emoji,
+        );
         at = choice.next;
     }
     past
-}
-
-// A replacement that was written at the front of the bytes.
-fn written(line: &[u8], place: Place, answer: MendAnswer, bytes: &[u8]) -> Place {
-    let MendAnswer::Mended { len } = answer else {
-        return Place::Missing;
-    };
-    if len > bytes.len() {
-        return Place::Missing;
-    }
-    bytes_of(line, mark(line, place, b'='), &bytes[0..len])
 }
 
 // The replacement of the finding at an offset, every decision at its default.
 fn by_default(line: &[u8], place: Place, text: &[u8], at: usize, policy: Policy) -> Place {
     let mut bytes = [0u8; ROOM];
     let answer = default_canonical_replacement(text, at, policy, &mut bytes);
-    written(line, place, answer, &bytes)
+    written(line, place, b'=', answer, &bytes)
 }
 
 // The replacement of the finding at an offset under decisions.
@@ -101,7 +133,7 @@ fn decided(
 ) -> Place {
     let mut bytes = [0u8; ROOM];
     let answer = canonical_replacement_with_decisions(text, at, policy, decisions, &mut bytes);
-    written(line, place, answer, &bytes)
+    written(line, place, b'=', answer, &bytes)
 }
 
 // The replacement of the finding at an offset under the first n of a list of decisions.
@@ -154,8 +186,8 @@ fn finding_at(line: &[u8], place: Place, text: &[u8], finding: Finding, policy: 
     let counts = finding.counts;
     let past_first = first_counts(line, mark(line, past_span, b':'), counts);
     let past_counts = mark(line, last_counts(line, past_first, counts), b':');
-    let past_decisions = decisions(line, past_counts, &text[start..end], policy);
-    let past_default = by_default(line, past_decisions, text, start, policy);
+    let past_choices = choices(line, past_counts, &text[start..end], policy);
+    let past_default = by_default(line, past_choices, text, start, policy);
     replacements(
         line,
         past_default,

@@ -15,7 +15,7 @@ use scanner::ScanStep;
 use scanner::selectors::consume_presentation_selectors;
 
 // The letter of a kind.
-pub(crate) fn kind_letter(kind: ScanKind) -> u8 {
+fn kind_letter(kind: ScanKind) -> u8 {
     match kind {
         ScanKind::Passthrough => b'p',
         ScanKind::UnsanctionedPresentationSelectors => b's',

@@ -1,6 +1,5 @@
 // The scanner that borrows the text against the cursor: item by item they must answer the same, with the same bytes,
 // and behind the last item the scanner says end on each call. A text that is cut inside a character is turned back.
-use crate::item_answers::kind_letter;
 use crate::lines::is_word;
 use base::Check;
 use scanner::ScanItem;
@@ -8,16 +7,6 @@ use scanner::ScanStep;
 use text_scanner::NthItem;
 use text_scanner::nth_item;
 use text_scanner::nth_raw;
-
-// Whether two items are the same.
-fn same_item(a: ScanItem, b: ScanItem) -> bool {
-    let kind = a.kind;
-    let other = b.kind;
-    a.start == b.start
-        && a.end == b.end
-        && kind_letter(kind) == kind_letter(other)
-        && a.tags_complete == b.tags_complete
-}
 
 // Whether the scanner's n-th item of a text that passes is this one, with its bytes.
 fn hands_out(text: &[u8], n: usize, item: ScanItem) -> bool {
@@ -33,7 +22,7 @@ fn hands_out(text: &[u8], n: usize, item: ScanItem) -> bool {
     if start > end || end > text.len() {
         return false;
     }
-    same_item(found, item) && is_word(nth_raw(text, n), &text[start..end])
+    ScanItem::eq(found, item) && is_word(nth_raw(text, n), &text[start..end])
 }
 
 // Whether the scanner's n-th answer is the end, with no bytes.

@@ -2,8 +2,8 @@
 use mathlib.Core.Path.{_≡_}
 use mathlib.Core.Bool.{Bool}
 use Rattle.unicode.specs.UnicodeData.{variationEntries}
-use Rattle.policy_key_set.specs.Sets.{entryCount}
-use Rattle.policy.specs.PolicyBytes.{readPolicy, wordCount}
+use Rattle.policy_key_set.specs.Sets.{entryCount, wordCount}
+use Rattle.policy.specs.PolicyBytes.{readPolicy}
 use Rattle.policy.specs.declared.Policy.{Policy}
 use Rattle.policy.specs.declared.ReadPolicy.{ReadPolicy}
 use Rattle.policy.proofs.Bytes.{policy-made}

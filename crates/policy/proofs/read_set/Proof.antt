@@ -8,9 +8,9 @@ use lib.ListN.{drop, getD, length, length-set, take}
 use lib.Seq.{ext-getD}
 use Rattle.base.specs.Words.{number}
 use Rattle.unicode.specs.UnicodeData.{variationEntries}
-use Rattle.policy_key_set.specs.Sets.{entryCount}
+use Rattle.policy_key_set.specs.Sets.{entryCount, wordCount}
 use Rattle.policy_key_set.proofs.Members.{set-more}
-use Rattle.policy.specs.PolicyBytes.{wordCount, wordsFrom}
+use Rattle.policy.specs.PolicyBytes.{wordsFrom}
 use Rattle.policy.proofs.Bytes.{getD-wordsFrom, length-wordsFrom}
 use Rattle.policy.proofs.read_set.Statement.{statement}
 use Rattle.policy.proofs.read_set.Tie as tie

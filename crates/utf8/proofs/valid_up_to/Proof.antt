@@ -6,7 +6,7 @@ use native.Mathlib.Omega.{arith}
 use borrow.Author.Needs.{needs}
 use lib.ListN.{length, drop}
 use Rattle.utf8.specs.Rfc3629.{validUpTo}
-use Rattle.utf8.proofs.AsciiRuns.{validUpTo-past}
+use Rattle.utf8.proofs.AsciiRuns.{longest-at, validUpTo-past}
 use Rattle.utf8.proofs.Packed.{packed-len, step-len, stop-len}
 use Rattle.utf8.proofs.valid_up_to.Statement.{statement}
 use Rattle.utf8.proofs.valid_up_to.Tie as tie
@@ -36,14 +36,14 @@ loop-less c =
     let x = c .before .before .before .before in
     let w = c .before .before .before .decode in
     let k = step-len (x .before .before .args .s .now) (x .loop .at) (w .result % 8) (packed-len _ (w .result) (w .ensures)) (omega arith) .on in
-    omega (arith, c .ascii-end .ensures .from-le)
+    omega (arith, longest-at (c .ascii-end .ensures) .0 .from-le)
 
 loop-again : tie.Need-loop-again Inv-loop μ-loop
 loop-again c =
     let x = c .before .before .before .before in
     let w = c .before .before .before .decode in
     let k = step-len (x .before .before .args .s .now) (x .loop .at) (w .result % 8) (packed-len _ (w .result) (w .ensures)) (omega arith) .on in
-    let a = c .ascii-end .ensures in
+    let a = longest-at (c .ascii-end .ensures) .0 in
     let v = validUpTo-past {total = validUpTo (x .before .before .args .s .now)} a (k .room) (omega arith) in
     omega (arith, a .inside (k .room))
 

@@ -6,8 +6,8 @@ use native.Mathlib.Omega.{arith}
 use lib.Dec.{ltb}
 use Rattle.unicode.specs.UnicodeData.{variationEntries}
 use Rattle.base.specs.Bits.{one}
-use Rattle.policy_key_set.specs.Sets.{allBelow, entryCount}
-use Rattle.policy.specs.PolicyBytes.{noUnusedBit, wordCount, wordsFrom}
+use Rattle.policy_key_set.specs.Sets.{allBelow, entryCount, wordCount}
+use Rattle.policy.specs.PolicyBytes.{noUnusedBit, wordsFrom}
 use Rattle.policy.proofs.Bytes.{getD-wordsFrom}
 use Rattle.policy.proofs.Unused.{unused-in-last}
 use borrow.Author.Needs.{needs}

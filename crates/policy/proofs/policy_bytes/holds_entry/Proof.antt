@@ -4,9 +4,9 @@ use Prim.Native.Nat.{ℕ, _%_}
 use native.Mathlib.Omega.{arith}
 use Rattle.unicode.specs.UnicodeData.{variationEntries}
 use Rattle.base.specs.Bits.{one}
-use Rattle.policy_key_set.specs.Sets.{entryCount}
+use Rattle.policy_key_set.specs.Sets.{entryCount, wordCount}
 use Rattle.policy_key_set.proofs.Members.{member-past}
-use Rattle.policy.specs.PolicyBytes.{wordCount, wordsFrom}
+use Rattle.policy.specs.PolicyBytes.{wordsFrom}
 use Rattle.policy.proofs.Bytes.{length-wordsFrom}
 use Rattle.policy.proofs.ByteBits.{member-of-bytes}
 use borrow.Author.Needs.{needs}

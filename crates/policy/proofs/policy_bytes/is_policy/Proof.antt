@@ -3,8 +3,8 @@ use mathlib.Core.Path.{sym, _∙_}
 use lib.ListN.{length}
 use borrow.Author.Tests.{eq-eqb, ne-eqb, not-false, not-true}
 use Rattle.unicode.specs.UnicodeData.{variationEntries}
-use Rattle.policy_key_set.specs.Sets.{entryCount}
-use Rattle.policy.specs.PolicyBytes.{isPolicy, noUnusedBits, policyOf, wordCount}
+use Rattle.policy_key_set.specs.Sets.{entryCount, wordCount}
+use Rattle.policy.specs.PolicyBytes.{isPolicy, noUnusedBits, policyOf}
 use borrow.Author.Needs.{needs}
 use Rattle.policy.proofs.policy_bytes.is_policy.Statement.{statement}
 use Rattle.policy.proofs.policy_bytes.is_policy.Tie as tie

@@ -1,4 +1,5 @@
 -- `text_pass::plain::skip_ascii` meets its contract: the run, with or without its last character (`AsciiText`).
+use Rattle.utf8.proofs.AsciiRuns.{longest-at}
 use Rattle.text_pass.proofs.AsciiText.{last-byte, run-but-last, run-room, run-to-end, run-with-last}
 use native.Mathlib.Omega.{arith}
 use borrow.Author.Needs.{needs}
@@ -8,7 +9,7 @@ use Rattle.text_pass.proofs.plain.skip_ascii.Tie as tie
 returns : tie.Need-returns
 returns c =
     let q = c .before .before .before .pre in
-    let r = c .before .ascii-end .ensures in
+    let r = longest-at (c .before .ascii-end .ensures) .0 in
     let h = r .from-le in
     let l = run-room q r in
     ((omega arith, omega arith), λ p b. run-to-end b q r (c .if1 .taken))
@@ -16,13 +17,13 @@ returns c =
 shared-slice-read-is-ascii-base : tie.Need-shared-slice-read-is-ascii-base
 shared-slice-read-is-ascii-base c =
     let q = c .before .before .before .before .pre in
-    let r = c .before .before .ascii-end .ensures in
+    let r = longest-at (c .before .before .ascii-end .ensures) .0 in
     omega (arith, r .from-le, r .inside (omega (arith, q .0)), q .0)
 
 returns-2 : tie.Need-returns-2
 returns-2 c =
     let q = c .before .before .before .before .before .before .pre in
-    let r = c .before .before .before .before .ascii-end .ensures in
+    let r = longest-at (c .before .before .before .before .ascii-end .ensures) .0 in
     let h = r .from-le in
     let l = run-room q r in
     ((omega arith, omega arith), λ p b. run-but-last b q r)
@@ -30,7 +31,7 @@ returns-2 c =
 returns-3 : tie.Need-returns-3
 returns-3 c =
     let q = c .before .before .before .before .before .before .pre in
-    let r = c .before .before .before .before .ascii-end .ensures in
+    let r = longest-at (c .before .before .before .before .ascii-end .ensures) .0 in
     let h = r .from-le in
     let l = run-room q r in
     ((omega arith, omega arith), λ p b. run-with-last b q r (c .before .is-ascii-base .ensures (c .if2 .left) (last-byte q r)))
@@ -42,9 +43,9 @@ skip-ascii-spec =
     (λ c. search needs)
     (λ c κs. search needs)
     returns
-    (λ c. search needs)
+    (λ c. omega (arith, longest-at (c .before .ascii-end .ensures) .0 .from-le))
     shared-slice-read-is-ascii-base
     (λ c κs. search needs)
-    (λ c. search needs)
+    (λ c. omega (arith, longest-at (c .before .before .before .before .ascii-end .ensures) .0 .from-le))
     returns-2
     returns-3)

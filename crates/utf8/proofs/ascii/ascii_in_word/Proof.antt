@@ -1,8 +1,10 @@
--- `utf8::ascii::ascii_in_word` meets its contract: zero bytes of the highest bits are ASCII bytes.
-use Prim.Native.Nat.{_-_}
+-- `utf8::ascii::ascii_in_word` meets its contract: zero bytes of the highest bits are ASCII bytes, and the next byte is none.
+use mathlib.Core.Path.{sym, subst}
+use Prim.Native.Nat.{ℕ, _+_, _-_, _<_}
 use native.Mathlib.Omega.{arith}
+use lib.ListN.{getD}
 use borrow.Author.Needs.{needs}
-use Rattle.utf8.proofs.AsciiWords.{low-bytes}
+use Rattle.utf8.proofs.AsciiWords.{low-bytes, next-byte}
 use Rattle.utf8.proofs.ascii.ascii_in_word.Statement.{statement}
 use Rattle.utf8.proofs.ascii.ascii_in_word.Tie as tie
 
@@ -12,7 +14,7 @@ returns c =
     let a = x .before .args in
     let w = c .before .before .read-word in
     let low = low-bytes (a .s .now) (a .at) (w .ensures) (λ j. x .shared-slice-known .given j .fits) (a .passed) in
-    (low (8 - a .passed) (omega arith) (omega arith), omega arith)
+    ((low (8 - a .passed) (omega arith) (omega arith), omega arith), λ h. absurd (omega arith))
 
 returns-2 : tie.Need-returns-2
 returns-2 c =
@@ -20,7 +22,11 @@ returns-2 c =
     let a = x .before .args in
     let w = c .before .before .read-word in
     let low = low-bytes (a .s .now) (a .at) (w .ensures) (λ j. x .shared-slice-known .given j .fits) (a .passed) in
-    (low (c .before .zero-bytes .result) (omega arith) (omega arith), omega arith)
+    let z = c .before .zero-bytes in
+    let next = next-byte (a .s .now) (a .at) (w .ensures) (λ j. x .shared-slice-known .given j .fits) (a .passed) in
+    let past : a .passed + z .result < 8 → 0x7F < getD (a .s .now) (a .at + a .passed + z .result) 0 =
+    λ h. subst (λ (k : ℕ). 0x7F < getD (a .s .now) (a .at + a .passed + k) 0) (sym (z .ensures .0)) (next (omega arith)) in
+    ((low (z .result) (omega arith) (omega arith), omega arith), past)
 
 pub ascii-in-word-spec : {M : Type 1} → statement M
 ascii-in-word-spec =

@@ -4,7 +4,7 @@ use Prim.Native.Nat.{_-_}
 use native.Mathlib.Omega.{arith}
 use lib.ListN.{length, getD}
 use Rattle.utf8.specs.Ascii.{AsciiRun}
-use Rattle.utf8.proofs.AsciiRuns.{run-none, run-on, up-to-one}
+use Rattle.utf8.proofs.AsciiRuns.{at-longest, run-none, run-on, up-to-one}
 use Rattle.utf8.proofs.ascii.run_end.Statement.{statement}
 use Rattle.utf8.proofs.ascii.run_end.Tie as tie
 
@@ -18,7 +18,7 @@ loop-holds : tie.Need-loop-holds Inv-loop μ-loop
 loop-holds c = run-none (c .args .s .now) (c .args .from)
 
 returns : tie.Need-returns Inv-loop μ-loop
-returns c = c .before .before .before .loop .inv
+returns c = at-longest (c .before .before .before .loop .inv) (λ h. omega arith)
 
 loop-again : tie.Need-loop-again Inv-loop μ-loop
 loop-again c =
@@ -27,7 +27,7 @@ loop-again c =
     run-on (getD s at 0) 1 (c .before .before .before .loop .inv) (up-to-one s at) (omega arith) (omega arith)
 
 returns-2 : tie.Need-returns-2 Inv-loop μ-loop
-returns-2 c = c .before .loop .inv
+returns-2 c = at-longest (c .before .loop .inv) (λ h. absurd (omega arith))
 
 pub run-end-spec : {M : Type 1} → statement M
 run-end-spec =

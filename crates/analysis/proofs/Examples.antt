@@ -1,4 +1,4 @@
--- The worked texts, computed over the tables.
+-- The examples, computed over the tables.
 use mathlib.Core.Path.{refl}
 use Rattle.unicode.specs.Presentation.{asSelector, fromSelector, isSelector}
 use Rattle.unicode.specs.Tables.{indexOf, inRanges, member, next}
@@ -58,12 +58,11 @@ use Rattle.analysis.specs.Rules.{
   textFirst,
   withoutSelector,
 }
-use Rattle.analysis.specs.Theorems.{WorkedChoices, WorkedDecisions, WorkedRules, WorkedItemsAnalysed}
+use Rattle.analysis.specs.Theorems.{ChoiceExamples, DecisionExamples, RuleExamples}
 
-pub computed : WorkedItemsAnalysed × WorkedRules × WorkedChoices × WorkedDecisions
-unfolding WorkedItemsAnalysed WorkedRules WorkedChoices WorkedDecisions classOf isSelector isTag isRi isEmojiModifier isEmoji inRanges member emojiModifiers emojiRanges riRanges step begin kindOf cut items asSelector fromSelector addChar split following hasVariationSequence isEmojiDefault isEmojiModifierBase isEmojiPresentation emojiModifierBases emojiPresentationRanges variationEntries variationSequenceIndex indexOf next Sets.contains Sets.memberAt Sets.member one holdsBase ruleOf singletonRule preferBare preferBareKeycap bareAsText bareAsTextKeycap defaultPolicy byFirst byKeycap byModifier byTags isBareSide outcome rule1 rule2 rule3 rule4 rule5 rule6 textFirst withoutSelector countCells countsOf nonCanonicality render renew replacement replacementOf upToLink choicesOfCells choicesOf choices
+pub computed : RuleExamples × ChoiceExamples × DecisionExamples
+unfolding RuleExamples ChoiceExamples DecisionExamples classOf isSelector isTag isRi isEmojiModifier isEmoji inRanges member emojiModifiers emojiRanges riRanges step begin kindOf cut items asSelector fromSelector addChar split following hasVariationSequence isEmojiDefault isEmojiModifierBase isEmojiPresentation emojiModifierBases emojiPresentationRanges variationEntries variationSequenceIndex indexOf next Sets.contains Sets.memberAt Sets.member one holdsBase ruleOf singletonRule preferBare preferBareKeycap bareAsText bareAsTextKeycap defaultPolicy byFirst byKeycap byModifier byTags isBareSide outcome rule1 rule2 rule3 rule4 rule5 rule6 textFirst withoutSelector countCells countsOf nonCanonicality render renew replacement replacementOf upToLink choicesOfCells choicesOf choices
 computed = (
-  (refl, refl, refl, refl, refl, refl, refl, refl, refl, refl, refl, refl, refl, refl),
   (refl, refl, refl, refl, refl, refl),
   (refl, refl),
   (refl, refl, refl),

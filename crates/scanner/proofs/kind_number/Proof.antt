@@ -1,8 +1,8 @@
--- `listing::items::kind_number` meets its contract.
+-- `scanner::kind_number` meets its contract.
 use borrow.Author.Needs.{needs}
-use Rattle.formatter.specs.List.{kindNumber}
-use Rattle.listing.proofs.items.kind_number.Statement.{statement}
-use Rattle.listing.proofs.items.kind_number.Tie as tie
+use Rattle.scanner.specs.Spans.{kindNumber}
+use Rattle.scanner.proofs.kind_number.Statement.{statement}
+use Rattle.scanner.proofs.kind_number.Tie as tie
 
 returns : tie.Need-returns
 unfolding kindNumber

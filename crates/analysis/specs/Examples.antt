@@ -1,4 +1,4 @@
--- The form in which the worked texts of document 01 are stated.
+-- The form in which examples of items under the default policy are stated.
 use mathlib.Core.List.{List, map}
 use Prim.Native.Nat.{ℕ}
 use Rattle.policy.specs.DefaultPolicy.{defaultPolicy}
@@ -6,16 +6,16 @@ use Rattle.scanner.specs.Items.{Item, items}
 use Rattle.analysis.specs.Analysis.{defaultReplacement, nonCanonicality}
 use Rattle.analysis.specs.declared.types.NonCanonicality.{NonCanonicality}
 
--- An item of a worked text: its characters, its counts and its default replacement.
-pub record Worked : Type 0 where
+-- An item of a text: its characters, its counts and its default replacement.
+pub record Analysed : Type 0 where
   pub chars : List ℕ
   pub counts : NonCanonicality
   pub replacement : List ℕ
 
 -- The same as one line.
-abbrev pub worked : List ℕ → NonCanonicality → List ℕ → Worked
-worked t n r = record { chars = t; counts = n; replacement = r }
+abbrev pub analysed : List ℕ → NonCanonicality → List ℕ → Analysed
+analysed t n r = record { chars = t; counts = n; replacement = r }
 
 -- The items of a text, with their counts and default replacements under the default policy.
-abbrev pub workedItems : List ℕ → List Worked
-workedItems t = map (λ (x : Item). worked (x .chars) (nonCanonicality defaultPolicy x) (defaultReplacement defaultPolicy x)) (items t)
+abbrev pub analysedItems : List ℕ → List Analysed
+analysedItems t = map (λ (x : Item). analysed (x .chars) (nonCanonicality defaultPolicy x) (defaultReplacement defaultPolicy x)) (items t)

@@ -1,9 +1,9 @@
--- `decisions` is safe and ends: each turn goes on in the item.
+-- `choices` is safe and ends: each turn goes on in the item.
 use borrow.Author.Needs.{needs}
 use Prim.Native.Nat.{_-_}
 use lib.ListN.{length}
-use Rattle.vectors.proofs.finding_answers.decisions.Statement.{statement}
-use Rattle.vectors.proofs.finding_answers.decisions.Tie as tie
+use Rattle.vectors.proofs.finding_answers.choices.Statement.{statement}
+use Rattle.vectors.proofs.finding_answers.choices.Tie as tie
 
 abbrev Inv-loop : tie.InvT-loop
 Inv-loop line raw policy past₀ at₀ past at = Unit {0}
@@ -11,8 +11,8 @@ Inv-loop line raw policy past₀ at₀ past at = Unit {0}
 abbrev μ-loop : tie.MeasureT-loop
 μ-loop line raw policy past₀ at₀ past at = length raw - at
 
-pub decisions-spec : {M : Type 1} → statement M
-decisions-spec =
+pub choices-spec : {M : Type 1} → statement M
+choices-spec =
     tie.close
     (tie.spec
     Inv-loop
@@ -23,6 +23,8 @@ decisions-spec =
     (λ c. search needs)
     (λ c. search needs)
     (λ c. search needs)
+    (λ c κs. search needs)
+    (λ c κs. search needs)
     (λ c κs. search needs)
     (λ c. search needs)
     (λ c. search needs)

@@ -1,0 +1,23 @@
+-- `policy::Policy::eq` meets its contract: the two tests, one after the other.
+use mathlib.Core.Path.{sym, ap, _∙_}
+use mathlib.Core.Bool.{Bool, _&&_}
+use borrow.Author.Needs.{needs}
+use Rattle.policy_key_set.specs.KeySets.{sameKeys}
+use Rattle.policy.proofs.Policy.eq.Statement.{statement}
+use Rattle.policy.proofs.Policy.eq.Tie as tie
+
+returns : tie.Need-returns
+returns c =
+    let a = c .before .before .before .args in
+    c .eq2 .ensures
+    ∙ ap (λ (b : Bool). b && sameKeys (a .self .«bare_as_text») (a .rhs .«bare_as_text»))
+    (sym (c .before .if1 .taken) ∙ c .before .before .eq .ensures)
+
+returns-2 : tie.Need-returns-2
+returns-2 c =
+    let a = c .before .before .args in
+    ap (λ (b : Bool). b && sameKeys (a .self .«bare_as_text») (a .rhs .«bare_as_text»))
+    (sym (c .if1 .left) ∙ c .before .eq .ensures)
+
+pub eq-spec : {M : Type 1} → statement M
+eq-spec = tie.close (tie.spec (λ c κs. search needs) (λ c κs. search needs) returns returns-2)
