@@ -67,7 +67,8 @@ module _ {text : List ℕ} {at v : ℕ} {k : Class} {next : ℕ} (h : Seen text 
 
 tags-stay : (c : ℕ) → inTags c ≡ true → step unit (classOf c) ≡ some unit
 unfolding step
-tags-stay c e = ⊎-elim (λ t. ap (step unit) (class-is (is-tag t))) (λ t. ap (step unit) (class-is (is-selector t))) (either-true (isTag c) (isSelector c) e)
+tags-stay c e = ⊎-elim (λ t. ap (step unit) (class-is (is-tag t))) (λ t. ap (step unit) (class-is (is-selector t)))
+    (either-true (isTag c) (isSelector c) e)
 
 cut-stops : (f : ℕ → Bool) (p : Place) {t : List ℕ} → Stops f t → Stops f ((cut p t) .0)
 unfolding cut
@@ -102,7 +103,8 @@ module _ {text : List ℕ} {at v next : ℕ} (h : Seen text at v tag next) (p : 
   tags-width : at + size width (restAt text at p) ≡ end + size width (restAt text end unit)
   tags-width = omega (arith, ap (size width) rest-parts, size-append width tags (restAt text end unit))
 
-  tags-parts : tagsComplete (kindOf p) (restAt text at p) ≡ (allComplete (tagModifications tags) && tagsComplete (kindOf unit) (restAt text end unit))
+  tags-parts : tagsComplete (kindOf p) (restAt text at p) ≡
+      (allComplete (tagModifications tags) && tagsComplete (kindOf unit) (restAt text end unit))
   tags-parts =
       let stops = cut-stops inTags unit (subst (Stops inTags) (sym behind-tags) (behind-stops inTags t)) in
       tags-headed p (restAt text at p) (headed-step p unit tag (next-on (step p tag) unit e))
@@ -129,12 +131,14 @@ module _ {text : List ℕ} {from at : ℕ} {first p : Place} {b : Bool} (l : Rea
       end-same = l .end-same ∙ width-on h p q e;
       tags-same =
           l .tags-same
-          ∙ ap (λ (c : Bool). b && c) (ap (tagsComplete (kindOf p)) (rest-on h p q e) ∙ tags-on p q v (restAt text next q) (h .class) (next-on (step p k) q e) n);
+          ∙ ap (λ (c : Bool). b && c) (ap (tagsComplete (kindOf p)) (rest-on h p q e)
+          ∙ tags-on p q v (restAt text next q) (h .class) (next-on (step p k) q e) n);
     }
 
     -- A tag modification, as it is read in one go.
     pub reading-tags : {c : Bool} {end : ℕ} → beginsTags q k ≡ true → end ≡ at + size width (tagModificationAt (chars (drop at text)))
-        → c ≡ allComplete (tagModifications (tagModificationAt (chars (drop at text)))) → (at < end) × Reading text from first end q (b && c)
+        → c ≡ allComplete (tagModifications (tagModificationAt (chars (drop at text)))) → (at < end)
+        × Reading text from first end q (b && c)
     unfolding tagModificationAt
     reading-tags {c} {end} n f g =
         let z = tag-begins q k n in
@@ -145,13 +149,16 @@ module _ {text : List ℕ} {from at : ℕ} {first p : Place} {b : Bool} (l : Rea
           record {
             end-same = l .end-same ∙ tags-width s p r ∙ ap (λ (n : ℕ). n + size width (restAt text n unit)) (sym f);
             tags-same =
-                l .tags-same ∙ ap (λ (x : Bool). b && x) (tags-parts s p r) ∙ sym (and-assoc b (allComplete (tagModifications (run inTags (chars (drop at text))))) (tagsComplete (kindOf unit) (restAt text (at + size width (run inTags (chars (drop at text)))) unit)))
+                l .tags-same ∙ ap (λ (x : Bool). b && x) (tags-parts s p r)
+                ∙ sym (and-assoc b (allComplete (tagModifications (run inTags (chars (drop at text)))))
+                (tagsComplete (kindOf unit) (restAt text (at + size width (run inTags (chars (drop at text)))) unit)))
                 ∙ ap₂ (λ (x : Bool) (n : ℕ). (b && x) && tagsComplete (kindOf unit) (restAt text n unit)) (sym g) (sym f);
           },
         )
 
   -- Where nothing is left, the end and the tags are read.
-  pub reading-done : restAt text at p ≡ [] → (at ≡ from + size width (restAt text from first)) × (b ≡ tagsComplete (kindOf first) (restAt text from first))
+  pub reading-done : restAt text at p ≡ [] → (at ≡ from + size width (restAt text from first))
+      × (b ≡ tagsComplete (kindOf first) (restAt text from first))
   reading-done e = (
     let m = l .end-same in omega (arith, ap (size width) e),
     sym (l .tags-same ∙ ap (λ (c : Bool). b && c) (ap (tagsComplete (kindOf p)) e ∙ tags-nil (kindOf p)) ∙ and-true b),
@@ -174,7 +181,8 @@ cursor-item {text} {at} {v} {c} {next} h p e b k hp he hb hk =
     let f : p ≡ q = hp ∙ ap begin (h .class) in
     let n : e ≡ at + size width (v ∷ s) = omega (arith, h .behind, he ∙ ap (λ (x : Place). next + size width (restAt text next x)) f) in
     let m : k ≡ kindOf q = hk ∙ ap kindOf f in
-    let t : b ≡ tagsComplete (kindOf q) (v ∷ s) = hb ∙ ap (λ (x : Place). tagsComplete (kindOf x) (restAt text next x)) f ∙ sym (first-tags v s) in
+    let t : b ≡ tagsComplete (kindOf q) (v ∷ s) = hb ∙ ap (λ (x : Place). tagsComplete (kindOf x) (restAt text next x)) f
+    ∙ sym (first-tags v s) in
     ap₂ (λ (x : ℕ) (y : Bool). Answer.Item (record { start = at; end = x; kind = k; «tags_complete» = y })) n t
     ∙ ap (λ (x : ScanKind). Answer.Item (record { start = at; end = at + size width (v ∷ s); kind = x; «tags_complete» = tagsComplete (kindOf q) (v ∷ s) })) m
     ∙ ap (λ (l : List ℕ). firstOf (spans at (items l))) (sym (h .chars-on))

@@ -19,7 +19,8 @@ use Rattle.scanner.specs.Tags.{allComplete, complete, tagModifications, 
 use Rattle.scanner.specs.declared.ScanKind.{ScanKind}
 use Rattle.scanner.specs.declared.ScanKind.the-variants.{EmojiHeaded, LinksOnly, Passthrough, UnsanctionedPresentationSelectors}
 use Rattle.scanner.proofs.ClassTests.{forSelector, forTag, selector-test, tag-test}
-use Rattle.scanner.proofs.Complete.{complete-end, complete-other, complete-selector, complete-start, complete-tag, completeFrom, last-of}
+use Rattle.scanner.proofs.Complete.{complete-end, complete-other, complete-selector, complete-start, complete-tag, completeFrom}
+use Rattle.scanner.proofs.Complete.{last-of}
 use Rattle.scanner.proofs.Peek.{Seen, Unseen}
 use Rattle.scanner.proofs.Places.{headed, headed-step, tag-step}
 use Rattle.scanner.proofs.Runs.{Passes, all-pass, pass-and, Stops, at-char, at-end, run-false, run-true}
@@ -46,7 +47,8 @@ last-tag (d ∷ ts) c =
 tags-done : {w t : List ℕ} {b : Bool} → TagsRead w t b → t ≡ [] → b ≡ allComplete (tagModifications w)
 tags-done h e = h .so-far ∙ sym (h .same ∙ ap (completeFrom (h .tags)) e ∙ complete-end (h .tags))
 
-module _ {text : List ℕ} {at v : ℕ} {k : Class} {next : ℕ} (s : Seen text at v k next) {w : List ℕ} {b : Bool} (h : TagsRead w (run inTags (chars (drop at text))) b) where
+module _ {text : List ℕ} {at v : ℕ} {k : Class} {next : ℕ} (s : Seen text at v k next) {w : List ℕ} {b : Bool}
+    (h : TagsRead w (run inTags (chars (drop at text))) b) where
   abbrev rest : List ℕ
   rest = run inTags (chars (drop next text))
 
@@ -81,7 +83,8 @@ tags-none u h = tags-done h (ap (run inTags) (u .chars-none))
 
 -- ---- the tag modifications of an item, one after the other
 
-both-parts : {s t : List ℕ} (ts : List ℕ) → Passes inTags s → Stops inTags t → completeFrom ts (s ++ t) ≡ (completeFrom ts s && completeFrom [] t)
+both-parts : {s t : List ℕ} (ts : List ℕ) → Passes inTags s → Stops inTags t
+    → completeFrom ts (s ++ t) ≡ (completeFrom ts s && completeFrom [] t)
 unfolding allComplete withTags
 both-parts ts all-pass at-end = sym (ap (λ (b : Bool). completeFrom ts [] && b) (complete-end []) ∙ and-true (completeFrom ts []))
 both-parts ts all-pass (at-char {c = c} {s = t} e) =
@@ -89,14 +92,17 @@ both-parts ts all-pass (at-char {c = c} {s = t} e) =
     complete-other ts c t (n .0) (n .1) ∙ ap (λ (b : Bool). b && completeFrom [] t) (sym (complete-end ts))
     ∙ ap (λ (b : Bool). completeFrom ts [] && b) (sym (complete-other [] c t (n .0) (n .1)))
 both-parts {t = t} ts (pass-and {c = c} {s = s} e h) f =
-    ⊎-elim (λ g. complete-tag ts c (s ++ t) g ∙ both-parts (ts ++ (c ∷ [])) h f ∙ ap (λ (b : Bool). b && completeFrom [] t) (sym (complete-tag ts c s g)))
-    (λ g. complete-selector ts c (s ++ t) g ∙ both-parts ts h f ∙ ap (λ (b : Bool). b && completeFrom [] t) (sym (complete-selector ts c s g)))
+    ⊎-elim (λ g. complete-tag ts c (s ++ t) g ∙ both-parts (ts ++ (c ∷ [])) h f
+    ∙ ap (λ (b : Bool). b && completeFrom [] t) (sym (complete-tag ts c s g)))
+    (λ g. complete-selector ts c (s ++ t) g ∙ both-parts ts h f
+    ∙ ap (λ (b : Bool). b && completeFrom [] t) (sym (complete-selector ts c s g)))
     (either-true (isTag c) (isSelector c) e)
 
 -- Behind a tag modification stands what is neither tag nor selector.
 pub tags-then : {s t : List ℕ} → Passes inTags s → Stops inTags t
     → allComplete (tagModifications (s ++ t)) ≡ (allComplete (tagModifications s) && allComplete (tagModifications t))
-tags-then {s} {t} h f = complete-start (s ++ t) ∙ both-parts [] h f ∙ sym (ap₂ (λ (a b : Bool). a && b) (complete-start s) (complete-start t))
+tags-then {s} {t} h f = complete-start (s ++ t) ∙ both-parts [] h f
+    ∙ sym (ap₂ (λ (a b : Bool). a && b) (complete-start s) (complete-start t))
 
 -- Any other character changes nothing.
 other-tags : (c : ℕ) (t : List ℕ) → isTag c ≡ false → tagModifications (c ∷ t) ≡ tagModifications t

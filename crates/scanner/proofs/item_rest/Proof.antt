@@ -23,43 +23,53 @@ returns : tie.Need-returns Inv-loop μ-loop
 returns c =
     let x = c .before .before .before .before .before .before .before .before .before .args in
     let l = c .before .before .before .before .before .before .before .loop in
-    let k = seen (x .text .now) (l .at) (sym (c .before .before .before .before .before .before .peek .ensures) ∙ c .before .before .before .before .class .given .1) in
+    let p = c .before .before .before .before in
+    let k = seen (x .text .now) (l .at) (sym (p .before .before .peek .ensures) ∙ p .class .given .1) in
     reading-done (l .inv) (rest-ends k (l .place) (sym (c .before .before .step .ensures) ∙ c .enum-told .given .1))
 
 loop-less : tie.Need-loop-less Inv-loop μ-loop
 loop-less c =
     let x = c .before .before .before .before .before .before .before .before .before .before .before .before .before .before .args in
     let l = c .before .before .before .before .before .before .before .before .before .before .before .before .loop in
-    let k = seen (x .text .now) (l .at) (sym (c .before .before .before .before .before .before .before .before .before .before .before .peek .ensures) ∙ c .before .before .before .before .before .before .before .before .before .class .given .1) in
+    let p = c .before .before .before .before .before .before .before .before .before in
+    let k = seen (x .text .now) (l .at) (sym (p .before .before .peek .ensures) ∙ p .class .given .1) in
     let n = c .before .before .before .before .before .next .given in
     let tags = c .before .consume-emoji-tag-runs .ensures in
-    let r = reading-tags (l .inv) k (n .0 .0) (sym (c .before .before .before .before .before .before .before .step .ensures) ∙ n .1) (sym (c .before .before .before .begins-tags .ensures) ∙ c .before .before .if1 .taken) (tags .0) (tags .1) in
+    let begins = sym (c .before .before .before .begins-tags .ensures) ∙ c .before .before .if1 .taken in
+    let r = reading-tags (l .inv) k (n .0 .0) (sym (c .before .before .before .before .before .before .before .step .ensures) ∙ n .1) begins
+    (tags .0) (tags .1) in
     omega (arith, r .0, k .on, k .room)
 
 loop-again : tie.Need-loop-again Inv-loop μ-loop
 loop-again c =
     let x = c .before .before .before .before .before .before .before .before .before .before .before .before .before .before .args in
     let l = c .before .before .before .before .before .before .before .before .before .before .before .before .loop in
-    let k = seen (x .text .now) (l .at) (sym (c .before .before .before .before .before .before .before .before .before .before .before .peek .ensures) ∙ c .before .before .before .before .before .before .before .before .before .class .given .1) in
+    let p = c .before .before .before .before .before .before .before .before .before in
+    let k = seen (x .text .now) (l .at) (sym (p .before .before .peek .ensures) ∙ p .class .given .1) in
     let n = c .before .before .before .before .before .next .given in
     let tags = c .before .consume-emoji-tag-runs .ensures in
-    let r = reading-tags (l .inv) k (n .0 .0) (sym (c .before .before .before .before .before .before .before .step .ensures) ∙ n .1) (sym (c .before .before .before .begins-tags .ensures) ∙ c .before .before .if1 .taken) (tags .0) (tags .1) in
+    let begins = sym (c .before .before .before .begins-tags .ensures) ∙ c .before .before .if1 .taken in
+    let r = reading-tags (l .inv) k (n .0 .0) (sym (c .before .before .before .before .before .before .before .step .ensures) ∙ n .1) begins
+    (tags .0) (tags .1) in
     rw (c .both .ensures) (r .1)
 
 loop-less-2 : tie.Need-loop-less-2 Inv-loop μ-loop
 loop-less-2 c =
     let x = c .before .before .before .before .before .before .before .before .before .before .before .before .args in
     let l = c .before .before .before .before .before .before .before .before .before .before .loop in
-    let k = seen (x .text .now) (l .at) (sym (c .before .before .before .before .before .before .before .before .before .peek .ensures) ∙ c .before .before .before .before .before .before .before .class .given .1) in
+    let p = c .before .before .before .before .before .before .before in
+    let k = seen (x .text .now) (l .at) (sym (p .before .before .peek .ensures) ∙ p .class .given .1) in
     omega (arith, k .on, k .room)
 
 loop-again-2 : tie.Need-loop-again-2 Inv-loop μ-loop
 loop-again-2 c =
     let x = c .before .before .before .before .before .before .before .before .before .before .before .before .args in
     let l = c .before .before .before .before .before .before .before .before .before .before .loop in
-    let k = seen (x .text .now) (l .at) (sym (c .before .before .before .before .before .before .before .before .before .peek .ensures) ∙ c .before .before .before .before .before .before .before .class .given .1) in
+    let p = c .before .before .before .before .before .before .before in
+    let k = seen (x .text .now) (l .at) (sym (p .before .before .peek .ensures) ∙ p .class .given .1) in
     let n = c .before .before .before .next .given in
-    reading-on (l .inv) k (n .0 .0) (sym (c .before .before .before .before .before .step .ensures) ∙ n .1) (sym (c .before .begins-tags .ensures) ∙ c .if1 .left)
+    reading-on (l .inv) k (n .0 .0) (sym (c .before .before .before .before .before .step .ensures) ∙ n .1)
+    (sym (c .before .begins-tags .ensures) ∙ c .if1 .left)
 
 returns-2 : tie.Need-returns-2 Inv-loop μ-loop
 returns-2 c =

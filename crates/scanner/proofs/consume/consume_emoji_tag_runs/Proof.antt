@@ -22,10 +22,12 @@ use Rattle.scanner.proofs.consume.consume_emoji_tag_runs.Tie as tie
 abbrev Left : List ℕ → ℕ → ℕ → Bool → Type 0
 Left text at end complete =
     let rest = run inTags (chars (drop end text)) in
-    (at + size width (run inTags (chars (drop at text))) ≡ end + size width rest) × TagsRead (run inTags (chars (drop at text))) rest complete
+    (at + size width (run inTags (chars (drop at text))) ≡ end + size width rest)
+    × TagsRead (run inTags (chars (drop at text))) rest complete
 
 abbrev Inv-loop : tie.InvT-loop
-Inv-loop text at end₀ complete₀ selectors₀ end complete selectors = (end₀ ≤ end) × (selectors ≡ true → end₀ < end) × Left text at end complete
+Inv-loop text at end₀ complete₀ selectors₀ end complete selectors = (end₀ ≤ end) × (selectors ≡ true → end₀ < end)
+    × Left text at end complete
 
 abbrev μ-loop : tie.MeasureT-loop
 μ-loop text at end₀ complete₀ selectors₀ end complete selectors = length text - end
@@ -46,7 +48,8 @@ groups-less : tie.Need-groups-less Inv-loop μ-loop Inv-groups μ-groups
 groups-less c =
     let x = c .before .before .before .before .before .before .before .before .before .before .args in
     let l = c .before .before .before .before .before .before .before .loop in
-    let k = seen (x .text .now) (l .end) (sym (c .before .before .before .before .before .before .peek .ensures) ∙ c .before .before .before .before .value .given .1) in
+    let k = seen (x .text .now) (l .end) (sym (c .before .before .before .before .before .before .peek .ensures)
+    ∙ c .before .before .before .before .value .given .1) in
     omega (arith, l .inv .1 (c .if1 .taken), k .on, k .room)
 
 groups-again : tie.Need-groups-again Inv-loop μ-loop Inv-groups μ-groups
@@ -55,29 +58,36 @@ groups-again c = c .before .before .before .before .before .before .before .loop
 loop-less : tie.Need-loop-less Inv-loop μ-loop Inv-groups μ-groups
 loop-less c =
     let x = c .before .before .before .before .before .before .before .before .before .args in
-    let k = seen (x .text .now) (c .before .before .before .before .before .before .loop .end) (sym (c .before .before .before .before .before .peek .ensures) ∙ c .before .before .before .value .given .1) in
+    let k = seen (x .text .now) (c .before .before .before .before .before .before .loop .end)
+    (sym (c .before .before .before .before .before .peek .ensures) ∙ c .before .before .before .value .given .1) in
     omega (arith, k .on, k .room)
 
 loop-again : tie.Need-loop-again Inv-loop μ-loop Inv-groups μ-groups
 loop-again c =
     let x = c .before .before .before .before .before .before .before .before .before .args in
     let l = c .before .before .before .before .before .before .loop in
-    let k = seen (x .text .now) (l .end) (sym (c .before .before .before .before .before .peek .ensures) ∙ c .before .before .before .value .given .1) in
+    let k = seen (x .text .now) (l .end) (sym (c .before .before .before .before .before .peek .ensures)
+    ∙ c .before .before .before .value .given .1) in
     let e = c .enum-told .given .1 in
-    let o = tags-test _ ∙ ap forTags (sym (k .class) ∙ e) in
-    (omega (arith, k .on, l .inv .0), λ _. omega (arith, k .on, l .inv .0), (l .inv .2 .0 ∙ run-on inTags k o, tags-selector k (l .inv .2 .1) e))
+    let o = tags-test _ ∙ ap forTags (sym (k .class) ∙ e) in (
+      omega (arith, k .on, l .inv .0),
+      λ _. omega (arith, k .on, l .inv .0),
+      (l .inv .2 .0 ∙ run-on inTags k o, tags-selector k (l .inv .2 .1) e),
+    )
 
 loop-less-2 : tie.Need-loop-less-2 Inv-loop μ-loop Inv-groups μ-groups
 loop-less-2 c =
     let x = c .before .before .before .before .before .before .before .before .before .before .args in
-    let k = seen (x .text .now) (c .before .before .before .before .before .before .before .loop .end) (sym (c .before .before .before .before .before .before .peek .ensures) ∙ c .before .before .before .before .value .given .1) in
+    let k = seen (x .text .now) (c .before .before .before .before .before .before .before .loop .end)
+    (sym (c .before .before .before .before .before .before .peek .ensures) ∙ c .before .before .before .before .value .given .1) in
     omega (arith, k .on, k .room)
 
 loop-again-2 : tie.Need-loop-again-2 Inv-loop μ-loop Inv-groups μ-groups
 loop-again-2 c =
     let x = c .before .before .before .before .before .before .before .before .before .before .args in
     let l = c .before .before .before .before .before .before .before .loop in
-    let k = seen (x .text .now) (l .end) (sym (c .before .before .before .before .before .before .peek .ensures) ∙ c .before .before .before .before .value .given .1) in
+    let k = seen (x .text .now) (l .end) (sym (c .before .before .before .before .before .before .peek .ensures)
+    ∙ c .before .before .before .before .value .given .1) in
     let e = c .before .enum-told2 .given .1 in
     let o = tags-test _ ∙ ap forTags (sym (k .class) ∙ e) in
     (omega (arith, k .on, l .inv .0), λ _. omega (arith, k .on, l .inv .0), (l .inv .2 .0 ∙ run-on inTags k o, tags-tag k (l .inv .2 .1) e))

@@ -17,14 +17,16 @@ returns-2 : tie.Need-returns-2
 unfolding beginsTags
 returns-2 c =
     let x = c .before .before .before .args in
-    place-arm (0 ∷ 1 ∷ 2 ∷ 3 ∷ 5 ∷ 6 ∷ []) (λ (p : Place). false ≡ beginsTags p tag) (refl, refl, refl, refl, tt, refl, refl) (x .p) (c .match2 .keys2)
+    place-arm (0 ∷ 1 ∷ 2 ∷ 3 ∷ 5 ∷ 6 ∷ []) (λ (p : Place). false ≡ beginsTags p tag) (refl, refl, refl, refl, tt, refl, refl) (x .p)
+    (c .match2 .keys2)
     ∙ ap (beginsTags (x .p)) (sym (c .before .enum-told .given .1))
 
 returns-3 : tie.Need-returns-3
 unfolding beginsTags
 returns-3 c =
     let x = c .before .args in
-    class-arm (0 ∷ 1 ∷ 2 ∷ 3 ∷ 4 ∷ 5 ∷ 7 ∷ []) (λ (k : Class). false ≡ beginsTags (x .p) k) (refl, refl, refl, refl, refl, refl, tt, refl) (x .k) (c .match .keys2)
+    class-arm (0 ∷ 1 ∷ 2 ∷ 3 ∷ 4 ∷ 5 ∷ 7 ∷ []) (λ (k : Class). false ≡ beginsTags (x .p) k) (refl, refl, refl, refl, refl, refl, tt, refl)
+    (x .k) (c .match .keys2)
 
 pub begins-tags-spec : {M : Type 1} → statement M
 begins-tags-spec = tie.close (tie.spec (λ c. search needs) (λ c. search needs) returns returns-2 returns-3)
