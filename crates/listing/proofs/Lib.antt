@@ -1,3 +1,5 @@
--- Laws of listing findings: into a table of bytes, and into a table of structs.
+-- Laws of listing: findings into a table of bytes and into a table of structs, and items that a scanner hands out.
 pub mod NextFindings
 pub mod Storing
+pub mod ItemRows
+pub mod Relending

@@ -1,5 +1,6 @@
-// Listing the items of a text into a table lent by the caller, as list.rt lists findings. A row is four numbers of 8 bytes, lowest
-// first: start, end, kind, and whether the tags are complete. `list_items` equals `listItems` of specs/List.antt.
+// Listing the items of a text into a table lent by the caller, as lib.rt lists findings. A row is four numbers of 8 bytes, lowest
+// first: start, end, kind, and whether the tags are complete. The rows are those of the items that a `Scanner` hands out.
+// `list_items` equals `listItems` of specs/List.antt of formatter.
 ghost use mathlib.Core.Path.{_≡_};
 ghost use mathlib.Core.Bool.{cond};
 ghost use Prim.Native.Nat.{_+_, _≤_};
@@ -10,6 +11,7 @@ ghost use Rattle.base.specs.Answers.{EndsAs, listRow};
 ghost use Rattle.base.specs.Output.{PutAt};
 ghost use Rattle.scanner.specs.Spans.{scan};
 ghost use Rattle.formatter.specs.List.{itemBytes, itemNumbers, listItems};
+ghost use Rattle.listing.specs.Items.{isItem, stepBytes};
 use base::Check;
 use base::ListAnswer;
 use base::Refusal;
@@ -17,6 +19,8 @@ use base::WORD_BYTES;
 use scanner::ScanItem;
 use scanner::ScanStep;
 use scanner::text_check::check_text;
+use text_scanner::Scanner;
+use text_scanner::next;
 
 // The numbers of a row, and its bytes.
 const ROW_NUMBERS: usize = 4;
@@ -59,18 +63,41 @@ fn put_item(table: &mut [u8], start: usize, item: ScanItem) -> usize
     start + ROW_BYTES
 }
 
-// Puts the row of each item, for which there is room.
+// Where the next row goes, and whether the scanner has not said the end.
+struct PutRows {
+    to: usize,
+    more: bool,
+}
+
+// Puts the row of an answer's item, for which there is room; at the end nothing.
+fn put_step(table: &mut [u8], to: usize, step: ScanStep) -> PutRows
+    requires { ⌜ to + length (stepBytes step) ≤ length (now table) ⌝ }
+    ensures { λ r. ⌜ (PutAt (now (table .entry)) to (stepBytes step) (now (table .exit)) (r .to)) × (r .more ≡ isItem step) ⌝ }
+{
+    match step {
+        ScanStep::Item(item) => {
+            let next_to = put_item(table, to, item);
+            PutRows {
+                to: next_to,
+                more: true,
+            }
+        }
+        ScanStep::End => PutRows { to, more: false },
+    }
+}
+
+// Puts the row of each item, for which there is room: a scanner hands the items out, up to the end.
 fn put_items(text: &[u8], table: &mut [u8]) -> usize
     requires { ⌜ length (rowsBytes itemNumbers (scan (now text))) ≤ length (now table) ⌝ }
     ensures { λ r. ⌜ PutAt (now (table .entry)) 0 (rowsBytes itemNumbers (scan (now (text .entry)))) (now (table .exit)) r ⌝ }
 {
-    let mut at = 0;
-    let mut to = 0;
-    while let ScanStep::Item(item) = scanner::next_item(text, at) {
-        at = item.end;
-        to = put_item(table, to, item);
+    let mut scanner = Scanner { text, offset: 0 };
+    let mut rows = PutRows { to: 0, more: true };
+    while rows.more {
+        let step = next(&mut scanner);
+        rows = put_step(table, rows.to, step);
     }
-    to
+    rows.to
 }
 
 // Lists the items of a text, if the table has a place for each.

@@ -34,7 +34,7 @@ use Rattle.scanner.specs.Structure.{
 }
 use Rattle.scanner.specs.Spans.{firstOf, scan, scanAt, scanFrom, size, spans, width}
 use Rattle.scanner.specs.Tags.{allComplete, complete, tagModifications, tagRuns, tagsComplete, withTags}
-use Rattle.scanner.specs.Theorems.{CursorAtItemEnd, CursorAtStart, CursorEnds, CursorInsideCharacter, CursorPastEnd, FirstItemByRuns, ItemAlone, ItemsAfresh, ItemsAreAReading, ItemsTile, NoItemIsEmpty, OnlyReading, RestByRuns, RunsAreDerived, RunsAreLongest, RunsByClass, SelectorsMoveNothing, SpansAfresh, SpansCover, SpansSpellItems, SpansTile, SpansTileFrom, Spells, span, StructureFlattens, StructureIsDerived, Structured, TagReportTells, TagsAreInStructure, TagsCompleteMeans, Tiles, ItemExamples, StructureExample, TagExamples}
+use Rattle.scanner.specs.Theorems.{CursorAtItemEnd, CursorAtStart, CursorEnds, CursorInsideCharacter, CursorPastEnd, FirstItemByRuns, ItemAlone, ItemsAfresh, ItemsAreAReading, ItemsTile, NoItemIsEmpty, OnlyReading, RestByRuns, RunsAreDerived, RunsAreLongest, RunsByClass, SelectorsMoveNothing, SpansAfresh, SpansCover, SpansSpellItems, SpansTile, SpansTileFrom, Spells, span, StructureFlattens, StructureIsDerived, Structured, TagsAreInStructure, TagsCompleteMeans, Tiles, ItemExamples, StructureExample, TagExamples}
 use Rattle.scanner.specs.Walks.{SequenceWalk, StructureIsWalked}
 use Rattle.scanner.specs.declared.ScanKind.{ScanKind}
 use Rattle.scanner.specs.declared.ScanItem.{ScanItem}
@@ -71,7 +71,6 @@ use Rattle.scanner.proofs.RunLaws.{
 }
 use Rattle.scanner.proofs.Runs.{Stops, at-char, at-end}
 use Rattle.scanner.proofs.Spans.{scan-behind, scan-spells, scan-tiles, spells-first}
-use Rattle.scanner.proofs.TagReport.{report-is}
 use Rattle.scanner.proofs.Tiling.{afresh, never-empty, tiling}
 use Rattle.scanner.proofs.Reading.{derive-inner, derives-alike, item-alone, item-derives, only-reading, reading}
 use Rattle.scanner.proofs.Structure.{StructureRead, emoji-headed-read, links-only-read}
@@ -228,10 +227,6 @@ tag-examples = (refl, refl, refl, refl, refl)
 pub structure-example : StructureExample
 unfolding StructureExample classOf isSelector isTag isRi isEmojiModifier isEmoji inRanges member emojiModifiers emojiRanges riRanges run behindRun tagToRuns tagToModifications toModifications modificationsOf riStem behindSecondRi emojiLike cutAtLinks joinOne joinedOf sequenceOf structure
 structure-example = refl
-
-pub tag-report-tells : TagReportTells
-unfolding TagReportTells
-tag-report-tells = report-is
 
 pub runs-by-class : RunsByClass
 unfolding RunsByClass

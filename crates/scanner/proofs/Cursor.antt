@@ -1,24 +1,36 @@
 -- The rest of an item from a byte offset on, character by character, and the item at an offset: what the cursor's loop goes by.
-use mathlib.Core.Path.{_≡_, refl, ap, ap₂, sym, _∙_}
-use mathlib.Core.Bool.{Bool}
+use mathlib.Core.Path.{_≡_, refl, ap, ap₂, sym, _∙_, subst}
+use mathlib.Core.Logic.{⊎-elim}
+use mathlib.Core.Bool.{Bool, true, false, _&&_, and-assoc, and-true}
 use mathlib.Core.Option.{Option, none, some}
-use mathlib.Core.List.{List, [], _∷_}
-use Prim.Native.Nat.{ℕ, _+_}
+use mathlib.Core.List.{List, [], _∷_, _++_}
+use Prim.Native.Nat.{ℕ, _+_, _<_}
 use native.Mathlib.Omega.{arith}
 use lib.ListN.{drop}
+use Rattle.base.proofs.Tests.{either-true}
 use Rattle.utf8.specs.Rfc3629.{chars}
-use Rattle.scanner.specs.Classes.{Class, classOf}
-use Rattle.scanner.specs.Items.{Item, Place, begin, cut, items, kindOf, nextOf, step}
+use Rattle.unicode.specs.Presentation.{isSelector}
+use Rattle.unicode.specs.Unicode.{isTag}
+use Rattle.scanner.specs.Classes.{Class, classOf, tag}
+use Rattle.scanner.specs.Items.{Item, Place, unit, begin, beginsTags, cut, items, kindOf, nextOf, step}
+use Rattle.scanner.specs.Runs.{behindRun, inTags, run, tagModificationAt}
 use Rattle.scanner.specs.Spans.{firstOf, restAt, scanAt, scanFrom, size, spans, width}
-use Rattle.scanner.specs.TagReport.{noTags, reportOf, tagsAfter, tagsOver}
-use Rattle.scanner.specs.Tags.{tagsComplete}
+use Rattle.scanner.specs.Tags.{allComplete, tagModifications, tagsComplete}
 use Rattle.scanner.specs.declared.ScanKind.{ScanKind}
 use Rattle.scanner.specs.declared.ScanStep.the-variants as Answer
-use Rattle.scanner.specs.declared.tag_report.TagReport.{TagReport}
 use Rattle.scanner.specs.declared.place.Next.the-variants as Next
+use Rattle.scanner.proofs.Bytes.{chars-from}
+use Rattle.scanner.proofs.Classes.{class-is, is-selector, is-tag}
+use Rattle.scanner.proofs.ClassTests.{forTags, tags-test}
+use Rattle.scanner.proofs.ItemRuns.{walk-passes}
 use Rattle.scanner.proofs.Peek.{Seen, Unseen}
+use Rattle.scanner.proofs.Places.{headed-step, tag-begins}
+use Rattle.scanner.proofs.Rescan.{size-append}
+use Rattle.scanner.proofs.Runs.{Stops, at-char, at-end, behind-stops, run-behind, run-passes}
+use Rattle.scanner.proofs.RunsAt.{run-on}
+use Rattle.scanner.proofs.Walk.{walk-cut}
 use Rattle.scanner.proofs.Tiling.{cut-none, cut-some}
-use Rattle.scanner.proofs.TagReport.{report-is}
+use Rattle.scanner.proofs.TagsRead.{first-tags, tags-headed, tags-nil, tags-on, tags-then}
 
 -- ---- the code's answer for a step
 
@@ -51,28 +63,106 @@ module _ {text : List ℕ} {at v : ℕ} {k : Class} {next : ℕ} (h : Seen text 
   width-on : (q : Place) → nextOf (step p k) ≡ Next.On q → at + size width (restAt text at p) ≡ next + size width (restAt text next q)
   width-on q e = omega (arith, h .behind, ap (size width) (rest-on q e))
 
-  -- And its tags.
-  tags-on : (r : TagReport) (q : Place) → nextOf (step p k) ≡ Next.On q → tagsOver r (restAt text at p) ≡ tagsOver (tagsAfter r k v) (restAt text next q)
-  unfolding tagsOver
-  tags-on r q e = ap (tagsOver r) (rest-on q e) ∙ ap (λ (x : Class). tagsOver (tagsAfter r x v) (restAt text next q)) (sym (h .class))
+-- ---- a tag modification in it
+
+tags-stay : (c : ℕ) → inTags c ≡ true → step unit (classOf c) ≡ some unit
+unfolding step
+tags-stay c e = ⊎-elim (λ t. ap (step unit) (class-is (is-tag t))) (λ t. ap (step unit) (class-is (is-selector t)))
+    (either-true (isTag c) (isSelector c) e)
+
+cut-stops : (f : ℕ → Bool) (p : Place) {t : List ℕ} → Stops f t → Stops f ((cut p t) .0)
+unfolding cut
+cut-stops f p at-end = at-end
+cut-stops f p (at-char {c = c} {s = t} e) = go (step p (classOf c)) refl
+  where
+    go : (o : Option Place) → step p (classOf c) ≡ o → Stops f ((cut p (c ∷ t)) .0)
+    go (some q) g = rw (cut-some p q c t g) (at-char e)
+    go none g = rw (cut-none p c t g) at-end
+
+-- Where a tag stands at a unit, the rest is the tag modification there and the rest behind it.
+module _ {text : List ℕ} {at v next : ℕ} (h : Seen text at v tag next) (p : Place) (e : nextOf (step p tag) ≡ Next.On unit) where
+  abbrev t : List ℕ
+  t = chars (drop at text)
+
+  abbrev tags : List ℕ
+  tags = run inTags t
+
+  abbrev end : ℕ
+  end = at + size width tags
+
+  behind-tags : chars (drop end text) ≡ behindRun inTags t
+  behind-tags = chars-from text at tags (behindRun inTags t) (sym (run-behind inTags t))
+
+  rest-parts : restAt text at p ≡ tags ++ restAt text end unit
+  unfolding step
+  rest-parts =
+      rest-on h p unit e ∙ sym (rest-on h unit unit refl) ∙ ap (λ (l : List ℕ). (cut unit l) .0) (sym (run-behind inTags t))
+      ∙ ap (λ (r : List ℕ × List Item). r .0) (walk-cut (walk-passes unit inTags tags-stay (run-passes inTags t)) (behindRun inTags t))
+      ∙ ap (λ (l : List ℕ). tags ++ (cut unit l) .0) (sym behind-tags)
+
+  tags-width : at + size width (restAt text at p) ≡ end + size width (restAt text end unit)
+  tags-width = omega (arith, ap (size width) rest-parts, size-append width tags (restAt text end unit))
+
+  tags-parts : tagsComplete (kindOf p) (restAt text at p) ≡
+      (allComplete (tagModifications tags) && tagsComplete (kindOf unit) (restAt text end unit))
+  tags-parts =
+      let stops = cut-stops inTags unit (subst (Stops inTags) (sym behind-tags) (behind-stops inTags t)) in
+      tags-headed p (restAt text at p) (headed-step p unit tag (next-on (step p tag) unit e))
+      ∙ ap (λ (l : List ℕ). allComplete (tagModifications l)) rest-parts ∙ tags-then (run-passes inTags t) stops
+      ∙ ap (λ (b : Bool). allComplete (tagModifications tags) && b) (sym (tags-headed unit (restAt text end unit) refl))
+
+  pub tags-go-on : at < end
+  tags-go-on = omega (arith, h .on, run-on inTags h (tags-test v ∙ ap forTags (sym (h .class))))
 
 -- ---- the loop over the rest of an item, begun at an offset and a place: at each turn what is left gives the same end and the same tags
 
-pub record Reading (text : List ℕ) (from : ℕ) (first : Place) (at : ℕ) (p : Place) (r : TagReport) : Type 0 where
+pub record Reading (text : List ℕ) (from : ℕ) (first : Place) (at : ℕ) (p : Place) (b : Bool) : Type 0 where
   pub end-same : from + size width (restAt text from first) ≡ at + size width (restAt text at p)
-  pub tags-same : tagsOver noTags (restAt text from first) ≡ tagsOver r (restAt text at p)
+  pub tags-same : tagsComplete (kindOf first) (restAt text from first) ≡ (b && tagsComplete (kindOf p) (restAt text at p))
 
-pub reading-begin : {text : List ℕ} {from : ℕ} {first : Place} {r : TagReport} → r ≡ noTags → Reading text from first from first r
-reading-begin {text} {from} {first} e = record { end-same = refl; tags-same = ap (λ (x : TagReport). tagsOver x (restAt text from first)) (sym e) }
+pub reading-begin : (text : List ℕ) (from : ℕ) (first : Place) → Reading text from first from first true
+reading-begin text from first = record { end-same = refl; tags-same = refl }
 
-module _ {text : List ℕ} {from at : ℕ} {first p : Place} {r : TagReport} (l : Reading text from first at p r) where
-  pub reading-on : {v : ℕ} {k : Class} {next : ℕ} → Seen text at v k next → (q : Place) → nextOf (step p k) ≡ Next.On q → Reading text from first next q (tagsAfter r k v)
-  reading-on h q e = record { end-same = l .end-same ∙ width-on h p q e; tags-same = l .tags-same ∙ tags-on h p r q e }
+module _ {text : List ℕ} {from at : ℕ} {first p : Place} {b : Bool} (l : Reading text from first at p b) where
+  module _ {v : ℕ} {k : Class} {next : ℕ} (h : Seen text at v k next) (q : Place) (e : nextOf (step p k) ≡ Next.On q) where
+    -- A character with which no tag modification begins.
+    pub reading-on : beginsTags q k ≡ false → Reading text from first next q b
+    reading-on n = record {
+      end-same = l .end-same ∙ width-on h p q e;
+      tags-same =
+          l .tags-same
+          ∙ ap (λ (c : Bool). b && c) (ap (tagsComplete (kindOf p)) (rest-on h p q e)
+          ∙ tags-on p q v (restAt text next q) (h .class) (next-on (step p k) q e) n);
+    }
+
+    -- A tag modification, as it is read in one go.
+    pub reading-tags : {c : Bool} {end : ℕ} → beginsTags q k ≡ true → end ≡ at + size width (tagModificationAt (chars (drop at text)))
+        → c ≡ allComplete (tagModifications (tagModificationAt (chars (drop at text)))) → (at < end)
+        × Reading text from first end q (b && c)
+    unfolding tagModificationAt
+    reading-tags {c} {end} n f g =
+        let z = tag-begins q k n in
+        let s = subst (λ (x : Class). Seen text at v x next) (z .0) h in
+        let r : nextOf (step p tag) ≡ Next.On unit = ap (λ (x : Class). nextOf (step p x)) (sym (z .0)) ∙ e ∙ ap Next.On (z .1) in
+        rw (z .1) (
+          omega (arith, f, tags-go-on s p r),
+          record {
+            end-same = l .end-same ∙ tags-width s p r ∙ ap (λ (n : ℕ). n + size width (restAt text n unit)) (sym f);
+            tags-same =
+                l .tags-same ∙ ap (λ (x : Bool). b && x) (tags-parts s p r)
+                ∙ sym (and-assoc b (allComplete (tagModifications (run inTags (chars (drop at text)))))
+                (tagsComplete (kindOf unit) (restAt text (at + size width (run inTags (chars (drop at text)))) unit)))
+                ∙ ap₂ (λ (x : Bool) (n : ℕ). (b && x) && tagsComplete (kindOf unit) (restAt text n unit)) (sym g) (sym f);
+          },
+        )
 
   -- Where nothing is left, the end and the tags are read.
-  pub reading-done : restAt text at p ≡ [] → (at ≡ from + size width (restAt text from first)) × (r ≡ tagsOver noTags (restAt text from first))
-  unfolding tagsOver
-  reading-done e = (let m = l .end-same in omega (arith, ap (size width) e), sym (l .tags-same ∙ ap (tagsOver r) e))
+  pub reading-done : restAt text at p ≡ [] → (at ≡ from + size width (restAt text from first))
+      × (b ≡ tagsComplete (kindOf first) (restAt text from first))
+  reading-done e = (
+    let m = l .end-same in omega (arith, ap (size width) e),
+    sym (l .tags-same ∙ ap (λ (c : Bool). b && c) (ap (tagsComplete (kindOf p)) e ∙ tags-nil (kindOf p)) ∙ and-true b),
+  )
 
 -- ---- the item at an offset
 
@@ -80,18 +170,19 @@ pub cursor-end : {text : List ℕ} {at : ℕ} → Unseen text at → scanAt text
 unfolding scanAt scanFrom firstOf spans items
 cursor-end {text} {at} h = ap (λ (l : List ℕ). firstOf (spans at (items l))) (h .chars-none)
 
--- The item as the cursor makes it: the place of the first character, the kind, the end and the tag report, one after the other.
-pub cursor-item : {text : List ℕ} {at v : ℕ} {c : Class} {next : ℕ} → Seen text at v c next → (p : Place) (e : ℕ) (r : TagReport) (k : ScanKind) (b : Bool)
-    → p ≡ begin c → e ≡ next + size width (restAt text next p) → r ≡ tagsOver noTags (restAt text next p) → k ≡ kindOf p → b ≡ reportOf k r
+-- The item as the cursor makes it: the place of the first character, the end and the tag report of the rest, and the kind.
+pub cursor-item : {text : List ℕ} {at v : ℕ} {c : Class} {next : ℕ} → Seen text at v c next → (p : Place) (e : ℕ) (b : Bool) (k : ScanKind)
+    → p ≡ begin c → e ≡ next + size width (restAt text next p) → b ≡ tagsComplete (kindOf p) (restAt text next p) → k ≡ kindOf p
     → Answer.Item (record { start = at; end = e; kind = k; «tags_complete» = b }) ≡ scanAt text at
 unfolding scanAt scanFrom firstOf spans items
-cursor-item {text} {at} {v} {c} {next} h p e r k b hp he hr hk hb =
+cursor-item {text} {at} {v} {c} {next} h p e b k hp he hb hk =
     let q = begin (classOf v) in
     let s = restAt text next q in
     let f : p ≡ q = hp ∙ ap begin (h .class) in
     let n : e ≡ at + size width (v ∷ s) = omega (arith, h .behind, he ∙ ap (λ (x : Place). next + size width (restAt text next x)) f) in
     let m : k ≡ kindOf q = hk ∙ ap kindOf f in
-    let t : r ≡ tagsOver noTags s = hr ∙ ap (λ (x : Place). tagsOver noTags (restAt text next x)) f in
-    ap₂ (λ (x : ℕ) (y : Bool). Answer.Item (record { start = at; end = x; kind = k; «tags_complete» = y })) n (hb ∙ ap₂ reportOf m t ∙ sym (report-is v s))
+    let t : b ≡ tagsComplete (kindOf q) (v ∷ s) = hb ∙ ap (λ (x : Place). tagsComplete (kindOf x) (restAt text next x)) f
+    ∙ sym (first-tags v s) in
+    ap₂ (λ (x : ℕ) (y : Bool). Answer.Item (record { start = at; end = x; kind = k; «tags_complete» = y })) n t
     ∙ ap (λ (x : ScanKind). Answer.Item (record { start = at; end = at + size width (v ∷ s); kind = x; «tags_complete» = tagsComplete (kindOf q) (v ∷ s) })) m
     ∙ ap (λ (l : List ℕ). firstOf (spans at (items l))) (sym (h .chars-on))

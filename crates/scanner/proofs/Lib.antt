@@ -19,9 +19,7 @@ pub mod Units
 pub mod Tags
 pub mod Structure
 pub mod Complete
-pub mod TagReport
 pub mod Peek
-pub mod Cursor
 pub mod TextTests
 pub mod ItemRuns
 pub mod EmojiRuns
@@ -30,6 +28,8 @@ pub mod RunLaws
 pub mod LongestRuns
 pub mod ClassTests
 pub mod RunsAt
+pub mod TagsRead
+pub mod Cursor
 pub mod TagRuns
 pub mod PartsAt
 pub mod UnitsAt

@@ -5,7 +5,7 @@ use mathlib.Core.Option.{Option, none, some}
 use lib.Dec.{T}
 use Rattle.base.proofs.Tests.{beq-so, both-true}
 use Rattle.scanner.specs.Classes.{Class, selector, link, ri, modifier, emoji, keycap, tag, other}
-use Rattle.scanner.specs.Items.{Place, plain, selectors, links, oneRi, unit, joined, leftOver, step, begin, kindOf}
+use Rattle.scanner.specs.Items.{Place, plain, selectors, links, oneRi, unit, joined, leftOver, step, begin, beginsTags, kindOf}
 use Rattle.scanner.specs.declared.ScanKind.the-variants.{EmojiHeaded, LinksOnly, Passthrough, UnsanctionedPresentationSelectors}
 
 -- ---- a fact of all places and classes is one computed test
@@ -167,6 +167,49 @@ emoji-step oneRi r e = cc
 emoji-step unit r e = cc
 emoji-step joined r e = cc
 emoji-step leftOver r e = cc
+
+-- ---- places of emoji-headed items, and the tags there
+
+abbrev pub headed : Place → Bool
+headed plain = false
+headed selectors = false
+headed links = false
+headed oneRi = true
+headed unit = true
+headed joined = true
+headed leftOver = true
+
+pub headed-step : (p q : Place) (k : Class) → step p k ≡ some q → headed p ≡ headed q
+unfolding step
+headed-step p q k e = same-bool (headed p) (headed q) (on-step (λ p q. Bool·beq (headed p) (headed q)) always p q k e)
+
+pub tag-step : (p q : Place) → step p tag ≡ some q → headed p ≡ true → q ≡ unit
+unfolding step
+tag-step plain q e h = absurd (false≢true h)
+tag-step selectors q e h = cc
+tag-step links q e h = cc
+tag-step oneRi q e h = cc
+tag-step unit q e h = cc
+tag-step joined q e h = cc
+tag-step leftOver q e h = cc
+
+-- A tag modification begins with a tag, at a unit.
+pub tag-begins : (q : Place) (k : Class) → beginsTags q k ≡ true → (k ≡ tag) × (q ≡ unit)
+unfolding beginsTags
+tag-begins q selector e = absurd (false≢true e)
+tag-begins q link e = absurd (false≢true e)
+tag-begins q ri e = absurd (false≢true e)
+tag-begins q modifier e = absurd (false≢true e)
+tag-begins q emoji e = absurd (false≢true e)
+tag-begins q keycap e = absurd (false≢true e)
+tag-begins plain tag e = absurd (false≢true e)
+tag-begins selectors tag e = absurd (false≢true e)
+tag-begins links tag e = absurd (false≢true e)
+tag-begins oneRi tag e = absurd (false≢true e)
+tag-begins unit tag e = (refl, refl)
+tag-begins joined tag e = absurd (false≢true e)
+tag-begins leftOver tag e = absurd (false≢true e)
+tag-begins q other e = absurd (false≢true e)
 
 -- ---- the kind of an item by its first class
 

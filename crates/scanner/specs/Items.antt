@@ -1,5 +1,6 @@
 -- The items of a text: the function that gives them, character by character (document 01, "Item").
 -- It is the grammar's only reading: specs/Theorems.antt, ItemsAreAReading and OnlyReading.
+use mathlib.Core.Bool.{Bool, true, false}
 use mathlib.Core.Option.{Option, none, some}
 use mathlib.Core.List.{List, [], _∷_, _++_}
 use Prim.Native.Nat.{ℕ}
@@ -102,6 +103,28 @@ begin emoji = unit
 begin keycap = plain
 begin tag = plain
 begin other = plain
+
+-- The place is a unit whose stem is whole.
+abbrev pub inUnit : Place → Bool
+inUnit plain = false
+inUnit selectors = false
+inUnit links = false
+inUnit oneRi = false
+inUnit unit = true
+inUnit joined = false
+inUnit leftOver = false
+
+-- Whether a tag modification begins with a character of the class that stands at the place: tags stand in units and in passthrough, and
+-- only "a stem and its modifications" has tag modifications.
+unfoldable pub beginsTags : Place → Class → Bool
+beginsTags p selector = false
+beginsTags p link = false
+beginsTags p ri = false
+beginsTags p modifier = false
+beginsTags p emoji = false
+beginsTags p keycap = false
+beginsTags p tag = inUnit p
+beginsTags p other = false
 
 -- The kind of an item that has a character at the place.
 unfoldable pub kindOf : Place → ScanKind

@@ -6,7 +6,6 @@ pub mod Runs
 pub mod RunKinds
 pub mod Structure
 pub mod Tags
-pub mod TagReport
 pub mod Spans
 pub mod TextCheck
 pub mod Peek

@@ -10,8 +10,8 @@ use Rattle.unicode.specs.Presentation.{isSelector}
 use Rattle.unicode.specs.Unicode.{isEmoji, isTag}
 use Rattle.utf8.specs.Rfc3629.{WellFormed, chars, encodeAll, readChar, validUpTo}
 use Rattle.utf8.specs.declared.ReadChar.the-variants as Read
-use Rattle.scanner.specs.Classes.{classOf, strip}
-use Rattle.scanner.specs.Items.{Item, begin, cut, items, join, kindOf, unit}
+use Rattle.scanner.specs.Classes.{strip}
+use Rattle.scanner.specs.Items.{Item, cut, items, join, unit}
 use Rattle.scanner.specs.Runs.{
   behindSelectors,
   behindUnit,
@@ -52,7 +52,6 @@ use Rattle.scanner.specs.Structure.{
   tagsOf,
 }
 use Rattle.scanner.specs.RunKinds.{runOf}
-use Rattle.scanner.specs.TagReport.{noTags, reportOf, tagsOver}
 use Rattle.scanner.specs.Tags.{tagModifications, tagsComplete}
 use Rattle.scanner.specs.declared.consume.RunKind.the-variants as Run
 use Rattle.scanner.specs.Spans.{firstOf, scan, scanAt, scanFrom}
@@ -244,10 +243,6 @@ TagsCompleteMeans =
     (t : List ℕ) (x : Item) → List·Memᴰ x (items t) → x .kind ≡ EmojiHeaded
     → (tagsComplete (x .kind) (x .chars) ≡ true)
     ↔ ((tags : List ℕ) → List·Memᴰ tags (tagsOf (structure (x .chars))) → (before : List ℕ) × (tags ≡ before ++ (0xE007F ∷ [])))
-
--- The cursor keeps a report from left to right behind an item's first character (specs/TagReport.antt): it says the same.
-unfoldable pub TagReportTells : Type 0
-TagReportTells = (c : ℕ) (s : List ℕ) → tagsComplete (kindOf (begin (classOf c))) (c ∷ s) ≡ reportOf (kindOf (begin (classOf c))) (tagsOver noTags s)
 
 -- The runs that are read class by class (specs/RunKinds.antt) are those of specs/Runs.antt.
 unfoldable pub RunsByClass : Type 0

@@ -1,7 +1,8 @@
 // The runs of characters in an item, each the longest, by loops: the consume functions of scanner.rs of the crate evfmt; document 01,
 // "Item".
 // Each function gives the offset of the run's end, and equals a run of specs/Runs.antt over the characters from the offset on,
-// for every slice and offset; nothing is read past the end or inside a character.
+// for every slice and offset; nothing is read past the end or inside a character. Of a tag modification it is told too whether its
+// last tag is E007F (specs/Tags.antt).
 ghost use mathlib.Core.Path.{_≡_};
 ghost use Prim.Native.Nat.{_+_};
 ghost use lib.ListN.{drop};
@@ -9,9 +10,19 @@ ghost use Rattle.utf8.specs.Rfc3629.{chars};
 ghost use Rattle.scanner.specs.RunKinds.{inRun, runOf};
 ghost use Rattle.scanner.specs.Runs.{modificationsAt, tagModificationAt};
 ghost use Rattle.scanner.specs.Spans.{size, width};
+ghost use Rattle.scanner.specs.Tags.{allComplete, tagModifications};
 use crate::char_class::Class;
 use crate::char_class::Peeked;
 use crate::char_class::peek;
+
+// The tag that ends a complete tag modification.
+pub const CANCEL_TAG: u32 = 0xE007F;
+
+// A tag modification: the offset of its end, and whether it has CANCEL_TAG as its last tag.
+pub struct TagModification {
+    pub end: usize,
+    pub complete: bool,
+}
 
 // The runs that go by a test on each character alone.
 pub enum RunKind {
@@ -74,18 +85,20 @@ pub fn run_end(text: &[u8], at: usize, kind: RunKind) -> usize
     }
 }
 
-// The tag modification at an offset. The outer loop goes by groups, the inner by tags and selectors: a tag behind selectors
-// begins the next group, and the label is left at the first character that is neither.
-pub fn consume_emoji_tag_runs(text: &[u8], at: usize) -> usize
-    ensures { λ r. ⌜ r ≡ at + size width (tagModificationAt (chars (drop at (now (text .entry))))) ⌝ }
+// The tag modification at an offset, which is complete where it has no tag. The outer loop goes by groups, the inner by tags and
+// selectors: a tag behind selectors begins the next group, and the label is left at the first character that is neither.
+pub fn consume_emoji_tag_runs(text: &[u8], at: usize) -> TagModification
+    ensures end { λ r. ⌜ r .end ≡ at + size width (tagModificationAt (chars (drop at (now (text .entry))))) ⌝ }
+    ensures complete { λ r. ⌜ r .complete ≡ allComplete (tagModifications (tagModificationAt (chars (drop at (now (text .entry)))))) ⌝ }
 {
     let mut end = at;
+    let mut complete = true;
     'groups: loop {
         let mut selectors = false;
         loop {
             match peek(text, end) {
                 Peeked::Char {
-                    value: _,
+                    value,
                     class,
                     end: next,
                 } => {
@@ -97,6 +110,7 @@ pub fn consume_emoji_tag_runs(text: &[u8], at: usize) -> usize
                             if selectors {
                                 break;
                             }
+                            complete = value == CANCEL_TAG;
                         }
                         _ => {
                             break 'groups;
@@ -110,7 +124,7 @@ pub fn consume_emoji_tag_runs(text: &[u8], at: usize) -> usize
             }
         }
     }
-    end
+    TagModification { end, complete }
 }
 
 // All modifications at an offset.

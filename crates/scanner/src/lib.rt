@@ -6,20 +6,20 @@ pub mod consume;
 pub mod parts;
 pub mod place;
 pub mod selectors;
-pub mod tag_report;
 pub mod text_check;
 
 ghost use mathlib.Core.Path.{_≡_};
 ghost use mathlib.Core.Logic.{_↔_};
-ghost use mathlib.Core.Bool.{true};
+ghost use mathlib.Core.Bool.{true, _&&_};
 ghost use Prim.Native.Nat.{_+_};
+ghost use Rattle.scanner.specs.Items.{kindOf};
 ghost use Rattle.scanner.specs.Spans.{kindNumber, restAt, scanAt, size, width};
-ghost use Rattle.scanner.specs.TagReport.{noTags, tagsOver};
+ghost use Rattle.scanner.specs.Tags.{tagsComplete};
 use char_class::Peeked;
 use char_class::peek;
+use consume::consume_emoji_tag_runs;
 use place::Next;
 use place::Place;
-use tag_report::TagReport;
 
 // What an item is.
 pub enum ScanKind {
@@ -75,36 +75,61 @@ pub enum ScanStep {
     End,
 }
 
-// What is read of an item behind its first character: the offset of its end, and its tags.
+// What is read of an item after its first character: the offset of its end, and whether its tags are complete.
 struct ItemRest {
     end: usize,
-    tags: TagReport,
+    tags_complete: bool,
 }
 
-// The rest of an item that has a character at the place, from an offset on.
+// Both are true.
+fn both(a: bool, b: bool) -> bool
+    ensures { λ r. ⌜ r ≡ (a && b) ⌝ }
+{
+    if a {
+        return b;
+    }
+    false
+}
+
+// The rest of an item that has a character at the place, from an offset on. A tag modification is read in one go.
 fn item_rest(text: &[u8], from: usize, first: Place) -> ItemRest
     ensures end { λ r. ⌜ r .end ≡ from + size width (restAt (now (text .entry)) from first) ⌝ }
-    ensures tags { λ r. ⌜ r .tags ≡ tagsOver noTags (restAt (now (text .entry)) from first) ⌝ }
+    ensures tags { λ r. ⌜ r .«tags_complete» ≡ tagsComplete (kindOf first) (restAt (now (text .entry)) from first) ⌝ }
 {
     let mut at = from;
     let mut place = first;
-    let mut tags = tag_report::no_tags();
+    let mut tags_complete = true;
     loop {
         match peek(text, at) {
-            Peeked::Char { value, class, end } => {
+            Peeked::Char {
+                value: _,
+                class,
+                end,
+            } => {
                 match place::step(place, class) {
                     Next::On(next) => {
                         place = next;
                     }
                     Next::Stop => {
-                        return ItemRest { end: at, tags };
+                        return ItemRest {
+                            end: at,
+                            tags_complete,
+                        };
                     }
                 }
-                tags = tag_report::tags_after(tags, class, value);
-                at = end;
+                if place::begins_tags(place, class) {
+                    let tags = consume_emoji_tag_runs(text, at);
+                    tags_complete = both(tags_complete, tags.complete);
+                    at = tags.end;
+                } else {
+                    at = end;
+                }
             }
             Peeked::NoChar => {
-                return ItemRest { end: at, tags };
+                return ItemRest {
+                    end: at,
+                    tags_complete,
+                };
             }
         }
     }
@@ -121,9 +146,8 @@ pub fn next_item(text: &[u8], at: usize) -> ScanStep
             end: from,
         } => {
             let first = place::begin(class);
-            let ItemRest { end, tags } = item_rest(text, from, first);
+            let ItemRest { end, tags_complete } = item_rest(text, from, first);
             let kind = place::kind_of(first);
-            let tags_complete = tag_report::tags_complete(kind, tags);
             ScanStep::Item(ScanItem {
                 start: at,
                 end,

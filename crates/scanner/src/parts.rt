@@ -11,6 +11,7 @@ use crate::char_class::Class;
 use crate::char_class::Peeked;
 use crate::char_class::peek;
 use crate::consume::RunKind;
+use crate::consume::TagModification;
 use crate::consume::consume_emoji_modifications;
 use crate::consume::consume_emoji_tag_runs;
 use crate::consume::run_end;
@@ -130,7 +131,10 @@ pub fn consume_emoji_modification(text: &[u8], at: usize) -> EmojiModification
                 EmojiModification::EnclosingKeycap { selectors }
             }
             Class::Tag => {
-                let tags_end = consume_emoji_tag_runs(text, at);
+                let TagModification {
+                    end: tags_end,
+                    complete: _,
+                } = consume_emoji_tag_runs(text, at);
                 EmojiModification::TagModifier { end: tags_end }
             }
             _ => EmojiModification::NoModification,

@@ -1,8 +1,9 @@
 // Where in an item a character stands, and where the next one stands if the item goes on with it.
 // The loops of scanner.rs of the crate evfmt as one table; document 01, "Item".
-// `begin` and `kind_of` equal `begin` and `kindOf` of specs/Items.antt, and `step` equals its `step`, place by place.
+// `begin`, `begins_tags` and `kind_of` equal `begin`, `beginsTags` and `kindOf` of specs/Items.antt, and `step` equals its `step`,
+// place by place.
 ghost use mathlib.Core.Path.{_≡_};
-ghost use Rattle.scanner.specs.Items.{begin, kindOf, nextOf, step};
+ghost use Rattle.scanner.specs.Items.{begin, beginsTags, kindOf, nextOf, step};
 use crate::ScanKind;
 use crate::char_class::Class;
 
@@ -77,6 +78,19 @@ pub fn step(p: Place, k: Class) -> Next
             Class::Modifier | Class::Emoji => Next::On(Place::Unit),
             _ => Next::Stop,
         },
+    }
+}
+
+// Whether a tag modification begins with a character of the class that stands at the place.
+pub fn begins_tags(p: Place, k: Class) -> bool
+    ensures { λ r. ⌜ r ≡ beginsTags p k ⌝ }
+{
+    match k {
+        Class::Tag => match p {
+            Place::Unit => true,
+            _ => false,
+        },
+        _ => false,
     }
 }
 

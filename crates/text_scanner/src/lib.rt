@@ -1,8 +1,9 @@
 // The scanner of scanner.rs of the crate evfmt: it borrows the text and remembers one offset (document 01, "Item").
 // The crate `scanner` says what an item is, and its `next_item` reads one.
 // `scan` makes one and tests the text; `next` and `raw` are thin over the covered `advance` and `part`, which take the
-// slice and numbers. The functions over the struct are proved by walks of their code; every other caller takes
-// `nth_item` and `nth_raw`, whose parameters are plain. Each equals a definition of specs/Scanner.antt, for all inputs.
+// slice and numbers. The functions over the struct are proved by walks of their code, and so is a caller that holds one
+// (`put_items` of the crate listing); any other takes `nth_item` and `nth_raw`, whose parameters are plain. Each equals a
+// definition of specs/Scanner.antt, for all inputs.
 ghost use mathlib.Core.Path.{_≡_};
 ghost use Rattle.base.specs.Answers.{Answers, checkRow};
 ghost use Rattle.scanner.specs.Spans.{scanAt};

@@ -5,43 +5,75 @@ use Prim.Native.Nat.{_-_}
 use native.Mathlib.Omega.{arith}
 use borrow.Author.Needs.{needs}
 use lib.ListN.{length}
-use Rattle.scanner.proofs.Cursor.{Reading, reading-begin, reading-done, reading-on, rest-ends, rest-none}
+use Rattle.scanner.proofs.Cursor.{Reading, reading-begin, reading-done, reading-on, reading-tags, rest-ends, rest-none}
 use Rattle.scanner.proofs.Peek.{seen, unseen}
 use Rattle.scanner.proofs.item_rest.Statement.{statement}
 use Rattle.scanner.proofs.item_rest.Tie as tie
 
 abbrev Inv-loop : tie.InvT-loop
-Inv-loop text from at₀ place₀ tags₀ at place tags = Reading text from place₀ at place tags
+Inv-loop text from at₀ place₀ complete₀ at place complete = Reading text from place₀ at place complete
 
 abbrev μ-loop : tie.MeasureT-loop
-μ-loop text from at₀ place₀ tags₀ at place tags = length text - at
+μ-loop text from at₀ place₀ complete₀ at place complete = length text - at
 
 loop-holds : tie.Need-loop-holds Inv-loop μ-loop
-loop-holds c = reading-begin (c .no-tags .ensures)
+loop-holds c = let x = c .before .args in reading-begin (x .text .now) (x .from) (x .first)
 
 returns : tie.Need-returns Inv-loop μ-loop
 returns c =
-    let x = c .before .before .before .before .before .before .before .before .before .before .args in
+    let x = c .before .before .before .before .before .before .before .before .before .args in
     let l = c .before .before .before .before .before .before .before .loop in
-    let k = seen (x .text .now) (l .at) (sym (c .before .before .before .before .before .before .peek .ensures) ∙ c .before .before .before .before .value .given .1) in
+    let p = c .before .before .before .before in
+    let k = seen (x .text .now) (l .at) (sym (p .before .before .peek .ensures) ∙ p .class .given .1) in
     reading-done (l .inv) (rest-ends k (l .place) (sym (c .before .before .step .ensures) ∙ c .enum-told .given .1))
 
 loop-less : tie.Need-loop-less Inv-loop μ-loop
 loop-less c =
-    let x = c .before .before .before .before .before .before .before .before .before .before .before .before .args in
-    let k = seen (x .text .now) (c .before .before .before .before .before .before .before .before .before .loop .at) (sym (c .before .before .before .before .before .before .before .before .peek .ensures) ∙ c .before .before .before .before .before .before .value .given .1) in
-    omega (arith, k .on, k .room)
+    let x = c .before .before .before .before .before .before .before .before .before .before .before .before .before .before .args in
+    let l = c .before .before .before .before .before .before .before .before .before .before .before .before .loop in
+    let p = c .before .before .before .before .before .before .before .before .before in
+    let k = seen (x .text .now) (l .at) (sym (p .before .before .peek .ensures) ∙ p .class .given .1) in
+    let n = c .before .before .before .before .before .next .given in
+    let tags = c .before .consume-emoji-tag-runs .ensures in
+    let begins = sym (c .before .before .before .begins-tags .ensures) ∙ c .before .before .if1 .taken in
+    let r = reading-tags (l .inv) k (n .0 .0) (sym (c .before .before .before .before .before .before .before .step .ensures) ∙ n .1) begins
+    (tags .0) (tags .1) in
+    omega (arith, r .0, k .on, k .room)
 
 loop-again : tie.Need-loop-again Inv-loop μ-loop
 loop-again c =
+    let x = c .before .before .before .before .before .before .before .before .before .before .before .before .before .before .args in
+    let l = c .before .before .before .before .before .before .before .before .before .before .before .before .loop in
+    let p = c .before .before .before .before .before .before .before .before .before in
+    let k = seen (x .text .now) (l .at) (sym (p .before .before .peek .ensures) ∙ p .class .given .1) in
+    let n = c .before .before .before .before .before .next .given in
+    let tags = c .before .consume-emoji-tag-runs .ensures in
+    let begins = sym (c .before .before .before .begins-tags .ensures) ∙ c .before .before .if1 .taken in
+    let r = reading-tags (l .inv) k (n .0 .0) (sym (c .before .before .before .before .before .before .before .step .ensures) ∙ n .1) begins
+    (tags .0) (tags .1) in
+    rw (c .both .ensures) (r .1)
+
+loop-less-2 : tie.Need-loop-less-2 Inv-loop μ-loop
+loop-less-2 c =
     let x = c .before .before .before .before .before .before .before .before .before .before .before .before .args in
-    let l = c .before .before .before .before .before .before .before .before .before .loop in
-    let k = seen (x .text .now) (l .at) (sym (c .before .before .before .before .before .before .before .before .peek .ensures) ∙ c .before .before .before .before .before .before .value .given .1) in
-    rw (c .tags-after .ensures) (reading-on (l .inv) k (c .before .before .next .given .0 .0) (sym (c .before .before .before .before .step .ensures) ∙ c .before .before .next .given .1))
+    let l = c .before .before .before .before .before .before .before .before .before .before .loop in
+    let p = c .before .before .before .before .before .before .before in
+    let k = seen (x .text .now) (l .at) (sym (p .before .before .peek .ensures) ∙ p .class .given .1) in
+    omega (arith, k .on, k .room)
+
+loop-again-2 : tie.Need-loop-again-2 Inv-loop μ-loop
+loop-again-2 c =
+    let x = c .before .before .before .before .before .before .before .before .before .before .before .before .args in
+    let l = c .before .before .before .before .before .before .before .before .before .before .loop in
+    let p = c .before .before .before .before .before .before .before in
+    let k = seen (x .text .now) (l .at) (sym (p .before .before .peek .ensures) ∙ p .class .given .1) in
+    let n = c .before .before .before .next .given in
+    reading-on (l .inv) k (n .0 .0) (sym (c .before .before .before .before .before .step .ensures) ∙ n .1)
+    (sym (c .before .begins-tags .ensures) ∙ c .if1 .left)
 
 returns-2 : tie.Need-returns-2 Inv-loop μ-loop
 returns-2 c =
-    let x = c .before .before .before .before .before .before .args in
+    let x = c .before .before .before .before .before .args in
     let l = c .before .before .before .loop in
     reading-done (l .inv) (rest-none (l .place) (unseen (x .text .now) (l .at) (sym (c .before .before .peek .ensures) ∙ c .enum-told2 .given .1)))
 
@@ -51,7 +83,6 @@ item-rest-spec =
     (tie.spec
     Inv-loop
     μ-loop
-    (λ c κs. search needs)
     loop-holds
     (λ c κs. search needs)
     (λ c. search needs)
@@ -60,7 +91,11 @@ item-rest-spec =
     (λ c. search needs)
     returns
     (λ c κs. search needs)
+    (λ c κs. search needs)
+    (λ c κs. search needs)
     loop-less
     loop-again
+    loop-less-2
+    loop-again-2
     (λ c. search needs)
     returns-2)

@@ -8,12 +8,13 @@ use Rattle.scanner.proofs.next_item.Tie as tie
 
 returns : tie.Need-returns
 returns c =
-    let x = c .before .before .before .before .before .before .before .before .before .before .args in
-    let i = c .before .before .before .item-rest in
-    let f = c .before .before .before .before .begin in
-    let k = seen (x .text .now) (x .at) (sym (c .before .before .before .before .before .before .before .before .peek .ensures) ∙ c .before .before .before .before .before .before .class .given .1) in
-    cursor-item k (f .result) (i .result .end) (i .result .tags) (c .before .kind-of .result) (c .tags-complete .result)
-    (f .ensures) (i .ensures .0) (i .ensures .1) (c .before .kind-of .ensures) (c .tags-complete .ensures)
+    let x = c .before .before .before .before .before .before .before .before .args in
+    let i = c .before .item-rest in
+    let f = c .before .before .begin in
+    let k = seen (x .text .now) (x .at) (sym (c .before .before .before .before .before .before .peek .ensures)
+    ∙ c .before .before .before .before .class .given .1) in
+    cursor-item k (f .result) (i .result .end) (i .result .«tags_complete») (c .kind-of .result) (f .ensures) (i .ensures .0)
+    (i .ensures .1) (c .kind-of .ensures)
 
 returns-2 : tie.Need-returns-2
 returns-2 c =
@@ -26,7 +27,6 @@ next-item-spec =
     (tie.spec
     (λ c κs. search needs)
     (λ c. search needs)
-    (λ c κs. search needs)
     (λ c κs. search needs)
     (λ c κs. search needs)
     (λ c κs. search needs)

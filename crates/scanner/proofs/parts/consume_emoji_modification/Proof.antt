@@ -25,7 +25,7 @@ returns-3 : tie.Need-returns-3
 returns-3 c =
     let x = c .before .before .before .before .before .before .before .before .args in
     let k = seen (x .text .now) (x .at) (sym (c .before .before .before .before .before .before .peek .ensures) ∙ c .before .before .before .before .value .given .1) in
-    tags-on k (c .before .enum-told3 .given .1) (c .consume-emoji-tag-runs .ensures)
+    tags-on k (c .before .enum-told3 .given .1) (c .consume-emoji-tag-runs .ensures .0)
 
 returns-4 : tie.Need-returns-4
 returns-4 c =

@@ -1,0 +1,177 @@
+-- Whether tags are complete, read from left to right: over a tag modification, by the last tag so far; over the rest of an item, by its tag
+-- modifications one after the other.
+use mathlib.Core.Path.{_≡_, refl, ap, ap₂, sym, _∙_}
+use mathlib.Core.Logic.{⊎-elim}
+use mathlib.Core.Bool.{Bool, true, false, cond, _&&_, and-true, true≢false}
+use mathlib.Core.Option.{some}
+use mathlib.Core.List.{List, [], _∷_, _++_, getLastD}
+use Prim.Native.Nat.{ℕ}
+use lib.Dec.{eqb}
+use lib.ListN.{drop}
+use Rattle.base.proofs.Tests.{both-false, either-left, either-right, either-true}
+use Rattle.utf8.specs.Rfc3629.{chars}
+use Rattle.unicode.specs.Presentation.{isSelector}
+use Rattle.unicode.specs.Unicode.{isTag}
+use Rattle.scanner.specs.Classes.{Class, selector, link, ri, modifier, emoji, keycap, tag, other, classOf}
+use Rattle.scanner.specs.Items.{Place, plain, selectors, links, oneRi, unit, joined, leftOver, begin, beginsTags, kindOf, step}
+use Rattle.scanner.specs.Runs.{inTags, run}
+use Rattle.scanner.specs.Tags.{allComplete, complete, tagModifications, tagRuns, tagsComplete, withTags}
+use Rattle.scanner.specs.declared.ScanKind.{ScanKind}
+use Rattle.scanner.specs.declared.ScanKind.the-variants.{EmojiHeaded, LinksOnly, Passthrough, UnsanctionedPresentationSelectors}
+use Rattle.scanner.proofs.ClassTests.{forSelector, forTag, selector-test, tag-test}
+use Rattle.scanner.proofs.Complete.{complete-end, complete-other, complete-selector, complete-start, complete-tag, completeFrom}
+use Rattle.scanner.proofs.Complete.{last-of}
+use Rattle.scanner.proofs.Peek.{Seen, Unseen}
+use Rattle.scanner.proofs.Places.{headed, headed-step, tag-step}
+use Rattle.scanner.proofs.Runs.{Passes, all-pass, pass-and, Stops, at-char, at-end, run-false, run-true}
+use Rattle.scanner.proofs.Tags.{tag-runs-other, tag-runs-selector}
+
+-- ---- a tag modification
+
+-- Of the characters `whole`, `rest` is left, and `b` says whether the last tag so far is E007F.
+pub record TagsRead (whole rest : List ℕ) (b : Bool) : Type 0 where
+  tags : List ℕ
+  so-far : b ≡ allComplete (withTags tags [])
+  same : allComplete (tagModifications whole) ≡ completeFrom tags rest
+
+pub tags-begin : (t : List ℕ) → TagsRead t t true
+unfolding allComplete withTags
+tags-begin t = record { tags = []; so-far = refl; same = complete-start t }
+
+last-tag : (ts : List ℕ) (c : ℕ) → eqb c 0xE007F ≡ allComplete (withTags (ts ++ (c ∷ [])) [])
+unfolding allComplete withTags complete
+last-tag [] c = ap (λ (x : ℕ). eqb x 0xE007F) (sym (last-of [] c)) ∙ sym (and-true (eqb (getLastD (c ∷ []) 0) 0xE007F))
+last-tag (d ∷ ts) c =
+    ap (λ (x : ℕ). eqb x 0xE007F) (sym (last-of (d ∷ ts) c)) ∙ sym (and-true (eqb (getLastD ((d ∷ ts) ++ (c ∷ [])) 0) 0xE007F))
+
+tags-done : {w t : List ℕ} {b : Bool} → TagsRead w t b → t ≡ [] → b ≡ allComplete (tagModifications w)
+tags-done h e = h .so-far ∙ sym (h .same ∙ ap (completeFrom (h .tags)) e ∙ complete-end (h .tags))
+
+module _ {text : List ℕ} {at v : ℕ} {k : Class} {next : ℕ} (s : Seen text at v k next) {w : List ℕ} {b : Bool}
+    (h : TagsRead w (run inTags (chars (drop at text))) b) where
+  abbrev rest : List ℕ
+  rest = run inTags (chars (drop next text))
+
+  on : inTags v ≡ true → run inTags (chars (drop at text)) ≡ v ∷ rest
+  on e = ap (run inTags) (s .chars-on) ∙ run-true inTags v (chars (drop next text)) e
+
+  pub tags-tag : k ≡ tag → TagsRead w rest (eqb v 0xE007F)
+  tags-tag e =
+      let t : isTag v ≡ true = tag-test v ∙ ap forTag (sym (s .class) ∙ e) in
+      record {
+        tags = h .tags ++ (v ∷ []);
+        so-far = last-tag (h .tags) v;
+        same = h .same ∙ ap (completeFrom (h .tags)) (on (either-left (isTag v) (isSelector v) t)) ∙ complete-tag (h .tags) v rest t;
+      }
+
+  pub tags-selector : k ≡ selector → TagsRead w rest b
+  tags-selector e =
+      let t : isSelector v ≡ true = selector-test v ∙ ap forSelector (sym (s .class) ∙ e) in
+      record {
+        tags = h .tags;
+        so-far = h .so-far;
+        same = h .same ∙ ap (completeFrom (h .tags)) (on (either-right (isTag v) (isSelector v) t)) ∙ complete-selector (h .tags) v rest t;
+      }
+
+  pub tags-over : inTags v ≡ false → b ≡ allComplete (tagModifications w)
+  tags-over e = tags-done h (ap (run inTags) (s .chars-on) ∙ run-false inTags v (chars (drop next text)) e)
+
+pub tags-none : {text : List ℕ} {at : ℕ} {w : List ℕ} {b : Bool} → Unseen text at → TagsRead w (run inTags (chars (drop at text))) b
+    → b ≡ allComplete (tagModifications w)
+unfolding run
+tags-none u h = tags-done h (ap (run inTags) (u .chars-none))
+
+-- ---- the tag modifications of an item, one after the other
+
+both-parts : {s t : List ℕ} (ts : List ℕ) → Passes inTags s → Stops inTags t
+    → completeFrom ts (s ++ t) ≡ (completeFrom ts s && completeFrom [] t)
+unfolding allComplete withTags
+both-parts ts all-pass at-end = sym (ap (λ (b : Bool). completeFrom ts [] && b) (complete-end []) ∙ and-true (completeFrom ts []))
+both-parts ts all-pass (at-char {c = c} {s = t} e) =
+    let n = both-false (isTag c) (isSelector c) e in
+    complete-other ts c t (n .0) (n .1) ∙ ap (λ (b : Bool). b && completeFrom [] t) (sym (complete-end ts))
+    ∙ ap (λ (b : Bool). completeFrom ts [] && b) (sym (complete-other [] c t (n .0) (n .1)))
+both-parts {t = t} ts (pass-and {c = c} {s = s} e h) f =
+    ⊎-elim (λ g. complete-tag ts c (s ++ t) g ∙ both-parts (ts ++ (c ∷ [])) h f
+    ∙ ap (λ (b : Bool). b && completeFrom [] t) (sym (complete-tag ts c s g)))
+    (λ g. complete-selector ts c (s ++ t) g ∙ both-parts ts h f
+    ∙ ap (λ (b : Bool). b && completeFrom [] t) (sym (complete-selector ts c s g)))
+    (either-true (isTag c) (isSelector c) e)
+
+-- Behind a tag modification stands what is neither tag nor selector.
+pub tags-then : {s t : List ℕ} → Passes inTags s → Stops inTags t
+    → allComplete (tagModifications (s ++ t)) ≡ (allComplete (tagModifications s) && allComplete (tagModifications t))
+tags-then {s} {t} h f = complete-start (s ++ t) ∙ both-parts [] h f
+    ∙ sym (ap₂ (λ (a b : Bool). a && b) (complete-start s) (complete-start t))
+
+-- Any other character changes nothing.
+other-tags : (c : ℕ) (t : List ℕ) → isTag c ≡ false → tagModifications (c ∷ t) ≡ tagModifications t
+unfolding tagModifications withTags
+other-tags c t e = go (isSelector c) refl
+  where
+    go : (b : Bool) → isSelector c ≡ b → withTags ((tagRuns (c ∷ t)) .0) ((tagRuns (c ∷ t)) .1) ≡ withTags ((tagRuns t) .0) ((tagRuns t) .1)
+    go true s = ap (λ (r : List ℕ × List (List ℕ)). withTags (r .0) (r .1)) (tag-runs-selector c t s)
+    go false s = ap (λ (r : List ℕ × List (List ℕ)). withTags (r .0) (r .1)) (tag-runs-other c t e s)
+
+-- ---- by the place
+
+abbrev tagsIn : Bool → List ℕ → Bool
+tagsIn b s = cond b (allComplete (tagModifications s)) true
+
+tags-by : (p : Place) (s : List ℕ) → tagsComplete (kindOf p) s ≡ tagsIn (headed p) s
+unfolding tagsComplete kindOf
+tags-by plain s = refl
+tags-by selectors s = refl
+tags-by links s = refl
+tags-by oneRi s = refl
+tags-by unit s = refl
+tags-by joined s = refl
+tags-by leftOver s = refl
+
+pub tags-headed : (p : Place) (s : List ℕ) → headed p ≡ true → tagsComplete (kindOf p) s ≡ allComplete (tagModifications s)
+tags-headed p s h = tags-by p s ∙ ap (λ (b : Bool). tagsIn b s) h
+
+pub tags-nil : (k : ScanKind) → tagsComplete k [] ≡ true
+unfolding tagsComplete allComplete tagModifications withTags tagRuns
+tags-nil Passthrough = refl
+tags-nil UnsanctionedPresentationSelectors = refl
+tags-nil LinksOnly = refl
+tags-nil EmojiHeaded = refl
+
+-- A tag with which no tag modification begins stands in no emoji-headed item.
+no-tag : (p q : Place) (k : Class) → step p k ≡ some q → headed p ≡ true → beginsTags q k ≡ false → forTag k ≡ false
+unfolding beginsTags
+no-tag p q selector e h b = refl
+no-tag p q link e h b = refl
+no-tag p q ri e h b = refl
+no-tag p q modifier e h b = refl
+no-tag p q emoji e h b = refl
+no-tag p q keycap e h b = refl
+no-tag p q tag e h b = absurd (true≢false (sym (ap (λ (r : Place). beginsTags r tag) (tag-step p q e h)) ∙ b))
+no-tag p q other e h b = refl
+
+pub tags-on : (p q : Place) {k : Class} (c : ℕ) (s : List ℕ) → k ≡ classOf c → step p k ≡ some q → beginsTags q k ≡ false
+    → tagsComplete (kindOf p) (c ∷ s) ≡ tagsComplete (kindOf q) s
+tags-on p q {k} c s i e b = tags-by p (c ∷ s) ∙ go (headed p) refl ∙ ap (λ (h : Bool). tagsIn h s) (headed-step p q k e) ∙ sym (tags-by q s)
+  where
+    go : (h : Bool) → headed p ≡ h → tagsIn h (c ∷ s) ≡ tagsIn h s
+    go true f = ap allComplete (other-tags c s (tag-test c ∙ ap forTag (sym i) ∙ no-tag p q k e f b))
+    go false f = refl
+
+-- The first character of an emoji-headed item is no tag.
+pub first-tags : (c : ℕ) (s : List ℕ) → tagsComplete (kindOf (begin (classOf c))) (c ∷ s) ≡ tagsComplete (kindOf (begin (classOf c))) s
+unfolding tagsComplete kindOf begin
+first-tags c s = go (classOf c) refl
+  where
+    headed-first : forTag (classOf c) ≡ false → allComplete (tagModifications (c ∷ s)) ≡ allComplete (tagModifications s)
+    headed-first e = ap allComplete (other-tags c s (tag-test c ∙ e))
+
+    go : (k : Class) → classOf c ≡ k → tagsComplete (kindOf (begin k)) (c ∷ s) ≡ tagsComplete (kindOf (begin k)) s
+    go selector e = refl
+    go link e = refl
+    go ri e = headed-first (ap forTag e)
+    go modifier e = headed-first (ap forTag e)
+    go emoji e = headed-first (ap forTag e)
+    go keycap e = refl
+    go tag e = refl
+    go other e = refl
