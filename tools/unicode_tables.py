@@ -43,7 +43,7 @@ BLOCK_GROUPS = [
 FIRST = {name: first for name, first, _ in BLOCK_GROUPS}
 
 # The symbols and the pictographs each stand close together, and texts have both. They are one `match`, the dense one, with
-# the pictographs behind the symbols, so that the compiler makes one table of them. Of each of the two groups: what is
+# the pictographs after the symbols, so that the compiler makes one table of them. Of each of the two groups: what is
 # taken from the number of a block there.
 SYMBOL_PLACES = FIRST["middle"] - FIRST["symbol"]
 MOVED = {"symbol": FIRST["symbol"], "pictograph": FIRST["pictograph"] - SYMBOL_PLACES}

@@ -8,7 +8,7 @@ use crate::beside::policy_sets;
 use crate::policy::coin_keys;
 use crate::{Random, Record, notation, texts, words};
 
-/// The form of the parts, which is also their head, behind a line that says which texts they have.
+/// The form of the parts, which is also their head, after a line that says which texts they have.
 pub const GRAMMAR: &str = "\
 #
 # Lines that begin with # are comments and stand only here. Every other line is a keyword and fields, each after

@@ -81,13 +81,13 @@ fn decision_lists(length: usize) -> Vec<Vec<Presentation>> {
     lists
 }
 
-/// Adds a replacement behind a sign, two hexadecimal digits a byte.
+/// Adds a replacement after a sign, two hexadecimal digits a byte.
 fn push_replacement(out: &mut String, sign: char, replacement: &str) {
     out.push(sign);
     out.push_str(&crate::hexadecimal(replacement));
 }
 
-/// The counts that are not 0, each behind its letter.
+/// The counts that are not 0, each after its letter.
 fn lettered(counts: [usize; 8]) -> String {
     ['u', 'm', 'a', 'c', 'f', 'r', 'p', 'd']
         .into_iter()
@@ -197,7 +197,7 @@ fn push_tag_run(out: &mut String, run: &EmojiTagRun) {
     push_selectors(out, &run.presentation_selectors_after_tag);
 }
 
-/// Adds a character behind a letter, and the selectors behind it.
+/// Adds a character after a letter, and the selectors after it.
 fn push_character(out: &mut String, letter: char, character: char, selectors: &[Presentation]) {
     // Writing to a string does not fail.
     let _ = write!(out, "{letter}{:05X}", u32::from(character));

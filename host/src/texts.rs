@@ -129,7 +129,7 @@ fn drawn_text(random: &mut Random, classes: &[Vec<char>]) -> String {
         .collect()
 }
 
-/// One to five units, each but the first behind one link or two, and no more than two links behind the last; each part
+/// One to five units, each but the first after one link or two, and no more than two links after the last; each part
 /// has its selectors.
 fn drawn_sequence(random: &mut Random) -> String {
     let mut text = drawn_unit(random);

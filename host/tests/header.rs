@@ -54,7 +54,7 @@ fn kind(of: &str) -> String {
 /// The functions that the header declares.
 fn header_functions() -> Vec<Function> {
     let text = plain(&file("../include/tilghorz.h"), "/*", "*/");
-    // Behind the brace of `extern "C"`.
+    // After the brace of `extern "C"`.
     let (_, block) = text.split_once('{').expect("a block");
     let declarations = block.split(';').filter_map(|part| {
         let (head, parameters) = part.strip_suffix(')')?.split_once('(')?;
@@ -123,7 +123,7 @@ fn slice_function(text: &str, prefix: &str) -> Option<Function> {
     })
 }
 
-/// The functions of a file that stand behind these words.
+/// The functions of a file that stand after these words.
 fn slice_functions(path: &str, words: &str, prefix: &str) -> Vec<Function> {
     let text = plain(&file(path), "//", "\n");
     let functions = text.split(words).skip(1);

@@ -91,7 +91,7 @@ fn a_well_formed_beginning_is_as_the_standard_library_has_it() {
         let expected = str::from_utf8(&text).map_or_else(|error| error.valid_up_to(), str::len);
         assert_eq!(utf8::well_formed_beginning(&text), expected, "{text:02X?}");
     }
-    // Every two bytes, with tails behind them.
+    // Every two bytes, with tails after them.
     for lead in 0..=u16::MAX {
         let [first, second] = lead.to_be_bytes();
         let text = [first, second, 0x80, 0x80];

@@ -31,11 +31,13 @@ front-char c t e = go (char-is c)
     go : CharIs c → isSelector c ≡ false
     go (no-selector f) = f
     go (a-selector q f) =
-        let l : q ∷ leading t ≡ [] = sym (ap (λ (x : ℕ). leading (x ∷ t)) f ∙ ap (λ (a : List Presentation × List Cell). a .0) (split-selector q t)) ∙ e in
+        let l : q ∷ leading t ≡ [] = sym
+        (ap (λ (x : ℕ). leading (x ∷ t)) f ∙ ap (λ (a : List Presentation × List Cell). a .0) (split-selector q t)) ∙ e in
         absurd (omega (arith, ap length l))
 
 -- Induction over characters: selectors, and the others.
-module _ (P : List ℕ → Type 0) (end : P []) (sel : (q : Presentation) (t : List ℕ) → P t → P (asSelector q ∷ t)) (char : (c : ℕ) (t : List ℕ) → isSelector c ≡ false → P t → P (c ∷ t)) where
+module _ (P : List ℕ → Type 0) (end : P []) (sel : (q : Presentation) (t : List ℕ) → P t → P (asSelector q ∷ t))
+    (char : (c : ℕ) (t : List ℕ) → isSelector c ≡ false → P t → P (c ∷ t)) where
   pub by-chars : (t : List ℕ) → P t
   by-chars [] = end
   by-chars (c ∷ t) = go (char-is c) (by-chars t)
@@ -49,8 +51,10 @@ pub split-whole : (t : List ℕ) → map asSelector (leading t) ++ unsplit (cell
 unfolding split
 split-whole =
     by-chars (λ t. map asSelector (leading t) ++ unsplit (cells t) ≡ t) refl
-    (λ q t h. ap (λ (a : List Presentation × List Cell). map asSelector (a .0) ++ unsplit (a .1)) (split-selector q t) ∙ ap (λ (l : List ℕ). asSelector q ∷ l) h)
-    (λ c t e h. ap (λ (a : List Presentation × List Cell). map asSelector (a .0) ++ unsplit (a .1)) (split-char c t e) ∙ ap (λ (l : List ℕ). c ∷ l) h)
+    (λ q t h. ap (λ (a : List Presentation × List Cell). map asSelector (a .0) ++ unsplit (a .1)) (split-selector q t)
+    ∙ ap (λ (l : List ℕ). asSelector q ∷ l) h)
+    (λ c t e h. ap (λ (a : List Presentation × List Cell). map asSelector (a .0) ++ unsplit (a .1)) (split-char c t e)
+    ∙ ap (λ (l : List ℕ). c ∷ l) h)
 
 -- ---- cells whose characters are no selectors
 
@@ -80,14 +84,16 @@ split-unsplit (cell-and {x = x} {xs = xs} e h) =
     ∙ ap (λ (a : List Presentation × List Cell). ([], record { char = x .char; after = a .0 } ∷ a .1)) i
     ∙ ap (λ (s : List Presentation). ([], record { char = x .char; after = s } ∷ xs)) (append-nil (x .after))
 
--- The cells of one text behind another that does not begin with a selector.
+-- The cells of one text after another that does not begin with a selector.
 pub split-append : (s t : List ℕ) → leading t ≡ [] → split (s ++ t) ≡ (leading s, cells s ++ cells t)
 unfolding split
 split-append s t e =
     by-chars (λ s. split (s ++ t) ≡ (leading s, cells s ++ cells t))
     (ap (λ (l : List Presentation). (l, cells t)) e)
-    (λ q s h. split-selector q (s ++ t) ∙ ap (λ (a : List Presentation × List Cell). (q ∷ a .0, a .1)) h ∙ sym (ap (λ (a : List Presentation × List Cell). (a .0, a .1 ++ cells t)) (split-selector q s)))
-    (λ c s f h. split-char c (s ++ t) f ∙ ap (λ (a : List Presentation × List Cell). ([], record { char = c; after = a .0 } ∷ a .1)) h ∙ sym (ap (λ (a : List Presentation × List Cell). (a .0, a .1 ++ cells t)) (split-char c s f)))
+    (λ q s h. split-selector q (s ++ t) ∙ ap (λ (a : List Presentation × List Cell). (q ∷ a .0, a .1)) h
+    ∙ sym (ap (λ (a : List Presentation × List Cell). (a .0, a .1 ++ cells t)) (split-selector q s)))
+    (λ c s f h. split-char c (s ++ t) f ∙ ap (λ (a : List Presentation × List Cell). ([], record { char = c; after = a .0 } ∷ a .1)) h
+    ∙ sym (ap (λ (a : List Presentation × List Cell). (a .0, a .1 ++ cells t)) (split-char c s f)))
     s
 
 -- ---- the characters that are no selectors
@@ -133,11 +139,13 @@ pub count-unsplit : {xs : List Cell} → Clean xs → selectorCount (unsplit xs)
 unfolding selectorCount
 count-unsplit no-cell = refl
 count-unsplit (cell-and {x = x} {xs = xs} e h) =
-    count-char (x .char) (map asSelector (x .after) ++ unsplit xs) e ∙ count-selectors (x .after) (unsplit xs) ∙ ap (λ (n : ℕ). length (x .after) + n) (count-unsplit h)
+    count-char (x .char) (map asSelector (x .after) ++ unsplit xs) e ∙ count-selectors (x .after) (unsplit xs)
+    ∙ ap (λ (n : ℕ). length (x .after) + n) (count-unsplit h)
 
 pub count-split : (t : List ℕ) → selectorCount t ≡ length (leading t) + heldIn (cells t)
 count-split t =
-    ap selectorCount (sym (split-whole t)) ∙ count-selectors (leading t) (unsplit (cells t)) ∙ ap (λ (n : ℕ). length (leading t) + n) (count-unsplit (clean-cells t))
+    ap selectorCount (sym (split-whole t)) ∙ count-selectors (leading t) (unsplit (cells t))
+    ∙ ap (λ (n : ℕ). length (leading t) + n) (count-unsplit (clean-cells t))
 
 pub count-S : {s : List ℕ} → S s → selectorCount s ≡ length s
 unfolding selectorCount

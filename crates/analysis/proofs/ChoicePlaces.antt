@@ -32,7 +32,7 @@ use Rattle.analysis.proofs.Cells.{by-chars, split-char, split-selector}
 use Rattle.analysis.proofs.CellsAt.{selectors-end, split-at}
 use Rattle.analysis.proofs.singleton.Slot.{the-type as the-slot}
 
--- The bytes of selectors, and of what stands behind them.
+-- The bytes of selectors, and of what stands after them.
 pub selectors-bytes : (qs : List Presentation) (t : List ℕ) → size width (map asSelector qs ++ t) ≡ 3 * length qs + size width t
 selectors-bytes [] t = omega arith
 selectors-bytes (q ∷ qs) t = omega (arith, width-selector q, selectors-bytes qs t)
@@ -65,12 +65,14 @@ up-to-link = by-chars P refl sel char
         ap (λ (a : List Presentation × List Cell). map asSelector (a .0) ++ unsplit (upToLink (a .1))) (split-char c t e)
         ∙ go (eqb c 0x200D)
       where
-        go : (b : Bool) → unsplit (cond b [] (record { char = c; after = leading t } ∷ upToLink (cells t))) ≡ cond (not b) (c ∷ run offLink t) []
+        go : (b : Bool) → unsplit (cond b [] (record { char = c; after = leading t } ∷ upToLink (cells t)))
+            ≡ cond (not b) (c ∷ run offLink t) []
         go true = refl
         go false = ap (λ (l : List ℕ). c ∷ l) h
 
 -- The end of the cells at an offset up to the next link.
-pub link-end : (raw : List ℕ) (at : ℕ) → at + size width (run offLink (chars (drop at raw))) ≡ cellsStart raw at + cellsLength (upToLink (cellsFrom raw at))
+pub link-end : (raw : List ℕ) (at : ℕ) → at + size width (run offLink (chars (drop at raw)))
+    ≡ cellsStart raw at + cellsLength (upToLink (cellsFrom raw at))
 link-end raw at =
     let t = chars (drop at raw) in
     omega (arith, ap (size width) (up-to-link t), selectors-bytes (leading t) (unsplit (upToLink (cells t))))
@@ -78,16 +80,17 @@ link-end raw at =
 -- ---- the cells at an offset
 
 module _ (raw : List ℕ) (at : ℕ) where
-  -- Behind the leading selectors the same cells are read, and no selector before them.
-  pub cells-behind : split (chars (drop (cellsStart raw at) raw)) ≡ ([], cellsFrom raw at)
-  cells-behind = split-at raw at refl
+  -- After the leading selectors the same cells are read, and no selector before them.
+  pub cells-after : split (chars (drop (cellsStart raw at) raw)) ≡ ([], cellsFrom raw at)
+  cells-after = split-at raw at refl
 
   cells-none : Unseen raw at → split (chars (drop at raw)) ≡ ([], [])
   unfolding split
   cells-none h = ap split (h .chars-none)
 
   module _ {v : ℕ} {k : Class} {next : ℕ} (h : Seen raw at v k next) where
-    cells-char : isSelector v ≡ false → split (chars (drop at raw)) ≡ ([], record { char = v; after = leading (chars (drop next raw)) } ∷ cellsFrom raw next)
+    cells-char : isSelector v ≡ false → split (chars (drop at raw))
+        ≡ ([], record { char = v; after = leading (chars (drop next raw)) } ∷ cellsFrom raw next)
     cells-char e = ap split (h .chars-on) ∙ split-char v (chars (drop next raw)) e
 
     -- A selector is passed.
@@ -98,8 +101,12 @@ module _ (raw : List ℕ) (at : ℕ) where
         go (no-selector f) = absurd (true≢false (sym e ∙ f))
         go (a-selector q f) =
             let u = chars (drop next raw) in
-            let r : split (chars (drop at raw)) ≡ (q ∷ leading u, cells u) = ap split (h .chars-on ∙ ap (λ (x : ℕ). x ∷ u) f) ∙ split-selector q u in
-            (omega (arith, h .behind, ap (λ (a : List Presentation × List Cell). length (a .0)) r, ap width f, width-selector q), ap (λ (a : List Presentation × List Cell). a .1) r)
+            let r : split (chars (drop at raw)) ≡ (q ∷ leading u, cells u) = ap split (h .chars-on ∙ ap (λ (x : ℕ). x ∷ u) f)
+            ∙ split-selector q u in (
+              omega (arith, h .after, ap (λ (a : List Presentation × List Cell). length (a .0)) r, ap width f, width-selector q),
+              ap
+                  (λ (a : List Presentation × List Cell). a .1) r,
+            )
 
 -- ---- the unit at an offset
 
@@ -107,10 +114,10 @@ module _ (raw : List ℕ) (at : ℕ) where
 pub first-cell : (raw : List ℕ) (at : ℕ) → at + size width (runOf Selectors (chars (drop at raw))) ≡ cellsStart raw at
 first-cell raw at = ap (λ (l : List ℕ). at + size width l) (run-selectors (chars (drop at raw))) ∙ selectors-end raw at
 
--- The unit begins behind the leading selectors; where no character stands there is none ..
+-- The unit begins after the leading selectors; where no character stands there is none ..
 module _ (raw : List ℕ) (at start : ℕ) (s : start ≡ cellsStart raw at) where
   starts : split (chars (drop start raw)) ≡ ([], cellsFrom raw at)
-  starts = ap (λ (n : ℕ). split (chars (drop n raw))) s ∙ cells-behind raw at
+  starts = ap (λ (n : ℕ). split (chars (drop n raw))) s ∙ cells-after raw at
 
   pub unit-none : Unseen raw start → start ≡ cellsStart raw at + cellsLength (frontUnit (cellsFrom raw at))
   unfolding frontUnit
@@ -119,7 +126,8 @@ module _ (raw : List ℕ) (at start : ℕ) (s : start ≡ cellsStart raw at) whe
       omega (arith, ap (λ (l : List Cell). cellsLength (frontUnit l)) e)
 
   -- .. and else it ends where the next link begins.
-  pub unit-on : {v : ℕ} {k : Class} {next : ℕ} (end : ℕ) → Seen raw start v k next → end ≡ cellsStart raw next + cellsLength (upToLink (cellsFrom raw next))
+  pub unit-on : {v : ℕ} {k : Class} {next : ℕ} (end : ℕ) → Seen raw start v k next → end
+      ≡ cellsStart raw next + cellsLength (upToLink (cellsFrom raw next))
       → end ≡ cellsStart raw at + cellsLength (frontUnit (cellsFrom raw at))
   unfolding frontUnit
   unit-on {v} {next = next} end h e = go (char-is v)
@@ -127,11 +135,22 @@ module _ (raw : List ℕ) (at start : ℕ) (s : start ≡ cellsStart raw at) whe
       go : CharIs v → end ≡ cellsStart raw at + cellsLength (frontUnit (cellsFrom raw at))
       go (no-selector f) =
           let u = chars (drop next raw) in
-          let r : cellsFrom raw at ≡ record { char = v; after = leading u } ∷ cells u = ap (λ (a : List Presentation × List Cell). a .1) (sym starts ∙ cells-char raw start h f) in
-          omega (arith, h .behind, ap (λ (l : List Cell). cellsLength (frontUnit l)) r, selectors-bytes (leading u) (unsplit (upToLink (cells u))))
+          let r : cellsFrom raw at ≡ record { char = v; after = leading u } ∷ cells u = ap (λ (a : List Presentation × List Cell). a .1)
+          (sym starts ∙ cells-char raw start h f) in
+          omega (
+            arith,
+            h .after,
+            ap (λ (l : List Cell). cellsLength (frontUnit l)) r,
+            selectors-bytes (leading u)
+                (unsplit (upToLink (cells u))),
+          )
       go (a-selector q f) =
           let u = chars (drop next raw) in
-          absurd (omega (arith, ap (λ (a : List Presentation × List Cell). length (a .0)) (sym starts ∙ ap split (h .chars-on ∙ ap (λ (x : ℕ). x ∷ u) f) ∙ split-selector q u)))
+          absurd (omega (
+            arith,
+            ap (λ (a : List Presentation × List Cell). length (a .0))
+                (sym starts ∙ ap split (h .chars-on ∙ ap (λ (x : ℕ). x ∷ u) f) ∙ split-selector q u),
+          ))
 
 -- ---- the first choice at an offset
 
@@ -148,7 +167,8 @@ undecided (decided d) o c l = absurd (miss (0 ∷ 1 ∷ []) 2 tt o)
 module _ (p : Policy) (raw : List ℕ) (at : ℕ) where
   pub choice-none : Unseen raw at → End ≡ choiceAt p raw at
   unfolding choiceAt choicesFrom firstChoice
-  choice-none h = sym (ap (λ (a : List Presentation × List Cell). firstChoice (choicesFrom p (at + 3 * length (a .0)) (a .1))) (cells-none raw at h))
+  choice-none h = sym (ap (λ (a : List Presentation × List Cell). firstChoice (choicesFrom p (at + 3 * length (a .0)) (a .1)))
+      (cells-none raw at h))
 
   module _ {v : ℕ} {k : Class} {next : ℕ} (h : Seen raw at v k next) where
     pub choice-selector : isSelector v ≡ true → choiceAt p raw at ≡ choiceAt p raw next
@@ -158,9 +178,10 @@ module _ (p : Policy) (raw : List ℕ) (at : ℕ) where
     -- A cell, as the code reads it: what the rules say of it, and its end.
     module _ (e : isSelector v ≡ false) (o : Outcome) (end : ℕ)
         (ho : o ≡ outcome p v (following (cellsFrom raw next)) (leading (chars (drop next raw)))) (he : end ≡ cellsStart raw next) where
-      behind : (cellsStart raw end ≡ end) × (cellsFrom raw end ≡ cellsFrom raw next)
-      behind =
-          let r : split (chars (drop end raw)) ≡ ([], cellsFrom raw next) = ap (λ (n : ℕ). split (chars (drop n raw))) he ∙ cells-behind raw next in
+      after : (cellsStart raw end ≡ end) × (cellsFrom raw end ≡ cellsFrom raw next)
+      after =
+          let r : split (chars (drop end raw)) ≡ ([], cellsFrom raw next) = ap (λ (n : ℕ). split (chars (drop n raw))) he
+          ∙ cells-after raw next in
           (omega (arith, ap (λ (a : List Presentation × List Cell). length (a .0)) r), ap (λ (a : List Presentation × List Cell). a .1) r)
 
       -- The cell's own choice.
@@ -174,13 +195,15 @@ module _ (p : Policy) (raw : List ℕ) (at : ℕ) where
           let u = chars (drop next raw) in
           let x : Cell = record { char = v; after = leading u } in
           let b : at + 3 * 0 ≡ at = omega arith in
-          let n : at + 3 * 0 + cellsLength (x ∷ []) ≡ end = omega (arith, h .behind, he, selectors-bytes (leading u) []) in
-          let m : at + 3 * 0 + cellsLength (x ∷ upToLink (cells u)) ≡ end + cellsLength (upToLink (cells u)) = omega (arith, h .behind, he, selectors-bytes (leading u) (unsplit (upToLink (cells u)))) in
-          let z : at + 3 * 0 + cellsLength (x ∷ []) ≡ cellsStart raw end = omega (arith, n, behind .0) in
+          let n : at + 3 * 0 + cellsLength (x ∷ []) ≡ end = omega (arith, h .after, he, selectors-bytes (leading u) []) in
+          let m : at + 3 * 0 + cellsLength (x ∷ upToLink (cells u)) ≡ end + cellsLength (upToLink (cells u)) =
+          omega (arith, h .after, he, selectors-bytes (leading u) (unsplit (upToLink (cells u)))) in
+          let z : at + 3 * 0 + cellsLength (x ∷ []) ≡ cellsStart raw end = omega (arith, n, after .0) in
           let g : outcome p v (following (cells u)) (leading u) ≡ o = sym ho in
-          let y : cells u ≡ cellsFrom raw end = sym (behind .1) in
+          let y : cells u ≡ cellsFrom raw end = sym (after .1) in
           ap (λ (a : List Presentation × List Cell). firstChoice (choicesFrom p (at + 3 * length (a .0)) (a .1))) (cells-char raw at h e)
-          ∙ (λ i. firstChoice (addChoiceAt (g i .slot) (λ (d : Presentation). record { start = b i; end = m i; next = n i; default = d }) (choicesFrom p (z i) (y i))))
+          ∙ (λ i. firstChoice (addChoiceAt (g i .slot) (λ (d : Presentation). record { start = b i; end = m i; next = n i; default = d })
+          (choicesFrom p (z i) (y i))))
 
       -- A cell whose slot is not decided is passed ..
       pub choice-passed : Undecided (o .slot) → choiceAt p raw at ≡ choiceAt p raw end
@@ -188,10 +211,12 @@ module _ (p : Policy) (raw : List ℕ) (at : ℕ) where
       choice-passed q = from-cell ∙ ap firstChoice (q own (choicesFrom p (cellsStart raw end) (cellsFrom raw end)))
 
       -- .. and a decided one is the choice, whose unit ends where the next link begins.
-      pub choice-found : (d : Presentation) (last : ℕ) → o .slot ≡ decided d → last ≡ cellsStart raw end + cellsLength (upToLink (cellsFrom raw end))
+      pub choice-found : (d : Presentation) (last : ℕ) → o .slot ≡ decided d → last
+          ≡ cellsStart raw end + cellsLength (upToLink (cellsFrom raw end))
           → Choice (record { start = at; end = last; next = end; default = d }) ≡ choiceAt p raw at
       unfolding firstChoice
       choice-found d last q f =
-          let m : last ≡ end + cellsLength (upToLink (cellsFrom raw next)) = omega (arith, behind .0, ap (λ (l : List Cell). cellsLength (upToLink l)) (behind .1)) in
+          let m : last ≡ end + cellsLength (upToLink (cellsFrom raw next)) =
+          omega (arith, after .0, ap (λ (l : List Cell). cellsLength (upToLink l)) (after .1)) in
           ap (λ (n : ℕ). Choice (record { start = at; end = n; next = end; default = d })) m
           ∙ sym (from-cell ∙ ap (λ (s : Slot). firstChoice (addChoiceAt s own (choicesFrom p (cellsStart raw end) (cellsFrom raw end)))) q)

@@ -7,7 +7,7 @@ use native.Mathlib.Omega.{arith}
 use lib.Dec.{eqb}
 use lib.ListN.{drop, length, length-drop, take}
 use borrow.Author.Tests.{le-leb, lt-leb}
-use Rattle.base.specs.Refusals.{After, kept, textLimit}
+use Rattle.base.specs.Refusals.{After, unwritten, textLimit}
 use Rattle.base.specs.declared.Refusal.the-variants.{TextTooLong}
 use Rattle.utf8.specs.Rfc3629.{allScalar, chars, encodeAll}
 use Rattle.utf8.proofs.Fronts.{readChar-past-end}
@@ -36,8 +36,8 @@ pub record Begins (s t : List ℕ) : Type 0 where
   pub rest : List ℕ
   pub whole : t ≡ s ++ rest
 
-behind : (s : List ℕ) {t u : List ℕ} → Begins t u → Begins (s ++ t) (s ++ u)
-behind s {t} b = record { rest = b .rest; whole = ap (λ (l : List ℕ). s ++ l) (b .whole) ∙ sym (append-assoc s t (b .rest)) }
+after : (s : List ℕ) {t u : List ℕ} → Begins t u → Begins (s ++ t) (s ++ u)
+after s {t} b = record { rest = b .rest; whole = ap (λ (l : List ℕ). s ++ l) (b .whole) ∙ sym (append-assoc s t (b .rest)) }
 
 up-begins : (xs : List Cell) → Begins (unsplit (upToLink xs)) (unsplit xs)
 unfolding upToLink
@@ -46,12 +46,12 @@ up-begins (x ∷ xs) = go (eqb (x .char) 0x200D) (up-begins xs)
   where
     go : (b : Bool) → Begins (unsplit (upToLink xs)) (unsplit xs) → Begins (unsplit (cond b [] (x ∷ upToLink xs))) (unsplit (x ∷ xs))
     go true h = record { rest = unsplit (x ∷ xs); whole = refl }
-    go false h = behind (x .char ∷ map asSelector (x .after)) h
+    go false h = after (x .char ∷ map asSelector (x .after)) h
 
 unit-begins : (xs : List Cell) → Begins (unsplit (frontUnit xs)) (unsplit xs)
 unfolding frontUnit
 unit-begins [] = record { rest = []; whole = refl }
-unit-begins (x ∷ xs) = behind (x .char ∷ map asSelector (x .after)) (up-begins xs)
+unit-begins (x ∷ xs) = after (x .char ∷ map asSelector (x .after)) (up-begins xs)
 
 clean-up : {xs : List Cell} → Clean xs → Clean (upToLink xs)
 unfolding upToLink
@@ -78,14 +78,22 @@ module _ (raw : List ℕ) (at end : ℕ) (e : end ≡ cellsStart raw at + cellsL
   front = map asSelector (leading t) ++ unsplit (frontUnit (cells t))
 
   begins : Begins front t
-  begins = subst (Begins front) (split-whole t) (behind (map asSelector (leading t)) (unit-begins (cells t)))
+  begins = subst (Begins front) (split-whole t) (after (map asSelector (leading t)) (unit-begins (cells t)))
 
   front-bytes : end ≡ at + size width front
   front-bytes = omega (arith, selectors-bytes (leading t) (unsplit (frontUnit (cells t))))
 
   pub unit-room : at ≤ length raw → end ≤ length raw
   unit-room h =
-      omega (arith, front-bytes, ap (size width) (begins .whole), size-append width front (begins .rest), size-chars (drop at raw), validUpTo-le (drop at raw), length-drop at raw)
+      omega (
+        arith,
+        front-bytes,
+        ap (size width) (begins .whole),
+        size-append width front (begins .rest),
+        size-chars (drop at raw),
+        validUpTo-le (drop at raw),
+        length-drop at raw,
+      )
 
   -- The cells of the bytes up to the unit's end are the unit's.
   pub unit-cells : cells (chars (take (end - at) (drop at raw))) ≡ frontUnit (cellsFrom raw at)
@@ -93,23 +101,25 @@ module _ (raw : List ℕ) (at end : ℕ) (e : end ≡ cellsStart raw at + cellsL
       let n : end - at ≡ length (encodeAll front) = omega (arith, front-bytes, size-width front) in
       let c : chars (take (end - at) (drop at raw)) ≡ front =
       ap (λ (m : ℕ). chars (take m (drop at raw))) n ∙ ap chars (take-chars (drop at raw) front (begins .rest) (begins .whole))
-      ∙ chars-encodeAll-alone front (scalar-front front (begins .rest) (ap allScalar (sym (begins .whole)) ∙ chars-allScalar (drop at raw))) in
+      ∙ chars-encodeAll-alone front (scalar-front front (begins .rest)
+      (ap allScalar (sym (begins .whole)) ∙ chars-allScalar (drop at raw))) in
       ap cells c ∙ ap (λ (a : List Presentation × List Cell). a .1) (split-selectors (leading t) (unsplit (frontUnit (cells t))))
       ∙ ap (λ (a : List Presentation × List Cell). a .1) (split-unsplit (clean-unit (clean-cells t)))
 
 -- ---- the call that writes it
 
 module _ (p : Policy) (raw : List ℕ) (at : ℕ) (q : Presentation) (out : List ℕ) where
-  pub replace-long : textLimit < length raw → kept (Refused TextTooLong) out ≡ replaceUnit p raw at q out
+  pub replace-long : textLimit < length raw → unwritten (Refused TextTooLong) out ≡ replaceUnit p raw at q out
   unfolding replaceUnit
   replace-long h = simp (lt-leb (length raw) textLimit h)
 
   module _ (h : length raw ≤ textLimit) where
-    pub replace-unit : {a : After MendAnswer ℕ} → a ≡ writeOut (encodeAll (render p (frontUnit (cellsFrom raw at)) (q ∷ []))) out → a ≡ replaceUnit p raw at q out
+    pub replace-unit : {a : After MendAnswer ℕ} → a ≡ writeOut (encodeAll (render p (frontUnit (cellsFrom raw at)) (q ∷ []))) out → a
+        ≡ replaceUnit p raw at q out
     unfolding replaceUnit
     replace-unit e = e ∙ simp (le-leb (length raw) textLimit h)
 
-    -- Behind the slice's end there is no unit.
+    -- After the slice's end there is no unit.
     pub replace-none : length raw ≤ at → record { answer = Mended 0; buffer = out } ≡ replaceUnit p raw at q out
     unfolding frontUnit render renew encodeAll split
     replace-none g =

@@ -31,7 +31,7 @@ use Rattle.analysis.specs.ChoicesAt.{
 use Rattle.analysis.specs.Rules.{Slot, bare, decided, fixed}
 use Rattle.analysis.specs.declared.types.ReplacementChoice.{ReplacementChoice}
 use Rattle.analysis.proofs.Cells.{Clean, cell-and, clean-cells, split-unsplit, split-whole}
-use Rattle.analysis.proofs.ChoicePlaces.{cells-behind}
+use Rattle.analysis.proofs.ChoicePlaces.{cells-after}
 use Rattle.analysis.proofs.ChoiceUnits.{unit-cells}
 use Rattle.analysis.proofs.Components.{of-structured}
 
@@ -54,14 +54,16 @@ module _ (p : Policy) (raw : List ℕ) where
     unfolding choiceAt
     choice-is = λ i. firstChoice (choicesFrom p (start-is i) (cells-are i))
 
-  -- Behind the first cell stand the others.
-  others : (at : ℕ) (x : Cell) (xs : List Cell) → split (chars (drop at raw)) ≡ ([], x ∷ xs) → split (chars (drop (at + cellsLength (x ∷ [])) raw)) ≡ ([], xs)
+  -- After the first cell stand the others.
+  others : (at : ℕ) (x : Cell) (xs : List Cell) → split (chars (drop at raw)) ≡ ([], x ∷ xs)
+      → split (chars (drop (at + cellsLength (x ∷ [])) raw)) ≡ ([], xs)
   others at x xs e =
       let t = chars (drop at raw) in
       let w : t ≡ unsplit (x ∷ []) ++ unsplit xs =
       sym (split-whole t) ∙ ap (λ (a : List Presentation × List Cell). map asSelector (a .0) ++ unsplit (a .1)) e
       ∙ sym (append-assoc (x .char ∷ map asSelector (x .after)) [] (unsplit xs)) in
-      ap split (chars-from raw at (unsplit (x ∷ [])) (unsplit xs) w) ∙ split-unsplit (tail (subst Clean (ap (λ (a : List Presentation × List Cell). a .1) e) (clean-cells t)))
+      ap split (chars-from raw at (unsplit (x ∷ [])) (unsplit xs) w)
+      ∙ split-unsplit (tail (subst Clean (ap (λ (a : List Presentation × List Cell). a .1) e) (clean-cells t)))
     where
       tail : {y : Cell} {ys : List Cell} → Clean (y ∷ ys) → Clean ys
       tail (cell-and f h) = h
@@ -90,10 +92,13 @@ module _ (p : Policy) (raw : List ℕ) where
       own : Presentation → ReplacementChoice
       own d = record { start = at; end = at + cellsLength (frontUnit (x ∷ xs)); next = at + cellsLength (x ∷ []); default = d }
 
-      first : (s : Slot) → outcomeAt p x xs .slot ≡ s → choiceAt p raw at ≡ firstChoice (addChoiceAt s own (choicesFrom p (at + cellsLength (x ∷ [])) xs))
-      first s f = choice-is at (x ∷ xs) e ∙ ap (λ (s : Slot). firstChoice (addChoiceAt s own (choicesFrom p (at + cellsLength (x ∷ [])) xs))) f
+      first : (s : Slot) → outcomeAt p x xs .slot ≡ s → choiceAt p raw at
+          ≡ firstChoice (addChoiceAt s own (choicesFrom p (at + cellsLength (x ∷ [])) xs))
+      first s f = choice-is at (x ∷ xs) e
+          ∙ ap (λ (s : Slot). firstChoice (addChoiceAt s own (choicesFrom p (at + cellsLength (x ∷ [])) xs))) f
 
-      go : (s : Slot) → outcomeAt p x xs .slot ≡ s → Meets p raw (at + cellsLength (x ∷ [])) (choicesOfCells p xs) → Meets p raw at (addChoice p s (x ∷ upToLink xs) (choicesOfCells p xs))
+      go : (s : Slot) → outcomeAt p x xs .slot ≡ s → Meets p raw (at + cellsLength (x ∷ [])) (choicesOfCells p xs)
+          → Meets p raw at (addChoice p s (x ∷ upToLink xs) (choicesOfCells p xs))
       go bare f m = meets-same (first bare f ∙ sym (choice-is (at + cellsLength (x ∷ [])) xs (others at x xs e))) m
       go (fixed q) f m = meets-same (first (fixed q) f ∙ sym (choice-is (at + cellsLength (x ∷ [])) xs (others at x xs e))) m
       go (decided d) f m = one-more (own d) (first (decided d) f) (is-choice at x xs d e) m
@@ -101,11 +106,14 @@ module _ (p : Policy) (raw : List ℕ) where
   -- From any offset on, the walk meets the choices of the cells.
   pub walk : (at : ℕ) → Meets p raw at (choicesOfCells p (cellsFrom raw at))
   unfolding choiceAt
-  walk at = meets-same (sym (choice-is (cellsStart raw at) (cellsFrom raw at) (cells-behind raw at))) (walk-cells (cellsFrom raw at) (cellsStart raw at) (cells-behind raw at))
+  walk at = meets-same (sym (choice-is (cellsStart raw at) (cellsFrom raw at) (cells-after raw at)))
+      (walk-cells (cellsFrom raw at) (cellsStart raw at) (cells-after raw at))
 
   -- So it does from the start of an item's bytes.
   pub walk-item : (x : Item) → chars raw ≡ x .chars → Structured (x .kind) → Meets p raw 0 (choices p x)
   unfolding choices choicesOf
   walk-item x e o =
-      let c : choicesOfCells p (cellsFrom raw 0) ≡ choicesOfCells p (cells (x .chars)) = ap (λ (t : List ℕ). choicesOfCells p (cells t)) e in
-      subst (Meets p raw 0) (c ∙ sym (of-structured (λ k. choicesOf p k (x .chars)) (choicesOfCells p (cells (x .chars))) o refl refl)) (walk 0)
+      let c : choicesOfCells p (cellsFrom raw 0)
+      ≡ choicesOfCells p (cells (x .chars)) = ap (λ (t : List ℕ). choicesOfCells p (cells t)) e in
+      subst (Meets p raw 0) (c ∙ sym (of-structured (λ k. choicesOf p k (x .chars)) (choicesOfCells p (cells (x .chars))) o refl refl))
+      (walk 0)

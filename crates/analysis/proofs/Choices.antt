@@ -53,9 +53,11 @@ module _ (p : Policy) where
   pub cells-defaults : (xs : List Cell) → defaultsOfCells p xs ≡ map (λ (c : Choice). c .default) (choicesOfCells p xs)
   unfolding choicesOfCells defaultsOfCells
   cells-defaults [] = refl
-  cells-defaults (x ∷ xs) = ap (addDefault (outcomeAt p x xs .slot)) (cells-defaults xs) ∙ one (outcomeAt p x xs .slot) (choicesOfCells p xs)
+  cells-defaults (x ∷ xs) = ap (addDefault (outcomeAt p x xs .slot)) (cells-defaults xs)
+      ∙ one (outcomeAt p x xs .slot) (choicesOfCells p xs)
     where
-      one : (o : Slot) (l : List Choice) → addDefault o (map (λ (c : Choice). c .default) l) ≡ map (λ (c : Choice). c .default) (addChoice p o (x ∷ upToLink xs) l)
+      one : (o : Slot) (l : List Choice) → addDefault o (map (λ (c : Choice). c .default) l)
+          ≡ map (λ (c : Choice). c .default) (addChoice p o (x ∷ upToLink xs) l)
       one bare l = refl
       one (fixed q) l = refl
       one (decided d) l = refl
@@ -66,7 +68,8 @@ module _ (p : Policy) where
   renew-defaults (x ∷ xs) = go (outcomeAt p x xs .slot) (renew-defaults xs)
     where
       go : (o : Slot) → renew p xs (defaultsOfCells p xs) ≡ renew p xs [] → let ds = addDefault o (defaultsOfCells p xs) in
-          record { char = x .char; after = chosen o ds } ∷ renew p xs (remaining o ds) ≡ record { char = x .char; after = chosen o [] } ∷ renew p xs (remaining o [])
+          record { char = x .char; after = chosen o ds } ∷ renew p xs (remaining o ds)
+          ≡ record { char = x .char; after = chosen o [] } ∷ renew p xs (remaining o [])
       go bare h = ap (λ (l : List Cell). record { char = x .char; after = [] } ∷ l) h
       go (fixed q) h = ap (λ (l : List Cell). record { char = x .char; after = q ∷ [] } ∷ l) h
       go (decided d) h = ap (λ (l : List Cell). record { char = x .char; after = d ∷ [] } ∷ l) h

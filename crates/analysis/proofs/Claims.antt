@@ -92,8 +92,10 @@ unfolding BeforeModifier rule2 rule3 byFirst textFirst
 before-modifier p c s e = (
   outcome-entry p c modifier (Text ∷ s) e ∙ ap (λ (n : NonCanonicality). gives n (fixed Text)) (empty-plus (unsanctioned (length s))),
   outcome-entry p c modifier [] e,
-  λ b. outcome-entry p c modifier (Emoji ∷ s) e ∙ ap (λ (b : Bool). gives (cond b modifierDefective additionalDefective ⊕ unsanctioned (length s)) bare) b,
-  λ b. outcome-entry p c modifier (Emoji ∷ s) e ∙ ap (λ (b : Bool). gives (cond b modifierDefective additionalDefective ⊕ unsanctioned (length s)) bare) b,
+  λ b. outcome-entry p c modifier (Emoji ∷ s) e
+      ∙ ap (λ (b : Bool). gives (cond b modifierDefective additionalDefective ⊕ unsanctioned (length s)) bare) b,
+  λ b. outcome-entry p c modifier (Emoji ∷ s) e
+      ∙ ap (λ (b : Bool). gives (cond b modifierDefective additionalDefective ⊕ unsanctioned (length s)) bare) b,
 )
 
 pub before-tags : BeforeTags
@@ -102,7 +104,12 @@ before-tags p c s e =
     let on : (s : List Presentation) (b : Bool) → isEmojiDefault c ≡ b → outcome p c tag s ≡ cond b (rule4 s) (rule5 s) =
     λ s b f. outcome-entry p c tag s e ∙ ap (λ (b : Bool). cond b (rule4 s) (rule5 s)) f in (
       λ f. (on [] true f, on (Emoji ∷ s) true f, on (Text ∷ s) true f),
-      λ f. (on [] false f, on (Emoji ∷ s) false f ∙ ap (λ (n : NonCanonicality). gives n (fixed Emoji)) (empty-plus (unsanctioned (length s))), on (Text ∷ s) false f),
+      λ f. (
+        on [] false f,
+        on (Emoji ∷ s) false f
+            ∙ ap (λ (n : NonCanonicality). gives n (fixed Emoji)) (empty-plus (unsanctioned (length s))),
+        on (Text ∷ s) false f,
+      ),
     )
 
 pub by-the-policy : ByPolicy

@@ -43,20 +43,71 @@ use Rattle.scanner.proofs.Modifications.{modifications-front, modifications-run
 use Rattle.scanner.proofs.Runs.{Stops, at-char}
 use Rattle.scanner.proofs.Structure.{StructureRead, emoji-headed-read, links-only-read}
 use Rattle.scanner.proofs.Units.{front-stops}
-use Rattle.analysis.specs.Analysis.{addChoice, choicesOfCells, chosen, countCells, decide, following, laterDecisions, remaining, outcomeAt, render, renew}
+use Rattle.analysis.specs.Analysis.{
+  addChoice,
+  choicesOfCells,
+  chosen,
+  countCells,
+  decide,
+  following,
+  laterDecisions,
+  remaining,
+  outcomeAt,
+  render,
+  renew,
+}
 use Rattle.analysis.specs.Cells.{Cell, cells, leading, selectorCount, split}
-use Rattle.analysis.specs.Components.{Element, always, assemble, baseElement, choicesIn, elements, firstModification, joinedCounts, joinedElements, linkCounts, linkElements, optionOf, sequenceCounts, stemCounts, stemElement, unitCounts, unitElement}
+use Rattle.analysis.specs.Components.{
+  Element,
+  always,
+  assemble,
+  baseElement,
+  choicesIn,
+  elements,
+  firstModification,
+  joinedCounts,
+  joinedElements,
+  linkCounts,
+  linkElements,
+  optionOf,
+  sequenceCounts,
+  stemCounts,
+  stemElement,
+  unitCounts,
+  unitElement,
+}
 use Rattle.analysis.specs.Counts.{_⊕_, empty, unsanctioned}
 use Rattle.analysis.specs.Rules.{Slot, bare, decided, fixed, outcome}
 use Rattle.analysis.specs.declared.types.NonCanonicality.{NonCanonicality}
 use Rattle.analysis.proofs.Counts.{empty-plus, plus-assoc}
 use Rattle.analysis.proofs.Cells.{charsOf, count-split, heldIn, split-append, split-char, strip-split}
 use Rattle.analysis.proofs.Structure.{AllMade, Made, StemRuns, all-made}
-use Rattle.analysis.proofs.Units.{Ends, Entryless, cell-choices, cell-count, cell-render, ends-link, ends-none, leading-stops, modification-cells, no-entry, run-choices, run-count, run-render, split-S, split-base, unit-alone, unit-choices, unit-count, unit-render}
+use Rattle.analysis.proofs.Units.{
+  Ends,
+  Entryless,
+  cell-choices,
+  cell-count,
+  cell-render,
+  ends-link,
+  ends-none,
+  leading-stops,
+  modification-cells,
+  no-entry,
+  run-choices,
+  run-count,
+  run-render,
+  split-S,
+  split-base,
+  unit-alone,
+  unit-choices,
+  unit-count,
+  unit-render,
+}
 
 -- ---- the modifications of a unit
 
-modifications-of : (ms : List EmojiModification) → ((m : EmojiModification) → List·Memᴰ m ms → Modification (flattenModification m)) → Modifications (flattenModifications ms)
+modifications-of : (ms : List EmojiModification) → ((m : EmojiModification) → List·Memᴰ m ms → Modification (flattenModification m))
+    → Modifications (flattenModifications ms)
 unfolding flattenModifications
 modifications-of [] h = unmodified
 modifications-of (m ∷ ms) h = modified (h m (List·Memᴰ·head refl)) (modifications-of ms (λ n i. h n (List·Memᴰ·tail i)))
@@ -79,7 +130,7 @@ stem-no-selector (single {c = c} e s) = at-char (emoji-no-selector c e)
 first-no-selector : {c : ℕ} {s : List ℕ} → Stops isSelector (c ∷ s) → isSelector c ≡ false
 first-no-selector (at-char e) = e
 
--- What may stand behind a unit: nothing, or a link.
+-- What may stand after a unit: nothing, or a link.
 data EndsText : List ℕ → Type 0 where
   text-end : EndsText []
   text-link : {t : List ℕ} → EndsText (0x200D ∷ t)
@@ -108,7 +159,8 @@ module _ (p : Policy) where
 
   -- ---- a link
 
-  says-link : {s r : List ℕ} {n : NonCanonicality} {es : List Element} → S s → Says r n es → Says (0x200D ∷ (s ++ r)) (unsanctioned (length s) ⊕ n) (always (0x200D ∷ []) ∷ es)
+  says-link : {s r : List ℕ} {n : NonCanonicality} {es : List Element} → S s → Says r n es
+      → Says (0x200D ∷ (s ++ r)) (unsanctioned (length s) ⊕ n) (always (0x200D ∷ []) ∷ es)
   unfolding assemble choicesIn isSelector
   says-link {s} {r} {n} {es} h i =
       let x : Cell = record { char = 0x200D; after = leading s } in
@@ -116,8 +168,10 @@ module _ (p : Policy) where
       let f : hasVariationSequence 0x200D ≡ false = no-entry {c = 0x200D} (is-link refl) (λ z. true≢false (cc)) in
       record {
         leads = ap (λ (a : List Presentation × List Cell). a .0) e;
-        counted = ap (λ (a : List Presentation × List Cell). countCells p (a .1)) e ∙ cell-count p x (cells r) f ∙ ap₂ (λ (k : ℕ) (m : NonCanonicality). unsanctioned k ⊕ m) (split-S h .1) (i .counted);
-        written = λ ds. ap (λ (a : List Presentation × List Cell). render p (a .1) ds) e ∙ cell-render p x (cells r) ds f ∙ ap (λ (l : List ℕ). 0x200D ∷ l) (i .written ds);
+        counted = ap (λ (a : List Presentation × List Cell). countCells p (a .1)) e ∙ cell-count p x (cells r) f
+            ∙ ap₂ (λ (k : ℕ) (m : NonCanonicality). unsanctioned k ⊕ m) (split-S h .1) (i .counted);
+        written = λ ds. ap (λ (a : List Presentation × List Cell). render p (a .1) ds) e ∙ cell-render p x (cells r) ds f
+            ∙ ap (λ (l : List ℕ). 0x200D ∷ l) (i .written ds);
         chooses = ap (λ (a : List Presentation × List Cell). choicesOfCells p (a .1)) e ∙ cell-choices p x (cells r) f ∙ i .chooses;
       }
 
@@ -130,7 +184,9 @@ module _ (p : Policy) where
   base-written (fixed q) c m es ds = refl
   base-written (decided d) c m es ds = by (decide d ds)
     where
-      by : (q : Presentation) → c ∷ (asSelector q ∷ (m ++ assemble es (laterDecisions ds))) ≡ optionOf (record { default = d; text = c ∷ asSelector Text ∷ m; emoji = c ∷ asSelector Emoji ∷ m }) q ++ assemble es (laterDecisions ds)
+      by : (q : Presentation) → c ∷ (asSelector q ∷ (m ++ assemble es (laterDecisions ds)))
+          ≡ optionOf (record { default = d; text = c ∷ asSelector Text ∷ m; emoji = c ∷ asSelector Emoji ∷ m }) q
+          ++ assemble es (laterDecisions ds)
       by Text = refl
       by Emoji = refl
 
@@ -144,14 +200,16 @@ module _ (p : Policy) where
       λ q. unit-alone p x (q ∷ []) h ∙ ap (λ (o : Slot). x .char ∷ (map asSelector (chosen o (q ∷ [])) ++ charsOf ms)) e in
       λ i. record { default = d; text = f Text i; emoji = f Emoji i } ∷ choicesIn es
 
-  says-base : {s m r : List ℕ} {n : NonCanonicality} {es : List Element} (c : ℕ) → isSelector c ≡ false → S s → Modifies m → EndsText r → Says r n es
+  says-base : {s m r : List ℕ} {n : NonCanonicality} {es : List Element} (c : ℕ) → isSelector c ≡ false → S s → Modifies m → EndsText r
+      → Says r n es
       → let o = outcome p c (following (cells m)) (leading s) in
       Says (c ∷ (s ++ (m ++ r))) (o .counts ⊕ unsanctioned (selectorCount m) ⊕ n) (baseElement (o .slot) c (strip m) ∷ es)
   says-base {s} {m} {r} {n} {es} c e h d w i =
       let x : Cell = record { char = c; after = leading s } in
       let a = split-append m r (i .leads) in
       let f : split (c ∷ (s ++ (m ++ r))) ≡ ([], x ∷ (cells m ++ cells r)) =
-      split-base c (m ++ r) e h (ap (λ (b : List Presentation × List Cell). b .0) a ∙ d .leads) ∙ ap (λ (b : List Presentation × List Cell). ([], x ∷ b .1)) a in
+      split-base c (m ++ r) e h (ap (λ (b : List Presentation × List Cell). b .0) a ∙ d .leads)
+      ∙ ap (λ (b : List Presentation × List Cell). ([], x ∷ b .1)) a in
       let o = outcomeAt p x (cells m) in
       let g = ends-cells w in
       record {
@@ -159,7 +217,8 @@ module _ (p : Policy) where
         counted = ap (λ (b : List Presentation × List Cell). countCells p (b .1)) f ∙ unit-count p x (d .entryless) g
             ∙ ap₂ (λ (k : ℕ) (l : NonCanonicality). o .counts ⊕ unsanctioned k ⊕ l) (held-count d) (i .counted);
         written = λ ds. ap (λ (b : List Presentation × List Cell). render p (b .1) ds) f ∙ unit-render p x ds (d .entryless) g
-            ∙ ap₂ (λ (k l : List ℕ). c ∷ (map asSelector (chosen (o .slot) ds) ++ (k ++ l))) (sym (strip-split m)) (i .written (remaining (o .slot) ds))
+            ∙ ap₂ (λ (k l : List ℕ). c ∷ (map asSelector (chosen (o .slot) ds) ++ (k ++ l))) (sym (strip-split m))
+            (i .written (remaining (o .slot) ds))
             ∙ base-written (o .slot) c (strip m) es ds;
         chooses = ap (λ (b : List Presentation × List Cell). choicesOfCells p (b .1)) f ∙ unit-choices p x (d .entryless) g
             ∙ ap (addChoice p (o .slot) (x ∷ cells m)) (i .chooses) ∙ base-chooses x (cells m) es (d .entryless) (o .slot) refl
@@ -168,17 +227,21 @@ module _ (p : Policy) where
 
   -- ---- a flag
 
-  says-flag : {s t m r : List ℕ} {n : NonCanonicality} {es : List Element} (a b : ℕ) → isRi a ≡ true → S s → isRi b ≡ true → S t → Modifies m → Says r n es
-      → Says (a ∷ (s ++ (b ∷ (t ++ (m ++ r))))) (unsanctioned (length s) ⊕ (unsanctioned (length t) ⊕ (unsanctioned (selectorCount m) ⊕ n))) (always (a ∷ b ∷ strip m) ∷ es)
+  says-flag : {s t m r : List ℕ} {n : NonCanonicality} {es : List Element} (a b : ℕ) → isRi a ≡ true → S s → isRi b ≡ true → S t
+      → Modifies m → Says r n es
+      → Says (a ∷ (s ++ (b ∷ (t ++ (m ++ r))))) (unsanctioned (length s) ⊕ (unsanctioned (length t) ⊕ (unsanctioned (selectorCount m) ⊕ n)))
+      (always (a ∷ b ∷ strip m) ∷ es)
   unfolding assemble choicesIn
   says-flag {s} {t} {m} {r} {n} {es} a b e h f k d i =
       let x : Cell = record { char = a; after = leading s } in
       let y : Cell = record { char = b; after = leading t } in
       let c = split-append m r (i .leads) in
       let g : split (b ∷ (t ++ (m ++ r))) ≡ ([], y ∷ (cells m ++ cells r)) =
-      split-base b (m ++ r) (emoji-no-selector b (ri-emoji b f)) k (ap (λ (w : List Presentation × List Cell). w .0) c ∙ d .leads) ∙ ap (λ (w : List Presentation × List Cell). ([], y ∷ w .1)) c in
+      split-base b (m ++ r) (emoji-no-selector b (ri-emoji b f)) k (ap (λ (w : List Presentation × List Cell). w .0) c ∙ d .leads)
+      ∙ ap (λ (w : List Presentation × List Cell). ([], y ∷ w .1)) c in
       let j : split (a ∷ (s ++ (b ∷ (t ++ (m ++ r))))) ≡ ([], x ∷ y ∷ (cells m ++ cells r)) =
-      split-base a (b ∷ (t ++ (m ++ r))) (emoji-no-selector a (ri-emoji a e)) h (ap (λ (w : List Presentation × List Cell). w .0) g) ∙ ap (λ (w : List Presentation × List Cell). ([], x ∷ w .1)) g in
+      split-base a (b ∷ (t ++ (m ++ r))) (emoji-no-selector a (ri-emoji a e)) h (ap (λ (w : List Presentation × List Cell). w .0) g)
+      ∙ ap (λ (w : List Presentation × List Cell). ([], x ∷ w .1)) g in
       let u : hasVariationSequence a ≡ false = no-entry (is-ri e) (λ z. true≢false (cc)) in
       let v : hasVariationSequence b ≡ false = no-entry (is-ri f) (λ z. true≢false (cc)) in
       record {
@@ -192,45 +255,55 @@ module _ (p : Policy) where
         written = λ ds. ap (λ (w : List Presentation × List Cell). render p (w .1) ds) j
             ∙ cell-render p x (y ∷ (cells m ++ cells r)) ds u
             ∙ ap (λ (l : List ℕ). a ∷ l) (cell-render p y (cells m ++ cells r) ds v
-            ∙ ap (λ (l : List ℕ). b ∷ l) (run-render p (cells r) ds (d .entryless) ∙ ap₂ (λ (l w : List ℕ). l ++ w) (sym (strip-split m)) (i .written ds)));
+            ∙ ap (λ (l : List ℕ). b ∷ l) (run-render p (cells r) ds (d .entryless)
+            ∙ ap₂ (λ (l w : List ℕ). l ++ w) (sym (strip-split m)) (i .written ds)));
         chooses = ap (λ (w : List Presentation × List Cell). choicesOfCells p (w .1)) j
-            ∙ cell-choices p x (y ∷ (cells m ++ cells r)) u ∙ cell-choices p y (cells m ++ cells r) v ∙ run-choices p (cells r) (d .entryless) ∙ i .chooses;
+            ∙ cell-choices p x (y ∷ (cells m ++ cells r)) u ∙ cell-choices p y (cells m ++ cells r) v
+            ∙ run-choices p (cells r) (d .entryless) ∙ i .chooses;
       }
 
   -- ---- units
 
   says-stem : {r : List ℕ} {n : NonCanonicality} {es : List Element} (st : EmojiStem) (ms : List EmojiModification)
-      → Stem (flattenStem st) → StemRuns st → Modifications (flattenModifications ms) → following (cells (flattenModifications ms)) ≡ firstModification ms
-      → EndsText r → Says r n es → Says ((flattenStem st ++ flattenModifications ms) ++ r) (stemCounts p st ms ⊕ n) (stemElement p st ms ∷ es)
+      → Stem (flattenStem st) → StemRuns st → Modifications (flattenModifications ms) → following (cells (flattenModifications ms))
+      ≡ firstModification ms
+      → EndsText r → Says r n es → Says ((flattenStem st ++ flattenModifications ms) ++ r) (stemCounts p st ms ⊕ n)
+      (stemElement p st ms ∷ es)
   unfolding flattenStem stemCounts stemElement
   says-stem {r} {n} {es} (SingletonBase c s) ms d runs k f w i =
       let m = flattenModifications ms in
       let a : (c ∷ (s ++ (m ++ r))) ≡ ((c ∷ s) ++ m) ++ r = ap (λ (l : List ℕ). c ∷ l) (sym (append-assoc s m r)) in
       let b = says-base c (first-no-selector (stem-no-selector d)) runs (modifies k) w i in
       subst (λ (t : List ℕ). Says t (stemCounts p (SingletonBase c s) ms ⊕ n) (stemElement p (SingletonBase c s) ms ∷ es)) a
-      (subst (λ (k : Class). let o = outcome p c k (leading s) in Says (c ∷ (s ++ (m ++ r))) (o .counts ⊕ unsanctioned (selectorCount m) ⊕ n) (baseElement (o .slot) c (strip m) ∷ es)) f b)
+      (subst (λ (k : Class). let o = outcome p c k (leading s) in Says (c ∷ (s ++ (m ++ r)))
+      (o .counts ⊕ unsanctioned (selectorCount m) ⊕ n) (baseElement (o .slot) c (strip m) ∷ es)) f b)
   says-stem {r} {n} {es} (Flag a s b t) ms d runs k f w i =
       let m = flattenModifications ms in
       let c : (a ∷ (s ++ (b ∷ (t ++ (m ++ r))))) ≡ ((a ∷ (s ++ b ∷ t)) ++ m) ++ r =
       ap (λ (l : List ℕ). a ∷ l) (sym (append-assoc (s ++ b ∷ t) m r ∙ append-assoc s (b ∷ t) (m ++ r))) in
       let g = says-flag a b (runs .0) (runs .1) (runs .2) (runs .3) (modifies k) i in
-      let q : unsanctioned (length s) ⊕ (unsanctioned (length t) ⊕ (unsanctioned (selectorCount m) ⊕ n)) ≡ unsanctioned (length s) ⊕ (unsanctioned (length t) ⊕ unsanctioned (selectorCount m)) ⊕ n =
-      ap (λ (l : NonCanonicality). unsanctioned (length s) ⊕ l) (sym (plus-assoc (unsanctioned (length t)) (unsanctioned (selectorCount m)) n))
+      let q : unsanctioned (length s) ⊕ (unsanctioned (length t) ⊕ (unsanctioned (selectorCount m) ⊕ n))
+      ≡ unsanctioned (length s) ⊕ (unsanctioned (length t) ⊕ unsanctioned (selectorCount m)) ⊕ n =
+      ap (λ (l : NonCanonicality). unsanctioned (length s) ⊕ l)
+      (sym (plus-assoc (unsanctioned (length t)) (unsanctioned (selectorCount m)) n))
       ∙ sym (plus-assoc (unsanctioned (length s)) (unsanctioned (length t) ⊕ unsanctioned (selectorCount m)) n) in
-      subst (λ (v : List ℕ). Says v (unsanctioned (length s) ⊕ (unsanctioned (length t) ⊕ unsanctioned (selectorCount m)) ⊕ n) (always (a ∷ b ∷ strip m) ∷ es)) c
+      subst (λ (v : List ℕ). Says v (unsanctioned (length s) ⊕ (unsanctioned (length t) ⊕ unsanctioned (selectorCount m)) ⊕ n)
+      (always (a ∷ b ∷ strip m) ∷ es)) c
       (subst (λ (l : NonCanonicality). Says (a ∷ (s ++ (b ∷ (t ++ (m ++ r))))) l (always (a ∷ b ∷ strip m) ∷ es)) q g)
 
   says-unit : {r : List ℕ} {n : NonCanonicality} {es : List Element} (u : EmojiLike) → UnitDerives u → Made u → EndsText r → Says r n es
       → Says (flattenUnit u ++ r) (unitCounts p u ⊕ n) (unitElement p u ∷ es)
   unfolding flattenUnit
-  says-unit u d m w i = says-stem (u .stem) (u .modifiers) (d .stem-derives) (m .runs) (modifications-of (u .modifiers) (d .modifications-derive)) (m .first) w i
+  says-unit u d m w i = says-stem (u .stem) (u .modifiers) (d .stem-derives) (m .runs)
+      (modifications-of (u .modifiers) (d .modifications-derive)) (m .first) w i
 
   -- ---- links and further units
 
   link-S : {s : List ℕ} → Link (0x200D ∷ s) → S s
   link-S (a-link h) = h
 
-  says-links : (ls : List ZwjLink) → ((l : ZwjLink) → List·Memᴰ l ls → Link (flattenLink l)) → Says (flattenLinks ls) (linkCounts ls) (linkElements ls) × EndsText (flattenLinks ls)
+  says-links : (ls : List ZwjLink) → ((l : ZwjLink) → List·Memᴰ l ls → Link (flattenLink l))
+      → Says (flattenLinks ls) (linkCounts ls) (linkElements ls) × EndsText (flattenLinks ls)
   unfolding flattenLinks flattenLink linkCounts linkElements
   says-links [] h = (says-end, text-end)
   says-links (l ∷ ls) h = (says-link (link-S (h l (List·Memᴰ·head refl))) (says-links ls (λ k i. h k (List·Memᴰ·tail i)) .0), text-link)
@@ -239,9 +312,11 @@ module _ (p : Policy) where
       → ((j : ZwjJoinedEmoji) → List·Memᴰ j js → Link (flattenLink (j .link)) × UnitDerives (j .emoji))
       → ((j : ZwjJoinedEmoji) → List·Memᴰ j js → Made (j .emoji))
       → ((l : ZwjLink) → List·Memᴰ l ls → Link (flattenLink l))
-      → Says (flattenJoined js ++ flattenLinks ls) (joinedCounts p js ⊕ linkCounts ls) (joinedElements p js ++ linkElements ls) × EndsText (flattenJoined js ++ flattenLinks ls)
+      → Says (flattenJoined js ++ flattenLinks ls) (joinedCounts p js ⊕ linkCounts ls) (joinedElements p js ++ linkElements ls)
+      × EndsText (flattenJoined js ++ flattenLinks ls)
   unfolding flattenJoined flattenLink joinedCounts joinedElements
-  says-joined [] ls d m h = let z = says-links ls h in (subst (λ (n : NonCanonicality). Says (flattenLinks ls) n (linkElements ls)) (sym (empty-plus (linkCounts ls))) (z .0), z .1)
+  says-joined [] ls d m h = let z = says-links ls
+      h in (subst (λ (n : NonCanonicality). Says (flattenLinks ls) n (linkElements ls)) (sym (empty-plus (linkCounts ls))) (z .0), z .1)
   says-joined (j ∷ js) ls d m h =
       let z = says-joined js ls (λ k i. d k (List·Memᴰ·tail i)) (λ k i. m k (List·Memᴰ·tail i)) h in
       let e = d j (List·Memᴰ·head refl) in
@@ -249,12 +324,14 @@ module _ (p : Policy) where
       let v = flattenUnit (j .emoji) in
       let r = flattenJoined js in
       let l = flattenLinks ls in
-      let a : s ++ (v ++ (r ++ l)) ≡ (s ++ (v ++ r)) ++ l = ap (λ (t : List ℕ). s ++ t) (sym (append-assoc v r l)) ∙ sym (append-assoc s (v ++ r) l) in
+      let a : s ++ (v ++ (r ++ l)) ≡ (s ++ (v ++ r)) ++ l = ap (λ (t : List ℕ). s ++ t) (sym (append-assoc v r l))
+      ∙ sym (append-assoc s (v ++ r) l) in
       let b = unsanctioned (length s) in
       let c = unitCounts p (j .emoji) in
       let n = joinedCounts p js in
       let k = linkCounts ls in
-      let q : b ⊕ (c ⊕ (n ⊕ k)) ≡ b ⊕ (c ⊕ n) ⊕ k = ap (λ (t : NonCanonicality). b ⊕ t) (sym (plus-assoc c n k)) ∙ sym (plus-assoc b (c ⊕ n) k) in
+      let q : b ⊕ (c ⊕ (n ⊕ k)) ≡ b ⊕ (c ⊕ n) ⊕ k = ap (λ (t : NonCanonicality). b ⊕ t) (sym (plus-assoc c n k))
+      ∙ sym (plus-assoc b (c ⊕ n) k) in
       let y = says-link (link-S (e .0)) (says-unit (j .emoji) (e .1) (m j (List·Memᴰ·head refl)) (z .1) (z .0)) in (
         subst (λ (t : List ℕ). Says (0x200D ∷ t) (b ⊕ (c ⊕ n) ⊕ k) (joinedElements p (j ∷ js) ++ linkElements ls)) a
             (subst (λ (t : NonCanonicality). Says (0x200D ∷ (s ++ (v ++ (r ++ l)))) t (joinedElements p (j ∷ js) ++ linkElements ls)) q y),
@@ -271,7 +348,10 @@ module _ (p : Policy) where
   -- ---- items
 
   -- The cells of an item of links or units.
-  pub item-says : {k : ScanKind} {t : List ℕ} → Structured k → Derives k t → Says t (sequenceCounts p (structure t)) (elements p (structure t))
+  pub item-says : {k : ScanKind} {t : List ℕ} → Structured k → Derives k t
+      → Says t (sequenceCounts p (structure t)) (elements p (structure t))
   item-says {k} {t} o d =
-      let r : StructureRead t = ⊎-elim (λ e. links-only-read (subst (λ (i : ScanKind). Derives i t) e d)) (λ e. emoji-headed-read (subst (λ (i : ScanKind). Derives i t) e d)) o in
-      subst (λ (s : List ℕ). Says s (sequenceCounts p (structure t)) (elements p (structure t))) (r .flat) (says-sequence (structure t) (r .derives) (all-made t))
+      let r : StructureRead t = ⊎-elim (λ e. links-only-read (subst (λ (i : ScanKind). Derives i t) e d))
+      (λ e. emoji-headed-read (subst (λ (i : ScanKind). Derives i t) e d)) o in
+      subst (λ (s : List ℕ). Says s (sequenceCounts p (structure t)) (elements p (structure t))) (r .flat)
+      (says-sequence (structure t) (r .derives) (all-made t))

@@ -1,4 +1,5 @@
--- The eight counts under the sum: it is associative, what is added can be taken away, `empty` is its zero, and only `empty` has the total 0.
+-- The eight counts under the sum: it is associative, what is added can be taken away, `empty` is its zero, and only `empty` has the total
+-- 0.
 use mathlib.Core.Path.{_≡_, ap}
 use native.Mathlib.Omega.{arith}
 use Rattle.analysis.specs.Counts.{_⊕_, empty, total}
@@ -25,16 +26,20 @@ counts-path m n a b c d e f g h = λ i. record {
 }
 
 pub plus-assoc : (l m n : NonCanonicality) → l ⊕ m ⊕ n ≡ l ⊕ (m ⊕ n)
-plus-assoc l m n = counts-path _ _ (omega arith) (omega arith) (omega arith) (omega arith) (omega arith) (omega arith) (omega arith) (omega arith)
+plus-assoc l m n = counts-path _ _ (omega arith) (omega arith) (omega arith) (omega arith) (omega arith) (omega arith) (omega arith)
+    (omega arith)
 
 pub plus-swap : (l m n : NonCanonicality) → l ⊕ (m ⊕ n) ≡ m ⊕ (l ⊕ n)
-plus-swap l m n = counts-path _ _ (omega arith) (omega arith) (omega arith) (omega arith) (omega arith) (omega arith) (omega arith) (omega arith)
+plus-swap l m n = counts-path _ _ (omega arith) (omega arith) (omega arith) (omega arith) (omega arith) (omega arith) (omega arith)
+    (omega arith)
 
 pub empty-plus : (n : NonCanonicality) → empty ⊕ n ≡ n
-empty-plus n = counts-path _ _ (omega arith) (omega arith) (omega arith) (omega arith) (omega arith) (omega arith) (omega arith) (omega arith)
+empty-plus n = counts-path _ _ (omega arith) (omega arith) (omega arith) (omega arith) (omega arith) (omega arith) (omega arith)
+    (omega arith)
 
 pub plus-empty : (n : NonCanonicality) → n ⊕ empty ≡ n
-plus-empty n = counts-path _ _ (omega arith) (omega arith) (omega arith) (omega arith) (omega arith) (omega arith) (omega arith) (omega arith)
+plus-empty n = counts-path _ _ (omega arith) (omega arith) (omega arith) (omega arith) (omega arith) (omega arith) (omega arith)
+    (omega arith)
 
 pub plus-cancel : (l m n : NonCanonicality) → l ⊕ n ≡ m ⊕ n → l ≡ m
 plus-cancel l m n e =
@@ -49,4 +54,5 @@ plus-cancel l m n e =
     (omega (arith, ap (λ (x : NonCanonicality). x .«presentation_decisions») e))
 
 pub total-empty : (n : NonCanonicality) → total n ≡ 0 → n ≡ empty
-total-empty n e = counts-path _ _ (omega arith) (omega arith) (omega arith) (omega arith) (omega arith) (omega arith) (omega arith) (omega arith)
+total-empty n e = counts-path _ _ (omega arith) (omega arith) (omega arith) (omega arith) (omega arith) (omega arith) (omega arith)
+    (omega arith)

@@ -26,7 +26,7 @@ use Rattle.policy_key_set.specs.Sets as Sets
 use Rattle.policy.specs.Policy.{holdsBase, ruleOf, singletonRule}
 use Rattle.policy.specs.DefaultPolicy.{bareAsText, bareAsTextKeycap, defaultPolicy, preferBare, preferBareKeycap}
 use Rattle.scanner.specs.Classes.{classOf}
-use Rattle.scanner.specs.Items.{begin, cut, items, kindOf, step}
+use Rattle.scanner.specs.Items.{startState, splitFrom, items, kindOf, transition}
 use Rattle.analysis.specs.Analysis.{
   choices,
   choicesOf,
@@ -61,7 +61,13 @@ use Rattle.analysis.specs.Rules.{
 use Rattle.analysis.specs.Theorems.{ChoiceExamples, DecisionExamples, RuleExamples}
 
 pub computed : RuleExamples × ChoiceExamples × DecisionExamples
-unfolding RuleExamples ChoiceExamples DecisionExamples classOf isSelector isTag isRi isEmojiModifier isEmoji inRanges member emojiModifiers emojiRanges riRanges step begin kindOf cut items asSelector fromSelector addChar split following hasVariationSequence isEmojiDefault isEmojiModifierBase isEmojiPresentation emojiModifierBases emojiPresentationRanges variationEntries variationSequenceIndex indexOf next Sets.contains Sets.memberAt Sets.member one holdsBase ruleOf singletonRule preferBare preferBareKeycap bareAsText bareAsTextKeycap defaultPolicy byFirst byKeycap byModifier byTags isBareSide outcome rule1 rule2 rule3 rule4 rule5 rule6 textFirst withoutSelector countCells countsOf nonCanonicality render renew replacement replacementOf upToLink choicesOfCells choicesOf choices
+unfolding RuleExamples ChoiceExamples DecisionExamples classOf isSelector isTag isRi isEmojiModifier isEmoji inRanges member emojiModifiers
+    emojiRanges riRanges transition startState kindOf splitFrom items asSelector fromSelector addChar split following hasVariationSequence
+    isEmojiDefault isEmojiModifierBase isEmojiPresentation emojiModifierBases emojiPresentationRanges variationEntries
+    variationSequenceIndex indexOf next Sets.contains Sets.memberAt Sets.member one holdsBase ruleOf singletonRule preferBare
+    preferBareKeycap bareAsText bareAsTextKeycap defaultPolicy byFirst byKeycap byModifier byTags isBareSide outcome rule1 rule2 rule3 rule4
+    rule5 rule6 textFirst withoutSelector countCells countsOf nonCanonicality render renew replacement replacementOf upToLink choicesOfCells
+    choicesOf choices
 computed = (
   (refl, refl, refl, refl, refl, refl),
   (refl, refl),

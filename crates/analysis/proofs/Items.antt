@@ -27,8 +27,8 @@ use Rattle.scanner.specs.Grammar.{
   selector-and,
   selector-run,
 }
-use Rattle.scanner.specs.Items.{Item, begin, items, kindOf}
-use Rattle.scanner.specs.declared.place.Place.{Place}
+use Rattle.scanner.specs.Items.{Item, startState, items, kindOf}
+use Rattle.scanner.specs.declared.state.State.{State}
 use Rattle.scanner.specs.Theorems.{Structured, item}
 use Rattle.scanner.specs.declared.ScanKind.{ScanKind}
 use Rattle.scanner.specs.declared.ScanKind.the-variants.{EmojiHeaded, LinksOnly, Passthrough, UnsanctionedPresentationSelectors}
@@ -53,7 +53,8 @@ use Rattle.analysis.proofs.Replacement.{
 }
 
 -- An item that the scanner's places lead through is derived.
-pub walked-derives : {q : Place} (x : Item) (c : ℕ) (s : List ℕ) → x .kind ≡ kindOf (begin (classOf c)) → x .chars ≡ c ∷ s → Walk (begin (classOf c)) s q → Derives (x .kind) (x .chars)
+pub walked-derives : {q : State} (x : Item) (c : ℕ) (s : List ℕ) → x .kind ≡ kindOf (startState (classOf c)) → x .chars ≡ c ∷ s
+    → Walk (startState (classOf c)) s q → Derives (x .kind) (x .chars)
 walked-derives x c s k l w = subst (λ (y : Item). Derives (y .kind) (y .chars)) (λ i. item (sym k i) (sym l i)) (walk-derive c w)
 
 -- ---- the first character of links and units
@@ -88,10 +89,13 @@ whole {k} {t} o d =
 pub alone : {k : ScanKind} {t : List ℕ} → Derives k t → items t ≡ item k t ∷ []
 unfolding Longest
 alone {k} {t} d =
-    sym (only-reading t (item k t ∷ []) (subst (λ (l : List ℕ). Reads l (item k t ∷ [])) (append-nil t) (reads-item [] d (λ k d f g e w. let z : _≡_ {A = ℕ} 0 1 = cc in omega arith) at-the-end)))
+    sym (only-reading t (item k t ∷ [])
+    (subst (λ (l : List ℕ). Reads l (item k t ∷ [])) (append-nil t)
+    (reads-item [] d (λ k d f g e w. let z : _≡_ {A = ℕ} 0 1 = cc in omega arith) at-the-end)))
 
 only : {k : ScanKind} {t : List ℕ} → Derives k t → (y : Item) → List·Memᴰ y (items t) → y ≡ item k t
-only {k} {t} d y m = ⊎-elim (λ e. e) (λ n. absurd (List·Memᴰ·not-nil n)) (List·Memᴰ·cases-cons (subst (λ (l : List Item). List·Memᴰ y l) (alone d) m))
+only {k} {t} d y m = ⊎-elim (λ e. e) (λ n. absurd (List·Memᴰ·not-nil n))
+    (List·Memᴰ·cases-cons (subst (λ (l : List Item). List·Memᴰ y l) (alone d) m))
 
 strip-S : {s : List ℕ} → S s → strip s ≡ []
 unfolding strip
@@ -130,19 +134,23 @@ module _ (p : Policy) where
   quiet-of {k} {t} (emoji-headed v j l) e = quiet-cells (inr refl) (emoji-headed v j l) e
   quiet-of {k} {t} (passthrough h s) e = refl
 
-  balance-cells : {k : ScanKind} {t : List ℕ} → Structured k → Derives k t → (ds : List Presentation) → Balanced (render p (cells t) ds) t (countCells p (cells t))
+  balance-cells : {k : ScanKind} {t : List ℕ} → Structured k → Derives k t → (ds : List Presentation)
+      → Balanced (render p (cells t) ds) t (countCells p (cells t))
   unfolding render
   balance-cells {k} {t} o d ds =
       let n = countCells p (cells t) in
-      let a : selectorCount t ≡ heldIn (cells t) = count-split t ∙ ap (λ (s : List Presentation). length s + heldIn (cells t)) (no-leading o d) ∙ omega arith in
+      let a : selectorCount t ≡ heldIn (cells t) = count-split t ∙ ap (λ (s : List Presentation). length s + heldIn (cells t))
+      (no-leading o d) ∙ omega arith in
       let b = count-unsplit (clean-renew p (clean-cells t) ds) in
       let c = renew-balances p (cells t) ds in
       omega arith
 
-  pub balance-of : {k : ScanKind} {t : List ℕ} → Derives k t → (ds : List Presentation) → Balanced (replacementOf p k t ds) t (countsOf p k t)
+  pub balance-of : {k : ScanKind} {t : List ℕ} → Derives k t → (ds : List Presentation)
+      → Balanced (replacementOf p k t ds) t (countsOf p k t)
   unfolding countsOf replacementOf
   balance-of {k} {t} (links-only a l) ds = balance-cells (inl refl) (links-only a l) ds
-  balance-of {k} {t} (selector-run e s) ds = let h = count-S (selector-and e s) in let z : selectorCount [] ≡ 0 = count-S no-selectors in omega arith
+  balance-of {k} {t} (selector-run e s) ds = let h = count-S (selector-and e s) in let z : selectorCount []
+      ≡ 0 = count-S no-selectors in omega arith
   balance-of {k} {t} (emoji-headed v j l) ds = balance-cells (inr refl) (emoji-headed v j l) ds
   balance-of {k} {t} (passthrough h s) ds = refl
 
@@ -152,7 +160,8 @@ module _ (p : Policy) where
       let h = headed o d in
       let e : Derives k (h .char ∷ h .tail) = subst (Derives k) (h .is) d in
       subst (Derives k) (sym (ap (λ (l : List ℕ). render p (cells l) ds) (h .is) ∙ render-cons p (h .char) (h .tail) ds (h .no-selector)))
-      (derives-alike (h .char) (h .tail) (renewed p (h .char) (h .tail) ds) (derive-inner (h .char) (h .tail) o e) (sym (strip-renewed p (h .char) (h .tail) ds)) e)
+      (derives-alike (h .char) (h .tail) (renewed p (h .char) (h .tail) ds) (derive-inner (h .char) (h .tail) o e)
+      (sym (strip-renewed p (h .char) (h .tail) ds)) e)
 
   -- ---- of an item
 
@@ -160,12 +169,14 @@ module _ (p : Policy) where
   unfolding nonCanonicality
   counts-at x k e = ap (λ (k : ScanKind). countsOf p k (x .chars)) e
 
-  pub replacement-at : (x : Item) (ds : List Presentation) (k : ScanKind) → x .kind ≡ k → replacement p x ds ≡ replacementOf p k (x .chars) ds
+  pub replacement-at : (x : Item) (ds : List Presentation) (k : ScanKind) → x .kind ≡ k → replacement p x ds
+      ≡ replacementOf p k (x .chars) ds
   unfolding replacement
   replacement-at x ds k e = ap (λ (k : ScanKind). replacementOf p k (x .chars) ds) e
 
   pub finding-false : (x : Item) → isFinding p x ≡ false → nonCanonicality p x ≡ empty
-  finding-false x e = total-empty (nonCanonicality p x) (eqb-true (total (nonCanonicality p x)) 0 (not-false (eqb (total (nonCanonicality p x)) 0) e))
+  finding-false x e = total-empty (nonCanonicality p x)
+      (eqb-true (total (nonCanonicality p x)) 0 (not-false (eqb (total (nonCanonicality p x)) 0) e))
 
   pub empty-no-finding : (x : Item) → nonCanonicality p x ≡ empty → isFinding p x ≡ false
   empty-no-finding x e = ap (λ (n : NonCanonicality). not (eqb (total n) 0)) e
@@ -191,20 +202,23 @@ module _ (p : Policy) where
     λ e. empty-no-finding x (ap (countsOf p (x .kind)) (sym e) ∙ no-count-of (x .kind) (x .chars) []),
   )
 
-  pub replacement-derives : (x : Item) → Structured (x .kind) → Derives (x .kind) (x .chars) → (ds : List Presentation) → Derives (x .kind) (replacement p x ds)
+  pub replacement-derives : (x : Item) → Structured (x .kind) → Derives (x .kind) (x .chars) → (ds : List Presentation)
+      → Derives (x .kind) (replacement p x ds)
   unfolding replacement replacementOf
   replacement-derives x o d ds =
       ⊎-elim (λ e. subst (λ (k : ScanKind). Derives (x .kind) (replacementOf p k (x .chars) ds)) (sym e) (derives-of o d ds))
       (λ e. subst (λ (k : ScanKind). Derives (x .kind) (replacementOf p k (x .chars) ds)) (sym e) (derives-of o d ds)) o
 
   -- The items of the replacement: none, or the one of the same kind.
-  pub items-of : {k : ScanKind} {t : List ℕ} → Derives k t → (ds : List Presentation) → (y : Item) → List·Memᴰ y (items (replacementOf p k t ds)) → y ≡ item k (replacementOf p k t ds)
+  pub items-of : {k : ScanKind} {t : List ℕ} → Derives k t → (ds : List Presentation) → (y : Item)
+      → List·Memᴰ y (items (replacementOf p k t ds)) → y ≡ item k (replacementOf p k t ds)
   unfolding replacementOf items
   items-of {k} {t} (links-only a l) ds y m = only (derives-of (inl refl) (links-only a l) ds) y m
   items-of {k} {t} (selector-run e s) ds y m = absurd (List·Memᴰ·not-nil m)
   items-of {k} {t} (emoji-headed v j l) ds y m = only (derives-of (inr refl) (emoji-headed v j l) ds) y m
   items-of {k} {t} (passthrough h s) ds y m = only (passthrough h s) y m
 
-  pub replaced-no-count : (x : Item) → Derives (x .kind) (x .chars) → (ds : List Presentation) (y : Item) → List·Memᴰ y (items (replacement p x ds)) → nonCanonicality p y ≡ empty
+  pub replaced-no-count : (x : Item) → Derives (x .kind) (x .chars) → (ds : List Presentation) (y : Item)
+      → List·Memᴰ y (items (replacement p x ds)) → nonCanonicality p y ≡ empty
   unfolding replacement
   replaced-no-count x d ds y m = ap (nonCanonicality p) (items-of d ds y m) ∙ replacement-no-count x ds

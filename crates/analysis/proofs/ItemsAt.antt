@@ -60,7 +60,8 @@ module _ (text : List ℕ) (at : ℕ) (x : Item) (xs : List Item) (e : items (ch
   item-chars =
       let d : at + size width (x .chars) - at ≡ length (encodeAll (x .chars)) = omega (arith, size-width (x .chars)) in
       ap (λ (n : ℕ). chars (take n (drop at text))) d ∙ ap chars (take-chars (drop at text) (x .chars) (join xs) first-and-rest)
-      ∙ chars-encodeAll-alone (x .chars) (scalar-front (x .chars) (join xs) (subst (λ (l : List ℕ). allScalar l ≡ true) first-and-rest (chars-allScalar (drop at text))))
+      ∙ chars-encodeAll-alone (x .chars)
+      (scalar-front (x .chars) (join xs) (subst (λ (l : List ℕ). allScalar l ≡ true) first-and-rest (chars-allScalar (drop at text))))
 
   -- .. and end within the text.
   pub item-within : at + size width (x .chars) ≤ length text
@@ -82,7 +83,8 @@ module _ (text : List ℕ) (at : ℕ) (x : Item) (xs : List Item) (e : items (ch
 module _ (p : Policy) where
   total-structured : {k : ScanKind} {t : List ℕ} → Structured k → Derives k t → totalCells p t ≡ countCells p (cells t)
   unfolding totalCells
-  total-structured {k} {t} o d = ap (λ s. unsanctioned (length s) ⊕ countCells p (cells t)) (no-leading o d) ∙ empty-plus (countCells p (cells t))
+  total-structured {k} {t} o d = ap (λ s. unsanctioned (length s) ⊕ countCells p (cells t)) (no-leading o d)
+      ∙ empty-plus (countCells p (cells t))
 
   pub total-item : {k : ScanKind} {t : List ℕ} → k ≢ Passthrough → Derives k t → totalCells p t ≡ countsOf p k t
   unfolding totalCells countsOf countCells
@@ -94,18 +96,20 @@ module _ (p : Policy) where
   total-item {k} {t} n (passthrough h s) = absurd (n refl)
 
 -- And so are those of its bytes.
-pub item-totals : (p : Policy) (text : List ℕ) (at : ℕ) {x : Item} {xs : List Item} → items (chars (drop at text)) ≡ x ∷ xs → x .kind ≢ Passthrough
+pub item-totals : (p : Policy) (text : List ℕ) (at : ℕ) {x : Item} {xs : List Item} → items (chars (drop at text)) ≡ x ∷ xs
+    → x .kind ≢ Passthrough
     → {end : ℕ} → end ≡ at + size width (x .chars) → totalCells p (chars (take (end - at) (drop at text))) ≡ nonCanonicality p x
 unfolding nonCanonicality
 item-totals p text at {x} {xs} e o f =
-    ap (λ (m : ℕ). totalCells p (chars (take (m - at) (drop at text)))) f ∙ ap (totalCells p) (item-chars text at x xs e) ∙ total-item p o (item-derived text at x xs e)
+    ap (λ (m : ℕ). totalCells p (chars (take (m - at) (drop at text)))) f ∙ ap (totalCells p) (item-chars text at x xs e)
+    ∙ total-item p o (item-derived text at x xs e)
 
 -- ---- what the scan's answer at an offset says
 
 pub record ItemAt (text : List ℕ) (at : ℕ) (i : ScanItem) : Type 0 where
   pub item : Item
-  pub behind : List Item
-  pub items-are : items (chars (drop at text)) ≡ item ∷ behind
+  pub after : List Item
+  pub items-are : items (chars (drop at text)) ≡ item ∷ after
   pub end-is : i .end ≡ at + size width (item .chars)
   pub kind-is : i .kind ≡ item .kind
 
@@ -115,7 +119,7 @@ item-at text at i e = go (items (chars (drop at text))) refl e
   where
     go : (l : List Item) → items (chars (drop at text)) ≡ l → firstOf (spans at l) ≡ Step.Item i → ItemAt text at i
     go [] f g = absurd (true≢false cc)
-    go (x ∷ xs) f g = record { item = x; behind = xs; items-are = f; end-is = cc; kind-is = cc }
+    go (x ∷ xs) f g = record { item = x; after = xs; items-are = f; end-is = cc; kind-is = cc }
 
 -- An arm for the kinds other than passthrough.
 pub not-passthrough : (k : ScanKind) → OneOf (1 ∷ 2 ∷ 3 ∷ []) (tagOf the-kind k) → k ≢ Passthrough
@@ -135,14 +139,16 @@ module _ (p : Policy) (text : List ℕ) (at : ℕ) where
     answer : Bool → ℕ → NonCanonicality → ItemAnalysis
     answer b end n = cond b (NonCanonical (record { start = at; end = end; counts = n })) (Canonical end)
 
-    answer-is : (b : Bool) (n : NonCanonicality) → b ≡ isFinding p (h .item) → n ≡ nonCanonicality p (h .item) → answer b (i .end) n ≡ analysisAt p text at
+    answer-is : (b : Bool) (n : NonCanonicality) → b ≡ isFinding p (h .item) → n ≡ nonCanonicality p (h .item) → answer b (i .end) n
+        ≡ analysisAt p text at
     unfolding analysisAt analysisOf answer
     answer-is b n f g = (λ j. answer (f j) (h .end-is j) (g j)) ∙ ap (analysisOf p at) (sym (h .items-are))
 
     -- Passthrough is canonical.
     pub analysis-passthrough : i .kind ≡ Passthrough → Canonical (i .end) ≡ analysisAt p text at
     unfolding answer
-    analysis-passthrough e = answer-is false (nonCanonicality p (h .item)) (sym (passthrough-no-finding p (h .item) (sym (h .kind-is) ∙ e))) refl
+    analysis-passthrough e = answer-is false (nonCanonicality p (h .item)) (sym (passthrough-no-finding p (h .item) (sym (h .kind-is) ∙ e)))
+        refl
 
     -- Any other item goes by the totals of its bytes.
     module _ (o : i .kind ≢ Passthrough) (n : NonCanonicality) (e : n ≡ totalCells p (chars (take (i .end - at) (drop at text)))) where

@@ -36,7 +36,13 @@ pub bytes-parts : (t : List ℕ) → size width t ≡ size width (strip t) + 3 *
 unfolding strip selectorCount
 bytes-parts =
     by-chars (λ t. size width t ≡ size width (strip t) + 3 * selectorCount t) refl
-    (λ q t h. omega (arith, width-selector q, count-selector (asSelector q) t (selector-is q), ap (size width) (strip-selector (asSelector q) t (selector-is q))))
+    (λ q t h. omega (
+      arith,
+      width-selector q,
+      count-selector (asSelector q) t (selector-is q),
+      ap (size width)
+          (strip-selector (asSelector q) t (selector-is q)),
+    ))
     (λ c t e h. omega (arith, count-char c t e, ap (size width) (strip-char c t e)))
 
 pub bytes-some : (t : List ℕ) → length t ≤ size width t
@@ -78,7 +84,8 @@ module _ (p : Policy) where
   bytes-of {k} {t} d ds =
       omega (arith, bytes-parts (replacementOf p k t ds), ap (size width) (strip-of p d ds), bytes-parts t, balance-of p d ds)
 
-  pub four-times : {k : ScanKind} {t : List ℕ} → Derives k t → (ds : List Presentation) → size width (replacementOf p k t ds) ≤ 4 * size width t
+  pub four-times : {k : ScanKind} {t : List ℕ} → Derives k t → (ds : List Presentation)
+      → size width (replacementOf p k t ds) ≤ 4 * size width t
   unfolding replacementOf
   four-times {k} {t} (links-only a l) ds = render-bytes t ds
   four-times {k} {t} (selector-run e s) ds = omega arith

@@ -27,7 +27,24 @@ use Rattle.analysis.specs.Analysis.{chosen, countCells, following, remai
 use Rattle.analysis.specs.CellView.{formatCells, slotLength, totalCells}
 use Rattle.analysis.specs.Cells.{Cell, cells, leading, split}
 use Rattle.analysis.specs.Counts.{_⊕_, capped, cappedSum, most, total, unsanctioned}
-use Rattle.analysis.specs.Rules.{Outcome, Slot, bare, byFirst, decided, fixed, isBareSide, outcome, rule1, rule2, rule3, rule4, rule5, rule6, textFirst, withoutSelector}
+use Rattle.analysis.specs.Rules.{
+  Outcome,
+  Slot,
+  bare,
+  byFirst,
+  decided,
+  fixed,
+  isBareSide,
+  outcome,
+  rule1,
+  rule2,
+  rule3,
+  rule4,
+  rule5,
+  rule6,
+  textFirst,
+  withoutSelector,
+}
 use Rattle.analysis.specs.declared.types.NonCanonicality.{NonCanonicality}
 use Rattle.analysis.proofs.Cells.{front-char, split-char}
 use Rattle.analysis.proofs.CellsAt.{read-count, read-end, selectors-room, split-at}
@@ -107,23 +124,24 @@ slot-few (fixed q) = omega arith
 slot-few (decided d) = omega arith
 
 module _ (p : Policy) where
-  -- Behind the leading selectors the cells are counted, and the selectors are unsanctioned ..
-  total-behind : (t u : List ℕ) → split u ≡ ([], cells t) → totalCells p u ≡ countCells p (cells t)
+  -- After the leading selectors the cells are counted, and the selectors are unsanctioned ..
+  total-after : (t u : List ℕ) → split u ≡ ([], cells t) → totalCells p u ≡ countCells p (cells t)
   unfolding totalCells
-  total-behind t u e = ap (λ (a : List Presentation × List Cell). unsanctioned (length (a .0)) ⊕ countCells p (a .1)) e ∙ empty-plus (countCells p (cells t))
+  total-after t u e = ap (λ (a : List Presentation × List Cell). unsanctioned (length (a .0)) ⊕ countCells p (a .1)) e
+      ∙ empty-plus (countCells p (cells t))
 
   pub total-leading : (t u : List ℕ) → split u ≡ ([], cells t) → totalCells p t ≡ unsanctioned (length (leading t)) ⊕ totalCells p u
   unfolding totalCells
-  total-leading t u e = ap (λ (n : NonCanonicality). unsanctioned (length (leading t)) ⊕ n) (sym (total-behind t u e))
+  total-leading t u e = ap (λ (n : NonCanonicality). unsanctioned (length (leading t)) ⊕ n) (sym (total-after t u e))
 
-  -- .. of a cell its own counts and those of what stands behind it.
+  -- .. of a cell its own counts and those of what stands after it.
   pub total-char : (c : ℕ) (t u : List ℕ) → isSelector c ≡ false → split u ≡ ([], cells t)
       → totalCells p (c ∷ t) ≡ outcome p c (following (cells t)) (leading t) .counts ⊕ totalCells p u
   unfolding totalCells countCells
   total-char c t u e h =
       let o = outcome p c (following (cells t)) (leading t) .counts in
       ap (λ (a : List Presentation × List Cell). unsanctioned (length (a .0)) ⊕ countCells p (a .1)) (split-char c t e)
-      ∙ empty-plus (o ⊕ countCells p (cells t)) ∙ ap (λ (n : NonCanonicality). o ⊕ n) (sym (total-behind t u h))
+      ∙ empty-plus (o ⊕ countCells p (cells t)) ∙ ap (λ (n : NonCanonicality). o ⊕ n) (sym (total-after t u h))
 
   -- The same for what is written.
   format-leading : (t u : List ℕ) → split u ≡ ([], cells t) → formatCells p u ≡ formatCells p t
@@ -131,14 +149,16 @@ module _ (p : Policy) where
   format-leading t u e = ap (λ (a : List Presentation × List Cell). render p (a .1) []) e
 
   format-char : (c : ℕ) (t u : List ℕ) → isSelector c ≡ false → split u ≡ ([], cells t)
-      → size width (formatCells p (c ∷ t)) ≡ width c + slotLength (outcome p c (following (cells t)) (leading t) .slot) + size width (formatCells p u)
+      → size width (formatCells p (c ∷ t)) ≡ width c + slotLength (outcome p c (following (cells t)) (leading t) .slot) + size width
+      (formatCells p u)
   unfolding formatCells renewed
   format-char c t u e h =
       let o = outcome p c (following (cells t)) (leading t) .slot in
       let a = ap (size width) (render-cons p c t [] e) in
       let b = size-append width (map asSelector (chosen o [])) (render p (cells t) (remaining o [])) in
       let d = slot-length o in
-      let r : render p (cells t) (remaining o []) ≡ render p (cells u) [] = ap (render p (cells t)) (remaining-none o) ∙ sym (format-leading t u h) in
+      let r : render p (cells t) (remaining o []) ≡ render p (cells u) [] = ap (render p (cells t)) (remaining-none o)
+      ∙ sym (format-leading t u h) in
       omega (arith, a, b, d, ap (size width) r)
 
 -- ---- the loop: at each turn what is counted and measured, with what is left, gives the whole
@@ -152,7 +172,7 @@ pub record Measuring (p : Policy) (text : List ℕ) (at : ℕ) (counts : NonCano
   -- No selector leads what is left.
   pub none-leads : leading (chars (drop at text)) ≡ []
 
--- The loop begins behind the leading selectors.
+-- The loop begins after the leading selectors.
 pub measuring-begin : {p : Policy} {text : List ℕ} {counts : NonCanonicality} (r : PresentationSelectors) → r ≡ selectorRun text 0
     → counts ≡ unsanctioned (r .count) → Measuring p text (r .end) counts 0
 measuring-begin {p} {text} {counts} r h e =
@@ -174,7 +194,8 @@ module _ {p : Policy} {text : List ℕ} {at : ℕ} {counts : NonCanonicality} {l
   unfolding totalCells countCells formatCells render renew split
   measuring-done h = (
     sym (m .counts-same ∙ ap (λ (l : List ℕ). counts ⊕ totalCells p l) (h .chars-none) ∙ plus-empty counts),
-    sym (m .length-same ∙ ap (λ (l : List ℕ). capped (len + size width (formatCells p l))) (h .chars-none) ∙ ap capped (omega arith) ∙ capped-held len (m .held)),
+    sym (m .length-same ∙ ap (λ (l : List ℕ). capped (len + size width (formatCells p l))) (h .chars-none) ∙ ap capped (omega arith)
+        ∙ capped-held len (m .held)),
   )
 
   -- A cell more.
@@ -189,11 +210,13 @@ module _ {p : Policy} {text : List ℕ} {at : ℕ} {counts : NonCanonicality} {l
       let n = m .few-counts in
       let b = h .some in
       let r : end ≤ length text = omega (arith, he, selectors-room text (at + w) (h .room)) in
-      let f : total (o .counts) ≤ suc (length (leading t)) = omega (arith, ap (λ (x : Outcome). total (x .counts)) ho, few p v (following (cells t)) (leading t)) in
+      let f : total (o .counts) ≤ suc (length (leading t)) =
+      omega (arith, ap (λ (x : Outcome). total (x .counts)) ho, few p v (following (cells t)) (leading t)) in
       let a : cappedSum counts (o .counts) ≡ counts ⊕ o .counts = whole-sum counts (o .counts) (omega arith) in
       let e : isSelector v ≡ false = front-char v t (ap leading (sym (h .chars-on)) ∙ m .none-leads) in
       let s : split u ≡ ([], cells t) = split-at text (at + w) he in
-      let c : totalCells p (v ∷ t) ≡ o .counts ⊕ totalCells p u = total-char p v t u e s ∙ ap (λ (x : Outcome). x .counts ⊕ totalCells p u) (sym ho) in
+      let c : totalCells p (v ∷ t) ≡ o .counts ⊕ totalCells p u = total-char p v t u e s
+      ∙ ap (λ (x : Outcome). x .counts ⊕ totalCells p u) (sym ho) in
       let z : size width (formatCells p (v ∷ t)) ≡ width v + slotLength (o .slot) + size width (formatCells p u) =
       format-char p v t u e s ∙ ap (λ (x : Outcome). width v + slotLength (x .slot) + size width (formatCells p u)) (sym ho) in
       record {
@@ -218,4 +241,5 @@ module _ {p : Policy} {text : List ℕ} {at : ℕ} {counts : NonCanonicality} {l
       let i : n ≡ length (leading t) = omega arith in
       let o : record { counts = unsanctioned n; slot = bare } ≡ outcome p v (following (cells t)) (leading t) =
       ap (λ (k : ℕ). record { counts = unsanctioned k; slot = bare }) i ∙ sym (outcome-no-entry p v (following (cells t)) (leading t) e) in
-      subst (λ (k : ℕ). Measuring p text end (cappedSum counts (unsanctioned n)) (capped (len + k))) (add-zero w) (measuring-cell h l (record { counts = unsanctioned n; slot = bare }) end o he)
+      subst (λ (k : ℕ). Measuring p text end (cappedSum counts (unsanctioned n)) (capped (len + k))) (add-zero w)
+      (measuring-cell h l (record { counts = unsanctioned n; slot = bare }) end o he)

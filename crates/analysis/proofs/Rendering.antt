@@ -40,7 +40,8 @@ use Rattle.analysis.proofs.Sums.{capped-held}
 -- ---- one character
 
 -- With room for a scalar value, its bytes are put.
-module _ (v : ℕ) (o : List ℕ) (at : ℕ) (s : isScalar v ≡ true) (h : at + length (encode v) ≤ length o) (a : WriteChar) (e : a ≡ writeChar v o at) where
+module _ (v : ℕ) (o : List ℕ) (at : ℕ) (s : isScalar v ≡ true) (h : at + length (encode v) ≤ length o) (a : WriteChar)
+    (e : a ≡ writeChar v o at) where
   answer-is : a ≡ Written (length (encode v))
   answer-is = e ∙ sym (written v o at (length (encode v)) refl s h .0 .same)
 
@@ -63,7 +64,8 @@ unfolding isScalar asSelector
 selector-scalar Text = refl
 selector-scalar Emoji = refl
 
-pub bytes-selector : (s : FromSelector) (q : Presentation) (c : ℕ) → s ≡ Selector q → c ≡ asSelector q → encode c ≡ encodeAll (map asSelector (runWith s 1))
+pub bytes-selector : (s : FromSelector) (q : Presentation) (c : ℕ) → s ≡ Selector q → c ≡ asSelector q → encode c
+    ≡ encodeAll (map asSelector (runWith s 1))
 unfolding runWith encodeAll
 bytes-selector s q c e f =
     ap encode f ∙ sym (append-nil (encode (asSelector q))) ∙ ap (λ (x : FromSelector). encodeAll (map asSelector (runWith x 1))) (sym e)
@@ -84,7 +86,7 @@ later-drop : (ds : List ℕ) → laterDecisions (map meaning ds) ≡ map meaning
 later-drop [] = refl
 later-drop (d ∷ ds) = refl
 
--- Those left behind a slot are those from the next unused index on.
+-- Those left after a slot are those from the next unused index on.
 remaining-drop : (o : Slot) (ds : List ℕ) (i : ℕ) → remaining o (map meaning (drop i ds)) ≡ map meaning (drop (i + decisionsUsed o) ds)
 remaining-drop bare ds i = ap (λ (n : ℕ). map meaning (drop n ds)) (sym (add-zero i))
 remaining-drop (fixed q) ds i = ap (λ (n : ℕ). map meaning (drop n ds)) (sym (add-zero i))
@@ -109,9 +111,10 @@ module _ (p : Policy) (text ds : List ℕ) (at i : ℕ) where
 
   -- The selectors that lead are passed.
   pub left-leading : {end : ℕ} → end ≡ at + 3 * length (leading (chars (drop at text))) → leftAt p text ds at i ≡ leftAt p text ds end i
-  left-leading e = ap (λ (a : List Presentation × List Cell). encodeAll (render p (a .1) (map meaning (drop i ds)))) (sym (split-at text at e))
+  left-leading e = ap (λ (a : List Presentation × List Cell). encodeAll (render p (a .1) (map meaning (drop i ds))))
+      (sym (split-at text at e))
 
-  -- Of a cell its character and what its slot holds, then what is left behind the cell.
+  -- Of a cell its character and what its slot holds, then what is left after the cell.
   pub left-cell : {v w : ℕ} → Step text at v w → leading (chars (drop at text)) ≡ [] → (o : Outcome) (end : ℕ)
       → o ≡ outcome p v (following (cells (chars (drop (at + w) text)))) (leading (chars (drop (at + w) text)))
       → end ≡ at + w + 3 * length (leading (chars (drop (at + w) text)))
@@ -123,10 +126,14 @@ module _ (p : Policy) (text ds : List ℕ) (at i : ℕ) where
       let e : isSelector v ≡ false = front-char v t (ap leading (sym (h .chars-on)) ∙ l) in
       let same : cells (chars (drop end text)) ≡ cells t = ap (λ (a : List Presentation × List Cell). a .1) (split-at text (at + w) g) in
       ap (λ (x : List ℕ). encodeAll (render p (cells x) ms)) (h .chars-on) ∙ ap encodeAll (render-cons p v t ms e)
-      ∙ ap (λ (x : Outcome). encode v ++ encodeAll (map asSelector (chosen (x .slot) ms) ++ render p (cells t) (remaining (x .slot) ms))) (sym f)
-      ∙ ap (λ (x : List ℕ). encode v ++ x) (encodeAll-append (map asSelector (chosen (o .slot) ms)) (render p (cells t) (remaining (o .slot) ms)))
-      ∙ ap₂ (λ (xs : List Cell) (x : List Presentation). encode v ++ (encodeAll (map asSelector (chosen (o .slot) ms)) ++ encodeAll (render p xs x))) (sym same) (remaining-drop (o .slot) ds i)
-      ∙ sym (append-assoc (encode v) (encodeAll (map asSelector (chosen (o .slot) ms))) (leftAt p text ds end (i + decisionsUsed (o .slot))))
+      ∙ ap (λ (x : Outcome). encode v ++ encodeAll (map asSelector (chosen (x .slot) ms) ++ render p (cells t) (remaining (x .slot) ms)))
+      (sym f)
+      ∙ ap (λ (x : List ℕ). encode v ++ x)
+      (encodeAll-append (map asSelector (chosen (o .slot) ms)) (render p (cells t) (remaining (o .slot) ms)))
+      ∙ ap₂ (λ (xs : List Cell) (x : List Presentation). encode v
+      ++ (encodeAll (map asSelector (chosen (o .slot) ms)) ++ encodeAll (render p xs x))) (sym same) (remaining-drop (o .slot) ds i)
+      ∙ sym (append-assoc (encode v) (encodeAll (map asSelector (chosen (o .slot) ms)))
+      (leftAt p text ds end (i + decisionsUsed (o .slot))))
 
 -- ---- its length
 
@@ -150,4 +157,5 @@ measured p raw ds h =
     let t = chars raw in
     let a = render-size p t ds in
     let b = render-bytes p t ds in
-    capped-held (size width (formatCells p t)) (omega (arith, size-chars raw, validUpTo-le raw)) ∙ sym a ∙ size-width (render p (cells t) ds)
+    capped-held (size width (formatCells p t)) (omega (arith, size-chars raw, validUpTo-le raw)) ∙ sym a
+    ∙ size-width (render p (cells t) ds)

@@ -11,8 +11,8 @@ use Rattle.unicode.specs.declared.presentation.Presentation.{Presentation}
 use Rattle.policy.specs.declared.Policy.{Policy}
 use Rattle.scanner.specs.Classes.{strip}
 use Rattle.scanner.specs.declared.char_class.Class.{Class}
-use Rattle.scanner.specs.declared.place.Place.{Place}
-use Rattle.scanner.proofs.Places.{inner}
+use Rattle.scanner.specs.declared.state.State.{State}
+use Rattle.scanner.proofs.States.{inner}
 use Rattle.scanner.proofs.Walk.{Walk, same-walk}
 use Rattle.analysis.specs.Analysis.{chosen, countCells, following, remaining, outcomeAt, render, renew}
 use Rattle.analysis.specs.Cells.{Cell, cells, leading, split}
@@ -20,12 +20,24 @@ use Rattle.analysis.specs.Counts.{_⊕_, adding, empty, removing, total}
 use Rattle.analysis.specs.Rules.{Slot, bare, decided, fixed, outcome}
 use Rattle.analysis.specs.declared.types.NonCanonicality.{NonCanonicality}
 use Rattle.analysis.proofs.Counts.{empty-plus}
-use Rattle.analysis.proofs.Cells.{Clean, cell-and, charsOf, clean-cells, heldIn, no-cell, split-char, split-unsplit, strip-selectors, strip-split, strip-unsplit}
+use Rattle.analysis.proofs.Cells.{
+  Clean,
+  cell-and,
+  charsOf,
+  clean-cells,
+  heldIn,
+  no-cell,
+  split-char,
+  split-unsplit,
+  strip-selectors,
+  strip-split,
+  strip-unsplit,
+}
 use Rattle.analysis.proofs.RuleLaws.{balances, held, keeps, settles}
 
 -- ---- cells
 
--- Where no decision is left, none is left behind a slot.
+-- Where no decision is left, none is left after a slot.
 pub remaining-none : (o : Slot) → remaining o [] ≡ []
 remaining-none bare = refl
 remaining-none (fixed q) = refl
@@ -58,7 +70,8 @@ module _ (p : Policy) where
       ∙ ap (λ (n : NonCanonicality). n ⊕ countCells p r) (settles p (x .char) (following xs) (x .after) ds)
       ∙ empty-plus (countCells p r) ∙ count-renew xs (remaining o ds)
 
-  keep-cell : (x : Cell) (xs : List Cell) (o : Slot) → chosen o [] ≡ x .after → renew p xs [] ≡ xs → record { char = x .char; after = chosen o [] } ∷ renew p xs (remaining o []) ≡ x ∷ xs
+  keep-cell : (x : Cell) (xs : List Cell) (o : Slot) → chosen o [] ≡ x .after → renew p xs [] ≡ xs
+      → record { char = x .char; after = chosen o [] } ∷ renew p xs (remaining o []) ≡ x ∷ xs
   keep-cell x xs o e h =
       ap (λ (ds : List Presentation). record { char = x .char; after = chosen o [] } ∷ renew p xs ds) (remaining-none o)
       ∙ (λ i. record { char = x .char; after = e i } ∷ h i)
@@ -76,7 +89,8 @@ module _ (p : Policy) where
       keep-cell x xs (o .slot) (keeps p (x .char) (following xs) (x .after) a) (renew-quiet xs b)
 
   -- Selectors are added and removed as counted.
-  pub renew-balances : (xs : List Cell) (ds : List Presentation) → heldIn (renew p xs ds) + removing (countCells p xs) ≡ heldIn xs + adding (countCells p xs)
+  pub renew-balances : (xs : List Cell) (ds : List Presentation) → heldIn (renew p xs ds) + removing (countCells p xs)
+      ≡ heldIn xs + adding (countCells p xs)
   unfolding countCells renew
   renew-balances [] ds = refl
   renew-balances (x ∷ xs) ds =
@@ -105,9 +119,9 @@ module _ (p : Policy) where
   pub render-no-count : (t : List ℕ) (ds : List Presentation) → countCells p (cells (render p (cells t) ds)) ≡ empty
   render-no-count t ds = ap (λ (a : List Presentation × List Cell). countCells p (a .1)) (split-render t ds) ∙ count-renew (cells t) ds
 
-  -- ---- the first character and what stands behind it
+  -- ---- the first character and what stands after it
 
-  -- What stands behind the first character of links or units in the replacement.
+  -- What stands after the first character of links or units in the replacement.
   unfoldable pub renewed : ℕ → List ℕ → List Presentation → List ℕ
   renewed c s ds =
       let o = outcome p c (following (cells s)) (leading s) .slot in
@@ -124,5 +138,5 @@ module _ (p : Policy) where
       strip-selectors (chosen o ds) (render p (cells s) (remaining o ds)) ∙ strip-render s (remaining o ds)
 
   -- It leads through the same places.
-  pub renewed-walk : {a b : Place} (c : ℕ) (s : List ℕ) (ds : List Presentation) → inner a ≡ true → Walk a s b → Walk a (renewed c s ds) b
+  pub renewed-walk : {a b : State} (c : ℕ) (s : List ℕ) (ds : List Presentation) → inner a ≡ true → Walk a s b → Walk a (renewed c s ds) b
   renewed-walk c s ds i w = same-walk s (renewed c s ds) i (sym (strip-renewed c s ds)) w

@@ -12,7 +12,7 @@ use borrow.Author.Tests.{le-leb, leb-true, lt-leb}
 use types.Run.{OneOf, miss}
 use denote.Enum.Declared.{tagOf}
 use Rattle.base.specs.Output.{PutAt, bufferOf}
-use Rattle.base.specs.Refusals.{After, checked, kept, orElse, textLimit}
+use Rattle.base.specs.Refusals.{After, checked, unwritten, orElse, textLimit}
 use Rattle.base.specs.declared.Check.{Check}
 use Rattle.base.specs.declared.Check.the-variants as Check
 use Rattle.base.specs.declared.Refusal.{Refusal}
@@ -58,23 +58,26 @@ use Rattle.analysis.proofs.Units.{split-S}
 
 module _ (result out : List ℕ) (len : ℕ) (e : len ≡ length result) where
   -- There is no room, and the buffer is as it was.
-  pub out-short : length out < len → kept (Refused (OutputTooShort len)) out ≡ writeOut result out
+  pub out-short : length out < len → unwritten (Refused (OutputTooShort len)) out ≡ writeOut result out
   out-short h =
       let t = lt-leb (length result) (length out) (omega arith) in
-      ap (λ (n : ℕ). kept (Refused (OutputTooShort n)) out) e ∙ simp t
+      ap (λ (n : ℕ). unwritten (Refused (OutputTooShort n)) out) e ∙ simp t
 
   -- There is room, and the result stands at the front.
-  pub out-written : (after : List ℕ) → len ≤ length out → after ≡ result ++ drop (length result) out → record { answer = Mended len; buffer = after } ≡ writeOut result out
-  out-written after h b = let t = le-leb (length result) (length out) (omega arith) in (λ i. record { answer = Mended (e i); buffer = b i }) ∙ simp t
+  pub out-written : (after : List ℕ) → len ≤ length out → after ≡ result ++ drop (length result) out
+      → record { answer = Mended len; buffer = after } ≡ writeOut result out
+  out-written after h b = let t = le-leb (length result) (length out) (omega arith) in (λ i. record { answer = Mended (e i); buffer = b i })
+      ∙ simp t
 
-  pub out-put : (after : List ℕ) (r : ℕ) → len ≤ length out → PutAt out 0 result after r → record { answer = Mended len; buffer = after } ≡ writeOut result out
+  pub out-put : (after : List ℕ) (r : ℕ) → len ≤ length out → PutAt out 0 result after r → record { answer = Mended len; buffer = after }
+      ≡ writeOut result out
   unfolding bufferOf
   out-put after r h p = let t = le-leb (length result) (length out) (omega arith) in out-written after h (wrote e h p .buffer ∙ simp t)
 
 -- ---- the limit
 
 module _ (text out : List ℕ) (next : After MendAnswer ℕ) where
-  pub too-long : textLimit < length text → kept (Refused TextTooLong) out ≡ withinLimit text out next
+  pub too-long : textLimit < length text → unwritten (Refused TextTooLong) out ≡ withinLimit text out next
   too-long h = simp (lt-leb (length text) textLimit h)
 
   pub not-too-long : length text ≤ textLimit → next ≡ withinLimit text out next
@@ -90,14 +93,15 @@ pub part-within : (text : List ℕ) (at end : ℕ) → length (part text at end)
 part-within text at end = omega (arith, length-take (end - at) (drop at text), length-drop at text)
 
 -- A part of a text within the limit is written.
-pub part-written : (text out : List ℕ) (at end : ℕ) → length text ≤ textLimit → {a next : After MendAnswer ℕ} → a ≡ withinLimit (part text at end) out next → a ≡ next
+pub part-written : (text out : List ℕ) (at end : ℕ) → length text ≤ textLimit → {a next : After MendAnswer ℕ} → a
+    ≡ withinLimit (part text at end) out next → a ≡ next
 part-written text out at end l e = e ∙ sym (not-too-long (part text at end) out _ (omega (arith, part-within text at end)))
 
 -- The finding that starts at an offset.
 pub record FoundAt (p : Policy) (text : List ℕ) (at : ℕ) (f : Finding) : Type 0 where
   pub item : Item
-  pub behind : List Item
-  pub items-are : items (chars (drop at text)) ≡ item ∷ behind
+  pub after : List Item
+  pub items-are : items (chars (drop at text)) ≡ item ∷ after
   pub starting : findingStarting p text at ≡ some item
   pub found : isFinding p item ≡ true
   pub end-is : f .end ≡ at + size width (item .chars)
@@ -129,11 +133,12 @@ module _ (p : Policy) (text : List ℕ) (at : ℕ) where
       go s (x ∷ xs) i g = by (isFinding p x) refl g
         where
           by : (b : Bool) → isFinding p x ≡ b
-              → cond b (NonCanonical (record { start = at; end = at + size width (x .chars); counts = nonCanonicality p x })) (Canonical (at + size width (x .chars))) ≡ NonCanonical f
+              → cond b (NonCanonical (record { start = at; end = at + size width (x .chars); counts = nonCanonicality p x }))
+              (Canonical (at + size width (x .chars))) ≡ NonCanonical f
               → FoundAt p text at f
           by true h k = record {
             item = x;
-            behind = xs;
+            after = xs;
             items-are = i;
             starting = starting-by s i ∙ ap (λ (b : Bool). cond b (some x) none) h;
             found = h;
@@ -160,7 +165,8 @@ module _ (p : Policy) (text : List ℕ) (at : ℕ) where
       go (x ∷ xs) g = by (isFinding p x) refl g
         where
           by : (b : Bool) → isFinding p x ≡ b
-              → a ≡ cond b (NonCanonical (record { start = at; end = at + size width (x .chars); counts = nonCanonicality p x })) (Canonical (at + size width (x .chars)))
+              → a ≡ cond b (NonCanonical (record { start = at; end = at + size width (x .chars); counts = nonCanonicality p x }))
+              (Canonical (at + size width (x .chars)))
               → cond b (some x) none ≡ none
           by true h k = absurd (no _ k)
           by false h k = refl
@@ -171,7 +177,8 @@ module _ (p : Policy) (text : List ℕ) (at : ℕ) where
 
   -- ---- its bytes, written out
 
-  rendered : {k : ScanKind} {t : List ℕ} → k ≢ Passthrough → Derives k t → (ds : List Presentation) → render p (cells t) ds ≡ replacementOf p k t ds
+  rendered : {k : ScanKind} {t : List ℕ} → k ≢ Passthrough → Derives k t → (ds : List Presentation) → render p (cells t) ds
+      ≡ replacementOf p k t ds
   unfolding replacementOf render renew
   rendered n (links-only a l) ds = refl
   rendered n (selector-run e s) ds = ap (λ (xs : List Cell). render p xs ds) (split-S (selector-and e s) .0)
@@ -179,7 +186,8 @@ module _ (p : Policy) (text : List ℕ) (at : ℕ) where
   rendered n (passthrough h s) ds = absurd (n refl)
 
   -- The cells of an item's bytes, written out, are its replacement.
-  pub item-written : {x : Item} {xs : List Item} → items (chars (drop at text)) ≡ x ∷ xs → x .kind ≢ Passthrough → {end : ℕ} → end ≡ at + size width (x .chars)
+  pub item-written : {x : Item} {xs : List Item} → items (chars (drop at text)) ≡ x ∷ xs → x .kind ≢ Passthrough → {end : ℕ} → end
+      ≡ at + size width (x .chars)
       → (ds : List Presentation) → encodeAll (render p (cells (chars (part text at end))) ds) ≡ encodeAll (replacement p x ds)
   unfolding replacement
   item-written {x} {xs} e o f ds =
@@ -192,7 +200,7 @@ module _ (p : Policy) (text : List ℕ) (at : ℕ) where
     found-from = omega (arith, h .end-is)
 
     pub found-within : f .end ≤ length text
-    found-within = omega (arith, h .end-is, item-within text at (h .item) (h .behind) (h .items-are))
+    found-within = omega (arith, h .end-is, item-within text at (h .item) (h .after) (h .items-are))
 
     written-out : (ds : List Presentation) → cellsWritten p text at f ds ≡ encodeAll (replacement p (h .item) ds)
     written-out ds = item-written (h .items-are) (finding-no-passthrough p (h .item) (h .found)) (h .end-is) ds
@@ -225,11 +233,12 @@ text-within text e = go (leb (length text) textLimit) refl
 
 -- What comes after the text's tests, by their answer.
 after-tests : (text out : List ℕ) {o : Option Refusal} (next : After MendAnswer ℕ) → textRefusal text ≡ o
-    → orElse o (λ (r : Refusal). kept (Refused r) out) next ≡ orElse (textRefusal text) (λ (r : Refusal). kept (Refused r) out) next
-after-tests text out next e = ap (λ (o : Option Refusal). orElse o (λ (r : Refusal). kept (Refused r) out) next) (sym e)
+    → orElse o (λ (r : Refusal). unwritten (Refused r) out) next
+    ≡ orElse (textRefusal text) (λ (r : Refusal). unwritten (Refused r) out) next
+after-tests text out next e = ap (λ (o : Option Refusal). orElse o (λ (r : Refusal). unwritten (Refused r) out) next) (sym e)
 
 module _ (p : Policy) (text : List ℕ) (at : ℕ) (decisions out : List ℕ) where
-  pub replace-turned-back : {r : Refusal} → textRefusal text ≡ some r → kept (Refused r) out ≡ replaceAt p text at decisions out
+  pub replace-turned-back : {r : Refusal} → textRefusal text ≡ some r → unwritten (Refused r) out ≡ replaceAt p text at decisions out
   unfolding replaceAt
   replace-turned-back e = after-tests text out _ e
 
@@ -240,24 +249,25 @@ module _ (p : Policy) (text : List ℕ) (at : ℕ) (decisions out : List ℕ) wh
     judged x e =
         ap (λ (o : Option Item). judge p o decisions (replacementBytes p o (map meaning decisions)) out) (sym e) ∙ after-tests text out _ l
 
-    pub replace-none : findingStarting p text at ≡ none → kept (Refused NoFinding) out ≡ replaceAt p text at decisions out
+    pub replace-none : findingStarting p text at ≡ none → unwritten (Refused NoFinding) out ≡ replaceAt p text at decisions out
     unfolding judge
     replace-none e = judged none e
 
     module _ {f : Finding} (h : FoundAt p text at f) where
       judged-found : (o : Option Refusal) → testOf f decisions ≡ o
-          → orElse o (λ (r : Refusal). kept (Refused r) out) (writeOut (cellsWritten p text at f (map meaning decisions)) out) ≡ replaceAt p text at decisions out
+          → orElse o (λ (r : Refusal). unwritten (Refused r) out) (writeOut (cellsWritten p text at f (map meaning decisions)) out)
+          ≡ replaceAt p text at decisions out
       unfolding judge replacementBytes
       judged-found o e =
           let ds = map meaning decisions in
           let b = encodeAll (replacement p (h .item) ds) in
           let t = sym e ∙ ap (λ (n : NonCanonicality). decisionsRefusal (n .«presentation_decisions») decisions) (h .counts-are) in
-          ap (λ (y : List ℕ). orElse o (λ (r : Refusal). kept (Refused r) out) (writeOut y out)) (written-out p text at h ds)
-          ∙ ap (λ (q : Option Refusal). orElse q (λ (r : Refusal). kept (Refused r) out) (writeOut b out)) t
+          ap (λ (y : List ℕ). orElse o (λ (r : Refusal). unwritten (Refused r) out) (writeOut y out)) (written-out p text at h ds)
+          ∙ ap (λ (q : Option Refusal). orElse q (λ (r : Refusal). unwritten (Refused r) out) (writeOut b out)) t
           ∙ judged (some (h .item)) (h .starting)
 
       pub replace-refused : (r : Refusal) (k : Check) → k ≡ checked (testOf f decisions) → k ≡ Check.Refused r
-          → kept (Refused r) out ≡ replaceAt p text at decisions out
+          → unwritten (Refused r) out ≡ replaceAt p text at decisions out
       replace-refused r k c e = judged-found (some r) (refused-is (testOf f decisions) (sym e ∙ c))
 
       pub replace-written : (k : Check) (a : After MendAnswer ℕ) → k ≡ checked (testOf f decisions) → k ≡ Check.Passed
@@ -267,7 +277,7 @@ module _ (p : Policy) (text : List ℕ) (at : ℕ) (decisions out : List ℕ) wh
 -- ---- the call by default
 
 module _ (p : Policy) (text : List ℕ) (at : ℕ) (out : List ℕ) where
-  pub default-turned-back : {r : Refusal} → textRefusal text ≡ some r → kept (Refused r) out ≡ replaceByDefault p text at out
+  pub default-turned-back : {r : Refusal} → textRefusal text ≡ some r → unwritten (Refused r) out ≡ replaceByDefault p text at out
   unfolding replaceByDefault
   default-turned-back e = after-tests text out _ e
 
@@ -276,7 +286,7 @@ module _ (p : Policy) (text : List ℕ) (at : ℕ) (out : List ℕ) where
     unfolding replaceByDefault
     found-written x e = ap (λ (o : Option Item). writeFound p o out) (sym e) ∙ after-tests text out _ l
 
-    pub default-none : findingStarting p text at ≡ none → kept (Refused NoFinding) out ≡ replaceByDefault p text at out
+    pub default-none : findingStarting p text at ≡ none → unwritten (Refused NoFinding) out ≡ replaceByDefault p text at out
     unfolding writeFound
     default-none e = found-written none e
 

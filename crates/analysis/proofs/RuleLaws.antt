@@ -13,7 +13,24 @@ use Rattle.policy.specs.declared.SingletonRule.the-variants.{BareToEmoji, BareT
 use Rattle.scanner.specs.declared.char_class.Class.{Class}
 use Rattle.analysis.specs.Analysis.{chosen}
 use Rattle.analysis.specs.Counts.{adding, empty, removing, total}
-use Rattle.analysis.specs.Rules.{Outcome, Slot, bare, byFirst, decided, fixed, isBareSide, outcome, rule1, rule2, rule3, rule4, rule5, rule6, textFirst, withoutSelector}
+use Rattle.analysis.specs.Rules.{
+  Outcome,
+  Slot,
+  bare,
+  byFirst,
+  decided,
+  fixed,
+  isBareSide,
+  outcome,
+  rule1,
+  rule2,
+  rule3,
+  rule4,
+  rule5,
+  rule6,
+  textFirst,
+  withoutSelector,
+}
 use Rattle.analysis.proofs.Rules.{by-rules, rule23}
 
 -- ---- a rule leaves no count
@@ -132,7 +149,8 @@ balances-23 : (b : Bool) → Balances (rule23 b)
 unfolding rule2 rule3 byFirst textFirst
 balances-23 b = record { selectors = on b; decided = of b }
   where
-    on : (b : Bool) (s : List Presentation) → held (rule23 b s .slot) + removing (rule23 b s .counts) ≡ length s + adding (rule23 b s .counts)
+    on : (b : Bool) (s : List Presentation) → held (rule23 b s .slot) + removing (rule23 b s .counts)
+        ≡ length s + adding (rule23 b s .counts)
     on b [] = refl
     on b (Text ∷ s) = omega arith
     on true (Emoji ∷ s) = omega arith
@@ -176,7 +194,8 @@ balances-6 : (r : SingletonRule) → Balances (rule6 r)
 unfolding rule6 withoutSelector isBareSide
 balances-6 r = record { selectors = on r; decided = of r }
   where
-    on : (r : SingletonRule) (s : List Presentation) → held (rule6 r s .slot) + removing (rule6 r s .counts) ≡ length s + adding (rule6 r s .counts)
+    on : (r : SingletonRule) (s : List Presentation) → held (rule6 r s .slot) + removing (rule6 r s .counts)
+        ≡ length s + adding (rule6 r s .counts)
     on TextToBare [] = refl
     on EmojiToBare [] = refl
     on BareToText [] = refl

@@ -13,7 +13,16 @@ use Rattle.policy.specs.Policy.{singletonRule}
 use Rattle.policy.specs.declared.Policy.{Policy}
 use Rattle.policy.specs.declared.SingletonRule.{SingletonRule}
 use Rattle.scanner.specs.declared.char_class.Class.{Class}
-use Rattle.scanner.specs.declared.char_class.Class.the-variants.{Selector as selector, Link as link, Ri as ri, Modifier as modifier, Emoji as emoji, Keycap as keycap, Tag as tag, Other as other}
+use Rattle.scanner.specs.declared.char_class.Class.the-variants.{
+  Selector as selector,
+  Link as link,
+  Ri as ri,
+  Modifier as modifier,
+  Emoji as emoji,
+  Keycap as keycap,
+  Tag as tag,
+  Other as other,
+}
 use Rattle.analysis.specs.Rules.{Outcome, byKeycap, byModifier, byTags, outcome, rule1, rule2, rule3, rule4, rule5, rule6, textFirst}
 
 -- ---- which rule holds
@@ -41,7 +50,8 @@ laterRules p c keycap s = rule6 (singletonRule p c true) s
 laterRules p c tag s = cond (isEmojiDefault c) (rule4 s) (rule5 s)
 laterRules p c other s = rule6 (singletonRule p c false) s
 
-pub outcome-entry : (p : Policy) (c : ℕ) (k : Class) (s : List Presentation) → hasVariationSequence c ≡ true → outcome p c k s ≡ laterRules p c k s
+pub outcome-entry : (p : Policy) (c : ℕ) (k : Class) (s : List Presentation) → hasVariationSequence c ≡ true → outcome p c k s
+    ≡ laterRules p c k s
 unfolding outcome byModifier byTags byKeycap
 outcome-entry p c selector s e = simp e
 outcome-entry p c link s e = simp e
@@ -53,7 +63,8 @@ outcome-entry p c tag s e = simp e
 outcome-entry p c other s e = simp e
 
 -- Before anything but a modifier or tags, the policy says.
-pub by-policy : (p : Policy) (c : ℕ) (k : Class) (s : List Presentation) → hasVariationSequence c ≡ true → k ≢ modifier → k ≢ tag → outcome p c k s ≡ rule6 (singletonRule p c (byKeycap k)) s
+pub by-policy : (p : Policy) (c : ℕ) (k : Class) (s : List Presentation) → hasVariationSequence c ≡ true → k ≢ modifier → k ≢ tag
+    → outcome p c k s ≡ rule6 (singletonRule p c (byKeycap k)) s
 unfolding byKeycap
 by-policy p c selector s e m t = outcome-entry p c selector s e
 by-policy p c link s e m t = outcome-entry p c link s e
@@ -64,13 +75,15 @@ by-policy p c keycap s e m t = outcome-entry p c keycap s e
 by-policy p c tag s e m t = absurd (t refl)
 by-policy p c other s e m t = outcome-entry p c other s e
 
--- Without a modification behind the base, its class makes no difference.
-pub outcome-unmodified : (p : Policy) (c : ℕ) (k : Class) (s : List Presentation) → byModifier k ≡ false → byTags k ≡ false → byKeycap k ≡ false → outcome p c k s ≡ outcome p c other s
+-- Without a modification after the base, its class makes no difference.
+pub outcome-unmodified : (p : Policy) (c : ℕ) (k : Class) (s : List Presentation) → byModifier k ≡ false → byTags k ≡ false → byKeycap k
+    ≡ false → outcome p c k s ≡ outcome p c other s
 unfolding outcome byModifier byTags byKeycap
 outcome-unmodified p c k s a b d = rw (a, b, d)
 
 -- A law of each rule is a law of the rule that holds for a base.
-module _ (P : (List Presentation → Outcome) → Type 0) (r1 : P rule1) (r23 : (b : Bool) → P (rule23 b)) (r4 : P rule4) (r5 : P rule5) (r6 : (r : SingletonRule) → P (rule6 r)) where
+module _ (P : (List Presentation → Outcome) → Type 0) (r1 : P rule1) (r23 : (b : Bool) → P (rule23 b)) (r4 : P rule4) (r5 : P rule5)
+    (r6 : (r : SingletonRule) → P (rule6 r)) where
   by-later : (p : Policy) (c : ℕ) (k : Class) → P (laterRules p c k)
   by-later p c selector = r6 (singletonRule p c false)
   by-later p c link = r6 (singletonRule p c false)

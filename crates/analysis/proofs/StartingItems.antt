@@ -65,7 +65,7 @@ module _ (text : List ℕ) (o at : ℕ) where
       let end = at + size width (x .chars) in
       let S = startsAt o (spans end xs) in
       let here : startsAt o (scanFrom text at) ≡ (eqb at o || S) = ap (λ (l : List Item). startsAt o (spans at l)) e in
-      let on = ap (λ (l : List Item). startsAt o (spans end l)) (sym (h .behind)) in (
+      let on = ap (λ (l : List Item). startsAt o (spans end l)) (sym (h .after)) in (
         h .some,
         h .room,
         λ l. here ∙ ap (λ (b : Bool). b || S) (ne-eqb at o (λ e. omega arith)) ∙ on,
@@ -89,7 +89,7 @@ module _ (p : Policy) where
         → findingAt o (found (isFinding p) width at xs) ≡ cond (startsAt o (spans at xs)) (headFinding (items (chars (drop o text)))) none
     unfolding findingAt found startsAt spans
     starting-from at [] e = refl
-    starting-from at (x ∷ xs) e = go (eqb at o) (isFinding p x) refl refl (starting-from end xs (h .behind))
+    starting-from at (x ∷ xs) e = go (eqb at o) (isFinding p x) refl refl (starting-from end xs (h .after))
       where
         h : ItemAt text at x xs
         h = item-at text at e

@@ -1,4 +1,4 @@
--- The structure of an item, as it is made: its selector runs are selectors, and the class behind a base is that of its first modification.
+-- The structure of an item, as it is made: its selector runs are selectors, and the class after a base is that of its first modification.
 use mathlib.Core.Path.{_≡_, refl, ap, sym, _∙_, subst}
 use mathlib.Core.Bool.{Bool, true, false, cond, true≢false}
 use mathlib.Core.List.{List, [], _∷_, _++_, List·Memᴰ, List·Memᴰ·cases-cons, List·Memᴰ·not-nil}
@@ -8,10 +8,49 @@ use Rattle.unicode.specs.Presentation.{isSelector}
 use Rattle.unicode.specs.Unicode.{isRi}
 use Rattle.scanner.specs.Classes.{classOf}
 use Rattle.scanner.specs.declared.char_class.Class.{Class}
-use Rattle.scanner.specs.declared.char_class.Class.the-variants.{Selector as selector, Link as link, Ri as ri, Modifier as modifier, Emoji as emoji, Keycap as keycap, Tag as tag, Other as other}
+use Rattle.scanner.specs.declared.char_class.Class.the-variants.{
+  Selector as selector,
+  Link as link,
+  Ri as ri,
+  Modifier as modifier,
+  Emoji as emoji,
+  Keycap as keycap,
+  Tag as tag,
+  Other as other,
+}
 use Rattle.scanner.specs.Grammar.{S}
-use Rattle.scanner.specs.Runs.{behindSelectors, selectorsAt}
-use Rattle.scanner.specs.Structure.{EmojiLike, EmojiModification, EmojiModifier, EmojiSequence, EmojiStem, EmojiTagRun, EnclosingKeycap, Flag, SingletonBase, TagModifier, ZwjJoinedEmoji, behindSecondRi, cutAtLinks, emojiHeaded, emojiLike, flattenModification, flattenModifications, flattenRuns, joinOne, joinedOf, linkOf, linksOnly, modificationsOf, riStem, sequenceOf, structure, tagToModifications, tagToRuns, toModifications}
+use Rattle.scanner.specs.Runs.{afterSelectors, selectorsAt}
+use Rattle.scanner.specs.Structure.{
+  EmojiLike,
+  EmojiModification,
+  EmojiModifier,
+  EmojiSequence,
+  EmojiStem,
+  EmojiTagRun,
+  EnclosingKeycap,
+  Flag,
+  SingletonBase,
+  TagModifier,
+  ZwjJoinedEmoji,
+  afterSecondRi,
+  splitAtLinks,
+  emojiHeaded,
+  emojiLike,
+  flattenModification,
+  flattenModifications,
+  flattenRuns,
+  joinOne,
+  joinedOf,
+  linkOf,
+  linksOnly,
+  modificationsOf,
+  riStem,
+  sequenceOf,
+  structure,
+  tagToModifications,
+  tagToRuns,
+  toModifications,
+}
 use Rattle.scanner.proofs.Classes.{class-selector, is-keycap, class-is}
 use Rattle.scanner.proofs.Runs.{passes-S, run-passes}
 use Rattle.analysis.specs.Analysis.{following}
@@ -43,8 +82,8 @@ stem-runs : (c : ℕ) (t : List ℕ) → StemRuns (emojiLike c t .stem)
 unfolding emojiLike
 stem-runs c t = go (isRi c) refl
   where
-    go : (v : Bool) → isRi c ≡ v → StemRuns (cond v (riStem c (selectorsAt t) (behindSelectors t)) (SingletonBase c (selectorsAt t)))
-    go true e = ri-runs c (selectorsAt t) (behindSelectors t) e (selectors-S t)
+    go : (v : Bool) → isRi c ≡ v → StemRuns (cond v (riStem c (selectorsAt t) (afterSelectors t)) (SingletonBase c (selectorsAt t)))
+    go true e = ri-runs c (selectorsAt t) (afterSelectors t) e (selectors-S t)
     go false e = selectors-S t
 
 -- ---- the first modification
@@ -67,7 +106,8 @@ runs-begin c (d ∷ s) (r ∷ rs) t = begins _
 abbrev FirstIs : List EmojiModification → Type 0
 FirstIs ms = following (cells (flattenModifications ms)) ≡ firstModification ms
 
-tag-first : (c : ℕ) (s : List ℕ) (ms : List EmojiModification) → classOf c ≡ tag → isSelector c ≡ false → FirstIs (tagToModifications c s ms)
+tag-first : (c : ℕ) (s : List ℕ) (ms : List EmojiModification) → classOf c ≡ tag → isSelector c ≡ false
+    → FirstIs (tagToModifications c s ms)
 unfolding tagToModifications flattenModifications flattenModification firstModification
 tag-first c s ms e f = go ms
   where
@@ -88,7 +128,8 @@ not-selector c k e f = go (isSelector c) refl
     go true s = absurd (f (sym (class-selector c s) ∙ e))
     go false s = refl
 
-one-first : (c : ℕ) (k : Class) (r : List ℕ × List EmojiModification) → classOf c ≡ k → FirstIs (r .1) → FirstIs ((toModifications k c r) .1)
+one-first : (c : ℕ) (k : Class) (r : List ℕ × List EmojiModification) → classOf c ≡ k → FirstIs (r .1)
+    → FirstIs ((toModifications k c r) .1)
 unfolding toModifications flattenModifications flattenModification firstModification isSelector
 one-first c modifier r e h = follows c _ modifier e (not-selector c modifier e (λ z. true≢false (cc)))
 one-first c keycap r e h = follows 0x20E3 _ keycap (class-is {c = 0x20E3} (is-keycap refl)) refl
@@ -112,14 +153,15 @@ pub record Made (u : EmojiLike) : Type 0 where
 
 made : (c : ℕ) (t : List ℕ) → Made (emojiLike c t)
 unfolding emojiLike
-made c t = record { runs = stem-runs c t; first = first-is (cond (isRi c) (behindSecondRi (behindSelectors t)) (behindSelectors t)) }
+made c t = record { runs = stem-runs c t; first = first-is (cond (isRi c) (afterSecondRi (afterSelectors t)) (afterSelectors t)) }
 
 joined-made : (ss : List (List ℕ)) (j : ZwjJoinedEmoji) → List·Memᴰ j ((joinedOf ss) .0) → Made (j .emoji)
 unfolding joinedOf joinOne
 joined-made [] j m = absurd (List·Memᴰ·not-nil m)
-joined-made (s ∷ ss) j m = go (behindSelectors s) (joined-made ss j) m
+joined-made (s ∷ ss) j m = go (afterSelectors s) (joined-made ss j) m
   where
-    go : (r : List ℕ) → (List·Memᴰ j ((joinedOf ss) .0) → Made (j .emoji)) → List·Memᴰ j ((joinOne (linkOf s) r ss (joinedOf ss)) .0) → Made (j .emoji)
+    go : (r : List ℕ) → (List·Memᴰ j ((joinedOf ss) .0) → Made (j .emoji)) → List·Memᴰ j ((joinOne (linkOf s) r ss (joinedOf ss)) .0)
+        → Made (j .emoji)
     go [] h m = absurd (List·Memᴰ·not-nil m)
     go (c ∷ t) h m = ⊎-elim (λ e. subst (λ (i : ZwjJoinedEmoji). Made (i .emoji)) (sym e) (made c t)) h (List·Memᴰ·cases-cons m)
 
@@ -130,7 +172,7 @@ AllMade (emojiHeaded u js ls) = Made u × ((j : ZwjJoinedEmoji) → List·Memᴰ
 
 pub all-made : (t : List ℕ) → AllMade (structure t)
 unfolding structure sequenceOf
-all-made t = go ((cutAtLinks t) .0) ((cutAtLinks t) .1)
+all-made t = go ((splitAtLinks t) .0) ((splitAtLinks t) .1)
   where
     go : (s : List ℕ) (ss : List (List ℕ)) → AllMade (sequenceOf s ss)
     go [] ss = tt

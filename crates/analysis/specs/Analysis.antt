@@ -31,18 +31,18 @@ chosen bare ds = []
 chosen (fixed q) ds = q ∷ []
 chosen (decided d) ds = decide d ds ∷ []
 
--- The decisions that are left behind a decided base.
+-- The decisions that are left after a decided base.
 abbrev pub laterDecisions : List Presentation → List Presentation
 laterDecisions [] = []
 laterDecisions (q ∷ ds) = ds
 
--- "Decisions are .. in text order": those left behind a slot.
+-- "Decisions are .. in text order": those left after a slot.
 abbrev pub remaining : Slot → List Presentation → List Presentation
 remaining bare ds = ds
 remaining (fixed q) ds = ds
 remaining (decided d) ds = laterDecisions ds
 
--- The class of what comes behind a cell: the first modification, if one does. The end counts as `other`.
+-- The class of what comes after a cell: the first modification, if one does. The end counts as `other`.
 unfoldable pub following : List Cell → Class
 following [] = other
 following (x ∷ xs) = classOf (x .char)
@@ -111,7 +111,7 @@ pub record Choice : Type 0 where
   pub text : List ℕ
   pub emoji : List ℕ
 
--- The cells up to the next link: behind a base, the modifications of its unit.
+-- The cells up to the next link: after a base, the modifications of its unit.
 unfoldable pub upToLink : List Cell → List Cell
 upToLink [] = []
 upToLink (x ∷ xs) = cond (eqb (x .char) 0x200D) [] (x ∷ upToLink xs)

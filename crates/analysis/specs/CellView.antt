@@ -1,4 +1,4 @@
--- Formatting and totals (document 01, "Counts and finding", "Replacement and text") cell by cell: a character, the selectors behind
+-- Formatting and totals (document 01, "Counts and finding", "Replacement and text") cell by cell: a character, the selectors after
 -- it, and of the next cell only its character. That it is the same is crate formatter, specs/Theorems.antt, CellByCell.
 use mathlib.Core.List.{List, [], _∷_}
 use Prim.Native.Nat.{ℕ}

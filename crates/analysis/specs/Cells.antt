@@ -1,4 +1,4 @@
--- The cells of a list of characters: each character that is no selector, with the selectors behind it: S of document 01, "Item".
+-- The cells of a list of characters: each character that is no selector, with the selectors after it: S of document 01, "Item".
 use mathlib.Core.Bool.{cond}
 use mathlib.Core.List.{List, [], _∷_, _++_, map}
 use Prim.Native.Nat.{ℕ}
@@ -8,7 +8,7 @@ use Rattle.unicode.specs.declared.presentation.FromSelector.the-variants.{NoSel
 use Rattle.unicode.specs.declared.presentation.Presentation.{Presentation}
 use Rattle.scanner.specs.Spans.{size}
 
--- A character that is no selector, and S behind it (document 01, "Item"), as what the selectors ask for.
+-- A character that is no selector, and S after it (document 01, "Item"), as what the selectors ask for.
 pub record Cell : Type 0 where
   pub char : ℕ
   pub after : List Presentation
@@ -27,7 +27,7 @@ split (c ∷ t) = addChar c (fromSelector c) (split t)
 abbrev pub leading : List ℕ → List Presentation
 leading t = (split t) .0
 
--- The cells behind them.
+-- The cells after them.
 abbrev pub cells : List ℕ → List Cell
 cells t = (split t) .1
 

@@ -23,7 +23,7 @@ use Rattle.analysis.specs.declared.types.MendAnswer.{MendAnswer}
 abbrev pub cellsLength : List Cell → ℕ
 cellsLength xs = size width (unsplit xs)
 
--- The unit at the front of cells: the first, and those behind it up to the next link.
+-- The unit at the front of cells: the first, and those after it up to the next link.
 unfoldable pub frontUnit : List Cell → List Cell
 frontUnit [] = []
 frontUnit (x ∷ xs) = x ∷ upToLink xs
@@ -48,7 +48,7 @@ firstChoice (c ∷ cs) = Step.Choice c
 
 module _ (p : Policy) where
   -- The choices of cells, the first cell standing at the offset: each with the bytes of its unit, its default, and the end of its
-  -- base's cell, behind which the next choice is looked for.
+  -- base's cell, after which the next choice is looked for.
   unfoldable pub choicesFrom : ℕ → List Cell → List ReplacementChoice
   choicesFrom at [] = []
   choicesFrom at (x ∷ xs) =

@@ -6,7 +6,7 @@ use Prim.Native.Nat.{ℕ, suc}
 use lib.Dec.{eqb, leb}
 use lib.ListN.{length}
 use Rattle.base.specs.Answers.{done}
-use Rattle.base.specs.Refusals.{After, RefusalRow, kept, orElse, refusalRow, textLimit, written}
+use Rattle.base.specs.Refusals.{After, RefusalRow, unwritten, orElse, refusalRow, textLimit, written}
 use Rattle.base.specs.declared.Refusal.{Refusal}
 use Rattle.base.specs.declared.Refusal.the-variants.{BadDecision, NoFinding, OutputTooShort, TextTooLong, WrongNumberOfDecisions}
 use Rattle.utf8.specs.Rfc3629.{encode, encodeAll}
@@ -57,14 +57,14 @@ mendRow (Refused r) = refusalRow r
 abbrev pub writeOut : List ℕ → List ℕ → After MendAnswer ℕ
 writeOut result out =
     cond (leb (length result) (length out)) (written (Mended (length result)) result out)
-    (kept (Refused (OutputTooShort (length result))) out)
+    (unwritten (Refused (OutputTooShort (length result))) out)
 
 -- "text over 16,777,216 bytes | 1", or what comes next.
 abbrev pub withinLimit : List ℕ → List ℕ → After MendAnswer ℕ → After MendAnswer ℕ
-withinLimit text out next = cond (leb (length text) textLimit) next (kept (Refused TextTooLong) out)
+withinLimit text out next = cond (leb (length text) textLimit) next (unwritten (Refused TextTooLong) out)
 
 -- Refusals 4, 5, 6 and 8 in this order, for the finding at the offset, the decisions, the text to be written and the output.
 unfoldable pub judge : Policy → Option Item → List ℕ → List ℕ → List ℕ → After MendAnswer ℕ
-judge p none decisions result out = kept (Refused NoFinding) out
+judge p none decisions result out = unwritten (Refused NoFinding) out
 judge p (some x) decisions result out =
-    orElse (decisionsRefusal (wanted p x) decisions) (λ (r : Refusal). kept (Refused r) out) (writeOut result out)
+    orElse (decisionsRefusal (wanted p x) decisions) (λ (r : Refusal). unwritten (Refused r) out) (writeOut result out)

@@ -6,7 +6,7 @@ use mathlib.Core.Option.{Option, none, some}
 use Prim.Native.Nat.{ℕ, _+_}
 use lib.Dec.{eqb}
 use lib.ListN.{drop}
-use Rattle.base.specs.Refusals.{After, kept, orElse}
+use Rattle.base.specs.Refusals.{After, unwritten, orElse}
 use Rattle.base.specs.declared.Refusal.{Refusal}
 use Rattle.base.specs.declared.Refusal.the-variants.{NoFinding}
 use Rattle.utf8.specs.Rfc3629.{chars, encodeAll}
@@ -64,15 +64,15 @@ module _ (p : Policy) where
   unfoldable pub replaceAt : List ℕ → ℕ → List ℕ → List ℕ → After MendAnswer ℕ
   replaceAt text offset decisions out =
       let x = findingStarting text offset in
-      orElse (textRefusal text) (λ (r : Refusal). kept (Refused r) out)
+      orElse (textRefusal text) (λ (r : Refusal). unwritten (Refused r) out)
       (judge p x decisions (replacementBytes x (map meaning decisions)) out)
 
   -- The finding, if there is one, written with every decision at its default.
   unfoldable pub writeFound : Option Item → List ℕ → After MendAnswer ℕ
-  writeFound none out = kept (Refused NoFinding) out
+  writeFound none out = unwritten (Refused NoFinding) out
   writeFound (some x) out = writeOut (encodeAll (replacement p x [])) out
 
   -- The call that writes the replacement with every decision at its default: refusals 1, 3, 4 and 8 in this order.
   unfoldable pub replaceByDefault : List ℕ → ℕ → List ℕ → After MendAnswer ℕ
   replaceByDefault text offset out =
-      orElse (textRefusal text) (λ (r : Refusal). kept (Refused r) out) (writeFound (findingStarting text offset) out)
+      orElse (textRefusal text) (λ (r : Refusal). unwritten (Refused r) out) (writeFound (findingStarting text offset) out)

@@ -13,7 +13,16 @@ use Rattle.policy.specs.declared.Policy.{Policy}
 use Rattle.policy.specs.declared.SingletonRule.{SingletonRule}
 use Rattle.policy.specs.declared.SingletonRule.the-variants.{BareToEmoji, BareToText, EmojiToBare, TextToBare}
 use Rattle.scanner.specs.declared.char_class.Class.{Class}
-use Rattle.scanner.specs.declared.char_class.Class.the-variants.{Selector as selector, Link as link, Ri as ri, Modifier as modifier, Emoji as emoji, Keycap as keycap, Tag as tag, Other as other}
+use Rattle.scanner.specs.declared.char_class.Class.the-variants.{
+  Selector as selector,
+  Link as link,
+  Ri as ri,
+  Modifier as modifier,
+  Emoji as emoji,
+  Keycap as keycap,
+  Tag as tag,
+  Other as other,
+}
 use Rattle.analysis.specs.Counts.{
   _⊕_,
   additionalDefective,
@@ -26,7 +35,7 @@ use Rattle.analysis.specs.Counts.{
   tagRedundant,
   unsanctioned,
 }
--- What the rules say of a base: its counts, and its slot, which is what stands behind it in the replacement: no selector (`bare`), this one
+-- What the rules say of a base: its counts, and its slot, which is what stands after it in the replacement: no selector (`bare`), this one
 -- (`fixed`), or the one that a decision names, with this default (`decided`).
 pub use Rattle.analysis.specs.declared.singleton.Outcome.{Outcome}
 pub use Rattle.analysis.specs.declared.singleton.Slot.{Slot}
@@ -149,7 +158,7 @@ unfoldable pub firstAsked : List Presentation → FromSelector
 firstAsked [] = NoSelector
 firstAsked (q ∷ s) = Selector q
 
--- Selectors of which the first and the number are known; a number of 0 behind a first selector counts as 1. The rules ask for nothing
+-- Selectors of which the first and the number are known; a number of 0 after a first selector counts as 1. The rules ask for nothing
 -- more: specs/Theorems.antt, RulesByNumbers.
 unfoldable pub runWith : FromSelector → ℕ → List Presentation
 runWith NoSelector n = []

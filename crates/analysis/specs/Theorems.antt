@@ -118,7 +118,7 @@ SumsAreWhole = (m n : NonCanonicality) → total m + total n ≤ most → capped
 
 -- ---- what the rules leave
 
--- A rule leaves no count: behind a base that got what its rule says, under any decisions, the same rules count nothing.
+-- A rule leaves no count: after a base that got what its rule says, under any decisions, the same rules count nothing.
 unfoldable pub RulesLeaveNoCount : Type 0
 RulesLeaveNoCount =
     (p : Policy) (c : ℕ) (k : Class) (s ds : List Presentation) → outcome p c k (chosen (outcome p c k s .slot) ds) .counts ≡ empty

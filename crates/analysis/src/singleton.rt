@@ -1,5 +1,5 @@
 // The six rules for a single base, in document 01's order ("Counts and finding"): analysis.rs of the crate evfmt,
-// `analyze_singleton_base_selectors` and what it calls. They are functions of numbers: the base, the class of what stands behind
+// `analyze_singleton_base_selectors` and what it calls. They are functions of numbers: the base, the class of what stands after
 // the base and its selectors, the first selector and how many there are.
 // `analyze_singleton_base_selectors` and `analyze_by_policy_bytes` equal `outcome` of specs/Rules.antt, the smaller functions its rules.
 ghost use mathlib.Core.Path.{_≡_};
@@ -9,7 +9,20 @@ ghost use Rattle.unicode.specs.Unicode.{hasVariationSequence, isEmojiModifierBa
 ghost use Rattle.policy.specs.Policy.{singletonRule};
 ghost use Rattle.policy.specs.PolicyBytes.{policyOf};
 ghost use Rattle.policy.specs.declared.Policy.{Policy as GivenPolicy};
-ghost use Rattle.analysis.specs.Rules.{byKeycap, isBareSide, outcome, rule1, rule2, rule3, rule4, rule5, rule6, runWith, textFirst, withoutSelector};
+ghost use Rattle.analysis.specs.Rules.{
+  byKeycap,
+  isBareSide,
+  outcome,
+  rule1,
+  rule2,
+  rule3,
+  rule4,
+  rule5,
+  rule6,
+  runWith,
+  textFirst,
+  withoutSelector,
+};
 use crate::types::NonCanonicality;
 use policy::Policy;
 use policy::SingletonRule;
@@ -18,7 +31,7 @@ use unicode::VariationSequenceIndex;
 use unicode::presentation::FromSelector;
 use unicode::presentation::Presentation;
 
-// What stands behind a base: nothing, a selector, or the selector that is decided, with its default.
+// What stands after a base: nothing, a selector, or the selector that is decided, with its default.
 pub enum Slot {
     Bare,
     Fixed(Presentation),
@@ -31,7 +44,7 @@ pub struct Outcome {
     pub slot: Slot,
 }
 
-// How many selectors stand behind the first.
+// How many selectors stand after the first.
 fn rest_of(count: usize) -> usize
     ensures { λ r. ⌜ r ≡ count - 1 ⌝ }
 {
@@ -54,7 +67,8 @@ fn without_entry(first: FromSelector, count: usize) -> Outcome
 
 // Rules 2 and 3: the first modification is a modifier.
 fn before_modifier(first: FromSelector, count: usize, base: u32) -> Outcome
-    ensures { λ r. ⌜ r ≡ cond (textFirst (runWith first count)) (rule2 (runWith first count)) (rule3 (isEmojiModifierBase base) (runWith first count)) ⌝ }
+    ensures { λ r. ⌜ r ≡ cond (textFirst (runWith first count)) (rule2 (runWith first count))
+        (rule3 (isEmojiModifierBase base) (runWith first count)) ⌝ }
 {
     let mut counts = NonCanonicality::unsanctioned(rest_of(count));
     match first {
@@ -233,7 +247,8 @@ fn with_entry(
     count: usize,
     rule: SingletonRule,
 ) -> Outcome
-    ensures { λ r. ⌜ ((p : GivenPolicy) → hasVariationSequence base ≡ true → rule ≡ singletonRule p base (byKeycap next) → r ≡ outcome p base next (runWith first count)) ⌝ }
+    ensures { λ r. ⌜ ((p : GivenPolicy) → hasVariationSequence base ≡ true → rule ≡ singletonRule p base (byKeycap next) → r
+        ≡ outcome p base next (runWith first count)) ⌝ }
 {
     match next {
         Class::Modifier => before_modifier(first, count, base),

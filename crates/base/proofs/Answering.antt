@@ -10,9 +10,11 @@ module _ {R : Type 0} {row : R → RefusalRow} where
   answers e = record { same = e; same-row = ap row e }
 
   -- an answer and a buffer that are the definition's
-  pub ends-as : {A : Type 0} {said : After R A} {r : R} {after : List A} → record { answer = r; buffer = after } ≡ said → EndsAs row said r after
+  pub ends-as : {A : Type 0} {said : After R A} {r : R} {after : List A} → record { answer = r; buffer = after } ≡ said
+      → EndsAs row said r after
   ends-as {A} e = record { answer = answers (ap (λ (a : After R A). a .answer) e); buffer = ap (λ (a : After R A). a .buffer) e }
 
   -- .. as one equation
-  pub whole : {A : Type 0} {said : After R A} {r : R} {after : List A} → EndsAs row said r after → record { answer = r; buffer = after } ≡ said
+  pub whole : {A : Type 0} {said : After R A} {r : R} {after : List A} → EndsAs row said r after → record { answer = r; buffer = after }
+      ≡ said
   whole {A} h = ap₂ (λ (r : R) (b : List A). record { answer = r; buffer = b }) (h .answer .same) (h .buffer)

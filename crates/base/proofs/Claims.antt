@@ -4,7 +4,7 @@ use borrow.Author.Tests.{le-leb, lt-leb}
 use Rattle.base.specs.Output.{answerOf, bufferOf}
 use Rattle.base.specs.Answers.{writeRow}
 use Rattle.base.specs.Words.{wordBytes}
-use Rattle.base.specs.Theorems.{BytesOfNumber, NumberOfWord, RowsTellAnswers, RowsTellRefusals, WrittenOrRefused}
+use Rattle.base.specs.Theorems.{BytesOfNumber, NumberOfWord, AnswerRowsDistinct, RefusalRowsDistinct, WrittenOrRefused}
 use Rattle.base.proofs.Rows.{check-rows, list-rows, rows-tell, write-rows}
 use Rattle.base.proofs.Words.{littleEndian-number, number-littleEndian}
 
@@ -23,9 +23,9 @@ written-or-refused result out = (
   λ h. let t = lt-leb (length result) (length out) h in (simp t, simp t),
 )
 
-pub rows-tell-refusals : RowsTellRefusals
-rows-tell-refusals = rows-tell
+pub refusal-rows-distinct : RefusalRowsDistinct
+refusal-rows-distinct = rows-tell
 
-pub rows-tell-answers : RowsTellAnswers
-unfolding RowsTellAnswers
-rows-tell-answers = (check-rows, list-rows, write-rows)
+pub answer-rows-distinct : AnswerRowsDistinct
+unfolding AnswerRowsDistinct
+answer-rows-distinct = (check-rows, list-rows, write-rows)

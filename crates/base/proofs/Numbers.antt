@@ -29,7 +29,8 @@ bytesOf-drop ws i h = ap bytesOf (drop-cons ws i 0 h) ∙ ap (λ (k : ℕ). word
 pub bytesOf-append : (ws vs : List ℕ) → bytesOf (ws ++ vs) ≡ bytesOf ws ++ bytesOf vs
 unfolding bytesOf
 bytesOf-append [] vs = refl
-bytesOf-append (w ∷ ws) vs = ap (λ (l : List ℕ). wordBytes w ++ l) (bytesOf-append ws vs) ∙ sym (append-assoc (wordBytes w) (bytesOf ws) (bytesOf vs))
+bytesOf-append (w ∷ ws) vs = ap (λ (l : List ℕ). wordBytes w ++ l) (bytesOf-append ws vs)
+    ∙ sym (append-assoc (wordBytes w) (bytesOf ws) (bytesOf vs))
 
 pub length-both : (ws vs : List ℕ) → length (bytesOf (ws ++ vs)) ≡ length (bytesOf ws) + length (bytesOf vs)
 length-both ws vs = ap length (bytesOf-append ws vs) ∙ length-append (bytesOf ws) (bytesOf vs)
@@ -42,10 +43,12 @@ put-both ws vs p q = put-as (bytesOf (ws ++ vs)) (sym (bytesOf-append ws vs)) (p
 module _ (ws o₀ o : List ℕ) (start at i : ℕ) (h : i < length ws) (w : Writing (bytesOf ws) start o₀ (bytesOf (drop i ws)) o at) where
   pub word-room : at + 8 ≤ length o
   word-room =
-      let r = room (bytesOf ws) start o₀ (bytesOf (drop i ws)) (wordBytes (getD ws i 0)) (bytesOf (drop (i + 1) ws)) w (bytesOf-drop ws i h) in
+      let r = room (bytesOf ws) start o₀ (bytesOf (drop i ws)) (wordBytes (getD ws i 0)) (bytesOf (drop (i + 1) ws)) w
+      (bytesOf-drop ws i h) in
       omega (arith, length-wordBytes (getD ws i 0))
 
   pub word-written : (o′ : List ℕ) → o′ ≡ cond (hasRoom o at) (sets o at (wordBytes (getD ws i 0))) o
       → Writing (bytesOf ws) start o₀ (bytesOf (drop (i + 1) ws)) o′ (at + 8)
   word-written o′ e =
-      put (bytesOf ws) start o₀ (bytesOf (drop i ws)) (bytesOf (drop (i + 1) ws)) w (word-put o o′ at (getD ws i 0) word-room e) (bytesOf-drop ws i h)
+      put (bytesOf ws) start o₀ (bytesOf (drop i ws)) (bytesOf (drop (i + 1) ws)) w (word-put o o′ at (getD ws i 0) word-room e)
+      (bytesOf-drop ws i h)

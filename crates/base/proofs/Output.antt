@@ -21,7 +21,8 @@ wrote {before} {after} {result} {n} e h p =
     let t = le-leb (length result) (length before) l in
     record {
       answered = answers (ap Written e ∙ simp t);
-      buffer = p .bytes ∙ sets-eq result before 0 (omega arith) ∙ ap (λ (k : ℕ). result ++ drop k before) (zero-add (length result)) ∙ simp t;
+      buffer = p .bytes ∙ sets-eq result before 0 (omega arith) ∙ ap (λ (k : ℕ). result ++ drop k before) (zero-add (length result))
+          ∙ simp t;
     }
 
 -- there is none, and the buffer is as it was
@@ -34,7 +35,8 @@ too-short {before} {n} result e h =
     record { answered = answers (ap TooShort e ∙ simp t); buffer = simp t }
 
 -- what `write_bytes` ensures, where there is room
-pub bytes-put : (o o′ : List ℕ) (at : ℕ) (xs : List ℕ) → at + length xs ≤ length o → o′ ≡ cond (roomFor xs o at) (sets o at xs) o → PutAt o at xs o′ (at + length xs)
+pub bytes-put : (o o′ : List ℕ) (at : ℕ) (xs : List ℕ) → at + length xs ≤ length o → o′ ≡ cond (roomFor xs o at) (sets o at xs) o
+    → PutAt o at xs o′ (at + length xs)
 bytes-put o o′ at xs h e = record {
   ends = refl;
   bytes = e ∙ ap (λ (t : Bool). cond t (sets o at xs) o) (le-leb (at + length xs) (length o) h);

@@ -7,7 +7,7 @@ use native.Mathlib.Omega.{arith}
 use lib.Dec.{eqb}
 use Rattle.base.specs.Refusals.{RefusalRow, refusalRow}
 use Rattle.base.specs.Answers.{checkRow, listRow, writeRow}
-use Rattle.base.specs.Theorems.{RowsTellRefusals}
+use Rattle.base.specs.Theorems.{RefusalRowsDistinct}
 use Rattle.base.specs.declared.Check.{Check}
 use Rattle.base.specs.declared.Check.the-variants as Check
 use Rattle.base.specs.declared.ListAnswer.{ListAnswer}
@@ -48,8 +48,8 @@ told-row (BadDecision n) = refl
 told-row (TableTooShort n) = refl
 told-row (OutputTooShort n) = refl
 
-pub rows-tell : RowsTellRefusals
-unfolding RowsTellRefusals
+pub rows-tell : RefusalRowsDistinct
+unfolding RefusalRowsDistinct
 rows-tell r s e = sym (told-row r) ∙ ap told e ∙ told-row s
 
 -- Every number is from 1 to 254.
@@ -72,7 +72,7 @@ pub val : {r s : RefusalRow} → r ≡ s → r .value ≡ s .value
 val e = ap (λ (r : RefusalRow). r .value) e
 
 pub refusals : (r s : Refusal) → refusalRow r ≡ refusalRow s → r ≡ s
-unfolding RowsTellRefusals
+unfolding RefusalRowsDistinct
 refusals = rows-tell
 
 pub check-rows : (a b : Check) → checkRow a ≡ checkRow b → a ≡ b

@@ -9,7 +9,7 @@ use lib.ListN.{drop, length, length-append}
 use lib.Seq.{drop-append-add, drop-nil, sets, sets-eq}
 use borrow.Author.Tests.{le-leb, lt-leb}
 use Rattle.base.specs.Output.{PutAt, roomFor}
-use Rattle.base.specs.Refusals.{kept}
+use Rattle.base.specs.Refusals.{unwritten}
 use Rattle.base.specs.Tables.{fillTable, rowsBytes}
 use Rattle.base.specs.Words.{bytesOf}
 use Rattle.base.specs.declared.ListAnswer.the-variants.{Listed, Refused}
@@ -28,9 +28,10 @@ module _ {A : Type 0} (numbers : A → List ℕ) (k : ℕ) (each : (x : A) → l
 
   module _ (some-bytes : 0 < k) (rows : List A) (table : List ℕ) {n : ℕ} (e : n ≡ length rows) where
     -- There are fewer places than rows.
-    pub rows-refused : length table / k < n → kept (Refused (TableTooShort n)) table ≡ fillTable numbers k rows table
+    pub rows-refused : length table / k < n → unwritten (Refused (TableTooShort n)) table ≡ fillTable numbers k rows table
     unfolding fillTable
-    rows-refused h = ap (λ (m : ℕ). kept (Refused (TableTooShort m)) table) e ∙ simp (lt-leb (length rows) (length table / k) (omega arith))
+    rows-refused h = ap (λ (m : ℕ). unwritten (Refused (TableTooShort m)) table) e
+        ∙ simp (lt-leb (length rows) (length table / k) (omega arith))
 
     -- There is a place for each, and so room for their bytes.
     pub rows-room : n ≤ length table / k → length (rowsBytes numbers rows) ≤ length table
@@ -43,10 +44,12 @@ module _ {A : Type 0} (numbers : A → List ℕ) (k : ℕ) (each : (x : A) → l
         let b = rowsBytes numbers rows in
         let w : after ≡ b ++ drop (length b) table =
         p .bytes ∙ sets-eq b table 0 (omega (arith, rows-room h)) ∙ ap (λ (k : ℕ). b ++ drop k table) (zero-add (length b)) in
-        ap₂ (λ (m : ℕ) (o : List ℕ). record { answer = Listed m; buffer = o }) e w ∙ simp (le-leb (length rows) (length table / k) (omega arith))
+        ap₂ (λ (m : ℕ) (o : List ℕ). record { answer = Listed m; buffer = o }) e w
+        ∙ simp (le-leb (length rows) (length table / k) (omega arith))
 
     -- What filling leaves, by the number of rows.
-    pub filled : n * k ≤ length table → fillTable numbers k rows table ≡ record { answer = Listed n; buffer = rowsBytes numbers rows ++ drop (n * k) table }
+    pub filled : n * k ≤ length table → fillTable numbers k rows table
+        ≡ record { answer = Listed n; buffer = rowsBytes numbers rows ++ drop (n * k) table }
     unfolding fillTable
     filled h =
         let b = rowsBytes numbers rows in
@@ -81,7 +84,8 @@ module _ {A : Type 0} (numbers : A → List ℕ) where
     unfolding rowsBytes
     no-rows some [] table e z =
         ap (λ (m : ℕ). record { answer = Listed m; buffer = table }) z
-        ∙ sym (filled numbers k each some [] table refl (omega (arith, zero-mul k)) ∙ ap (λ (m : ℕ). record { answer = Listed 0; buffer = drop m table }) (zero-mul k))
+        ∙ sym (filled numbers k each some [] table refl (omega (arith, zero-mul k))
+        ∙ ap (λ (m : ℕ). record { answer = Listed 0; buffer = drop m table }) (zero-mul k))
     no-rows some (x ∷ xs) table e z = absurd (omega arith)
 
 -- ---- a row

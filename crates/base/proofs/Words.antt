@@ -65,7 +65,8 @@ word-halves x =
     ap (λ (y : ℕ). x % 256 ∷ x / 256 % 256 ∷ x / 256 / 256 % 256 ∷ x / 256 / 256 / 256 % 256 ∷ littleEndian 4 y) e
 
 -- two stores of four bytes are one of eight
-pub sets-word : (o : List ℕ) (at x : ℕ) → sets (sets o at (littleEndian 4 x)) (at + 4) (littleEndian 4 (x / 0x100000000)) ≡ sets o at (wordBytes x)
+pub sets-word : (o : List ℕ) (at x : ℕ) → sets (sets o at (littleEndian 4 x)) (at + 4) (littleEndian 4 (x / 0x100000000))
+    ≡ sets o at (wordBytes x)
 unfolding littleEndian
 sets-word o at x = sym (sets-append o at (littleEndian 4 x) (littleEndian 4 (x / 0x100000000))) ∙ ap (sets o at) (sym (word-halves x))
 
@@ -102,7 +103,8 @@ bytes-all [] h = refl
 bytes-all (b ∷ bs) h = and-both (leb b 255) (allBytes bs) (le-leb b 255 (h 0)) (bytes-all bs (λ j. h (suc j)))
 
 -- eight bytes of a list are those of the word that they make
-pub word-read : (bs : List ℕ) (i : ℕ) → allBytes bs ≡ true → i + 8 ≤ length bs → wordBytes (number (take 8 (drop i bs))) ≡ take 8 (drop i bs)
+pub word-read : (bs : List ℕ) (i : ℕ) → allBytes bs ≡ true → i + 8 ≤ length bs → wordBytes (number (take 8 (drop i bs)))
+    ≡ take 8 (drop i bs)
 unfolding wordBytes
 word-read bs i t h =
     let w = take 8 (drop i bs) in

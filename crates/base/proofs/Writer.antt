@@ -48,7 +48,8 @@ module _ (all : List ℕ) (from : ℕ) (o₀ : List ℕ) where
     same = ap length (p .bytes) ∙ length-sets o j xs ∙ w .same;
     ahead = let r = w .ahead in let q = p .ends in omega (arith, ap length e, length-append xs rest′);
     fits = w .fits;
-    bytes = ap₂ (λ (b : List ℕ) (n : ℕ). sets b n rest′) (p .bytes) (p .ends) ∙ sym (sets-append o j xs rest′) ∙ ap (sets o j) (sym e) ∙ w .bytes;
+    bytes = ap₂ (λ (b : List ℕ) (n : ℕ). sets b n rest′) (p .bytes) (p .ends) ∙ sym (sets-append o j xs rest′) ∙ ap (sets o j) (sym e)
+        ∙ w .bytes;
   }
 
   -- one byte
@@ -65,11 +66,12 @@ module _ (all : List ℕ) (from : ℕ) (o₀ : List ℕ) where
     bytes = ap (sets o j) (sym e) ∙ w .bytes;
   }
 
--- one list put behind another
+-- one list put after another
 pub put-then : {o o₁ o₂ xs ys : List ℕ} {s i r : ℕ} → PutAt o s xs o₁ i → PutAt o₁ i ys o₂ r → PutAt o s (xs ++ ys) o₂ r
 put-then {o} {o₁} {o₂} {xs} {ys} {s} {i} {r} p q = record {
   ends = let e = p .ends in let f = q .ends in omega (arith, length-append xs ys);
-  bytes = q .bytes ∙ ap (λ (b : List ℕ). sets b i ys) (p .bytes) ∙ ap (λ (n : ℕ). sets (sets o s xs) n ys) (p .ends) ∙ sym (sets-append o s xs ys);
+  bytes = q .bytes ∙ ap (λ (b : List ℕ). sets b i ys) (p .bytes) ∙ ap (λ (n : ℕ). sets (sets o s xs) n ys) (p .ends)
+      ∙ sym (sets-append o s xs ys);
 }
 
 -- the same list under another name
@@ -79,15 +81,17 @@ put-as {o} {o₁} {xs} {s} {r} ys e p = subst (λ (zs : List ℕ). PutAt o s zs 
 -- ---- parts of a list
 
 -- a beginning, and more of the list
-pub sets-more : (o : List ℕ) (s : ℕ) (b : List ℕ) (i k : ℕ) → i ≤ length b → sets (sets o s (take i b)) (s + i) (take k (drop i b)) ≡ sets o s (take (i + k) b)
+pub sets-more : (o : List ℕ) (s : ℕ) (b : List ℕ) (i k : ℕ) → i ≤ length b → sets (sets o s (take i b)) (s + i) (take k (drop i b))
+    ≡ sets o s (take (i + k) b)
 sets-more o s b i k h =
     ap (λ (n : ℕ). sets (sets o s (take i b)) (s + n) (take k (drop i b))) (sym (length-take-le i b h))
     ∙ sym (sets-append o s (take i b) (take k (drop i b))) ∙ ap (sets o s) (sym (take-add i k b))
 
 -- a list over one that is no longer
-pub sets-over : (o : List ℕ) (m : ℕ) (xs ys : List ℕ) → length xs ≤ length ys → m + length ys ≤ length o → sets (sets o m xs) m ys ≡ sets o m ys
+pub sets-over : (o : List ℕ) (m : ℕ) (xs ys : List ℕ) → length xs ≤ length ys → m + length ys ≤ length o → sets (sets o m xs) m ys
+    ≡ sets o m ys
 sets-over o m xs ys l h =
-    sets-eq ys A m (omega (arith, length-sets o m xs)) ∙ ap₂ (λ (a d : List ℕ). a ++ ys ++ d) before behind ∙ sym (sets-eq ys o m h)
+    sets-eq ys A m (omega (arith, length-sets o m xs)) ∙ ap₂ (λ (a d : List ℕ). a ++ ys ++ d) before after ∙ sym (sets-eq ys o m h)
   where
     A : List ℕ
     A = sets o m xs
@@ -104,21 +108,26 @@ sets-over o m xs ys l h =
     before : take m A ≡ take m o
     before =
         ap (take m) split ∙ take-append-le m front (drop (m + length xs) o) (omega (arith, front-length))
-        ∙ take-append-le m (take m o) xs (omega (arith, length-take-le m o (omega arith))) ∙ take-all m (take m o) (omega (arith, length-take-le m o (omega arith)))
+        ∙ take-append-le m (take m o) xs (omega (arith, length-take-le m o (omega arith)))
+        ∙ take-all m (take m o) (omega (arith, length-take-le m o (omega arith)))
 
-    behind : drop (m + length ys) A ≡ drop (m + length ys) o
-    behind =
+    after : drop (m + length ys) A ≡ drop (m + length ys) o
+    after =
         let d = length ys - length xs in
         let e : m + length ys ≡ (m + length xs) + d = omega arith in
-        ap (λ (n : ℕ). drop n A) e ∙ sym (drop-drop d (m + length xs) A) ∙ ap (drop d) (ap (drop (m + length xs)) split ∙ drop-at front (drop (m + length xs) o) (m + length xs) front-length)
+        ap (λ (n : ℕ). drop n A) e ∙ sym (drop-drop d (m + length xs) A)
+        ∙ ap (drop d) (ap (drop (m + length xs)) split ∙ drop-at front (drop (m + length xs) o) (m + length xs) front-length)
         ∙ drop-drop d (m + length xs) o ∙ ap (λ (n : ℕ). drop n o) (sym e)
 
 -- the end of a list, of which some is written already
-pub sets-last : (o : List ℕ) (s : ℕ) (b : List ℕ) (i l : ℕ) → l ≤ i → i ≤ length b → s + length b ≤ length o → sets (sets o s (take i b)) (s + l) (drop l b) ≡ sets o s b
+pub sets-last : (o : List ℕ) (s : ℕ) (b : List ℕ) (i l : ℕ) → l ≤ i → i ≤ length b → s + length b ≤ length o
+    → sets (sets o s (take i b)) (s + l) (drop l b) ≡ sets o s b
 sets-last o s b i l h k f =
     let e : i ≡ l + (i - l) = omega arith in
     let t = take (i - l) (drop l b) in
     let T = sets o s (take l b) in
     ap (λ (q : List ℕ). sets q (s + l) (drop l b)) (ap (λ (n : ℕ). sets o s (take n b)) e ∙ sym (sets-more o s b l (i - l) (omega arith)))
-    ∙ sets-over T (s + l) t (drop l b) (omega (arith, length-take-le (i - l) (drop l b) (omega (arith, length-drop l b)), length-drop l b)) (omega (arith, length-drop l b, length-sets o s (take l b)))
-    ∙ ap (λ (n : ℕ). sets T (s + n) (drop l b)) (sym (length-take-le l b (omega arith))) ∙ sym (sets-append o s (take l b) (drop l b)) ∙ ap (sets o s) (take-append-drop l b)
+    ∙ sets-over T (s + l) t (drop l b) (omega (arith, length-take-le (i - l) (drop l b) (omega (arith, length-drop l b)), length-drop l b))
+    (omega (arith, length-drop l b, length-sets o s (take l b)))
+    ∙ ap (λ (n : ℕ). sets T (s + n) (drop l b)) (sym (length-take-le l b (omega arith))) ∙ sym (sets-append o s (take l b) (drop l b))
+    ∙ ap (sets o s) (take-append-drop l b)

@@ -71,8 +71,8 @@ pub record After (R A : Type 0) : Type 0 where
   pub buffer : List A
 
 -- "Left as it was: all buffers"
-abbrev pub kept : {R A : Type 0} → R → List A → After R A
-kept r out = record { answer = r; buffer = out }
+abbrev pub unwritten : {R A : Type 0} → R → List A → After R A
+unwritten r out = record { answer = r; buffer = out }
 
 -- "A success writes its result at the front and leaves the bytes or places behind it unchanged."
 abbrev pub written : {R A : Type 0} → R → List A → List A → After R A

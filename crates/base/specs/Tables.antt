@@ -4,7 +4,7 @@ use mathlib.Core.List.{List, [], _∷_, _++_}
 use Prim.Native.Nat.{ℕ, _/_}
 use lib.Dec.{leb}
 use lib.ListN.{length}
-use Rattle.base.specs.Refusals.{After, kept, written}
+use Rattle.base.specs.Refusals.{After, unwritten, written}
 use Rattle.base.specs.Words.{bytesOf}
 use Rattle.base.specs.declared.ListAnswer.{ListAnswer}
 use Rattle.base.specs.declared.ListAnswer.the-variants.{Listed, Refused}
@@ -20,4 +20,4 @@ module _ {A : Type 0} (numbers : A → List ℕ) where
   unfoldable pub fillTable : ℕ → List A → List ℕ → After ListAnswer ℕ
   fillTable bytes rows table =
       cond (leb (length rows) (length table / bytes)) (written (Listed (length rows)) (rowsBytes rows) table)
-      (kept (Refused (TableTooShort (length rows))) table)
+      (unwritten (Refused (TableTooShort (length rows))) table)

@@ -1,4 +1,4 @@
--- Texts one behind the other.
+-- Texts one after the other.
 use mathlib.Core.List.{List, [], _∷_, _++_}
 use Prim.Native.Nat.{ℕ}
 

@@ -22,7 +22,7 @@ NumberOfWord = (x : ℕ) → x < 2 ^ 64 → number (wordBytes x) ≡ x
 unfoldable pub BytesOfNumber : Type 0
 BytesOfNumber = (bs : List ℕ) → allBytes bs ≡ true → littleEndian (length bs) (number bs) ≡ bs
 
--- A result is written at the front and nothing behind it, or refused with document 01's number 8 and the length
+-- A result is written at the front and nothing after it, or refused with document 01's number 8 and the length
 -- wanted, and then the buffer is as it was.
 unfoldable pub WrittenOrRefused : Type 0
 WrittenOrRefused =
@@ -33,12 +33,12 @@ WrittenOrRefused =
     → (writeRow (answerOf result out) ≡ record { number = 8; value = length result }) × (bufferOf result out ≡ out))
 
 -- The row of the table tells the refusal: no two causes have the same number, and the value is returned whole.
-unfoldable pub RowsTellRefusals : Type 0
-RowsTellRefusals = (r s : Refusal) → refusalRow r ≡ refusalRow s → r ≡ s
+unfoldable pub RefusalRowsDistinct : Type 0
+RefusalRowsDistinct = (r s : Refusal) → refusalRow r ≡ refusalRow s → r ≡ s
 
 -- The row of an answer tells the answer: no two cases have the same number and value.
-unfoldable pub RowsTellAnswers : Type 0
-RowsTellAnswers =
+unfoldable pub AnswerRowsDistinct : Type 0
+AnswerRowsDistinct =
     ((a b : Check) → checkRow a ≡ checkRow b → a ≡ b)
     × ((a b : ListAnswer) → listRow a ≡ listRow b → a ≡ b)
     × ((a b : WriteAnswer) → writeRow a ≡ writeRow b → a ≡ b)

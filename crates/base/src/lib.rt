@@ -55,7 +55,7 @@ pub fn has_bit(w: u64, i: usize) -> bool
     (w >> (i % 64)) % 2 == 1
 }
 
-// The byte i behind the place at, or 0 where there is none.
+// The byte i after the place at, or 0 where there is none.
 pub fn byte_at(s: &[u8], at: usize, i: usize) -> u8
     ensures { λ r. ⌜ r ≡ getD (drop at (now (s .entry))) i 0 ⌝ }
 {
@@ -84,7 +84,7 @@ fn half(s: &[u8], at: usize, i: usize) -> u64
         + 256 * (byte(s, at, i + 1) + 256 * (byte(s, at, i + 2) + 256 * byte(s, at, i + 3)))
 }
 
-// The number that the eight bytes from a place on make; bytes behind the end count as 0.
+// The number that the eight bytes from a place on make; bytes after the end count as 0.
 pub fn read_word(s: &[u8], at: usize) -> u64
     ensures { λ r. ⌜ r ≡ number (take 8 (drop at (now (s .entry)))) ⌝ }
 {
@@ -116,7 +116,8 @@ fn put_word(out: &mut [u8], at: usize, x: u64)
 
 // Writes a number's eight bytes at a place and answers true, or leaves the buffer where it has no room for them.
 pub fn write_word(out: &mut [u8], at: usize, x: u64) -> bool
-    ensures { λ r. ⌜ (r ≡ hasRoom (now (out .entry)) at) × (now (out .exit) ≡ cond (hasRoom (now (out .entry)) at) (sets (now (out .entry)) at (wordBytes x)) (now (out .entry))) ⌝ }
+    ensures { λ r. ⌜ (r ≡ hasRoom (now (out .entry)) at)
+        × (now (out .exit) ≡ cond (hasRoom (now (out .entry)) at) (sets (now (out .entry)) at (wordBytes x)) (now (out .entry))) ⌝ }
 {
     if out.len() < WORD_BYTES {
         return false;

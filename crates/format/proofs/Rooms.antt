@@ -44,5 +44,6 @@ module _ (message : List ℕ) where
           let a = passed-accepted message policy e in
           let f : length F ≤ length out = omega (arith, h, formatted-claim policy message a .four-times) in
           subst IsAnswer
-          (sym (format-is policy message out a ∙ ap (λ (fits : Bool). formatTests (sameBytes F message) fits F out) (le-leb (length F) (length out) f)))
+          (sym (format-is policy message out a ∙ ap (λ (fits : Bool). formatTests (sameBytes F message) fits F out)
+          (le-leb (length F) (length out) f)))
           (tested out (sameBytes F message) e refl)

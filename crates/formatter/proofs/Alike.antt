@@ -52,4 +52,5 @@ alike-swap k l m = ((λ h. within m l k .1 (go (within m k l .0 h))), (λ h. wit
 pub alike-move : (a : Mending) (k l : List Mending) → Alike (a ∷ (k ++ l)) (k ++ a ∷ l)
 alike-move a k l =
     alike-trans (alike-of (sym (append-assoc (a ∷ []) k l)))
-    (alike-trans (alike-join ((a ∷ []) ++ k) (k ++ (a ∷ [])) l l (alike-swap (a ∷ []) k) (alike-refl l)) (alike-of (append-assoc k (a ∷ []) l)))
+    (alike-trans (alike-join ((a ∷ []) ++ k) (k ++ (a ∷ [])) l l (alike-swap (a ∷ []) k) (alike-refl l))
+    (alike-of (append-assoc k (a ∷ []) l)))

@@ -1,4 +1,5 @@
--- The characters of a book's text: those of the first text but for selectors, whose number follows from the counts, and at most four times as many bytes.
+-- The characters of a book's text: those of the first text but for selectors, whose number follows from the counts, and at most four times
+-- as many bytes.
 use mathlib.Core.Path.{_≡_, refl, ap, sym, _∙_, subst}
 use mathlib.Core.Bool.{Bool, true, false, cond, _&&_, _||_, false≢true}
 use mathlib.Core.List.{List, [], _∷_, _++_}
@@ -30,7 +31,8 @@ unfolding strip
 strip-append [] t = refl
 strip-append (c ∷ s) t = go (isSelector c) (strip-append s t)
   where
-    go : (b : Bool) → strip (s ++ t) ≡ strip s ++ strip t → cond b (strip (s ++ t)) (c ∷ strip (s ++ t)) ≡ cond b (strip s) (c ∷ strip s) ++ strip t
+    go : (b : Bool) → strip (s ++ t) ≡ strip s ++ strip t → cond b (strip (s ++ t)) (c ∷ strip (s ++ t)) ≡ cond b (strip s) (c ∷ strip s)
+        ++ strip t
     go true h = h
     go false h = ap (λ (l : List ℕ). c ∷ l) h
 
@@ -49,7 +51,8 @@ unfolding allScalar strip
 scalar-strip [] = refl
 scalar-strip (c ∷ t) = go (isSelector c) refl (scalar-strip t)
   where
-    go : (b : Bool) → isSelector c ≡ b → allScalar t ≡ allScalar (strip t) → isScalar c && allScalar t ≡ allScalar (cond b (strip t) (c ∷ strip t))
+    go : (b : Bool) → isSelector c ≡ b → allScalar t ≡ allScalar (strip t) → isScalar c && allScalar t
+        ≡ allScalar (cond b (strip t) (c ∷ strip t))
     go true e h = ap (λ (a : Bool). a && allScalar t) (selector-scalar c e) ∙ h
     go false e h = ap (λ (a : Bool). isScalar c && a) h
 
@@ -66,7 +69,8 @@ module _ (p : Policy) where
   unfolding bookChars
   strip-book [] no-more = refl
   strip-book (e ∷ es) (and-each d h) =
-      strip-append (entryChars p (e .mark) (e .item)) (bookChars p es) ∙ ap (λ (r : List ℕ). r ++ strip (bookChars p es)) (strip-entry (e .mark) (e .item) d)
+      strip-append (entryChars p (e .mark) (e .item)) (bookChars p es)
+      ∙ ap (λ (r : List ℕ). r ++ strip (bookChars p es)) (strip-entry (e .mark) (e .item) d)
       ∙ ap (λ (r : List ℕ). strip (e .item .chars) ++ r) (strip-book es h) ∙ sym (strip-append (e .item .chars) (join (itemsOf es)))
 
   pub scalar-book : (es : List Entry) → Each Derived (itemsOf es) → allScalar (join (itemsOf es)) ≡ true → allScalar (bookChars p es) ≡ true
@@ -90,7 +94,8 @@ module _ (p : Policy) where
 
   -- The selectors of a book's text.
   pub balance-book : (es : List Entry) → Each Derived (itemsOf es)
-      → selectorCount (bookChars p es) + removing (totals p (mendedItems es)) ≡ selectorCount (join (itemsOf es)) + adding (totals p (mendedItems es))
+      → selectorCount (bookChars p es) + removing (totals p (mendedItems es))
+      ≡ selectorCount (join (itemsOf es)) + adding (totals p (mendedItems es))
   unfolding bookChars totals
   balance-book [] no-more = refl
   balance-book (e ∷ es) (and-each d h) = go (e .mark) (balance-book es h)
@@ -98,9 +103,12 @@ module _ (p : Policy) where
       x : Item
       x = e .item
 
-      go : (m : Mark) → selectorCount (bookChars p es) + removing (totals p (mendedItems es)) ≡ selectorCount (join (itemsOf es)) + adding (totals p (mendedItems es))
-          → selectorCount (entryChars p m x ++ bookChars p es) + removing (totals p (onlyMended m (λ (ds : List Presentation). x) (mendedItems es)))
-          ≡ selectorCount (x .chars ++ join (itemsOf es)) + adding (totals p (onlyMended m (λ (ds : List Presentation). x) (mendedItems es)))
+      go : (m : Mark) → selectorCount (bookChars p es) + removing (totals p (mendedItems es))
+          ≡ selectorCount (join (itemsOf es)) + adding (totals p (mendedItems es))
+          → selectorCount (entryChars p m x ++ bookChars p es) + removing
+          (totals p (onlyMended m (λ (ds : List Presentation). x) (mendedItems es)))
+          ≡ selectorCount (x .chars ++ join (itemsOf es)) + adding
+          (totals p (onlyMended m (λ (ds : List Presentation). x) (mendedItems es)))
       go untouched i = omega (arith, count-append (x .chars) (bookChars p es), count-append (x .chars) (join (itemsOf es)))
       go (mended ds) i =
           let n = nonCanonicality p x in

@@ -8,7 +8,7 @@ use native.Mathlib.Omega.{arith}
 use lib.Dec.{eqb, leb}
 use lib.ListN.{drop, length, take}
 use lib.Seq.{take-append-seam}
-use Rattle.base.specs.Refusals.{After, kept, orElse, refusalTable, textLimit, written}
+use Rattle.base.specs.Refusals.{After, unwritten, orElse, refusalTable, textLimit, written}
 use Rattle.base.specs.declared.Refusal.{Refusal}
 use Rattle.base.specs.declared.Refusal.the-variants.{OutputTooShort}
 use Rattle.utf8.specs.Rfc3629.{encodeAll, validUpTo}
@@ -35,8 +35,8 @@ use Rattle.formatter.proofs.Passing.{intake-is}
 
 -- A call that succeeds has passed the tests that come first.
 passed-tests : (o : Option Refusal) (out : List ℕ) (next : After MendAnswer ℕ) {n : ℕ}
-    → orElse o (λ (r : Refusal). kept (Refused r) out) next .answer ≡ Mended n
-    → orElse o (λ (r : Refusal). kept (Refused r) out) next ≡ next
+    → orElse o (λ (r : Refusal). unwritten (Refused r) out) next .answer ≡ Mended n
+    → orElse o (λ (r : Refusal). unwritten (Refused r) out) next ≡ next
 passed-tests none out next e = refl
 passed-tests (some r) out next e = let z : _≡_ {A = ℕ} 0 1 = cc in absurd (omega arith)
 
@@ -82,19 +82,20 @@ module _ (p : Policy) (r : Refusal) (h : refusalTable r .number ≤ 6) where
   judged-alike none ds a b out room e = e
   judged-alike (some x) ds a b out room e = go (decisionsRefusal (wanted p x) ds) e
     where
-      fits : (t : Bool) → cond t (written (Mended (length a)) a out) (kept (Refused (OutputTooShort (length a))) out) .answer ≡ Refused r
+      fits : (t : Bool) → cond t (written (Mended (length a)) a out) (unwritten (Refused (OutputTooShort (length a))) out) .answer
+          ≡ Refused r
           → ⊥
       fits true e = let z : _≡_ {A = ℕ} 0 1 = cc in omega arith
       fits false e = let z : OutputTooShort (length a) ≡ r = cc in omega (arith, ap (λ (f : Refusal). refusalTable f .number) z)
 
-      go : (q : Option Refusal) → orElse q (λ (f : Refusal). kept (Refused f) out) (writeOut a out) .answer ≡ Refused r
-          → orElse q (λ (f : Refusal). kept (Refused f) room) (writeOut b room) .answer ≡ Refused r
+      go : (q : Option Refusal) → orElse q (λ (f : Refusal). unwritten (Refused f) out) (writeOut a out) .answer ≡ Refused r
+          → orElse q (λ (f : Refusal). unwritten (Refused f) room) (writeOut b room) .answer ≡ Refused r
       go (some f) e = e
       go none e = absurd (fits (leb (length a) (length out)) e)
 
   tested-alike : (o : Option Refusal) (x : Option Item) (ds a b out room : List ℕ)
-      → orElse o (λ (f : Refusal). kept (Refused f) out) (judge p x ds a out) .answer ≡ Refused r
-      → orElse o (λ (f : Refusal). kept (Refused f) room) (judge p x ds b room) .answer ≡ Refused r
+      → orElse o (λ (f : Refusal). unwritten (Refused f) out) (judge p x ds a out) .answer ≡ Refused r
+      → orElse o (λ (f : Refusal). unwritten (Refused f) room) (judge p x ds b room) .answer ≡ Refused r
   tested-alike (some f) x ds a b out room e = e
   tested-alike none x ds a b out room e = judged-alike x ds a b out room e
 
@@ -106,7 +107,7 @@ test-alike text policy offset decisions out room r q h =
     let ds = map meaning decisions in
     let W = exchanged text p offset ds x in
     let R = replacementBytes p x ds in
-    let by : Option Refusal → After MendAnswer ℕ = λ o. orElse o (λ (f : Refusal). kept (Refused f) out) (judge p x decisions W out) in
+    let by : Option Refusal → After MendAnswer ℕ = λ o. orElse o (λ (f : Refusal). unwritten (Refused f) out) (judge p x decisions W out) in
     let t = ap (λ (o : Option Refusal). by o .answer) (text-tests text policy q) in (
       λ e. tested-alike p r h (textRefusal text) x decisions W R out room (sym t ∙ e),
       λ e. t ∙ tested-alike p r h (textRefusal text) x decisions R W room out e,

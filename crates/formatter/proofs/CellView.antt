@@ -8,7 +8,7 @@ use Rattle.policy.specs.PolicyBytes.{policyOf}
 use Rattle.policy.specs.declared.Policy.{Policy}
 use Rattle.utf8.specs.Rfc3629.{chars, encodeAll}
 use Rattle.scanner.specs.Items.{Item, items}
-use Rattle.scanner.specs.declared.place.Place.{Place}
+use Rattle.scanner.specs.declared.state.State.{State}
 use Rattle.scanner.specs.Spans.{Found, found, size, width}
 use Rattle.scanner.proofs.Tiling.{tiling}
 use Rattle.scanner.proofs.Walk.{Chain, done, items-chain, then}
@@ -29,13 +29,14 @@ module _ (p : Policy) where
   -- ---- of a text
 
   -- Items that are no findings are their own replacements, and add nothing to the totals.
-  format-replaces : {q : Place} {xs : List Item} → Chain q xs → formatItems p xs ≡ replaceAll p xs
+  format-replaces : {q : State} {xs : List Item} → Chain q xs → formatItems p xs ≡ replaceAll p xs
   unfolding formatItems
   format-replaces done = refl
   format-replaces (then {x = x} {xs = xs} c s en k l w d) =
       go (isFinding p x) refl ∙ ap (λ (t : List ℕ). replacement p x [] ++ t) (format-replaces d)
     where
-      go : (f : Bool) → isFinding p x ≡ f → cond (isFinding p x) (replacement p x []) (x .chars) ++ formatItems p xs ≡ replacement p x [] ++ formatItems p xs
+      go : (f : Bool) → isFinding p x ≡ f → cond (isFinding p x) (replacement p x []) (x .chars) ++ formatItems p xs ≡ replacement p x []
+          ++ formatItems p xs
       go true e = ap (λ (f : Bool). cond f (replacement p x []) (x .chars) ++ formatItems p xs) e
       go false e =
           ap (λ (f : Bool). cond f (replacement p x []) (x .chars) ++ formatItems p xs) e
@@ -52,7 +53,8 @@ module _ (p : Policy) where
       go : (f : Bool) → isFinding p x ≡ f → foundTotals p F ≡ totals p xs
           → foundTotals p (cond (isFinding p x) (record { start = n; item = x } ∷ F) F) ≡ nonCanonicality p x ⊕ totals p xs
       go true e i =
-          ap (λ (f : Bool). foundTotals p (cond f (record { start = n; item = x } ∷ F) F)) e ∙ ap (λ (m : NonCanonicality). nonCanonicality p x ⊕ m) i
+          ap (λ (f : Bool). foundTotals p (cond f (record { start = n; item = x } ∷ F) F)) e
+          ∙ ap (λ (m : NonCanonicality). nonCanonicality p x ⊕ m) i
       go false e i =
           ap (λ (f : Bool). foundTotals p (cond f (record { start = n; item = x } ∷ F) F)) e ∙ i ∙ sym (empty-plus (totals p xs))
           ∙ ap (λ (m : NonCanonicality). m ⊕ totals p xs) (sym (finding-false p x e))
@@ -68,6 +70,7 @@ module _ (p : Policy) where
       found-all 0 (items t) ∙ sym (by-cells p (items-chain t) .summed) ∙ ap (cellSum p) (tiling t) ∙ sym (total-cells p t)
 
 pub cell-view : (text policy : List ℕ)
-    → (formatted text policy ≡ encodeAll (formatCells (policyOf policy) (chars text))) × (textTotals text policy ≡ totalCells (policyOf policy) (chars text))
+    → (formatted text policy ≡ encodeAll (formatCells (policyOf policy) (chars text)))
+    × (textTotals text policy ≡ totalCells (policyOf policy) (chars text))
 unfolding formatted textTotals findings
 cell-view text policy = (ap encodeAll (format-by-cells (policyOf policy) (chars text)), totals-by-cells (policyOf policy) (chars text))

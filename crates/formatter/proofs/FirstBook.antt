@@ -10,13 +10,13 @@ use Rattle.utf8.proofs.Texts.{chars-allScalar, encodeAll-chars}
 use Rattle.policy.specs.declared.Policy.{Policy}
 use Rattle.policy.specs.PolicyBytes.{policyOf}
 use Rattle.scanner.specs.Items.{Item, items, join}
-use Rattle.scanner.specs.declared.place.Place.the-variants.{Plain as plain}
+use Rattle.scanner.specs.declared.state.State.the-variants.{Plain as plain}
 use Rattle.scanner.specs.Spans.{found, size, width}
 use Rattle.scanner.proofs.Reading.{item-derives}
 use Rattle.scanner.proofs.Tiling.{Filled, filled, tiling}
 use Rattle.scanner.proofs.Walk.{Chain, items-chain}
 use Rattle.analysis.specs.Analysis.{isFinding}
-use Rattle.formatter.specs.Book.{Entry, atPlace, bookText, firstBook, fresh, itemsOf, openings, untouched}
+use Rattle.formatter.specs.Book.{Entry, atPlace, bookText, firstBook, fresh, itemsOf, openFindings, untouched}
 use Rattle.formatter.specs.Demand3.{Accepted, Each, and-each, mendedFrom, no-more}
 use Rattle.formatter.specs.Findings.{findings, textTotals}
 use Rattle.formatter.specs.Format.{formatItems, formatted}
@@ -47,7 +47,8 @@ module _ (policy : List ℕ) where
   pub first-row : (b : List ℕ) → InRow policy (firstBook policy b)
   first-row b = record {
     row = subst (λ (l : List Item). Chain plain l) (sym (fresh-items (items (chars b)))) (items-chain (chars b));
-    derived = subst (λ (l : List Item). Each Derived l) (sym (fresh-items (items (chars b)))) (each-of Derived (items (chars b)) (item-derives (chars b)));
+    derived = subst (λ (l : List Item). Each Derived l) (sym (fresh-items (items (chars b))))
+        (each-of Derived (items (chars b)) (item-derives (chars b)));
     scalar = ap allScalar (first-join b) ∙ chars-allScalar b;
     full = subst (λ (l : List Item). Filled l) (sym (fresh-items (items (chars b)))) (filled (chars b));
   }
@@ -72,7 +73,8 @@ module _ (policy : List ℕ) where
   unfolding found
   fresh-number n [] = refl
   fresh-number n (x ∷ xs) =
-      cond-length P (isFinding P x) (record { start = n; item = x }) (found (isFinding P) width (n + size width (x .chars)) xs) (opens P (fresh xs)) (fresh-number (n + size width (x .chars)) xs)
+      cond-length P (isFinding P x) (record { start = n; item = x }) (found (isFinding P) width (n + size width (x .chars)) xs)
+      (opens P (fresh xs)) (fresh-number (n + size width (x .chars)) xs)
 
   pub first-found : (b : List ℕ) → findings b policy ≡ found (isFinding P) width 0 (items (chars b))
   unfolding findings
@@ -86,5 +88,5 @@ module _ (policy : List ℕ) where
   unfolding formatted
   format-as b = refl
 
-  pub open-none : (es : List Entry) → openings policy es ≡ [] → openFound P 0 es ≡ []
+  pub open-none : (es : List Entry) → openFindings policy es ≡ [] → openFound P 0 es ≡ []
   open-none es e = sym (openings-are P 0 0 0 es (omega arith)) ∙ ap (map atPlace) e

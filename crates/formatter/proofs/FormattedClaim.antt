@@ -31,7 +31,18 @@ use Rattle.base.specs.Refusals.{After}
 use Rattle.formatter.specs.declared.FormatAnswer.{FormatAnswer}
 use Rattle.formatter.specs.declared.FormatAnswer.the-variants.{Unchanged}
 use Rattle.formatter.proofs.Books.{balance-book, strip-book}
-use Rattle.formatter.proofs.Formatting.{all-chars, all-items, all-none, all-right, format-is, format-none, formatTests, same-self, same-true, says-unchanged}
+use Rattle.formatter.proofs.Formatting.{
+  all-chars,
+  all-items,
+  all-none,
+  all-right,
+  format-is,
+  format-none,
+  formatTests,
+  same-self,
+  same-true,
+  says-unchanged,
+}
 use Rattle.formatter.specs.List.{rowBytes, rowNumbers}
 use Rattle.formatter.proofs.Listing.{list-bytes-is, list-is, listRows, room-rows}
 use Rattle.base.proofs.TableBytes.{no-rows}
@@ -49,12 +60,15 @@ module _ (policy : List ℕ) where
 
   -- A text without a finding is its own formatted text, and the call says so.
   same-none : (b : List ℕ) → Accepted policy b → findings b policy ≡ [] → formatted b policy ≡ b
-  same-none b a e = sym (format-as policy b) ∙ ap encodeAll (format-none P 0 (items (chars b)) (sym (first-found policy b) ∙ e) ∙ tiling (chars b)) ∙ whole policy b a
+  same-none b a e = sym (format-as policy b)
+      ∙ ap encodeAll (format-none P 0 (items (chars b)) (sym (first-found policy b) ∙ e) ∙ tiling (chars b)) ∙ whole policy b a
 
-  kept-none : (b out : List ℕ) → Accepted policy b → findings b policy ≡ [] → format b policy out ≡ record { answer = Unchanged; buffer = out }
+  kept-none : (b out : List ℕ) → Accepted policy b → findings b policy ≡ [] → format b policy out
+      ≡ record { answer = Unchanged; buffer = out }
   kept-none b out a e =
       let F = formatted b policy in
-      format-is policy b out a ∙ ap (λ (q : Bool). formatTests q (leb (length F) (length out)) F out) (ap (λ (t : List ℕ). sameBytes F t) (sym (same-none b a e)) ∙ same-self F)
+      format-is policy b out a ∙ ap (λ (q : Bool). formatTests q (leb (length F) (length out)) F out)
+      (ap (λ (t : List ℕ). sameBytes F t) (sym (same-none b a e)) ∙ same-self F)
 
   module _ (b : List ℕ) (a : Accepted policy b) where
     fit : isPolicy policy ≡ true
@@ -89,7 +103,8 @@ module _ (policy : List ℕ) where
 
     totals-all : textTotals F policy ⊕ totals P (mendedItems E) ≡ textTotals b policy
     totals-all =
-        ap (λ (n : NonCanonicality). n ⊕ totals P (mendedItems E)) (totals-is policy F ∙ ap (foundTotals P) (none-all ∙ sym (all-none P 0 X)))
+        ap (λ (n : NonCanonicality). n ⊕ totals P (mendedItems E))
+        (totals-is policy F ∙ ap (foundTotals P) (none-all ∙ sym (all-none P 0 X)))
         ∙ split-totals P 0 0 (all-right P X) ∙ ap (λ (l : List Item). foundTotals P (found (isFinding P) width 0 l)) (all-items P X)
         ∙ ap (foundTotals P) (sym (first-found policy b)) ∙ sym (totals-is policy b)
 
@@ -104,7 +119,14 @@ module _ (policy : List ℕ) where
 
     four-all : length F ≤ 4 * length b
     four-all =
-        omega (arith, ap length after-all, four-book policy fit E all-row, ap (λ (t : List ℕ). length (encodeAll t)) all-join, ap length (whole policy b a))
+        omega (
+          arith,
+          ap length after-all,
+          four-book policy fit E all-row,
+          ap (λ (t : List ℕ). length (encodeAll t)) all-join,
+          ap length
+              (whole policy b a),
+        )
 
     short-all : length F ≤ 16777216 → Accepted policy F
     short-all h = record { short = h; is-policy = fit; well-formed = formed-all }
@@ -116,14 +138,18 @@ module _ (policy : List ℕ) where
         go true e = let y = ap length (none-same (same-true F b e)) in absurd (omega arith)
         go false e = refl
 
-    room-left : (out : List ℕ) (r : Bool) → 0 < length (findings b policy) → leb (length F) (length out) ≡ r → format b policy out ≡ formatTests false r F out
+    room-left : (out : List ℕ) (r : Bool) → 0 < length (findings b policy) → leb (length F) (length out) ≡ r → format b policy out
+        ≡ formatTests false r F out
     room-left out r h e =
-        format-is policy b out a ∙ ap (λ (q : Bool). formatTests q (leb (length F) (length out)) F out) (not-same h) ∙ ap (λ (r : Bool). formatTests false r F out) e
+        format-is policy b out a ∙ ap (λ (q : Bool). formatTests q (leb (length F) (length out)) F out) (not-same h)
+        ∙ ap (λ (r : Bool). formatTests false r F out) e
 
     -- A formatted text has the same bytes when it is formatted again.
     again-all : formatted F policy ≡ F
     again-all =
-        sym (format-as policy F) ∙ ap encodeAll (format-none P 0 (items (chars F)) (sym (first-found policy F) ∙ none-all) ∙ tiling (chars F)) ∙ encodeAll-chars F (well-formed-whole formed-all)
+        sym (format-as policy F) ∙ ap encodeAll
+        (format-none P 0 (items (chars F)) (sym (first-found policy F) ∙ none-all) ∙ tiling (chars F))
+        ∙ encodeAll-chars F (well-formed-whole formed-all)
 
     pub formatted-claim : FormattedClaim policy b
     formatted-claim = record {
@@ -135,20 +161,23 @@ module _ (policy : List ℕ) where
           list-is policy F table (short-all h) ∙ ap (λ (l : List Found). listRows (map (findingRow P) l) table) none-all
           ∙ room-rows [] table 0 refl (omega arith);
       none-listed-bytes = λ table h.
-          list-bytes-is policy F table (short-all h) ∙ ap (λ (l : List Found). fillTable rowNumbers rowBytes (map (findingRow P) l) table) none-all
+          list-bytes-is policy F table (short-all h)
+          ∙ ap (λ (l : List Found). fillTable rowNumbers rowBytes (map (findingRow P) l) table) none-all
           ∙ sym (no-rows rowNumbers rowBytes length-row (omega arith) [] table refl refl);
       again = again-all;
       again-unchanged = λ out h. kept-none F out (short-all h) none-all;
       eight-totals = totals-all;
       selectors-number =
           ap (λ (t : List ℕ). selectorCount t + removing (textTotals b policy)) decoded-all
-          ∙ subst (λ (c : NonCanonicality). selectorCount (bookChars P E) + removing c ≡ selectorCount (join (itemsOf E)) + adding c) all-totals (balance-book P E (all-row .derived))
+          ∙ subst (λ (c : NonCanonicality). selectorCount (bookChars P E) + removing c ≡ selectorCount (join (itemsOf E)) + adding c)
+          all-totals (balance-book P E (all-row .derived))
           ∙ ap (λ (t : List ℕ). selectorCount t + adding (textTotals b policy)) all-join;
       others = ap strip decoded-all ∙ strip-book P E (all-row .derived) ∙ ap strip all-join;
       four-times = four-all;
       no-change = (none-same, same-none b a);
       unchanged-said = λ out. (
-        (λ e. none-same (same-true F b (says-unchanged (sameBytes F b) (leb (length F) (length out)) F out (ap (λ (x : After FormatAnswer ℕ). x .answer) (sym (format-is policy b out a)) ∙ e)))),
+        (λ e. none-same (same-true F b (says-unchanged (sameBytes F b) (leb (length F) (length out)) F out
+            (ap (λ (x : After FormatAnswer ℕ). x .answer) (sym (format-is policy b out a)) ∙ e)))),
         (λ z. ap (λ (x : After FormatAnswer ℕ). x .answer) (kept-none b out a z)),
       );
       unchanged-kept = λ out z. kept-none b out a z;

@@ -15,9 +15,9 @@ use Rattle.scanner.specs.Spans.{Found, found, size, width}
 use Rattle.analysis.specs.Analysis.{defaultDecisions, isFinding, replacement}
 use Rattle.analysis.proofs.Choices.{replacement-defaults}
 use Rattle.formatter.specs.Book.{Entry, Mark, bookChars, entryChars, isOpen, itemsOf, mended, untouched}
-use Rattle.formatter.specs.Demand3.{Accepted, ByDefault, Each, Right, allMended, and-each, no-more}
+use Rattle.formatter.specs.Demand3.{Accepted, ByDefault, Each, ValidMark, allMended, and-each, no-more}
 use Rattle.formatter.specs.Format.{format, formatItems, formatted, sameBytes}
-use Rattle.base.specs.Refusals.{After, kept, orElse, written}
+use Rattle.base.specs.Refusals.{After, unwritten, orElse, written}
 use Rattle.formatter.specs.declared.FormatAnswer.{FormatAnswer}
 use Rattle.formatter.specs.declared.FormatAnswer.the-variants.{Changed, Refused, Unchanged}
 use Rattle.base.specs.declared.Refusal.{Refusal}
@@ -47,17 +47,20 @@ same-self (c ∷ s) = ap (λ (b : Bool). b && sameBytes s s) (eq-eqb c c refl) �
 
 -- ---- the call
 
--- The tests of formatting that are left behind the intake, by their answers.
+-- The tests of formatting that are left after the intake, by their answers.
 abbrev pub formatTests : Bool → Bool → List ℕ → List ℕ → After FormatAnswer ℕ
 formatTests same fits r out =
-    cond same (kept Unchanged out) (cond fits (written (Changed (length r)) r out) (kept (Refused (OutputTooShort (length r))) out))
+    cond same (unwritten Unchanged out)
+    (cond fits (written (Changed (length r)) r out) (unwritten (Refused (OutputTooShort (length r))) out))
 
 pub format-is : (policy b out : List ℕ) → Accepted policy b
-    → format b policy out ≡ formatTests (sameBytes (formatted b policy) b) (leb (length (formatted b policy)) (length out)) (formatted b policy) out
+    → format b policy out ≡ formatTests (sameBytes (formatted b policy) b) (leb (length (formatted b policy)) (length out))
+    (formatted b policy) out
 unfolding format
 format-is policy b out a =
     let r = formatted b policy in
-    ap (λ (o : Option Refusal). orElse o (λ (f : Refusal). kept (Refused f) out) (formatTests (sameBytes r b) (leb (length r) (length out)) r out)) (pass-intake policy b a)
+    ap (λ (o : Option Refusal). orElse o (λ (f : Refusal). unwritten (Refused f) out)
+    (formatTests (sameBytes r b) (leb (length r) (length out)) r out)) (pass-intake policy b a)
 
 pub says-unchanged : (same fits : Bool) (r out : List ℕ) → formatTests same fits r out .answer ≡ Unchanged → same ≡ true
 says-unchanged true fits r out e = refl
@@ -93,7 +96,8 @@ module _ (p : Policy) where
   all-none n [] = refl
   all-none n (x ∷ xs) =
       let N = n + size width (entryChars p (defaultMark (isFinding p x) x) x) in
-      ap (λ (f : Bool). cond f (record { start = n; item = x } ∷ openFound p N (allMended p xs)) (openFound p N (allMended p xs))) (go (isFinding p x)) ∙ all-none N xs
+      ap (λ (f : Bool). cond f (record { start = n; item = x } ∷ openFound p N (allMended p xs)) (openFound p N (allMended p xs)))
+      (go (isFinding p x)) ∙ all-none N xs
     where
       go : (f : Bool) → isOpen (defaultMark f x) && f ≡ false
       go true = refl
@@ -103,7 +107,8 @@ module _ (p : Policy) where
   unfolding bookChars formatItems
   all-chars [] = refl
   all-chars (x ∷ xs) =
-      ap (λ (l : List ℕ). entryChars p (defaultMark (isFinding p x) x) x ++ l) (all-chars xs) ∙ ap (λ (l : List ℕ). l ++ formatItems p xs) (go (isFinding p x))
+      ap (λ (l : List ℕ). entryChars p (defaultMark (isFinding p x) x) x ++ l) (all-chars xs)
+      ∙ ap (λ (l : List ℕ). l ++ formatItems p xs) (go (isFinding p x))
     where
       go : (f : Bool) → entryChars p (defaultMark f x) x ≡ cond f (replacement p x []) (x .chars)
       go true = replacement-defaults p x
@@ -113,12 +118,13 @@ module _ (p : Policy) where
   all-right [] = no-more
   all-right (x ∷ xs) = and-each {x = record { item = x; mark = defaultMark (isFinding p x) x }} (go (isFinding p x) refl) (all-right xs)
     where
-      go : (f : Bool) → isFinding p x ≡ f → Right p (defaultMark f x) x
+      go : (f : Bool) → isFinding p x ≡ f → ValidMark p (defaultMark f x) x
       go true e = record { is-finding = e; as-many = default-number p x }
       go false e = tt
 
   -- A book with nothing open, all mended by default.
-  pub default-book : (n : ℕ) {es : List Entry} → openFound p n es ≡ [] → Rights p es → Each (λ (e : Entry). ByDefault p (e .mark) (e .item)) es → bookChars p es ≡ formatItems p (itemsOf es)
+  pub default-book : (n : ℕ) {es : List Entry} → openFound p n es ≡ [] → Rights p es
+      → Each (λ (e : Entry). ByDefault p (e .mark) (e .item)) es → bookChars p es ≡ formatItems p (itemsOf es)
   unfolding openFound bookChars formatItems
   default-book n z no-more no-more = refl
   default-book n z (and-each {x = e} {xs = es} r rs) (and-each d ds) =
@@ -130,10 +136,13 @@ module _ (p : Policy) where
       O : List Found
       O = openFound p (n + size width (entryChars p (e .mark) x)) es
 
-      go : (m : Mark) (f : Bool) → isFinding p x ≡ f → Right p m x → ByDefault p m x → cond (isOpen m && f) (record { start = n; item = x } ∷ O) O ≡ []
-          → (O ≡ [] → bookChars p es ≡ formatItems p (itemsOf es)) → entryChars p m x ++ bookChars p es ≡ cond f (replacement p x []) (x .chars) ++ formatItems p (itemsOf es)
+      go : (m : Mark) (f : Bool) → isFinding p x ≡ f → ValidMark p m x → ByDefault p m x
+          → cond (isOpen m && f) (record { start = n; item = x } ∷ O) O ≡ []
+          → (O ≡ [] → bookChars p es ≡ formatItems p (itemsOf es)) → entryChars p m x ++ bookChars p es
+          ≡ cond f (replacement p x []) (x .chars) ++ formatItems p (itemsOf es)
       go untouched true f r d z ih = let y : _≡_ {A = ℕ} 0 1 = cc in absurd (omega arith)
       go untouched false f r d z ih = ap (λ (t : List ℕ). x .chars ++ t) (ih z)
       go (mended ds) true f r d z ih =
-          ap (λ (t : List ℕ). t ++ bookChars p es) (ap (replacement p x) d ∙ replacement-defaults p x) ∙ ap (λ (t : List ℕ). replacement p x [] ++ t) (ih z)
+          ap (λ (t : List ℕ). t ++ bookChars p es) (ap (replacement p x) d ∙ replacement-defaults p x)
+          ∙ ap (λ (t : List ℕ). replacement p x [] ++ t) (ih z)
       go (mended ds) false f r d z ih = absurd (false≢true (sym f ∙ r .is-finding))

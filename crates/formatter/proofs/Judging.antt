@@ -11,12 +11,24 @@ use borrow.Author.Tests.{eq-eqb, eqb-true, le-leb, leb-false, leb-true}
 use Rattle.policy.specs.declared.Policy.{Policy}
 use Rattle.policy.specs.PolicyBytes.{policyOf}
 use Rattle.scanner.specs.Items.{Item}
-use Rattle.formatter.specs.Book.{Entry, Opening, allBinary, atPlace, bookText, marked, mends, mendsAt, openingAt, openings, place}
+use Rattle.formatter.specs.Book.{
+  Entry,
+  OpenFinding,
+  allBinary,
+  atPlace,
+  bookText,
+  marked,
+  mends,
+  mendsAt,
+  openFindingAt,
+  openFindings,
+  place,
+}
 use Rattle.formatter.specs.Demand3.{Each, and-each, isMended, no-more}
 use Rattle.analysis.specs.Decisions.{badDecision, decisionsRefusal, judge, wanted}
 use Rattle.analysis.specs.Findings.{findingAt}
 use Rattle.formatter.specs.Mend.{Call}
-use Rattle.base.specs.Refusals.{After, kept, orElse, written}
+use Rattle.base.specs.Refusals.{After, unwritten, orElse, written}
 use Rattle.analysis.specs.declared.types.MendAnswer.{MendAnswer}
 use Rattle.analysis.specs.declared.types.MendAnswer.the-variants.{Mended, Refused}
 use Rattle.base.specs.declared.Refusal.{Refusal}
@@ -40,7 +52,7 @@ none-bad n no-more = refl
 none-bad n (and-each {x = d} {xs = ds} h hs) =
     ap (λ (b : Bool). cond b (badDecision (suc n) ds) (some (BadDecision n))) (le-leb d 1 h) ∙ none-bad (suc n) hs
 
--- The first decision above 1 stands behind those that are not.
+-- The first decision above 1 stands after those that are not.
 pub record Bad (n : ℕ) (ds : List ℕ) (r : Refusal) : Type 0 where
   pub before : List ℕ
   pub bad : ℕ
@@ -55,7 +67,8 @@ unfolding badDecision
 some-bad n [] r e = let z : _≡_ {A = ℕ} 0 1 = cc in absurd (omega arith)
 some-bad n (d ∷ ds) r e = go (leb d 1) refl e (some-bad (suc n) ds r)
   where
-    go : (b : Bool) → leb d 1 ≡ b → cond b (badDecision (suc n) ds) (some (BadDecision n)) ≡ some r → (badDecision (suc n) ds ≡ some r → Bad (suc n) ds r) → Bad n (d ∷ ds) r
+    go : (b : Bool) → leb d 1 ≡ b → cond b (badDecision (suc n) ds) (some (BadDecision n)) ≡ some r
+        → (badDecision (suc n) ds ≡ some r → Bad (suc n) ds r) → Bad n (d ∷ ds) r
     go true f e h =
         let i = h e in
         record {
@@ -84,8 +97,8 @@ pub record Passes (p : Policy) (o : Option Item) (ds r out : List ℕ) : Type 0 
 -- The tests 5, 6 and 8 by their answers.
 abbrev pub tested : Bool → ℕ → Option Refusal → Bool → List ℕ → List ℕ → After MendAnswer ℕ
 tested a n q b r out =
-    orElse (cond (not a) (some (WrongNumberOfDecisions n)) q) (λ (f : Refusal). kept (Refused f) out)
-    (cond b (written (Mended (length r)) r out) (kept (Refused (OutputTooShort (length r))) out))
+    orElse (cond (not a) (some (WrongNumberOfDecisions n)) q) (λ (f : Refusal). unwritten (Refused f) out)
+    (cond b (written (Mended (length r)) r out) (unwritten (Refused (OutputTooShort (length r))) out))
 
 module _ (p : Policy) where
   pub passes-written : {o : Option Item} {ds r out : List ℕ} → Passes p o ds r out → judge p o ds r out ≡ written (Mended (length r)) r out
@@ -102,24 +115,35 @@ module _ (p : Policy) where
   mended-passes none ds r out e = absurd (false≢true e)
   mended-passes (some x) ds r out e = go (eqb (length ds) (wanted p x)) (badDecision 0 ds) (leb (length r) (length out)) refl refl refl e
     where
-      go : (a : Bool) (q : Option Refusal) (b : Bool) → eqb (length ds) (wanted p x) ≡ a → badDecision 0 ds ≡ q → leb (length r) (length out) ≡ b
+      go : (a : Bool) (q : Option Refusal) (b : Bool) → eqb (length ds) (wanted p x) ≡ a → badDecision 0 ds ≡ q
+          → leb (length r) (length out) ≡ b
           → isMended (tested a (wanted p x) q b r out .answer) ≡ true → Passes p (some x) ds r out
-      go true none true f g h e = record { item = x; found-it = refl; as-many = eqb-true _ _ f; valid = bad-none 0 ds g; fits = leb-true _ _ h }
+      go true none true f g h e = record {
+        item = x;
+        found-it = refl;
+        as-many = eqb-true _ _ f;
+        valid = bad-none 0 ds g;
+        fits =
+            leb-true _ _ h;
+      }
       go true none false f g h e = absurd (false≢true e)
       go true (some i) b f g h e = absurd (false≢true e)
       go false q b f g h e = absurd (false≢true e)
 
   -- What an accepted call writes is the text that was handed in.
-  pub mended-written : (o : Option Item) (ds r out : List ℕ) → isMended (judge p o ds r out .answer) ≡ true → judge p o ds r out ≡ written (Mended (length r)) r out
+  pub mended-written : (o : Option Item) (ds r out : List ℕ) → isMended (judge p o ds r out .answer) ≡ true → judge p o ds r out
+      ≡ written (Mended (length r)) r out
   mended-written o ds r out e = passes-written (mended-passes o ds r out e)
 
   -- A refused call leaves the buffer.
-  pub refused-kept : (o : Option Item) (ds r out : List ℕ) → isMended (judge p o ds r out .answer) ≡ false → judge p o ds r out .buffer ≡ out
+  pub refused-kept : (o : Option Item) (ds r out : List ℕ) → isMended (judge p o ds r out .answer) ≡ false → judge p o ds r out .buffer
+      ≡ out
   unfolding judge decisionsRefusal
   refused-kept none ds r out e = refl
   refused-kept (some x) ds r out e = go (eqb (length ds) (wanted p x)) (badDecision 0 ds) (leb (length r) (length out)) e
     where
-      go : (a : Bool) (q : Option Refusal) (b : Bool) → isMended (tested a (wanted p x) q b r out .answer) ≡ false → tested a (wanted p x) q b r out .buffer ≡ out
+      go : (a : Bool) (q : Option Refusal) (b : Bool) → isMended (tested a (wanted p x) q b r out .answer) ≡ false
+          → tested a (wanted p x) q b r out .buffer ≡ out
       go true none true e = absurd (true≢false e)
       go true none false e = refl
       go true (some i) b e = refl
@@ -127,17 +151,17 @@ module _ (p : Policy) where
 
 -- ---- the book's test
 
-abbrev pub itemAt : Option Opening → Option Item
+abbrev pub itemAt : Option OpenFinding → Option Item
 itemAt none = none
 itemAt (some o) = some (o .item)
 
-pub opening-finding : (o : ℕ) (os : List Opening) → findingAt o (map atPlace os) ≡ itemAt (openingAt o os)
-unfolding findingAt openingAt
+pub opening-finding : (o : ℕ) (os : List OpenFinding) → findingAt o (map atPlace os) ≡ itemAt (openFindingAt o os)
+unfolding findingAt openFindingAt
 opening-finding o [] = refl
 opening-finding o (x ∷ os) = go (eqb (place x) o) (opening-finding o os)
   where
-    go : (b : Bool) → findingAt o (map atPlace os) ≡ itemAt (openingAt o os)
-        → cond b (some (x .item)) (findingAt o (map atPlace os)) ≡ itemAt (cond b (some x) (openingAt o os))
+    go : (b : Bool) → findingAt o (map atPlace os) ≡ itemAt (openFindingAt o os)
+        → cond b (some (x .item)) (findingAt o (map atPlace os)) ≡ itemAt (cond b (some x) (openFindingAt o os))
     go true h = refl
     go false h = h
 
@@ -150,7 +174,8 @@ unfolding allBinary badDecision
 binary-none n [] = refl
 binary-none n (d ∷ ds) = go (leb d 1) (binary-none (suc n) ds)
   where
-    go : (b : Bool) → allBinary ds ≡ isNone (badDecision (suc n) ds) → b && allBinary ds ≡ isNone (cond b (badDecision (suc n) ds) (some (BadDecision n)))
+    go : (b : Bool) → allBinary ds ≡ isNone (badDecision (suc n) ds) → b && allBinary ds
+        ≡ isNone (cond b (badDecision (suc n) ds) (some (BadDecision n)))
     go true h = h
     go false h = refl
 
@@ -158,16 +183,19 @@ module _ (policy : List ℕ) where
   -- The tests of a call on the book.
   abbrev pub bookOutcome : List Entry → Call → After MendAnswer ℕ
   bookOutcome es c =
-      judge (policyOf policy) (findingAt (c .offset) (map atPlace (openings policy es))) (c .decisions) (bookText policy (marked policy es c)) (c .out)
+      judge (policyOf policy) (findingAt (c .offset) (map atPlace (openFindings policy es))) (c .decisions)
+      (bookText policy (marked policy es c)) (c .out)
 
-  mends-at : (es : List Entry) (c : Call) (o : Option Opening)
-      → mendsAt policy es c o ≡ isMended (judge (policyOf policy) (itemAt o) (c .decisions) (bookText policy (marked policy es c)) (c .out) .answer)
+  mends-at : (es : List Entry) (c : Call) (o : Option OpenFinding)
+      → mendsAt policy es c o ≡ isMended
+      (judge (policyOf policy) (itemAt o) (c .decisions) (bookText policy (marked policy es c)) (c .out) .answer)
   unfolding mendsAt judge decisionsRefusal
   mends-at es c none = refl
   mends-at es c (some o) =
       let a = eqb (length (c .decisions)) (wanted (policyOf policy) (o .item)) in
       let b = leb (length (bookText policy (marked policy es c))) (length (c .out)) in
-      ap (λ (t : Bool). a && (t && b)) (binary-none 0 (c .decisions)) ∙ go a (badDecision 0 (c .decisions)) b (wanted (policyOf policy) (o .item))
+      ap (λ (t : Bool). a && (t && b)) (binary-none 0 (c .decisions))
+      ∙ go a (badDecision 0 (c .decisions)) b (wanted (policyOf policy) (o .item))
     where
       go : (a : Bool) (q : Option Refusal) (b : Bool) (n : ℕ)
           → a && (isNone q && b) ≡ isMended (tested a n q b (bookText policy (marked policy es c)) (c .out) .answer)
@@ -179,6 +207,7 @@ module _ (policy : List ℕ) where
   -- A call mends by the book exactly when it is accepted by the tests.
   pub mends-is : (es : List Entry) (c : Call) → mends policy es c ≡ isMended (bookOutcome es c .answer)
   mends-is es c =
-      mends-at es c (openingAt (c .offset) (openings policy es))
-      ∙ ap (λ (o : Option Item). isMended (judge (policyOf policy) o (c .decisions) (bookText policy (marked policy es c)) (c .out) .answer))
-      (sym (opening-finding (c .offset) (openings policy es)))
+      mends-at es c (openFindingAt (c .offset) (openFindings policy es))
+      ∙ ap (λ (o : Option Item). isMended
+      (judge (policyOf policy) o (c .decisions) (bookText policy (marked policy es c)) (c .out) .answer))
+      (sym (opening-finding (c .offset) (openFindings policy es)))

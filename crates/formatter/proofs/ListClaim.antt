@@ -17,8 +17,24 @@ use Rattle.analysis.specs.Analysis.{isFinding}
 use Rattle.analysis.specs.Cells.{selectorCount}
 use Rattle.analysis.specs.Counts.{_⊕_, adding, removing}
 use Rattle.analysis.specs.declared.types.NonCanonicality.{NonCanonicality}
-use Rattle.formatter.specs.Book.{Mending, atFirst, atPlace, bookStep, bookText, firstBook, itemsOf, marked, mends, openings}
-use Rattle.formatter.specs.Demand3.{Accepted, Alike, FirstRefusal, ListClaim, acceptedCalls, book, given, isMended, mendedFrom, mendedItems, mendings, openRow, outcome, seen, text}
+use Rattle.formatter.specs.Book.{Mending, atFirst, atPlace, bookStep, bookText, firstBook, itemsOf, marked, mends, openFindings}
+use Rattle.formatter.specs.Demand3.{
+  Accepted,
+  Alike,
+  FirstRefusal,
+  ListClaim,
+  acceptedCalls,
+  book,
+  given,
+  isMended,
+  mendedFrom,
+  mendedItems,
+  mendings,
+  openRow,
+  callOutcome,
+  seen,
+  text,
+}
 use Rattle.analysis.specs.Findings.{totals}
 use Rattle.formatter.specs.Findings.{findings, textTotals}
 use Rattle.formatter.specs.Format.{formatItems}
@@ -36,10 +52,29 @@ use Rattle.formatter.proofs.Marks.{foundTotals, open-number, split-tota
 use Rattle.formatter.proofs.Alike.{alike-of, alike-sym, alike-trans}
 use Rattle.formatter.proofs.Order.{places-add, same-chars}
 use Rattle.formatter.proofs.Acceptance.{names-iff, refusal-first, refusal-kept}
-use Rattle.formatter.proofs.Calls.{Sound, accepted-book, accepted-same, book-writes, call-same, decoded-book, findings-book, findings-open}
+use Rattle.formatter.proofs.Calls.{
+  Sound,
+  accepted-book,
+  accepted-same,
+  book-writes,
+  call-same,
+  decoded-book,
+  findings-book,
+  findings-open,
+}
 use Rattle.formatter.proofs.Runs.{book-append, list-items, list-log, list-number, list-sound, list-text, one-book}
 use Rattle.formatter.proofs.Splicing.{fresh-items, openings-are}
-use Rattle.formatter.proofs.FirstBook.{first-found, first-sound, first-text, format-as, fresh-log, fresh-number, open-none, totals-is, whole}
+use Rattle.formatter.proofs.FirstBook.{
+  first-found,
+  first-sound,
+  first-text,
+  format-as,
+  fresh-log,
+  fresh-number,
+  open-none,
+  totals-is,
+  whole,
+}
 
 module _ (policy : List ℕ) where
   abbrev P : Policy
@@ -52,7 +87,8 @@ module _ (policy : List ℕ) where
     ok = a .is-policy
 
     text-is : (cs : List Call) → text policy b cs ≡ bookText policy (book policy b cs)
-    text-is cs = ap (λ (t : List ℕ). textAfter t policy cs) (sym (first-text policy b a)) ∙ list-text policy ok (firstBook policy b) cs (first-sound policy b a h)
+    text-is cs = ap (λ (t : List ℕ). textAfter t policy cs) (sym (first-text policy b a))
+        ∙ list-text policy ok (firstBook policy b) cs (first-sound policy b a h)
 
     sound-is : (cs : List Call) → Sound policy (book policy b cs)
     sound-is cs = list-sound policy ok (firstBook policy b) cs (first-sound policy b a h)
@@ -63,31 +99,35 @@ module _ (policy : List ℕ) where
     join-is : (cs : List Call) → join (itemsOf (book policy b cs)) ≡ chars b
     join-is cs = ap join (items-are cs) ∙ tiling (chars b)
 
-    call-is : (before : List Call) (c : Call) → outcome policy b before c ≡ bookOutcome policy (book policy b before) c
-    call-is before c = ap (λ (t : List ℕ). mendCall t policy c) (text-is before) ∙ call-same policy ok (book policy b before) c (sound-is before)
+    call-is : (before : List Call) (c : Call) → callOutcome policy b before c ≡ bookOutcome policy (book policy b before) c
+    call-is before c = ap (λ (t : List ℕ). mendCall t policy c) (text-is before)
+        ∙ call-same policy ok (book policy b before) c (sound-is before)
 
-    accepted-is : (before : List Call) (c : Call) → isMended (outcome policy b before c .answer) ≡ mends policy (book policy b before) c
+    accepted-is : (before : List Call) (c : Call) → isMended (callOutcome policy b before c .answer) ≡ mends policy (book policy b before) c
     accepted-is before c =
-        ap (λ (t : List ℕ). isMended (mendCall t policy c .answer)) (text-is before) ∙ accepted-same policy ok (book policy b before) c (sound-is before)
+        ap (λ (t : List ℕ). isMended (mendCall t policy c .answer)) (text-is before)
+        ∙ accepted-same policy ok (book policy b before) c (sound-is before)
 
     log-is : (cs : List Call) → Alike (mendedFrom 0 (book policy b cs)) (given policy b cs)
     log-is cs =
         let B = firstBook policy b in
         subst (λ (t : List ℕ). Alike (mendedFrom 0 (book policy b cs)) (mendings policy t B cs)) (first-text policy b a)
         (alike-trans (list-log policy ok B cs (first-sound policy b a h))
-        (alike-of (ap (λ (l : List Mending). mendings policy (bookText policy B) B cs ++ l) (fresh-log policy 0 (items (chars b))) ∙ append-nil (mendings policy (bookText policy B) B cs))))
+        (alike-of (ap (λ (l : List Mending). mendings policy (bookText policy B) B cs ++ l) (fresh-log policy 0 (items (chars b)))
+        ∙ append-nil (mendings policy (bookText policy B) B cs))))
 
     step-book : (before : List Call) (c : Call) → book policy b (before ++ c ∷ []) ≡ bookStep policy (book policy b before) c
     step-book before c = book-append policy ok (firstBook policy b) before (c ∷ []) ∙ one-book policy ok (book policy b before) c
 
-    step-text : (before : List Call) (c : Call) → text policy b (before ++ c ∷ []) ≡ bookText policy (bookStep policy (book policy b before) c)
+    step-text : (before : List Call) (c : Call) → text policy b (before ++ c ∷ [])
+        ≡ bookText policy (bookStep policy (book policy b before) c)
     step-text before c = text-is (before ++ c ∷ []) ∙ ap (bookText policy) (step-book before c)
 
     pub list-claim : (cs : List Call) → ListClaim policy b cs
     list-claim cs =
         let E = book policy b cs in
         let S = sound-is cs in
-        let O = openings policy E in
+        let O = openFindings policy E in
         record {
           accepted = λ before c e.
               let n = names-iff policy ok (book policy b before) c (sound-is before .base) in (
@@ -97,13 +137,16 @@ module _ (policy : List ℕ) where
           writes = λ before c e i.
               let D = book policy b before in
               let m : mends policy D c ≡ true = sym (accepted-is before c) ∙ i in
-              let t : text policy b (before ++ c ∷ []) ≡ bookText policy (marked policy D c) = step-text before c ∙ ap (λ (q : Bool). bookText policy (cond q (marked policy D c) D)) m in
-              call-is before c ∙ book-writes policy ok D c m ∙ ap (λ (t : List ℕ). record { answer = Mended (length t); buffer = t ++ drop (length t) (c .out) }) (sym t);
+              let t : text policy b (before ++ c ∷ []) ≡ bookText policy (marked policy D c) = step-text before c
+              ∙ ap (λ (q : Bool). bookText policy (cond q (marked policy D c) D)) m in
+              call-is before c ∙ book-writes policy ok D c m
+              ∙ ap (λ (t : List ℕ). record { answer = Mended (length t); buffer = t ++ drop (length t) (c .out) }) (sym t);
           turned-back = λ before c e i.
               let D = book policy b before in
               let m : mends policy D c ≡ false = sym (accepted-is before c) ∙ i in
               let s : book policy b (before ++ c ∷ []) ≡ D = step-book before c ∙ ap (λ (q : Bool). cond q (marked policy D c) D) m in (
-                subst (λ (x : After MendAnswer ℕ). FirstRefusal policy D c (x .answer)) (sym (call-is before c)) (refusal-first policy ok D c (sound-is before .base) m),
+                subst (λ (x : After MendAnswer ℕ). FirstRefusal policy D c (x .answer)) (sym (call-is before c))
+                    (refusal-first policy ok D c (sound-is before .base) m),
                 ap (λ (x : After MendAnswer ℕ). x .buffer) (call-is before c) ∙ refusal-kept policy ok D c m,
                 s,
                 text-is (before ++ c ∷ []) ∙ ap (bookText policy) s ∙ sym (text-is before),
@@ -114,21 +157,25 @@ module _ (policy : List ℕ) where
           only-findings = S .right;
           as-given = log-is cs;
           places = places-add P 0 0 0 E (omega arith);
-          listed = λ table r. ap (λ (t : List ℕ). list t policy table) (text-is cs) ∙ list-book policy ok E table S ∙ room-rows (map (openRow P) O) table (length O) (length-map O (openRow P)) r;
-          unlisted = λ table r. ap (λ (t : List ℕ). list t policy table) (text-is cs) ∙ list-book policy ok E table S ∙ short-rows (map (openRow P) O) table (length O) (length-map O (openRow P)) r;
+          listed = λ table r. ap (λ (t : List ℕ). list t policy table) (text-is cs) ∙ list-book policy ok E table S
+              ∙ room-rows (map (openRow P) O) table (length O) (length-map O (openRow P)) r;
+          unlisted = λ table r. ap (λ (t : List ℕ). list t policy table) (text-is cs) ∙ list-book policy ok E table S
+              ∙ short-rows (map (openRow P) O) table (length O) (length-map O (openRow P)) r;
           listed-bytes = λ table r.
               ap (λ (t : List ℕ). listBytes t policy table) (text-is cs) ∙ list-book-bytes policy ok E table S
               ∙ filled rowNumbers rowBytes length-row (omega arith) (map (openRow P) O) table (sym (length-map O (openRow P))) r;
           unlisted-bytes = λ table r.
               ap (λ (t : List ℕ). listBytes t policy table) (text-is cs) ∙ list-book-bytes policy ok E table S
               ∙ not-filled rowNumbers rowBytes length-row (omega arith) (map (openRow P) O) table (sym (length-map O (openRow P))) r;
-          were-findings = λ o i. subst (List·Memᴰ (atFirst o)) (ap (found (isFinding P) width 0) (items-are cs) ∙ sym (first-found policy b)) (first-finding P 0 0 0 E o i);
+          were-findings = λ o i. subst (List·Memᴰ (atFirst o))
+              (ap (found (isFinding P) width 0) (items-are cs) ∙ sym (first-found policy b)) (first-finding P 0 0 0 E o i);
           unaltered =
               ap (λ (t : List ℕ). map (seen P t) (findings t policy)) (text-is cs) ∙ seen-same policy ok E (S .base)
               ∙ ap (λ (t : List ℕ). map (seen P t) (map atFirst O)) (ap encodeAll (join-is cs) ∙ whole policy b a);
           eight-totals =
               ap (λ (t : List ℕ). textTotals t policy ⊕ totals P (mendedItems E)) (text-is cs)
-              ∙ ap (λ (n : NonCanonicality). n ⊕ totals P (mendedItems E)) (totals-is policy (bookText policy E) ∙ ap (foundTotals P) (findings-book policy ok E (S .base)))
+              ∙ ap (λ (n : NonCanonicality). n ⊕ totals P (mendedItems E))
+              (totals-is policy (bookText policy E) ∙ ap (foundTotals P) (findings-book policy ok E (S .base)))
               ∙ split-totals P 0 0 (S .right) ∙ ap (λ (l : List Item). foundTotals P (found (isFinding P) width 0 l)) (items-are cs)
               ∙ ap (foundTotals P) (sym (first-found policy b)) ∙ sym (totals-is policy b);
           number =
@@ -143,14 +190,19 @@ module _ (policy : List ℕ) where
                 ap length (first-found policy b),
               );
           any-order = λ ds i.
-              text-is cs ∙ ap encodeAll (same-chars P E (book policy b ds) (items-are cs ∙ sym (items-are ds)) (S .base .full) (alike-trans (log-is cs) (alike-trans i (alike-sym (log-is ds)))))
+              text-is cs ∙ ap encodeAll (same-chars P E (book policy b ds) (items-are cs ∙ sym (items-are ds)) (S .base .full)
+              (alike-trans (log-is cs) (alike-trans i (alike-sym (log-is ds)))))
               ∙ sym (text-is ds);
           none-left = λ z. ap (λ (t : List ℕ). findings t policy) (text-is cs) ∙ findings-open policy ok E (S .base) ∙ ap (map atPlace) z;
-          by-default = λ z d. text-is cs ∙ ap encodeAll (default-book P 0 (open-none policy E z) (S .right) d ∙ ap (formatItems P) (items-are cs)) ∙ format-as policy b;
+          by-default = λ z d. text-is cs ∙ ap encodeAll
+              (default-book P 0 (open-none policy E z) (S .right) d ∙ ap (formatItems P) (items-are cs)) ∙ format-as policy b;
           selectors-number =
-              ap (λ (t : List ℕ). selectorCount t + removing (totals P (mendedItems E))) (ap chars (text-is cs) ∙ decoded-book policy ok E (S .base))
+              ap (λ (t : List ℕ). selectorCount t + removing (totals P (mendedItems E)))
+              (ap chars (text-is cs) ∙ decoded-book policy ok E (S .base))
               ∙ balance-book P E (S .base .derived) ∙ ap (λ (t : List ℕ). selectorCount t + adding (totals P (mendedItems E))) (join-is cs);
           others =
-              ap (λ (t : List ℕ). strip (chars t)) (text-is cs) ∙ ap strip (decoded-book policy ok E (S .base)) ∙ strip-book P E (S .base .derived) ∙ ap strip (join-is cs);
-          bounded = λ before later e. subst (Accepted policy) (sym (text-is before)) (accepted-book policy ok (book policy b before) (sound-is before));
+              ap (λ (t : List ℕ). strip (chars t)) (text-is cs) ∙ ap strip (decoded-book policy ok E (S .base))
+              ∙ strip-book P E (S .base .derived) ∙ ap strip (join-is cs);
+          bounded = λ before later e. subst (Accepted policy) (sym (text-is before))
+              (accepted-book policy ok (book policy b before) (sound-is before));
         }

@@ -11,14 +11,14 @@ use Rattle.scanner.specs.Classes.{classOf}
 use Rattle.scanner.specs.declared.char_class.Class.{Class}
 use Rattle.scanner.specs.declared.char_class.Class.the-variants.{Selector as selector}
 use Rattle.scanner.specs.Grammar.{Derives}
-use Rattle.scanner.specs.Items.{Item, begin, items, join, kindOf}
-use Rattle.scanner.specs.declared.place.Place.{Place}
-use Rattle.scanner.specs.declared.place.Place.the-variants.{Plain as plain}
+use Rattle.scanner.specs.Items.{Item, startState, items, join, kindOf}
+use Rattle.scanner.specs.declared.state.State.{State}
+use Rattle.scanner.specs.declared.state.State.the-variants.{Plain as plain}
 use Rattle.scanner.specs.Spans.{Found, found, size, width}
 use Rattle.scanner.specs.Theorems.{Structured}
 use Rattle.scanner.specs.declared.ScanKind.{ScanKind}
 use Rattle.scanner.specs.declared.ScanKind.the-variants.{EmojiHeaded, LinksOnly, Passthrough, UnsanctionedPresentationSelectors}
-use Rattle.scanner.proofs.Places.{inner, kind-emoji, kind-links, kind-selector, selector-ends}
+use Rattle.scanner.proofs.States.{inner, kind-emoji, kind-links, kind-selector, selector-ends}
 use Rattle.scanner.proofs.Rescan.{found-again, found-none}
 use Rattle.scanner.proofs.Walk.{Chain, Ends, Walk, done, merges, stops, then, weaken}
 use Rattle.analysis.specs.Analysis.{isFinding, replacement}
@@ -66,27 +66,31 @@ module _ (p : Policy) where
   unfolding after bookChars
   join-after [] = refl
   join-after (e ∷ es) =
-      join-one (e .mark) (e .item .kind) (e .item) (after es) refl ∙ ap (λ (l : List ℕ). entryChars p (e .mark) (e .item) ++ l) (join-after es)
+      join-one (e .mark) (e .item .kind) (e .item) (after es) refl ∙ ap (λ (l : List ℕ). entryChars p (e .mark) (e .item) ++ l)
+      (join-after es)
 
-  ends-selector : {a : Place} → Ends a selector → a ≡ plain
+  ends-selector : {a : State} → Ends a selector → a ≡ plain
   ends-selector {a} (stops e) = selector-ends a e
   ends-selector (merges e) = e
 
-  chain-inner : {a b : Place} {ys : List Item} (x : Item) (ds : List Presentation) (c : ℕ) (s : List ℕ) → Structured (x .kind) → inner (begin (classOf c)) ≡ true
-      → Ends a (classOf c) → x .kind ≡ kindOf (begin (classOf c)) → x .chars ≡ c ∷ s → Walk (begin (classOf c)) s b → Chain b ys → Chain a (replaced x ds ∷ ys)
+  chain-inner : {a b : State} {ys : List Item} (x : Item) (ds : List Presentation) (c : ℕ) (s : List ℕ) → Structured (x .kind)
+      → inner (startState (classOf c)) ≡ true
+      → Ends a (classOf c) → x .kind ≡ kindOf (startState (classOf c)) → x .chars ≡ c ∷ s → Walk (startState (classOf c)) s b → Chain b ys
+      → Chain a (replaced x ds ∷ ys)
   chain-inner x ds c s o i en k l w h = then c (renewed p c s ds) en k (replacement-cons p x ds c s o i l) (renewed-walk p c s ds i w) h
 
-  chain-one : {a b : Place} {ys : List Item} (x : Item) (m : Mark) (j : ScanKind) (c : ℕ) (s : List ℕ) → x .kind ≡ j → Ends a (classOf c)
-      → x .kind ≡ kindOf (begin (classOf c)) → x .chars ≡ c ∷ s → Walk (begin (classOf c)) s b → Chain b ys → Chain a (afterOne m j x ys)
+  chain-one : {a b : State} {ys : List Item} (x : Item) (m : Mark) (j : ScanKind) (c : ℕ) (s : List ℕ) → x .kind ≡ j → Ends a (classOf c)
+      → x .kind ≡ kindOf (startState (classOf c)) → x .chars ≡ c ∷ s → Walk (startState (classOf c)) s b → Chain b ys
+      → Chain a (afterOne m j x ys)
   chain-one x untouched j c s e en k l w h = then c s en k l w h
   chain-one x (mended ds) Passthrough c s e en k l w h = then c s en k (replacement-plain p x ds e ∙ l) w h
   chain-one {a} {b} {ys} x (mended ds) UnsanctionedPresentationSelectors c s e en k l w h =
       let z : classOf c ≡ selector = kind-selector (classOf c) (sym k ∙ e) in
-      subst (λ (a : Place). Chain a ys) (sym (ends-selector (subst (λ (k : Class). Ends a k) z en))) (weaken h)
+      subst (λ (a : State). Chain a ys) (sym (ends-selector (subst (λ (k : Class). Ends a k) z en))) (weaken h)
   chain-one x (mended ds) LinksOnly c s e en k l w h = chain-inner x ds c s (inl e) (kind-links (classOf c) (sym k ∙ e)) en k l w h
   chain-one x (mended ds) EmojiHeaded c s e en k l w h = chain-inner x ds c s (inr e) (kind-emoji (classOf c) (sym k ∙ e)) en k l w h
 
-  chain-after : {a : Place} (es : List Entry) → Chain a (itemsOf es) → Chain a (after es)
+  chain-after : {a : State} (es : List Entry) → Chain a (itemsOf es) → Chain a (after es)
   unfolding after
   chain-after [] h = done
   chain-after (e ∷ es) (then c s en k l w h) = chain-one (e .item) (e .mark) (e .item .kind) c s refl en k l w (chain-after es h)
@@ -97,9 +101,11 @@ module _ (p : Policy) where
   found-one : (m : Mark) (k : ScanKind) (x : Item) (ys : List Item) (es : List Entry) → x .kind ≡ k
       → ((n : ℕ) → found (isFinding p) width n ys ≡ openFound n es) → (n : ℕ)
       → found (isFinding p) width n (afterOne m k x ys)
-      ≡ cond (isOpen m && isFinding p x) (record { start = n; item = x } ∷ openFound (n + size width (entryChars p m x)) es) (openFound (n + size width (entryChars p m x)) es)
+      ≡ cond (isOpen m && isFinding p x) (record { start = n; item = x } ∷ openFound (n + size width (entryChars p m x)) es)
+      (openFound (n + size width (entryChars p m x)) es)
   unfolding found
-  found-one untouched k x ys es e h n = ap (λ (l : List Found). cond (isFinding p x) (record { start = n; item = x } ∷ l) l) (h (n + size width (x .chars)))
+  found-one untouched k x ys es e h n = ap (λ (l : List Found). cond (isFinding p x) (record { start = n; item = x } ∷ l) l)
+      (h (n + size width (x .chars)))
   found-one (mended ds) Passthrough x ys es e h n = found-none (isFinding p) width n (replaced x ds) ys (replaced-fails x ds) ∙ h _
   found-one (mended ds) UnsanctionedPresentationSelectors x ys es e h n =
       h n ∙ ap (λ (m : ℕ). openFound m es) (sym (ap (λ (l : List ℕ). n + size width l) (replacement-selectors p x ds e) ∙ add-zero n))

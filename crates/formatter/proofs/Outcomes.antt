@@ -21,7 +21,7 @@ use Rattle.formatter.specs.List.{list, listBytes, rowBytes, rowNumbers}
 use Rattle.analysis.specs.Decisions.{judge, meaning}
 use Rattle.analysis.specs.Findings.{findingAt}
 use Rattle.formatter.specs.Mend.{exchanged, mend}
-use Rattle.base.specs.Refusals.{After, kept, orElse, textLimit}
+use Rattle.base.specs.Refusals.{After, unwritten, orElse, textLimit}
 use Rattle.formatter.specs.Intake.{intakeRefusal}
 use Rattle.formatter.specs.Theorems.{FiledIsFormatted, IntakeComesFirst, IntakeInOrder}
 use Rattle.formatter.specs.declared.FormatAnswer.{FormatAnswer}
@@ -41,7 +41,8 @@ in-order text policy = (
   (λ h. too-long text policy (omega arith)),
   (λ r h e. policy-first text policy r h e),
   (λ h e w.
-      intake-is text policy (le-leb (length text) 16777216 h) e (ne-eqb (validUpTo text) (length text) (λ i. w (whole-well-formed text i)))),
+      intake-is text policy (le-leb (length text) 16777216 h) e
+      (ne-eqb (validUpTo text) (length text) (λ i. w (whole-well-formed text i)))),
   pass-intake policy text,
 )
 
@@ -50,12 +51,16 @@ unfolding IntakeComesFirst format list listBytes mend
 comes-first text policy r e =
     let F = formatted text policy in
     let p = policyOf policy in (
-      (λ out. ap (λ (o : Option Refusal). orElse o (λ (f : Refusal). kept (Format.Refused f) out) (formatTests (sameBytes F text) (leb (length F) (length out)) F out)) e),
-      (λ table. ap (λ (o : Option Refusal). orElse o (λ (f : Refusal). kept (Listing.Refused f) table) (listRows (map (findingRow p) (findings text policy)) table)) e),
-      (λ table. ap (λ (o : Option Refusal). orElse o (λ (f : Refusal). kept (Listing.Refused f) table) (fillTable rowNumbers rowBytes (map (findingRow p) (findings text policy)) table)) e),
+      (λ out. ap (λ (o : Option Refusal). orElse o (λ (f : Refusal). unwritten (Format.Refused f) out)
+          (formatTests (sameBytes F text) (leb (length F) (length out)) F out)) e),
+      (λ table. ap (λ (o : Option Refusal). orElse o (λ (f : Refusal). unwritten (Listing.Refused f) table)
+          (listRows (map (findingRow p) (findings text policy)) table)) e),
+      (λ table. ap (λ (o : Option Refusal). orElse o (λ (f : Refusal). unwritten (Listing.Refused f) table)
+          (fillTable rowNumbers rowBytes (map (findingRow p) (findings text policy)) table)) e),
       (λ offset ds out.
           let x = findingAt offset (findings text policy) in
-          ap (λ (o : Option Refusal). orElse o (λ (f : Refusal). kept (Mend.Refused f) out) (judge p x ds (exchanged text p offset (map meaning ds) x) out)) e),
+          ap (λ (o : Option Refusal). orElse o (λ (f : Refusal). unwritten (Mend.Refused f) out)
+          (judge p x ds (exchanged text p offset (map meaning ds) x) out)) e),
     )
 
 -- A text within the limit, and the policy fits: what the number of its well-formed bytes says.
@@ -64,7 +69,8 @@ module _ (text policy : List ℕ) (short : length text ≤ textLimit) (fit : isP
   all-well-formed l = record { short = short; is-policy = fit; well-formed = whole-well-formed text (sym e ∙ l) }
 
   pub not-well-formed : (n ≡ length text → ⊥) → intakeRefusal text policy ≡ some (NotWellFormed n)
-  not-well-formed l = intake-is text policy (le-leb (length text) textLimit short) fit (ne-eqb _ _ (λ f. l (e ∙ f))) ∙ ap (λ (k : ℕ). some (NotWellFormed k)) (sym e)
+  not-well-formed l = intake-is text policy (le-leb (length text) textLimit short) fit (ne-eqb _ _ (λ f. l (e ∙ f)))
+      ∙ ap (λ (k : ℕ). some (NotWellFormed k)) (sym e)
 
 -- What is filed, by the answers of the tests.
 filed-tests : (same fits : Bool) (text r out : List ℕ) (len : ℕ) → (same ≡ true → r ≡ text)
@@ -77,7 +83,8 @@ filed-tests false true text r out len s = (
       let n : length r ≡ len = cc in
       let b = r ++ drop (length r) out in
       ap (λ (n : ℕ). cond (leb n (length b)) (take n b) b) (sym n)
-      ∙ ap (λ (q : Bool). cond q (take (length r) b) b) (le-leb (length r) (length b) (omega (arith, length-append r (drop (length r) out))))
+      ∙ ap (λ (q : Bool). cond q (take (length r) b) b)
+      (le-leb (length r) (length b) (omega (arith, length-append r (drop (length r) out))))
       ∙ take-append-seam r (drop (length r) out)),
   (λ e. cc),
 )
@@ -89,6 +96,8 @@ filed text policy out len a =
     let F = formatted text policy in
     let q = format-is policy text out a in
     let t = filed-tests (sameBytes F text) (leb (length F) (length out)) text F out len (same-true F text) in (
-      (λ e. ap (λ (x : After FormatAnswer ℕ). filedText text (x .buffer) true len) q ∙ t .0 (ap (λ (x : After FormatAnswer ℕ). x .answer) (sym q) ∙ e)),
-      (λ e. ap (λ (x : After FormatAnswer ℕ). filedText text (x .buffer) false len) q ∙ t .1 (ap (λ (x : After FormatAnswer ℕ). x .answer) (sym q) ∙ e)),
+      (λ e. ap (λ (x : After FormatAnswer ℕ). filedText text (x .buffer) true len) q
+          ∙ t .0 (ap (λ (x : After FormatAnswer ℕ). x .answer) (sym q) ∙ e)),
+      (λ e. ap (λ (x : After FormatAnswer ℕ). filedText text (x .buffer) false len) q
+          ∙ t .1 (ap (λ (x : After FormatAnswer ℕ). x .answer) (sym q) ∙ e)),
     )

@@ -29,7 +29,8 @@ byTests short fit formed fault text =
     cond (not short) (some TextTooLong)
     (orElse (cond fit none (some fault)) some (cond (not formed) (some (NotWellFormed (validUpTo text))) none))
 
-pub intake-is : (text policy : List ℕ) {a b f : Bool} → leb (length text) textLimit ≡ a → isPolicy policy ≡ b → eqb (validUpTo text) (length text) ≡ f
+pub intake-is : (text policy : List ℕ) {a b f : Bool} → leb (length text) textLimit ≡ a → isPolicy policy ≡ b
+    → eqb (validUpTo text) (length text) ≡ f
     → intakeRefusal text policy ≡ byTests a b f (policyFault policy) text
 unfolding intakeRefusal policyRefusal
 intake-is text policy {a} {b} {f} p q r =
@@ -74,7 +75,8 @@ some-none r e = let z : _≡_ {A = ℕ} 0 1 = cc in omega arith
 pub passed-accepted : (text policy : List ℕ) → intakeRefusal text policy ≡ none → Accepted policy text
 passed-accepted text policy e = go (leb (length text) textLimit) (isPolicy policy) (eqb (validUpTo text) (length text)) refl refl refl
   where
-    go : (a b f : Bool) → leb (length text) textLimit ≡ a → isPolicy policy ≡ b → eqb (validUpTo text) (length text) ≡ f → Accepted policy text
+    go : (a b f : Bool) → leb (length text) textLimit ≡ a → isPolicy policy ≡ b → eqb (validUpTo text) (length text) ≡ f
+        → Accepted policy text
     go true true true p q r = record { short = leb-true _ _ p; is-policy = q; well-formed = whole-well-formed text (eqb-true _ _ r) }
     go true true false p q r = absurd (some-none (NotWellFormed (validUpTo text)) (sym (intake-is text policy p q r) ∙ e))
     go true false f p q r = absurd (some-none (policyFault policy) (sym (intake-is text policy p q r) ∙ e))

@@ -9,11 +9,11 @@ use Rattle.unicode.specs.declared.presentation.Presentation.{Presentation}
 use Rattle.policy.specs.declared.Policy.{Policy}
 use Rattle.scanner.specs.Classes.{classOf, strip}
 use Rattle.scanner.specs.Grammar.{Derives}
-use Rattle.scanner.specs.Items.{Item, begin}
+use Rattle.scanner.specs.Items.{Item, startState}
 use Rattle.scanner.specs.Spans.{size, width}
 use Rattle.scanner.specs.Theorems.{Structured}
 use Rattle.scanner.specs.declared.ScanKind.the-variants.{EmojiHeaded, LinksOnly, Passthrough, UnsanctionedPresentationSelectors}
-use Rattle.scanner.proofs.Places.{inner}
+use Rattle.scanner.proofs.States.{inner}
 use Rattle.scanner.proofs.Walk.{inner-no-selector}
 use Rattle.analysis.specs.Analysis.{Choice, choices, defaultDecisions, nonCanonicality, render, replacement, replacementOf}
 use Rattle.analysis.specs.Cells.{cells, selectorCount}
@@ -33,7 +33,8 @@ module _ (p : Policy) where
   replacement-selectors x ds e = replacement-at p x ds UnsanctionedPresentationSelectors e
 
   -- The replacement of links or units begins with their first character.
-  pub replacement-cons : (x : Item) (ds : List Presentation) (c : ℕ) (s : List ℕ) → Structured (x .kind) → inner (begin (classOf c)) ≡ true → x .chars ≡ c ∷ s
+  pub replacement-cons : (x : Item) (ds : List Presentation) (c : ℕ) (s : List ℕ) → Structured (x .kind) → inner (startState (classOf c))
+      ≡ true → x .chars ≡ c ∷ s
       → replacement p x ds ≡ c ∷ renewed p c s ds
   unfolding replacementOf
   replacement-cons x ds c s o i l =
@@ -52,7 +53,8 @@ module _ (p : Policy) where
   balances x ds d = balance-of p d ds
 
   -- It is at most four times as long.
-  pub four-times : (x : Item) (ds : List Presentation) → Derives (x .kind) (x .chars) → size width (replacement p x ds) ≤ 4 * size width (x .chars)
+  pub four-times : (x : Item) (ds : List Presentation) → Derives (x .kind) (x .chars)
+      → size width (replacement p x ds) ≤ 4 * size width (x .chars)
   unfolding replacement
   four-times x ds d = Lengths.four-times p d ds
 

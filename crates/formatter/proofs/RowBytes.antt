@@ -13,7 +13,7 @@ use Rattle.base.proofs.TableBytes.{length-rows, rows-append, rows-drop}
 use Rattle.base.specs.Tables.{fillTable, rowsBytes}
 use Rattle.base.proofs.Numbers.{length-bytesOf}
 use Rattle.base.specs.Words.{bytesOf}
-use Rattle.base.specs.Refusals.{After, kept, orElse, written}
+use Rattle.base.specs.Refusals.{After, unwritten, orElse, written}
 use Rattle.base.specs.declared.Refusal.{Refusal}
 use Rattle.base.specs.declared.Refusal.the-variants.{TableTooShort}
 use Rattle.policy.specs.PolicyBytes.{policyOf}
@@ -38,38 +38,43 @@ pub length-item : (x : ScanItem) → length (bytesOf (itemNumbers x)) ≡ itemBy
 unfolding itemNumbers
 length-item x = length-bytesOf (itemNumbers x)
 
--- ---- the call on a table of bytes, behind the intake
+-- ---- the call on a table of bytes, after the intake
 
 pub list-passed : (text policy table : List ℕ) → intakeRefusal text policy ≡ none
     → fillTable rowNumbers rowBytes (map (findingRow (policyOf policy)) (findings text policy)) table ≡ listBytes text policy table
 unfolding listBytes
 list-passed text policy table e =
-    sym (ap (λ (o : Option Refusal). orElse o (λ (r : Refusal). kept (Refused r) table) (fillTable rowNumbers rowBytes (map (findingRow (policyOf policy)) (findings text policy)) table)) e)
+    sym (ap (λ (o : Option Refusal). orElse o (λ (r : Refusal). unwritten (Refused r) table)
+    (fillTable rowNumbers rowBytes (map (findingRow (policyOf policy)) (findings text policy)) table)) e)
 
 -- Listing items, by the answer of the text's tests.
 pub items-by : (text table : List ℕ) {o : Option Refusal} → textRefusal text ≡ o
-    → orElse o (λ (r : Refusal). kept (Refused r) table) (fillTable itemNumbers itemBytes (scan text) table) ≡ listItems text table
+    → orElse o (λ (r : Refusal). unwritten (Refused r) table) (fillTable itemNumbers itemBytes (scan text) table) ≡ listItems text table
 unfolding listItems
 items-by text table e =
-    sym (ap (λ (o : Option Refusal). orElse o (λ (r : Refusal). kept (Refused r) table) (fillTable itemNumbers itemBytes (scan text) table)) e)
+    sym (ap (λ (o : Option Refusal). orElse o (λ (r : Refusal). unwritten (Refused r) table)
+    (fillTable itemNumbers itemBytes (scan text) table)) e)
 
 -- ---- the same as the table of rows
 
--- What listing leaves in a table of rows, as bytes, with further bytes behind the last place.
+-- What listing leaves in a table of rows, as bytes, with further bytes after the last place.
 abbrev asBytesAnd : List ℕ → After ListAnswer Finding → After ListAnswer ℕ
 asBytesAnd rest a = record { answer = a .answer; buffer = rowsBytes rowNumbers (a .buffer) ++ rest }
 
 rows-as : (rows table : List Finding) (rest : List ℕ) (b : Bool) → leb (length rows) (length table) ≡ b
-    → cond b (written (Listed (length rows)) (rowsBytes rowNumbers rows) (rowsBytes rowNumbers table ++ rest)) (kept (Refused (TableTooShort (length rows))) (rowsBytes rowNumbers table ++ rest))
-    ≡ asBytesAnd rest (cond b (written (Listed (length rows)) rows table) (kept (Refused (TableTooShort (length rows))) table))
+    → cond b (written (Listed (length rows)) (rowsBytes rowNumbers rows) (rowsBytes rowNumbers table ++ rest))
+    (unwritten (Refused (TableTooShort (length rows))) (rowsBytes rowNumbers table ++ rest))
+    ≡ asBytesAnd rest (cond b (written (Listed (length rows)) rows table) (unwritten (Refused (TableTooShort (length rows))) table))
 rows-as rows table rest true e =
     let R = rowsBytes rowNumbers rows in
     let T = rowsBytes rowNumbers table in
     let l = length-rows rowNumbers rowBytes length-row rows in
-    let h : length R ≤ length T = omega (arith, l, length-rows rowNumbers rowBytes length-row table, leb-true (length rows) (length table) e) in
+    let h : length R ≤ length T = omega
+    (arith, l, length-rows rowNumbers rowBytes length-row table, leb-true (length rows) (length table) e) in
     let w : R ++ drop (length R) (T ++ rest) ≡ rowsBytes rowNumbers (rows ++ drop (length rows) table) ++ rest =
     ap (λ (l : List ℕ). R ++ l)
-    (drop-append-le (length R) T rest h ∙ ap (λ (n : ℕ). drop n T ++ rest) l ∙ ap (λ (l : List ℕ). l ++ rest) (rows-drop rowNumbers rowBytes length-row (length rows) table))
+    (drop-append-le (length R) T rest h ∙ ap (λ (n : ℕ). drop n T ++ rest) l
+    ∙ ap (λ (l : List ℕ). l ++ rest) (rows-drop rowNumbers rowBytes length-row (length rows) table))
     ∙ sym (append-assoc R (rowsBytes rowNumbers (drop (length rows) table)) rest)
     ∙ ap (λ (l : List ℕ). l ++ rest) (sym (rows-append rowNumbers rows (drop (length rows) table))) in
     ap (λ (o : List ℕ). record { answer = Listed (length rows); buffer = o }) w
@@ -89,9 +94,12 @@ listed-as text policy table rest few = go (intakeRefusal text policy)
     places = omega (arith, length-rows rowNumbers rowBytes length-row table, length-append (rowsBytes rowNumbers table) rest, few)
 
     go : (o : Option Refusal)
-        → orElse o (λ (r : Refusal). kept (Refused r) B) (fillTable rowNumbers rowBytes R B)
-        ≡ asBytesAnd rest (orElse o (λ (r : Refusal). kept (Refused r) table) (cond (leb (length R) (length table)) (written (Listed (length R)) R table) (kept (Refused (TableTooShort (length R))) table)))
+        → orElse o (λ (r : Refusal). unwritten (Refused r) B) (fillTable rowNumbers rowBytes R B)
+        ≡ asBytesAnd rest (orElse o (λ (r : Refusal). unwritten (Refused r) table)
+        (cond (leb (length R) (length table)) (written (Listed (length R)) R table)
+        (unwritten (Refused (TableTooShort (length R))) table)))
     go (some r) = refl
     go none =
-        ap (λ (n : ℕ). cond (leb (length R) n) (written (Listed (length R)) (rowsBytes rowNumbers R) B) (kept (Refused (TableTooShort (length R))) B)) places
+        ap (λ (n : ℕ). cond (leb (length R) n) (written (Listed (length R)) (rowsBytes rowNumbers R) B)
+        (unwritten (Refused (TableTooShort (length R))) B)) places
         ∙ rows-as R table rest (leb (length R) (length table)) refl

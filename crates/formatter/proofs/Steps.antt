@@ -29,7 +29,7 @@ spanAt at x = record { start = at; end = at + size width (x .chars); kind = x .k
 
 -- ---- the analysis at an offset
 
--- The end of an item at an offset lies behind it, and in the text.
+-- The end of an item at an offset lies after it, and in the text.
 pub record Ahead (text : List ℕ) (at end : ℕ) : Type 0 where
   pub some : at < end
   pub room : end ≤ length text
@@ -63,15 +63,17 @@ module _ (p : Policy) (text : List ℕ) (at : ℕ) where
       F = found (isFinding p) width end xs
 
       b : F ≡ findingsFrom p text end
-      b = ap (found (isFinding p) width end) (sym (h .behind))
+      b = ap (found (isFinding p) width end) (sym (h .after))
 
       here : findingsFrom p text at ≡ cond (isFinding p x) (record { start = at; item = x } ∷ F) F
       here = ap (found (isFinding p) width at) e
 
-      go : (f : Bool) → isFinding p x ≡ f → Says (cond f (NonCanonical (record { start = at; end = end; counts = nonCanonicality p x })) (Canonical end))
+      go : (f : Bool) → isFinding p x ≡ f
+          → Says (cond f (NonCanonical (record { start = at; end = end; counts = nonCanonicality p x })) (Canonical end))
       go true e =
           let w : findingsFrom p text at ≡ record { start = at; item = x } ∷ findingsFrom p text end =
-          here ∙ ap (λ (f : Bool). cond f (record { start = at; item = x } ∷ F) F) e ∙ ap (λ (k : List Found). record { start = at; item = x } ∷ k) b in
+          here ∙ ap (λ (f : Bool). cond f (record { start = at; item = x } ∷ F) F) e
+          ∙ ap (λ (k : List Found). record { start = at; item = x } ∷ k) b in
           (l, ap (map (findingRow p)) w)
       go false e = (l, here ∙ ap (λ (f : Bool). cond f (record { start = at; item = x } ∷ F) F) e ∙ b)
 
@@ -96,8 +98,11 @@ module _ (text : List ℕ) (at : ℕ) where
   unfolding scanFrom spans firstOf
   goes-of [] e = ap (spans at) e
   goes-of (x ∷ xs) e =
-      let h = item-at text at e in
-      (record { some = h .some; room = h .room }, ap (spans at) e ∙ ap (λ (l : List Item). spanAt at x ∷ spans (at + size width (x .chars)) l) (sym (h .behind)))
+      let h = item-at text at e in (
+        record { some = h .some; room = h .room },
+        ap (spans at) e
+            ∙ ap (λ (l : List Item). spanAt at x ∷ spans (at + size width (x .chars)) l) (sym (h .after)),
+      )
 
   pub cursor-goes : {s : ScanStep} → s ≡ scanAt text at → Goes s
   unfolding scanAt scanFrom

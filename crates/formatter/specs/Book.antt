@@ -52,7 +52,7 @@ module _ (p : Policy) where
 -- ---- open findings
 
 -- An open finding: its start in the first text, the lengths of the replacements before it, and those of the bytes they took.
-pub record Opening : Type 0 where
+pub record OpenFinding : Type 0 where
   pub was : ℕ
   pub put : ℕ
   pub taken : ℕ
@@ -64,15 +64,15 @@ abbrev pub placed : ℕ → ℕ → ℕ → ℕ
 placed was put taken = was + put - taken
 
 -- The place of an open finding.
-abbrev pub place : Opening → ℕ
+abbrev pub place : OpenFinding → ℕ
 place o = placed (o .was) (o .put) (o .taken)
 
 -- The finding at its start in the first text.
-abbrev pub atFirst : Opening → Found
+abbrev pub atFirst : OpenFinding → Found
 atFirst o = record { start = o .was; item = o .item }
 
 -- The finding at its place.
-abbrev pub atPlace : Opening → Found
+abbrev pub atPlace : OpenFinding → Found
 atPlace o = record { start = place o; item = o .item }
 
 -- A length that counts for a mended finding only.
@@ -81,9 +81,9 @@ ifMended untouched n = 0
 ifMended (mended ds) n = n
 
 -- The open finding whose place is the offset, if there is one.
-unfoldable pub openingAt : ℕ → List Opening → Option Opening
-openingAt offset [] = none
-openingAt offset (o ∷ os) = cond (eqb (place o) offset) (some o) (openingAt offset os)
+unfoldable pub openFindingAt : ℕ → List OpenFinding → Option OpenFinding
+openFindingAt offset [] = none
+openFindingAt offset (o ∷ os) = cond (eqb (place o) offset) (some o) (openFindingAt offset os)
 
 module _ (p : Policy) where
   -- The lengths of the replacements put before and by an entry.
@@ -95,10 +95,10 @@ module _ (p : Policy) where
   takenBy taken e = taken + ifMended (e .mark) (size width (e .item .chars))
 
   -- The open findings among entries, the first entry starting at the number in the first text.
-  unfoldable pub openingsFrom : ℕ → ℕ → ℕ → List Entry → List Opening
-  openingsFrom was put taken [] = []
-  openingsFrom was put taken (e ∷ es) =
-      let later = openingsFrom (was + size width (e .item .chars)) (putBy put e) (takenBy taken e) es in
+  unfoldable pub openFindingsFrom : ℕ → ℕ → ℕ → List Entry → List OpenFinding
+  openFindingsFrom was put taken [] = []
+  openFindingsFrom was put taken (e ∷ es) =
+      let later = openFindingsFrom (was + size width (e .item .chars)) (putBy put e) (takenBy taken e) es in
       cond (isOpen (e .mark) && isFinding p (e .item)) (record { was = was; put = put; taken = taken; item = e .item } ∷ later) later
 
   -- The entries with the open finding whose place is the offset mended.
@@ -122,7 +122,7 @@ pub record Mending : Type 0 where
   pub decisions : List Presentation
 
 -- What a call mends if it is accepted.
-abbrev pub mendingOf : List Presentation → Option Opening → List Mending
+abbrev pub mendingOf : List Presentation → Option OpenFinding → List Mending
 mendingOf ds none = []
 mendingOf ds (some o) = record { start = o .was; decisions = ds } ∷ []
 
@@ -136,8 +136,8 @@ module _ (policy : List ℕ) where
   bookText es = encodeAll (bookChars (policyOf policy) es)
 
   -- The open findings of a book, in text order.
-  abbrev pub openings : List Entry → List Opening
-  openings es = openingsFrom (policyOf policy) 0 0 0 es
+  abbrev pub openFindings : List Entry → List OpenFinding
+  openFindings es = openFindingsFrom (policyOf policy) 0 0 0 es
 
   -- The book with the open finding at the call's offset mended under its decisions.
   abbrev pub marked : List Entry → Call → List Entry
@@ -145,7 +145,7 @@ module _ (policy : List ℕ) where
 
   -- ".. its decisions are valid (as many as the finding's eighth count, each 0 or 1) and its output holds the book's text after
   -- this", of the open finding at the call's offset.
-  unfoldable pub mendsAt : List Entry → Call → Option Opening → Bool
+  unfoldable pub mendsAt : List Entry → Call → Option OpenFinding → Bool
   mendsAt es c none = false
   mendsAt es c (some o) =
       eqb (length (c .decisions)) (nonCanonicality (policyOf policy) (o .item) .«presentation_decisions»)
@@ -153,7 +153,7 @@ module _ (policy : List ℕ) where
 
   -- "A call mends an open finding if its offset is that finding's place", and this holds.
   abbrev pub mends : List Entry → Call → Bool
-  mends es c = mendsAt es c (openingAt (c .offset) (openings es))
+  mends es c = mendsAt es c (openFindingAt (c .offset) (openFindings es))
 
   -- "Any other call leaves the book as it is".
   abbrev pub bookStep : List Entry → Call → List Entry

@@ -1,5 +1,7 @@
--- Demand 3: one claim about a list of mending calls as a whole, `ListClaim`, and the same of a formatted text, `FormattedClaim` (document 01, "Mending in sequence").
--- It is about the code: `mend`, `listBytes`, `list` and `format` here are the definitions that the contracts of src/mend.rt, src/list.rt, src/table.rt and
+-- Demand 3: one claim about a list of mending calls as a whole, `ListClaim`, and the same of a formatted text, `FormattedClaim` (document
+-- 01, "Mending in sequence").
+-- It is about the code: `mend`, `listBytes`, `list` and `format` here are the definitions that the contracts of src/mend.rt, src/list.rt,
+-- src/table.rt and
 -- src/format.rt cite for the answer and the buffer of every call; there is no second model of a call.
 use mathlib.Core.Path.{_≡_}
 use mathlib.Core.Logic.{_↔_}
@@ -23,7 +25,7 @@ use Rattle.formatter.specs.Book.{
   Entry,
   Mark,
   Mending,
-  Opening,
+  OpenFinding,
   atFirst,
   bookAfter,
   bookStep,
@@ -33,8 +35,8 @@ use Rattle.formatter.specs.Book.{
   marked,
   mended,
   mendingOf,
-  openingAt,
-  openings,
+  openFindingAt,
+  openFindings,
   place,
   untouched,
 }
@@ -83,14 +85,15 @@ mendedItems (e ∷ es) = onlyMended (e .mark) (λ (ds : List Presentation). e .i
 unfoldable pub mendedFrom : ℕ → List Entry → List Mending
 mendedFrom n [] = []
 mendedFrom n (e ∷ es) =
-    onlyMended (e .mark) (λ (ds : List Presentation). record { start = n; decisions = ds }) (mendedFrom (n + size width (e .item .chars)) es)
+    onlyMended (e .mark) (λ (ds : List Presentation). record { start = n; decisions = ds })
+    (mendedFrom (n + size width (e .item .chars)) es)
 
 -- Alike but for order and repetition.
 abbrev pub Alike : List Mending → List Mending → Type 0
 Alike k l = (m : Mending) → List·Memᴰ m k ↔ List·Memᴰ m l
 
 -- A call of a list, and the calls before it.
-pub record Behind (cs before : List Call) (c : Call) : Type 0 where
+pub record CallAfter (cs before : List Call) (c : Call) : Type 0 where
   pub after : List Call
   pub whole : cs ≡ before ++ c ∷ after
 
@@ -102,14 +105,14 @@ pub record Seen : Type 0 where
 
 module _ (p : Policy) where
   -- What is mended is a finding, with as many decisions as it wants.
-  pub record IsRight (x : Item) (ds : List Presentation) : Type 0 where
+  pub record ValidMending (x : Item) (ds : List Presentation) : Type 0 where
     pub is-finding : isFinding p x ≡ true
     pub as-many : length ds ≡ nonCanonicality p x .«presentation_decisions»
 
   -- The same of a mark: an open item may be any.
-  abbrev pub Right : Mark → Item → Type 0
-  Right untouched x = Unit {0}
-  Right (mended ds) x = IsRight x ds
+  abbrev pub ValidMark : Mark → Item → Type 0
+  ValidMark untouched x = Unit {0}
+  ValidMark (mended ds) x = ValidMending x ds
 
   -- What is mended is mended by its default decisions.
   abbrev pub ByDefault : Mark → Item → Type 0
@@ -129,7 +132,7 @@ module _ (p : Policy) where
   }
 
   -- The row of an open finding, "with starts and ends counted in that text".
-  abbrev pub openRow : Opening → Finding
+  abbrev pub openRow : OpenFinding → Finding
   openRow o = record { start = place o; end = place o + length (encodeAll (o .item .chars)); counts = nonCanonicality p (o .item) }
 
 module _ (policy : List ℕ) where
@@ -140,31 +143,31 @@ module _ (policy : List ℕ) where
     pub well-formed : WellFormed text
 
   -- An open finding has the call's offset for its place.
-  pub record At (es : List Entry) (c : Call) (o : Opening) : Type 0 where
-    pub is-open : List·Memᴰ o (openings policy es)
+  pub record OpenAt (es : List Entry) (c : Call) (o : OpenFinding) : Type 0 where
+    pub is-open : List·Memᴰ o (openFindings policy es)
     pub there : c .offset ≡ place o
 
   -- "as many as the finding's eighth count"
-  abbrev pub AsMany : Call → Opening → Type 0
+  abbrev pub AsMany : Call → OpenFinding → Type 0
   AsMany c o = length (c .decisions) ≡ nonCanonicality (policyOf policy) (o .item) .«presentation_decisions»
 
   -- "A call mends an open finding if its offset is that finding's place, its decisions are valid (as many as the finding's
   -- eighth count, each 0 or 1) and its output holds the book's text after this."
-  pub record Names (es : List Entry) (c : Call) : Type 0 where
-    pub finding : Opening
-    pub at : At es c finding
+  pub record MendsOpenFinding (es : List Entry) (c : Call) : Type 0 where
+    pub finding : OpenFinding
+    pub at : OpenAt es c finding
     pub as-many : AsMany c finding
     pub valid : Each (λ (d : ℕ). d ≤ 1) (c .decisions)
     pub room : length (bookText policy (marked policy es c)) ≤ length (c .out)
 
   -- "the first refusal below that fits", with what is returned.
   pub data FirstRefusal (es : List Entry) (c : Call) : MendAnswer → Type 0 where
-    no-finding : ((o : Opening) → At es c o → ⊥) → FirstRefusal es c (Refused NoFinding)
-    few-or-many : (o : Opening) → At es c o → (AsMany c o → ⊥)
+    no-finding : ((o : OpenFinding) → OpenAt es c o → ⊥) → FirstRefusal es c (Refused NoFinding)
+    few-or-many : (o : OpenFinding) → OpenAt es c o → (AsMany c o → ⊥)
         → FirstRefusal es c (Refused (WrongNumberOfDecisions (nonCanonicality (policyOf policy) (o .item) .«presentation_decisions»)))
-    above-one : (o : Opening) → At es c o → AsMany c o → (ds later : List ℕ) (d : ℕ) → c .decisions ≡ ds ++ d ∷ later
+    above-one : (o : OpenFinding) → OpenAt es c o → AsMany c o → (ds later : List ℕ) (d : ℕ) → c .decisions ≡ ds ++ d ∷ later
         → Each (λ (d : ℕ). d ≤ 1) ds → 1 < d → FirstRefusal es c (Refused (BadDecision (length ds)))
-    no-room : (o : Opening) → At es c o → AsMany c o → Each (λ (d : ℕ). d ≤ 1) (c .decisions)
+    no-room : (o : OpenFinding) → OpenAt es c o → AsMany c o → Each (λ (d : ℕ). d ≤ 1) (c .decisions)
         → length (c .out) < length (bookText policy (marked policy es c))
         → FirstRefusal es c (Refused (OutputTooShort (length (bookText policy (marked policy es c)))))
 
@@ -173,7 +176,7 @@ module _ (policy : List ℕ) where
   mendings text es [] = []
   mendings text es (c ∷ cs) =
       let a = mend text policy (c .offset) (c .decisions) (c .out) in
-      cond (isMended (a .answer)) (mendingOf (map meaning (c .decisions)) (openingAt (c .offset) (openings policy es))) []
+      cond (isMended (a .answer)) (mendingOf (map meaning (c .decisions)) (openFindingAt (c .offset) (openFindings policy es))) []
       ++ mendings (nextText text a) (bookStep policy es c) cs
 
   module _ (first : List ℕ) where
@@ -186,16 +189,16 @@ module _ (policy : List ℕ) where
     text cs = textAfter first policy cs
 
     -- The findings that are open after them.
-    abbrev pub open-after : List Call → List Opening
-    open-after cs = openings policy (book cs)
+    abbrev pub open-after : List Call → List OpenFinding
+    open-after cs = openFindings policy (book cs)
 
     -- The findings that its accepted calls mend, with their decisions.
     abbrev pub given : List Call → List Mending
     given cs = mendings first (firstBook policy first) cs
 
-    -- What a call behind other calls leaves.
-    abbrev pub outcome : List Call → Call → After MendAnswer ℕ
-    outcome before c = mend (text before) policy (c .offset) (c .decisions) (c .out)
+    -- What a call after other calls leaves.
+    abbrev pub callOutcome : List Call → Call → After MendAnswer ℕ
+    callOutcome before c = mend (text before) policy (c .offset) (c .decisions) (c .out)
 
     -- The counts of the mended findings, added up.
     abbrev pub mendedCounts : List Call → NonCanonicality
@@ -205,25 +208,26 @@ module _ (policy : List ℕ) where
 
     pub record ListClaim (cs : List Call) : Type 0 where
       -- A call is accepted exactly when it names an open finding, with valid decisions and room.
-      pub accepted : (before : List Call) (c : Call) → Behind cs before c → (isMended (outcome before c .answer) ≡ true) ↔ Names (book before) c
-      -- It writes the book's text after it at the front, and leaves the bytes behind.
-      pub writes : (before : List Call) (c : Call) → Behind cs before c → isMended (outcome before c .answer) ≡ true
-          → outcome before c ≡ record {
+      pub accepted : (before : List Call) (c : Call) → CallAfter cs before c → (isMended (callOutcome before c .answer) ≡ true)
+          ↔ MendsOpenFinding (book before) c
+      -- It writes the book's text after it at the front, and leaves the bytes after.
+      pub writes : (before : List Call) (c : Call) → CallAfter cs before c → isMended (callOutcome before c .answer) ≡ true
+          → callOutcome before c ≡ record {
             answer = Mended (length (text (before ++ c ∷ [])));
             buffer = text (before ++ c ∷ []) ++ drop (length (text (before ++ c ∷ []))) (c .out);
           }
       -- Any other call gets the first refusal that fits; its buffer, the book and the text stay as they were.
-      pub turned-back : (before : List Call) (c : Call) → Behind cs before c → isMended (outcome before c .answer) ≡ false
-          → FirstRefusal (book before) c (outcome before c .answer) × (outcome before c .buffer ≡ c .out)
+      pub turned-back : (before : List Call) (c : Call) → CallAfter cs before c → isMended (callOutcome before c .answer) ≡ false
+          → FirstRefusal (book before) c (callOutcome before c .answer) × (callOutcome before c .buffer ≡ c .out)
           × (book (before ++ c ∷ []) ≡ book before) × (text (before ++ c ∷ []) ≡ text before)
       -- After it the text is the first one with only the mended findings replaced, under the decisions given.
       pub at-first : bookText policy (firstBook policy first) ≡ first
       pub after : text cs ≡ bookText policy (book cs)
       pub same-items : itemsOf (book cs) ≡ items (chars first)
-      pub only-findings : Each (λ (e : Entry). Right (policyOf policy) (e .mark) (e .item)) (book cs)
+      pub only-findings : Each (λ (e : Entry). ValidMark (policyOf policy) (e .mark) (e .item)) (book cs)
       pub as-given : Alike (mendedFrom 0 (book cs)) (given cs)
       -- A place and the bytes taken before it are the start in the first text and the replacements put before it.
-      pub places : Each (λ (o : Opening). place o + o .taken ≡ o .was + o .put) (open-after cs)
+      pub places : Each (λ (o : OpenFinding). place o + o .taken ≡ o .was + o .put) (open-after cs)
       -- Listing with room gives exactly the open findings; without room, their number.
       pub listed : (table : List Finding) → length (open-after cs) ≤ length table
           → list (text cs) policy table ≡ record {
@@ -236,13 +240,15 @@ module _ (policy : List ℕ) where
       pub listed-bytes : (table : List ℕ) → length (open-after cs) * rowBytes ≤ length table
           → listBytes (text cs) policy table ≡ record {
             answer = Listing.Listed (length (open-after cs));
-            buffer = rowsBytes rowNumbers (map (openRow (policyOf policy)) (open-after cs)) ++ drop (length (open-after cs) * rowBytes) table;
+            buffer = rowsBytes rowNumbers (map (openRow (policyOf policy)) (open-after cs))
+                ++ drop (length (open-after cs) * rowBytes) table;
           }
       pub unlisted-bytes : (table : List ℕ) → length table < length (open-after cs) * rowBytes
           → listBytes (text cs) policy table ≡ record { answer = Listing.Refused (TableTooShort (length (open-after cs))); buffer = table }
-      pub were-findings : (o : Opening) → List·Memᴰ o (open-after cs) → List·Memᴰ (atFirst o) (findings first policy)
+      pub were-findings : (o : OpenFinding) → List·Memᴰ o (open-after cs) → List·Memᴰ (atFirst o) (findings first policy)
       -- Their bytes, counts and choices are as at first.
-      pub unaltered : map (seen (policyOf policy) (text cs)) (findings (text cs) policy) ≡ map (seen (policyOf policy) first) (map atFirst (open-after cs))
+      pub unaltered : map (seen (policyOf policy) (text cs)) (findings (text cs) policy)
+          ≡ map (seen (policyOf policy) first) (map atFirst (open-after cs))
       -- Each of the eight totals is that at first less the mended findings' own.
       pub eight-totals : textTotals (text cs) policy ⊕ mendedCounts cs ≡ textTotals first policy
       -- The accepted calls number the findings at first less those open.
@@ -255,7 +261,8 @@ module _ (policy : List ℕ) where
       pub by-default : open-after cs ≡ [] → Each (λ (e : Entry). ByDefault (policyOf policy) (e .mark) (e .item)) (book cs)
           → text cs ≡ formatted first policy
       -- The selectors number those in the first text, less the mended findings' six removing counts, plus their two adding ones.
-      pub selectors-number : selectorCount (chars (text cs)) + removing (mendedCounts cs) ≡ selectorCount (chars first) + adding (mendedCounts cs)
+      pub selectors-number : selectorCount (chars (text cs)) + removing (mendedCounts cs)
+          ≡ selectorCount (chars first) + adding (mendedCounts cs)
       -- All other characters stand in their old order.
       pub others : strip (chars (text cs)) ≡ strip (chars first)
       -- No text of the list passes 16,777,216 bytes; each is accepted.
@@ -278,14 +285,18 @@ module _ (policy : List ℕ) where
       pub well-formed : WellFormed result
       -- No finding is left, of whatever length the text is, and formatting again changes nothing.
       pub none-left : findings result policy ≡ []
-      pub none-listed : (table : List Finding) → length result ≤ 16777216 → list result policy table ≡ record { answer = Listing.Listed 0; buffer = table }
-      pub none-listed-bytes : (table : List ℕ) → length result ≤ 16777216 → listBytes result policy table ≡ record { answer = Listing.Listed 0; buffer = table }
+      pub none-listed : (table : List Finding) → length result ≤ 16777216 → list result policy table
+          ≡ record { answer = Listing.Listed 0; buffer = table }
+      pub none-listed-bytes : (table : List ℕ) → length result ≤ 16777216 → listBytes result policy table
+          ≡ record { answer = Listing.Listed 0; buffer = table }
       pub again : formatted result policy ≡ result
-      pub again-unchanged : (out : List ℕ) → length result ≤ 16777216 → format result policy out ≡ record { answer = Format.Unchanged; buffer = out }
+      pub again-unchanged : (out : List ℕ) → length result ≤ 16777216 → format result policy out
+          ≡ record { answer = Format.Unchanged; buffer = out }
       -- Each of the eight totals is that at first less all findings' own.
       pub eight-totals : textTotals result policy ⊕ totals (policyOf policy) (mendedItems mendedAll) ≡ textTotals first policy
       -- The selectors number those in the first text, less all findings' six removing counts, plus their two adding ones.
-      pub selectors-number : selectorCount (chars result) + removing (textTotals first policy) ≡ selectorCount (chars first) + adding (textTotals first policy)
+      pub selectors-number : selectorCount (chars result) + removing (textTotals first policy)
+          ≡ selectorCount (chars first) + adding (textTotals first policy)
       -- All other characters stand in their old order.
       pub others : strip (chars result) ≡ strip (chars first)
       -- "Formatted text is at most 4 times the input."
@@ -294,7 +305,8 @@ module _ (policy : List ℕ) where
       pub no-change : (result ≡ first) ↔ (findings first policy ≡ [])
       -- The call says so, writes nothing and never gives 8; else it writes the text, or gives 8 with its length.
       pub unchanged-said : (out : List ℕ) → (format first policy out .answer ≡ Format.Unchanged) ↔ (findings first policy ≡ [])
-      pub unchanged-kept : (out : List ℕ) → findings first policy ≡ [] → format first policy out ≡ record { answer = Format.Unchanged; buffer = out }
+      pub unchanged-kept : (out : List ℕ) → findings first policy ≡ [] → format first policy out
+          ≡ record { answer = Format.Unchanged; buffer = out }
       pub changed-written : (out : List ℕ) → 0 < length (findings first policy) → length result ≤ length out
           → format first policy out ≡ record { answer = Format.Changed (length result); buffer = result ++ drop (length result) out }
       pub changed-short : (out : List ℕ) → 0 < length (findings first policy) → length out < length result

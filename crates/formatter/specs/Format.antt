@@ -10,7 +10,7 @@ use Rattle.policy.specs.PolicyBytes.{policyOf}
 use Rattle.scanner.specs.Items.{Item, items}
 use Rattle.analysis.specs.Analysis.{defaultReplacement, isFinding}
 use Rattle.base.specs.Answers.{done, nothing}
-use Rattle.base.specs.Refusals.{After, RefusalRow, kept, orElse, refusalRow, written}
+use Rattle.base.specs.Refusals.{After, RefusalRow, unwritten, orElse, refusalRow, written}
 use Rattle.formatter.specs.Intake.{intakeRefusal}
 use Rattle.formatter.specs.declared.FormatAnswer.{FormatAnswer}
 use Rattle.formatter.specs.declared.FormatAnswer.the-variants.{Changed, Refused, Unchanged}
@@ -44,7 +44,7 @@ formatRow (Refused r) = refusalRow r
 unfoldable pub format : List ℕ → List ℕ → List ℕ → After FormatAnswer ℕ
 format text policy out =
     let result = formatted text policy in
-    orElse (intakeRefusal text policy) (λ (r : Refusal). kept (Refused r) out)
-    (cond (sameBytes result text) (kept Unchanged out)
+    orElse (intakeRefusal text policy) (λ (r : Refusal). unwritten (Refused r) out)
+    (cond (sameBytes result text) (unwritten Unchanged out)
     (cond (leb (length result) (length out)) (written (Changed (length result)) result out)
-    (kept (Refused (OutputTooShort (length result))) out)))
+    (unwritten (Refused (OutputTooShort (length result))) out)))

@@ -9,7 +9,7 @@ use Rattle.scanner.specs.Spans.{kindNumber, scan}
 use Rattle.scanner.specs.TextCheck.{textRefusal}
 use Rattle.scanner.specs.declared.ScanItem.{ScanItem}
 use Rattle.formatter.specs.Findings.{findingRow, findings}
-use Rattle.base.specs.Refusals.{After, kept, orElse, written}
+use Rattle.base.specs.Refusals.{After, unwritten, orElse, written}
 use Rattle.base.specs.Tables.{fillTable}
 use Rattle.formatter.specs.Intake.{intakeRefusal}
 use Rattle.analysis.specs.declared.types.Finding.{Finding}
@@ -23,9 +23,9 @@ use Rattle.base.specs.declared.Refusal.the-variants.{TableTooShort}
 unfoldable pub list : List ℕ → List ℕ → List Finding → After ListAnswer Finding
 list text policy table =
     let rows = map (findingRow (policyOf policy)) (findings text policy) in
-    orElse (intakeRefusal text policy) (λ (r : Refusal). kept (Refused r) table)
+    orElse (intakeRefusal text policy) (λ (r : Refusal). unwritten (Refused r) table)
     (cond (leb (length rows) (length table)) (written (Listed (length rows)) rows table)
-    (kept (Refused (TableTooShort (length rows))) table))
+    (unwritten (Refused (TableTooShort (length rows))) table))
 
 -- ---- findings
 
@@ -54,7 +54,7 @@ rowBytes = 80
 -- after them fewer bytes than a row has, the two leave the same: specs/Theorems.antt, ListedAsBytes.
 unfoldable pub listBytes : List ℕ → List ℕ → List ℕ → After ListAnswer ℕ
 listBytes text policy table =
-    orElse (intakeRefusal text policy) (λ (r : Refusal). kept (Refused r) table)
+    orElse (intakeRefusal text policy) (λ (r : Refusal). unwritten (Refused r) table)
     (fillTable rowNumbers rowBytes (map (findingRow (policyOf policy)) (findings text policy)) table)
 
 -- ---- items
@@ -70,4 +70,4 @@ itemBytes = 32
 -- Listing the items of a text into a table of bytes (added, as listing findings is): refusals 1, 3 and 7 in this order.
 unfoldable pub listItems : List ℕ → List ℕ → After ListAnswer ℕ
 listItems text table =
-    orElse (textRefusal text) (λ (r : Refusal). kept (Refused r) table) (fillTable itemNumbers itemBytes (scan text) table)
+    orElse (textRefusal text) (λ (r : Refusal). unwritten (Refused r) table) (fillTable itemNumbers itemBytes (scan text) table)

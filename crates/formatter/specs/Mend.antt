@@ -1,4 +1,5 @@
--- Mending: the whole outcome of the call, `mend`, and a list of such calls, each reading what the last accepted one wrote (document 01, "Replacement and text", "Mending in sequence").
+-- Mending: the whole outcome of the call, `mend`, and a list of such calls, each reading what the last accepted one wrote (document 01,
+-- "Replacement and text", "Mending in sequence").
 use mathlib.Core.List.{List, [], _∷_, _++_, map}
 use mathlib.Core.Option.{Option, none, some}
 use Prim.Native.Nat.{ℕ, _+_}
@@ -12,7 +13,7 @@ use Rattle.analysis.specs.Analysis.{replacement}
 use Rattle.analysis.specs.Decisions.{judge, meaning}
 use Rattle.analysis.specs.Findings.{findingAt}
 use Rattle.formatter.specs.Findings.{findings}
-use Rattle.base.specs.Refusals.{After, kept, orElse}
+use Rattle.base.specs.Refusals.{After, unwritten, orElse}
 use Rattle.formatter.specs.Intake.{intakeRefusal}
 use Rattle.analysis.specs.declared.types.MendAnswer.{MendAnswer}
 use Rattle.analysis.specs.declared.types.MendAnswer.the-variants.{Mended, Refused}
@@ -20,7 +21,7 @@ use Rattle.base.specs.declared.Refusal.{Refusal}
 
 -- ---- a call
 
--- ".. and writes the whole text with that replacement": the bytes before the finding, its replacement, the bytes behind it.
+-- ".. and writes the whole text with that replacement": the bytes before the finding, its replacement, the bytes after it.
 abbrev pub exchanged : List ℕ → Policy → ℕ → List Presentation → Option Item → List ℕ
 exchanged text p offset ds none = text
 exchanged text p offset ds (some x) =
@@ -31,7 +32,7 @@ unfoldable pub mend : List ℕ → List ℕ → ℕ → List ℕ → List ℕ �
 mend text policy offset decisions out =
     let p = policyOf policy in
     let x = findingAt offset (findings text policy) in
-    orElse (intakeRefusal text policy) (λ (r : Refusal). kept (Refused r) out)
+    orElse (intakeRefusal text policy) (λ (r : Refusal). unwritten (Refused r) out)
     (judge p x decisions (exchanged text p offset (map meaning decisions) x) out)
 
 -- ---- a list of calls

@@ -37,7 +37,8 @@ IntakeInOrder =
     (text policy : List ℕ)
     → (16777217 ≤ length text → intakeRefusal text policy ≡ some TextTooLong)
     × ((r : Refusal) → length text ≤ 16777216 → policyRefusal policy ≡ some r → intakeRefusal text policy ≡ some r)
-    × (length text ≤ 16777216 → isPolicy policy ≡ true → (WellFormed text → ⊥) → intakeRefusal text policy ≡ some (NotWellFormed (validUpTo text)))
+    × (length text ≤ 16777216 → isPolicy policy ≡ true → (WellFormed text → ⊥) → intakeRefusal text policy
+    ≡ some (NotWellFormed (validUpTo text)))
     × (Accepted policy text → intakeRefusal text policy ≡ none)
 
 -- Each call gives such a refusal before any other, and then leaves its buffer or table as it was.
@@ -101,8 +102,8 @@ ColumnsInOrder =
     × (bytesOf (rowNumbers numberedFinding)
     ≡ lowByte 9 ++ lowByte 10 ++ lowByte 1 ++ lowByte 2 ++ lowByte 3 ++ lowByte 4 ++ lowByte 5 ++ lowByte 6 ++ lowByte 7 ++ lowByte 8)
 
--- Listing into a table of bytes that are rows, and fewer bytes behind them than a row has, leaves the bytes of the rows that listing
--- into the table of those rows leaves, and the bytes behind. What listing leaves in any table of bytes: `listed-bytes` and
+-- Listing into a table of bytes that are rows, and fewer bytes after them than a row has, leaves the bytes of the rows that listing
+-- into the table of those rows leaves, and the bytes after. What listing leaves in any table of bytes: `listed-bytes` and
 -- `unlisted-bytes` of `ListClaim`.
 unfoldable pub ListedAsBytes : Type 0
 ListedAsBytes =
@@ -116,8 +117,10 @@ ListedAsBytes =
 unfoldable pub FiledIsFormatted : Type 0
 FiledIsFormatted =
     (text policy out : List ℕ) (len : ℕ) → Accepted policy text
-    → (format text policy out .answer ≡ Format.Changed len → filedText text (format text policy out .buffer) true len ≡ formatted text policy)
-    × (format text policy out .answer ≡ Format.Unchanged → filedText text (format text policy out .buffer) false len ≡ formatted text policy)
+    → (format text policy out .answer ≡ Format.Changed len → filedText text (format text policy out .buffer) true len
+    ≡ formatted text policy)
+    × (format text policy out .answer ≡ Format.Unchanged → filedText text (format text policy out .buffer) false len
+    ≡ formatted text policy)
 
 -- ---- a list of mending calls, and a formatted text
 

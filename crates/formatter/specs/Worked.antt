@@ -11,7 +11,7 @@ use Rattle.scanner.specs.declared.ScanItem.{ScanItem}
 use Rattle.analysis.specs.Counts.{eight, empty}
 use Rattle.analysis.specs.ItemAt.{replaceAt, replaceByDefault}
 use Rattle.analysis.specs.declared.types.NonCanonicality.{NonCanonicality}
-use Rattle.formatter.specs.Book.{bookAfter, firstBook, openings, place}
+use Rattle.formatter.specs.Book.{bookAfter, firstBook, openFindings, place}
 use Rattle.formatter.specs.Demand3.{Accepted, ListClaim}
 use Rattle.formatter.specs.Findings.{textTotals}
 use Rattle.formatter.specs.Format.{format}
@@ -203,9 +203,9 @@ WorkedList =
     ∷ leaves (Mend.Refused NoFinding) six
     ∷ [])
     × (textAfter twoFindings theDefault workedCalls ≡ 0xE2 ∷ 0x9D ∷ 0xA4 ∷ 0xEF ∷ 0xB8 ∷ 0x8E ∷ [])
-    × (map place (openings theDefault (firstBook theDefault twoFindings)) ≡ 0 ∷ 3 ∷ [])
-    × (map place (openings theDefault (bookAfter theDefault (firstBook theDefault twoFindings) (call 0 [] six ∷ []))) ≡ 0 ∷ [])
-    × (map place (openings theDefault (bookAfter theDefault (firstBook theDefault twoFindings) workedCalls)) ≡ [])
+    × (map place (openFindings theDefault (firstBook theDefault twoFindings)) ≡ 0 ∷ 3 ∷ [])
+    × (map place (openFindings theDefault (bookAfter theDefault (firstBook theDefault twoFindings) (call 0 [] six ∷ []))) ≡ 0 ∷ [])
+    × (map place (openFindings theDefault (bookAfter theDefault (firstBook theDefault twoFindings) workedCalls)) ≡ [])
 
 -- The claim on a list holds of this one: its premises do, so that it is no claim about nothing.
 unfoldable pub WorkedListClaimed : Type 0

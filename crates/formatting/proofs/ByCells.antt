@@ -8,7 +8,7 @@ use lib.Dec.{eqb, leb}
 use lib.ListN.{length}
 use borrow.Author.Tests.{eq-eqb, eqb-true}
 use Rattle.base.specs.Output.{PutAt}
-use Rattle.base.specs.Refusals.{After, kept, written}
+use Rattle.base.specs.Refusals.{After, unwritten, written}
 use Rattle.base.specs.declared.Refusal.the-variants.{OutputTooShort}
 use Rattle.utf8.specs.Rfc3629.{chars}
 use Rattle.policy.specs.PolicyBytes.{policyOf}
@@ -36,7 +36,8 @@ use Rattle.formatter.proofs.Formatting.{format-is, formatTests, same-self, same
 use Rattle.formatter.proofs.Marks.{foundTotals}
 
 -- Findings whose counts add up to 0 are none.
-none-counted : (p : Policy) (n : ℕ) (xs : List Item) → total (foundTotals p (found (isFinding p) width n xs)) ≡ 0 → found (isFinding p) width n xs ≡ []
+none-counted : (p : Policy) (n : ℕ) (xs : List Item) → total (foundTotals p (found (isFinding p) width n xs)) ≡ 0
+    → found (isFinding p) width n xs ≡ []
 unfolding found totals
 none-counted p n [] e = refl
 none-counted p n (x ∷ xs) e = go (eqb (total (nonCanonicality p x)) 0) refl e (none-counted p (n + size width (x .chars)) xs)
@@ -44,7 +45,8 @@ none-counted p n (x ∷ xs) e = go (eqb (total (nonCanonicality p x)) 0) refl e 
     F : List Found
     F = found (isFinding p) width (n + size width (x .chars)) xs
 
-    go : (b : Bool) → eqb (total (nonCanonicality p x)) 0 ≡ b → total (foundTotals p (cond (not b) (record { start = n; item = x } ∷ F) F)) ≡ 0
+    go : (b : Bool) → eqb (total (nonCanonicality p x)) 0 ≡ b → total (foundTotals p (cond (not b) (record { start = n; item = x } ∷ F) F))
+        ≡ 0
         → (total (foundTotals p F) ≡ 0 → F ≡ []) → cond (not b) (record { start = n; item = x } ∷ F) F ≡ []
     go true f e h = h e
     go false f e h =
@@ -92,7 +94,8 @@ module _ (policy text : List ℕ) (a : Accepted policy text) where
   write-as : (out : List ℕ) → asFormat (writeOut F out) ≡ formatTests false (leb (length F) (length out)) F out
   write-as out = go (leb (length F) (length out))
     where
-      go : (b : Bool) → asFormat (cond b (written (Mend.Mended (length F)) F out) (kept (Mend.Refused (OutputTooShort (length F))) out)) ≡ formatTests false b F out
+      go : (b : Bool) → asFormat (cond b (written (Mend.Mended (length F)) F out)
+          (unwritten (Mend.Refused (OutputTooShort (length F))) out)) ≡ formatTests false b F out
       go true = refl
       go false = refl
 
@@ -100,7 +103,8 @@ module _ (policy text : List ℕ) (a : Accepted policy text) where
       → format text policy out ≡ formatTests b (leb (length F) (length out)) F out
   test-same out b e = format-is policy text out a ∙ ap (λ (t : Bool). formatTests t (leb (length F) (length out)) F out) (same-cells ∙ e)
 
-  pub format-unchanged : (out : List ℕ) → eqb (total (totalCells P (chars text))) 0 ≡ true → kept Unchanged out ≡ format text policy out
+  pub format-unchanged : (out : List ℕ) → eqb (total (totalCells P (chars text))) 0 ≡ true → unwritten Unchanged out
+      ≡ format text policy out
   format-unchanged out e = sym (test-same out true e)
 
   -- The formatted text by its cells.
@@ -108,12 +112,16 @@ module _ (policy text : List ℕ) (a : Accepted policy text) where
   cells-are = sym (cell-view text policy .0)
 
   -- Another text is written where it fits.
-  pub format-short : (out : List ℕ) (n : ℕ) → eqb (total (totalCells P (chars text))) 0 ≡ false → n ≡ length (formattedFrom P text 0) → length out < n
-      → kept (Refused (OutputTooShort n)) out ≡ format text policy out
+  pub format-short : (out : List ℕ) (n : ℕ) → eqb (total (totalCells P (chars text))) 0 ≡ false → n ≡ length (formattedFrom P text 0)
+      → length out < n
+      → unwritten (Refused (OutputTooShort n)) out ≡ format text policy out
   format-short out n e f l =
-      ap asFormat (out-short (formattedFrom P text 0) out n f l ∙ ap (λ (r : List ℕ). writeOut r out) cells-are) ∙ write-as out ∙ sym (test-same out false e)
+      ap asFormat (out-short (formattedFrom P text 0) out n f l ∙ ap (λ (r : List ℕ). writeOut r out) cells-are) ∙ write-as out
+      ∙ sym (test-same out false e)
 
-  pub format-written : (out after : List ℕ) (n r : ℕ) → eqb (total (totalCells P (chars text))) 0 ≡ false → n ≡ length (formattedFrom P text 0) → n ≤ length out
+  pub format-written : (out after : List ℕ) (n r : ℕ) → eqb (total (totalCells P (chars text))) 0 ≡ false → n
+      ≡ length (formattedFrom P text 0) → n ≤ length out
       → PutAt out 0 (formattedFrom P text 0) after r → record { answer = Changed n; buffer = after } ≡ format text policy out
   format-written out after n r e f l w =
-      ap asFormat (out-put (formattedFrom P text 0) out n f after r l w ∙ ap (λ (r : List ℕ). writeOut r out) cells-are) ∙ write-as out ∙ sym (test-same out false e)
+      ap asFormat (out-put (formattedFrom P text 0) out n f after r l w ∙ ap (λ (r : List ℕ). writeOut r out) cells-are) ∙ write-as out
+      ∙ sym (test-same out false e)

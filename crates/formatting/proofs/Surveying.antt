@@ -48,45 +48,50 @@ module _ (p : Policy) (text : List ℕ) where
 
   -- What both cases of the next change say.
   pub record Passed (from : ℕ) (c : Change) : Type 0 where
-    pub on : from ≤ c .kept
-    pub behind : c .kept ≤ c .end
+    pub on : from ≤ c .start
+    pub after : c .start ≤ c .end
     pub inside : c .end ≤ length text
-    pub formatted : formattedFrom p text from ≡ take (c .kept - from) (drop from text) ++ (selectorBytes (c .selector) ++ formattedFrom p text (c .end))
+    pub formatted : formattedFrom p text from ≡ take (c .start - from) (drop from text)
+        ++ (selectorBytes (c .selector) ++ formattedFrom p text (c .end))
     pub valid : validUpTo (drop from text) ≡ (c .end - from) + validUpTo (drop (c .end) text)
 
   pub passed : {from : ℕ} {c : Change} → from ≤ length text → NextChange p text from c → Passed from c
   unfolding encodeAll runWith
-  passed {from} {c} l h = go (c .more) refl
+  passed {from} {c} l h = go (c .present) refl
     where
-      go : (b : Bool) → c .more ≡ b → Passed from c
+      go : (b : Bool) → c .present ≡ b → Passed from c
       go true m =
           let x = h .0 m in
-          record { on = x .on; behind = x .behind; inside = x .inside l; formatted = x .formatted; valid = x .valid }
+          record { on = x .on; after = x .after; inside = x .inside l; formatted = x .formatted; valid = x .valid }
       go false m =
           let x = h .1 m in
           let s = x .stays in
           record {
             on = omega (arith, s .on, x .all-kept);
-            behind = omega (arith, x .all-kept);
+            after = omega (arith, x .all-kept);
             inside = s .inside l;
             formatted =
                 s .formatted ∙ ap (λ (n : ℕ). take (n - from) (drop from text) ++ formattedFrom p text (c .end)) (sym (x .all-kept))
-                ∙ ap (λ (f : FromSelector). take (c .kept - from) (drop from text) ++ (selectorBytes f ++ formattedFrom p text (c .end))) (sym (x .no-selector));
+                ∙ ap (λ (f : FromSelector). take (c .start - from) (drop from text) ++ (selectorBytes f ++ formattedFrom p text (c .end)))
+                (sym (x .no-selector));
             valid = s .valid;
           }
 
-  kept-length : {from : ℕ} {c : Change} → Passed from c → length (take (c .kept - from) (drop from text)) ≡ c .kept - from
-  kept-length {from} {c} h = length-take-le (c .kept - from) (drop from text) (omega (arith, length-drop from text, h .on, h .behind, h .inside))
+  kept-length : {from : ℕ} {c : Change} → Passed from c → length (take (c .start - from) (drop from text)) ≡ c .start - from
+  kept-length {from} {c} h = length-take-le (c .start - from) (drop from text)
+      (omega (arith, length-drop from text, h .on, h .after, h .inside))
 
   -- A change brings the end nearer, ..
-  pub passed-less : {from : ℕ} {c : Change} → from ≤ length text → NextChange p text from c → c .more ≡ true → length text - c .end < length text - from
+  pub passed-less : {from : ℕ} {c : Change} → from ≤ length text → NextChange p text from c → c .present ≡ true
+      → length text - c .end < length text - from
   passed-less l h m = omega (arith, h .0 m .moves, passed l h .inside)
 
   -- .. and these bytes.
   pub passed-length : {from : ℕ} {c : Change} → Passed from c
-      → length (formattedFrom p text from) ≡ (c .kept - from) + length (selectorBytes (c .selector)) + length (formattedFrom p text (c .end))
+      → length (formattedFrom p text from) ≡ (c .start - from) + length (selectorBytes (c .selector)) + length
+      (formattedFrom p text (c .end))
   passed-length {from} {c} h =
-      let a = length-append (take (c .kept - from) (drop from text)) (selectorBytes (c .selector) ++ formattedFrom p text (c .end)) in
+      let a = length-append (take (c .start - from) (drop from text)) (selectorBytes (c .selector) ++ formattedFrom p text (c .end)) in
       let b = length-append (selectorBytes (c .selector)) (formattedFrom p text (c .end)) in
       omega (arith, ap length (h .formatted), a, b, kept-length h)
 
@@ -100,17 +105,18 @@ module _ (p : Policy) (text : List ℕ) where
   pub survey-begin : Surveying 0 0
   survey-begin = record { inside = omega arith; measured = omega arith; valid = omega arith }
 
-  module _ {at len : ℕ} (s : Surveying at len) {c : Change} (h : NextChange p text at c) {n : ℕ} (e : n ≡ length (selectorBytes (c .selector))) where
-    pub survey-fits : len + ((c .kept - at) + n) ≤ 4 * length text
+  module _ {at len : ℕ} (s : Surveying at len) {c : Change} (h : NextChange p text at c) {n : ℕ}
+      (e : n ≡ length (selectorBytes (c .selector))) where
+    pub survey-fits : len + ((c .start - at) + n) ≤ 4 * length text
     survey-fits = omega (arith, s .measured, passed-length (passed (s .inside) h), four-times-at 0)
 
-    pub survey-on : Surveying (c .end) (len + ((c .kept - at) + n))
+    pub survey-on : Surveying (c .end) (len + ((c .start - at) + n))
     survey-on =
         let x = passed (s .inside) h in
         record {
           inside = x .inside;
           measured = omega (arith, s .measured, passed-length x);
-          valid = omega (arith, s .valid, x .valid, x .on, x .behind);
+          valid = omega (arith, s .valid, x .valid, x .on, x .after);
         }
 
   -- The survey of the whole text.
@@ -129,27 +135,28 @@ module _ (p : Policy) (text : List ℕ) where
     pub first-inside : c .end ≤ length text
     first-inside = passed (omega arith) h .inside
 
-    pub first-end : c .more ≡ false → c .end ≡ validUpTo text
+    pub first-end : c .present ≡ false → c .end ≡ validUpTo text
     first-end m = survey-valid (survey-on survey-begin h refl) (h .1 m .ends)
 
     -- Where there is a change, something is counted.
-    pub first-counted : c .more ≡ true → eqb (totalFrom p text 0) 0 ≡ false
+    pub first-counted : c .present ≡ true → eqb (totalFrom p text 0) 0 ≡ false
     first-counted m = ne-eqb (totalFrom p text 0) 0 (λ z. omega (arith, h .0 m .counted))
 
-    pub first-none : c .more ≡ false → eqb (totalFrom p text 0) 0 ≡ true
+    pub first-none : c .present ≡ false → eqb (totalFrom p text 0) 0 ≡ true
     first-none m = eq-eqb (totalFrom p text 0) 0 (h .1 m .stays .counted ∙ none-counted (c .end) (h .1 m .ends))
 
   -- ---- two changes in a row
 
-  -- What is well-formed behind the second tells how much of the text is, and without one more it is all up to its end.
+  -- What is well-formed after the second tells how much of the text is, and without one more it is all up to its end.
   module _ {c d : Change} (h : NextChange p text 0 c) (k : NextChange p text (c .end) d) where
     pub second-inside : d .end ≤ length text
     second-inside = passed (first-inside h) k .inside
 
-    pub second-valid : {n : ℕ} → (d .more ≡ true → n ≡ d .end + validUpTo (drop (d .end) text)) × (d .more ≡ false → n ≡ d .end) → n ≡ validUpTo text
-    second-valid {n} e = go (d .more) refl
+    pub second-valid : {n : ℕ} → (d .present ≡ true → n ≡ d .end + validUpTo (drop (d .end) text)) × (d .present ≡ false → n ≡ d .end) → n
+        ≡ validUpTo text
+    second-valid {n} e = go (d .present) refl
       where
-        go : (b : Bool) → d .more ≡ b → n ≡ validUpTo text
+        go : (b : Bool) → d .present ≡ b → n ≡ validUpTo text
         go true m = let s = survey-on (survey-on survey-begin h refl) k refl in omega (arith, e .0 m, s .valid)
         go false m = e .1 m ∙ survey-valid (survey-on (survey-on survey-begin h refl) k refl) (k .1 m .ends)
 
@@ -157,19 +164,22 @@ module _ (p : Policy) (text : List ℕ) where
 
   -- What goes out for a change: the bytes before it, and its selector.
   abbrev pub changeBytes : ℕ → Change → List ℕ
-  changeBytes at c = take (c .kept - at) (drop at text) ++ selectorBytes (c .selector)
+  changeBytes at c = take (c .start - at) (drop at text) ++ selectorBytes (c .selector)
 
   pub change-formatted : {at : ℕ} {c : Change} → Passed at c → formattedFrom p text at ≡ changeBytes at c ++ formattedFrom p text (c .end)
-  change-formatted {at} {c} h = h .formatted ∙ sym (append-assoc (take (c .kept - at) (drop at text)) (selectorBytes (c .selector)) (formattedFrom p text (c .end)))
+  change-formatted {at} {c} h = h .formatted
+      ∙ sym (append-assoc (take (c .start - at) (drop at text)) (selectorBytes (c .selector)) (formattedFrom p text (c .end)))
 
-  -- From before a change to behind it.
-  module _ {all o₀ o : List ℕ} {from at to : ℕ} {c : Change} (w : Writing all from o₀ (formattedFrom p text at) o to) (h : Passed at c) where
-    pub change-room : to + (c .kept - at) + length (selectorBytes (c .selector)) ≤ length o
+  -- From before a change to after it.
+  module _ {all o₀ o : List ℕ} {from at to : ℕ} {c : Change} (w : Writing all from o₀ (formattedFrom p text at) o to)
+      (h : Passed at c) where
+    pub change-room : to + (c .start - at) + length (selectorBytes (c .selector)) ≤ length o
     change-room =
-        let a = length-append (take (c .kept - at) (drop at text)) (selectorBytes (c .selector)) in
+        let a = length-append (take (c .start - at) (drop at text)) (selectorBytes (c .selector)) in
         omega (arith, kept-length h, a, room _ _ _ _ (changeBytes at c) _ w (change-formatted h))
 
-    pub change-put : {o₁ : List ℕ} {to₁ : ℕ} → PutAt o to (changeBytes at c) o₁ to₁ → Writing all from o₀ (formattedFrom p text (c .end)) o₁ to₁
+    pub change-put : {o₁ : List ℕ} {to₁ : ℕ} → PutAt o to (changeBytes at c) o₁ to₁
+        → Writing all from o₀ (formattedFrom p text (c .end)) o₁ to₁
     change-put a = put _ _ _ _ _ w a (change-formatted h)
 
 -- ---- the bytes of a selector

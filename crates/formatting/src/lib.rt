@@ -56,9 +56,9 @@ fn survey_text(text: &[u8], policy: &[u8], first: Change) -> Survey
     let mut change = first;
     loop {
         let selector = change.selector;
-        len += change.kept - at + selector_len(selector);
+        len += change.start - at + selector_len(selector);
         at = change.end;
-        if !change.more {
+        if !change.present {
             return Survey {
                 valid_up_to: at,
                 len,
@@ -106,11 +106,13 @@ fn put_selector(out: &mut [u8], at: usize, selector: FromSelector) -> usize
 // Puts the bytes of a text from an offset up to a change, and the selector that stands there then, for which there is room, and says
 // where they end.
 fn put_change(text: &[u8], from: usize, change: Change, out: &mut [u8], at: usize) -> usize
-    requires { ⌜ (from ≤ change .kept) × (change .kept ≤ length (now text)) × (at + (change .kept - from) + length (selectorBytes (change .selector)) ≤ length (now out)) ⌝ }
-    ensures { λ r. ⌜ PutAt (now (out .entry)) at (take (change .kept - from) (drop from (now (text .entry))) ++ selectorBytes (change .selector)) (now (out .exit)) r ⌝ }
+    requires { ⌜ (from ≤ change .start) × (change .start ≤ length (now text))
+        × (at + (change .start - from) + length (selectorBytes (change .selector)) ≤ length (now out)) ⌝ }
+    ensures { λ r. ⌜ PutAt (now (out .entry)) at
+        (take (change .start - from) (drop from (now (text .entry))) ++ selectorBytes (change .selector)) (now (out .exit)) r ⌝ }
 {
     let selector = change.selector;
-    let end = put_part(text, from, change.kept, out, at);
+    let end = put_part(text, from, change.start, out, at);
     put_selector(out, end, selector)
 }
 
@@ -123,15 +125,17 @@ fn put_changes(
     out: &mut [u8],
     start: usize,
 ) -> usize
-    requires { ⌜ (from ≤ length (now text)) × NextChange (policyOf (now policy)) (now text) from next × (start + length (formattedFrom (policyOf (now policy)) (now text) from) ≤ length (now out)) ⌝ }
-    ensures { λ r. ⌜ PutAt (now (out .entry)) start (formattedFrom (policyOf (now (policy .entry))) (now (text .entry)) from) (now (out .exit)) r ⌝ }
+    requires { ⌜ (from ≤ length (now text)) × NextChange (policyOf (now policy)) (now text) from next
+        × (start + length (formattedFrom (policyOf (now policy)) (now text) from) ≤ length (now out)) ⌝ }
+    ensures { λ r. ⌜ PutAt (now (out .entry)) start (formattedFrom (policyOf (now (policy .entry))) (now (text .entry)) from)
+        (now (out .exit)) r ⌝ }
 {
     let mut at = from;
     let mut to = start;
     let mut change = next;
     loop {
         to = put_change(text, at, change, out, to);
-        if !change.more {
+        if !change.present {
             return to;
         }
         at = change.end;
@@ -141,7 +145,8 @@ fn put_changes(
 
 // Formats a text that has a change, of which the first is known, into an output that may be too short: it is measured before.
 fn format_measured(text: &[u8], policy: &[u8], first: Change, out: &mut [u8]) -> FormatAnswer
-    requires { ⌜ (length (now text) ≤ textLimit) × (isPolicy (now policy) ≡ true) × NextChange (policyOf (now policy)) (now text) 0 first × (first .more ≡ true) ⌝ }
+    requires { ⌜ (length (now text) ≤ textLimit) × (isPolicy (now policy) ≡ true) × NextChange (policyOf (now policy)) (now text) 0 first
+        × (first .present ≡ true) ⌝ }
     ensures { λ r. ⌜ record { answer = r; buffer = now (out .exit) } ≡ format (now (text .entry)) (now (policy .entry)) (now (out .entry)) ⌝ }
 {
     let Survey { valid_up_to, len } = survey_text(text, policy, first);
@@ -156,12 +161,13 @@ fn format_measured(text: &[u8], policy: &[u8], first: Change, out: &mut [u8]) ->
 }
 
 // Up to where a text is well-formed, by a change that was found: without one more the search came to the end of what is.
-fn valid_behind(text: &[u8], change: Change) -> usize
+fn valid_after(text: &[u8], change: Change) -> usize
     requires { ⌜ change .end ≤ length (now text) ⌝ }
-    ensures { λ r. ⌜ (change .more ≡ true → r ≡ change .end + validUpTo (drop (change .end) (now (text .entry)))) × (change .more ≡ false → r ≡ change .end) ⌝ }
+    ensures { λ r. ⌜ (change .present ≡ true → r ≡ change .end + validUpTo (drop (change .end) (now (text .entry))))
+        × (change .present ≡ false → r ≡ change .end) ⌝ }
 {
     let end = change.end;
-    if !change.more {
+    if !change.present {
         return end;
     }
     end + utf8::valid_up_to(&text[end..])
@@ -170,12 +176,13 @@ fn valid_behind(text: &[u8], change: Change) -> usize
 // Formats a text that has a change, of which the first is known, into an output that has room for every formatted text. The second one
 // is asked for before anything is written: most messages have none, and then it is known that the rest is well-formed.
 fn format_at_once(text: &[u8], policy: &[u8], first: Change, out: &mut [u8]) -> FormatAnswer
-    requires { ⌜ (length (now text) ≤ textLimit) × (isPolicy (now policy) ≡ true) × NextChange (policyOf (now policy)) (now text) 0 first × (first .more ≡ true) × (4 * length (now text) ≤ length (now out)) ⌝ }
+    requires { ⌜ (length (now text) ≤ textLimit) × (isPolicy (now policy) ≡ true) × NextChange (policyOf (now policy)) (now text) 0 first
+        × (first .present ≡ true) × (4 * length (now text) ≤ length (now out)) ⌝ }
     ensures { λ r. ⌜ record { answer = r; buffer = now (out .exit) } ≡ format (now (text .entry)) (now (policy .entry)) (now (out .entry)) ⌝ }
 {
     let end = first.end;
     let second = next_change(text, policy, end);
-    let valid_up_to = valid_behind(text, second);
+    let valid_up_to = valid_after(text, second);
     if valid_up_to != text.len() {
         return FormatAnswer::Refused(Refusal::NotWellFormed { valid_up_to });
     }
@@ -197,7 +204,7 @@ pub fn format_text(text: &[u8], policy: &[u8], out: &mut [u8]) -> FormatAnswer
     }
     let first = next_change(text, policy, 0);
     let end = first.end;
-    if !first.more {
+    if !first.present {
         if end != text.len() {
             return FormatAnswer::Refused(Refusal::NotWellFormed { valid_up_to: end });
         }

@@ -12,7 +12,7 @@ use Rattle.base.proofs.Writer.{Writing, begin, finish, put, room}
 use Rattle.scanner.specs.Spans.{scan, scanAt, scanFrom}
 use Rattle.scanner.specs.declared.ScanStep.{ScanStep}
 use Rattle.scanner.specs.declared.ScanStep.the-variants as Step
-use Rattle.text_scanner.specs.Scanner.{behind}
+use Rattle.text_scanner.specs.Scanner.{after}
 use Rattle.formatter.specs.List.{itemNumbers}
 use Rattle.formatter.proofs.Steps.{cursor-goes}
 use Rattle.listing.specs.Items.{isItem, stepBytes}
@@ -43,10 +43,10 @@ module _ {t ys : List ℕ} {o to : ℕ} {zs : List ℕ} {more : Bool} (g : Going
   abbrev rest : ℕ → List ℕ
   rest n = rowsBytes itemNumbers (scanFrom t n)
 
-  -- The rows from here on are that of the answer, and those behind it.
-  parts : (s : ScanStep) → s ≡ scanAt t o → (behind s o ≤ length t) × (rest o ≡ stepBytes s ++ rest (behind s o))
-      × (isItem s ≡ false → scanFrom t (behind s o) ≡ [])
-      × (left t (behind s o) (isItem s) < left t o true)
+  -- The rows from here on are that of the answer, and those after it.
+  parts : (s : ScanStep) → s ≡ scanAt t o → (after s o ≤ length t) × (rest o ≡ stepBytes s ++ rest (after s o))
+      × (isItem s ≡ false → scanFrom t (after s o) ≡ [])
+      × (left t (after s o) (isItem s) < left t o true)
   unfolding rowsBytes
   parts (Step.Item x) e =
       let h = cursor-goes t o e in
@@ -54,19 +54,19 @@ module _ {t ys : List ℕ} {o to : ℕ} {zs : List ℕ} {more : Bool} (g : Going
   parts Step.End e = let h = cursor-goes t o e in (g .within, refl, λ f. h, omega arith)
 
   pub going-room : (s : ScanStep) → s ≡ scanAt t o → to + length (stepBytes s) ≤ length zs
-  going-room s e = room all 0 ys (rest o) (stepBytes s) (rest (behind s o)) (g .writing) (parts s e .1)
+  going-room s e = room all 0 ys (rest o) (stepBytes s) (rest (after s o)) (g .writing) (parts s e .1)
 
   pub going-on : (s : ScanStep) → s ≡ scanAt t o → {zs′ : List ℕ} {to′ : ℕ} {more′ : Bool} → PutAt zs to (stepBytes s) zs′ to′
       → more′ ≡ isItem s
-      → Going t ys (behind s o) to′ zs′ more′
+      → Going t ys (after s o) to′ zs′ more′
   going-on s e p m = record {
     within = parts s e .0;
-    writing = put all 0 ys (rest o) (rest (behind s o)) (g .writing) p (parts s e .1);
+    writing = put all 0 ys (rest o) (rest (after s o)) (g .writing) p (parts s e .1);
     over = λ f. parts s e .2 (sym m ∙ f);
   }
 
   pub going-nearer : (s : ScanStep) → s ≡ scanAt t o → more ≡ true → {more′ : Bool} → more′ ≡ isItem s
-      → left t (behind s o) more′ < left t o more
+      → left t (after s o) more′ < left t o more
   going-nearer s e f m = rw (f, m) (parts s e .3)
 
   pub going-done : more ≡ false → PutAt ys 0 all zs to

@@ -13,7 +13,7 @@ use Rattle.analysis.specs.Findings.{findingsFrom}
 use Rattle.formatter.specs.Findings.{findingRow}
 use Rattle.analysis.specs.declared.types.Finding.{Finding}
 use Rattle.analysis.specs.declared.types.NonCanonicality.{NonCanonicality}
-use Rattle.text_pass.specs.Findings.{Counted, Finds, NextFinding, Passes}
+use Rattle.text_pass.specs.Findings.{Counted, Finds, NextFinding, NoFindingBetween}
 use Rattle.text_pass.specs.declared.findings.FindingSpan.{FindingSpan}
 use Rattle.text_pass.proofs.Passing.{finds-here, finds-room, finds-some, left-length}
 use Rattle.formatter.proofs.Steps.{Ahead, none-found, rowsFrom}
@@ -22,9 +22,9 @@ use Rattle.formatter.proofs.Steps.{Ahead, none-found, rowsFrom}
 
 module _ {p : Policy} {text : List ℕ} {r : FindingSpan} (n : NextFinding p text (length text) 0 r) where
   none-more : chars (drop (r .start) text) ≡ []
-  none-more = go (r .more) refl
+  none-more = go (r .present) refl
     where
-      go : (b : Bool) → r .more ≡ b → chars (drop (r .start) text) ≡ []
+      go : (b : Bool) → r .present ≡ b → chars (drop (r .start) text) ≡ []
       go true e = let f = n .1 e in let s = finds-some (f .1 .finds) in let l = finds-room (f .1 .finds) in absurd (omega (arith, f .0))
       go false e = n .2 e .0
 
@@ -46,12 +46,14 @@ pub finds-row : {p : Policy} {text : List ℕ} {start end : ℕ} {n : NonCanonic
 unfolding findingRow
 finds-row {p} {text} {start} {end} f =
     ap (map (findingRow p)) (finds-here (f .finds))
-    ∙ ap₂ (λ (k : ℕ) (m : NonCanonicality). record { start = start; end = k; counts = m } ∷ rowsFrom p text end) (sym (f .finds .end-is)) (sym (f .counts-are))
+    ∙ ap₂ (λ (k : ℕ) (m : NonCanonicality). record { start = start; end = k; counts = m } ∷ rowsFrom p text end) (sym (f .finds .end-is))
+    (sym (f .counts-are))
 
-module _ {p : Policy} {text : List ℕ} {from start end : ℕ} (a : Passes p text from start) (f : Finds p text start end) where
+module _ {p : Policy} {text : List ℕ} {from start end : ℕ} (a : NoFindingBetween p text from start) (f : Finds p text start end) where
   pub next-ahead : Ahead text from end
   next-ahead = let h = finds-ahead f in let o = a .on in let s = h .some in record { some = omega arith; room = h .room }
 
 -- The rows from an offset on, before which there is none from another on.
-pub next-row : {p : Policy} {text : List ℕ} {from start : ℕ} {rows : List Finding} → Passes p text from start → rowsFrom p text start ≡ rows → rowsFrom p text from ≡ rows
+pub next-row : {p : Policy} {text : List ℕ} {from start : ℕ} {rows : List Finding} → NoFindingBetween p text from start
+    → rowsFrom p text start ≡ rows → rowsFrom p text from ≡ rows
 next-row {p} a e = ap (map (findingRow p)) (a .same) ∙ e

@@ -1,4 +1,4 @@
--- Storing findings one by one: the findings behind the first, the table after so many turns, and that what was decided
+-- Storing findings one by one: the findings after the first, the table after so many turns, and that what was decided
 -- beforehand comes to `list`.
 use mathlib.Core.Path.{_≡_, refl, ap, sym, _∙_, subst}
 use mathlib.Core.Bool.{Bool, true, false, cond}
@@ -21,7 +21,7 @@ use Rattle.analysis.specs.Analysis.{isFinding, nonCanonicality}
 use Rattle.analysis.specs.ItemAt.{analysisAt, analysisOf}
 use Rattle.analysis.specs.declared.ItemAnalysis.the-variants.{Canonical, NonCanonical}
 use Rattle.analysis.specs.declared.types.Finding.{Finding}
-use Rattle.base.specs.Refusals.{After, kept, orElse, written}
+use Rattle.base.specs.Refusals.{After, unwritten, orElse, written}
 use Rattle.base.specs.declared.Refusal.{Refusal}
 use Rattle.base.specs.declared.Refusal.the-variants.{TableTooShort}
 use Rattle.formatter.specs.Findings.{findingRow, findings}
@@ -45,17 +45,19 @@ module _ (p : Policy) (text : List ℕ) where
   unfolding firstFinding
   first-some start e = sym (ap (firstOr (noFinding start)) e)
 
-  -- The findings behind the first are those from its end on.
-  behind : (xs : List Item) (at : ℕ) → items (chars (drop at text)) ≡ xs → (f : Finding) (fs : List Finding) → rowsFrom p text at ≡ f ∷ fs
+  -- The findings after the first are those from its end on.
+  after : (xs : List Item) (at : ℕ) → items (chars (drop at text)) ≡ xs → (f : Finding) (fs : List Finding) → rowsFrom p text at ≡ f ∷ fs
       → rowsFrom p text (f .end) ≡ fs
   unfolding analysisAt analysisOf
-  behind [] at e f fs q = cc (ap (map (findingRow p)) (analysis-says p text at (ap (analysisOf p at) (sym e))))
-  behind (x ∷ xs) at e f fs q = go (isFinding p x) (analysis-says p text at (ap (analysisOf p at) (sym e))) (behind xs end (item-at text at e .behind) f fs)
+  after [] at e f fs q = cc (ap (map (findingRow p)) (analysis-says p text at (ap (analysisOf p at) (sym e))))
+  after (x ∷ xs) at e f fs q = go (isFinding p x) (analysis-says p text at (ap (analysisOf p at) (sym e)))
+      (after xs end (item-at text at e .after) f fs)
     where
       end : ℕ
       end = at + size width (x .chars)
 
-      go : (b : Bool) → Says p text at (cond b (NonCanonical (record { start = at; end = end; counts = nonCanonicality p x })) (Canonical end))
+      go : (b : Bool) → Says p text at
+          (cond b (NonCanonical (record { start = at; end = end; counts = nonCanonicality p x })) (Canonical end))
           → (rowsFrom p text end ≡ f ∷ fs → rowsFrom p text (f .end) ≡ fs) → rowsFrom p text (f .end) ≡ fs
       go true s ih = cc (sym (s .1) ∙ q)
       go false s ih = ih (sym (ap (map (findingRow p)) (s .1)) ∙ q)
@@ -77,13 +79,16 @@ stored-more (x ∷ xs) (y ∷ ys) zero d held room = refl
 stored-more (x ∷ xs) (y ∷ ys) (suc k) d held room = ap (λ (l : List Finding). x ∷ l) (stored-more xs ys k d (omega arith) (omega arith))
 
 -- A turn stores the finding that comes next, and goes on at its end.
-pub turn : (p : Policy) (text : List ℕ) (rows table : List Finding) (k at : ℕ) (r : Finding) → rowsFrom p text at ≡ drop k rows → k < length rows → k < length table
-    → r ≡ firstFinding p text at → (set (stored rows table k) k r ≡ stored rows table (k + 1)) × (rowsFrom p text (r .end) ≡ drop (k + 1) rows)
+pub turn : (p : Policy) (text : List ℕ) (rows table : List Finding) (k at : ℕ) (r : Finding) → rowsFrom p text at ≡ drop k rows
+    → k < length rows → k < length table
+    → r ≡ firstFinding p text at → (set (stored rows table k) k r ≡ stored rows table (k + 1))
+    × (rowsFrom p text (r .end) ≡ drop (k + 1) rows)
 turn p text rows table k at r here held room e =
     let next : rowsFrom p text at ≡ getD rows k r ∷ drop (suc k) rows = here ∙ drop-cons rows k r held in
     let same : r ≡ getD rows k r = e ∙ sym (first-some p text at next) in (
       ap (set (stored rows table k) k) same ∙ stored-more rows table k r held room ∙ ap (stored rows table) (sym (add-one k)),
-      ap (λ (f : Finding). rowsFrom p text (f .end)) same ∙ behind p text (items (chars (drop at text))) at refl (getD rows k r) (drop (suc k) rows) next
+      ap (λ (f : Finding). rowsFrom p text (f .end)) same ∙ after p text (items (chars (drop at text))) at refl (getD rows k r)
+          (drop (suc k) rows) next
           ∙ ap (λ (n : ℕ). drop n rows) (sym (add-one k)),
     )
 
@@ -119,7 +124,8 @@ module _ (text policy : List ℕ) (room : ℕ) {p : Policy} (same : p ≡ policy
 pub record Planned (text policy : List ℕ) (table : List Finding) (plan : ListingPlan) : Type 0 where
   pub held : plan .places ≤ length (rowsFrom (plan .policy) text 0)
   pub room : plan .places ≤ length table
-  pub listed : record { answer = plan .answer; buffer = stored (rowsFrom (plan .policy) text 0) table (plan .places) } ≡ list text policy table
+  pub listed : record { answer = plan .answer; buffer = stored (rowsFrom (plan .policy) text 0) table (plan .places) }
+      ≡ list text policy table
 
 module _ (text policy : List ℕ) (table : List Finding) where
   abbrev rows : List Finding
@@ -127,10 +133,11 @@ module _ (text policy : List ℕ) (table : List Finding) where
 
   -- The outcome by the answers of the tests.
   abbrev listBy : Option Refusal → Bool → After ListAnswer Finding
-  listBy o fits = orElse o (λ (r : Refusal). kept (Refused r) table)
-      (cond fits (written (Listed (length rows)) rows table) (kept (Refused (TableTooShort (length rows))) table))
+  listBy o fits = orElse o (λ (r : Refusal). unwritten (Refused r) table)
+      (cond fits (written (Listed (length rows)) rows table) (unwritten (Refused (TableTooShort (length rows))) table))
 
-  planned-by : (o : Option Refusal) (b : Bool) → leb (length rows) (length table) ≡ b → let plan = planBy o b (length rows) (policyOf policy) in
+  planned-by : (o : Option Refusal) (b : Bool) → leb (length rows) (length table) ≡ b
+      → let plan = planBy o b (length rows) (policyOf policy) in
       (plan .places ≤ length (rowsFrom (plan .policy) text 0))
       × (plan .places ≤ length table)
       × (record { answer = plan .answer; buffer = stored (rowsFrom (plan .policy) text 0) table (plan .places) } ≡ listBy o b)

@@ -1,5 +1,6 @@
 // Listing the findings of a text into a table lent by the caller (document 01, "Counts and finding", "Turned back"). A row is ten
-// numbers of 8 bytes, lowest first: start, end and the eight counts. The text is gone through from finding to finding (crate text_pass): once
+// numbers of 8 bytes, lowest first: start, end and the eight counts. The text is gone through from finding to finding (crate text_pass):
+// once
 // to count them, and once more to write them where there are some and all fit.
 // `list_findings` equals `listBytes` of specs/List.antt.
 pub mod items;
@@ -48,7 +49,7 @@ pub(crate) fn count_findings(text: &[u8], policy: &[u8]) -> FindingCount
         start,
         end: _,
         counts: _,
-        more: _,
+        present: _,
         passed,
     } = next_finding(text, policy, text.len(), 0);
     FindingCount {
@@ -88,8 +89,11 @@ fn put_row(table: &mut [u8], start: usize, finding: Finding) -> usize
 
 // Puts the row of each finding, for which there is room.
 fn put_findings(text: &[u8], policy: &[u8], table: &mut [u8]) -> usize
-    requires { ⌜ length (rowsBytes rowNumbers (map (findingRow (policyOf (now policy))) (findingsFrom (policyOf (now policy)) (now text) 0))) ≤ length (now table) ⌝ }
-    ensures { λ r. ⌜ PutAt (now (table .entry)) 0 (rowsBytes rowNumbers (map (findingRow (policyOf (now (policy .entry)))) (findingsFrom (policyOf (now (policy .entry))) (now (text .entry)) 0))) (now (table .exit)) r ⌝ }
+    requires { ⌜ length (rowsBytes rowNumbers
+        (map (findingRow (policyOf (now policy))) (findingsFrom (policyOf (now policy)) (now text) 0))) ≤ length (now table) ⌝ }
+    ensures { λ r. ⌜ PutAt (now (table .entry)) 0
+        (rowsBytes rowNumbers (map (findingRow (policyOf (now (policy .entry))))
+        (findingsFrom (policyOf (now (policy .entry))) (now (text .entry)) 0))) (now (table .exit)) r ⌝ }
 {
     let mut at = 0;
     let mut to = 0;
@@ -98,10 +102,10 @@ fn put_findings(text: &[u8], policy: &[u8], table: &mut [u8]) -> usize
             start,
             end,
             counts,
-            more,
+            present,
             passed: _,
         } = next_finding(text, policy, 0, at);
-        if !more {
+        if !present {
             return to;
         }
         at = end;
@@ -112,7 +116,10 @@ fn put_findings(text: &[u8], policy: &[u8], table: &mut [u8]) -> usize
 // Lists the findings, of which there are so many, if the table has a place for each.
 fn fill_table(text: &[u8], policy: &[u8], findings: usize, table: &mut [u8]) -> ListAnswer
     requires { ⌜ findings ≡ length (findingsFrom (policyOf (now policy)) (now text) 0) ⌝ }
-    ensures { λ r. ⌜ record { answer = r; buffer = now (table .exit) } ≡ fillTable rowNumbers rowBytes (map (findingRow (policyOf (now (policy .entry)))) (findingsFrom (policyOf (now (policy .entry))) (now (text .entry)) 0)) (now (table .entry)) ⌝ }
+    ensures { λ r. ⌜ record { answer = r; buffer = now (table .exit) }
+        ≡ fillTable rowNumbers rowBytes
+        (map (findingRow (policyOf (now (policy .entry)))) (findingsFrom (policyOf (now (policy .entry))) (now (text .entry)) 0))
+        (now (table .entry)) ⌝ }
 {
     if findings == 0 {
         return ListAnswer::Listed { findings };

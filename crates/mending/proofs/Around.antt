@@ -29,8 +29,8 @@ module _ (a b c o : List ℕ) {m n : ℕ} (la : length a ≡ m) (lb : length b �
       ap (take m) second ∙ take-append-le m (take (m + n) A) (c ++ Z) (omega (arith, front-length)) ∙ take-take m (m + n) A (omega arith)
       ∙ ap (take m) first ∙ take-at a (drop m o) m la
 
-  behind : drop n (drop m (sets A (m + n) c)) ≡ c ++ Z
-  behind = drop-drop n m (sets A (m + n) c) ∙ ap (drop (m + n)) second ∙ drop-at (take (m + n) A) (c ++ Z) (m + n) front-length
+  after : drop n (drop m (sets A (m + n) c)) ≡ c ++ Z
+  after = drop-drop n m (sets A (m + n) c) ∙ ap (drop (m + n)) second ∙ drop-at (take (m + n) A) (c ++ Z) (m + n) front-length
 
   row-length : length (a ++ b ++ c) ≡ m + n + length c
   row-length = omega (arith, length-append (a ++ b) c, length-append a b)
@@ -39,10 +39,11 @@ module _ (a b c o : List ℕ) {m n : ℕ} (la : length a ≡ m) (lb : length b �
   rest =
       let e : m + n + length c ≡ m + (n + length c) = omega arith in
       ap (drop (m + n + length c)) first ∙ ap (λ (k : ℕ). drop k (a ++ drop m o)) e ∙ sym (drop-drop (n + length c) m (a ++ drop m o))
-      ∙ ap (drop (n + length c)) (drop-at a (drop m o) m la) ∙ drop-drop (n + length c) m o ∙ ap (λ (k : ℕ). drop k o) (sym e ∙ sym row-length)
+      ∙ ap (drop (n + length c)) (drop-at a (drop m o) m la) ∙ drop-drop (n + length c) m o
+      ∙ ap (λ (k : ℕ). drop k o) (sym e ∙ sym row-length)
 
   pub between : take m (sets A (m + n) c) ++ (b ++ drop n (drop m (sets A (m + n) c))) ≡ (a ++ b ++ c) ++ drop (length (a ++ b ++ c)) o
   between =
       let D = drop (length (a ++ b ++ c)) o in
-      ap₂ (λ (x y : List ℕ). x ++ (b ++ y)) before (behind ∙ ap (λ (l : List ℕ). c ++ l) rest)
+      ap₂ (λ (x y : List ℕ). x ++ (b ++ y)) before (after ∙ ap (λ (l : List ℕ). c ++ l) rest)
       ∙ sym (append-assoc (a ++ b) c D ∙ append-assoc a b (c ++ D))

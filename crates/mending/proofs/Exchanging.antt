@@ -7,7 +7,7 @@ use native.Mathlib.Omega.{arith}
 use lib.ListN.{drop, length, length-append, length-drop, take, take-append-drop}
 use lib.Seq.{drop-length, length-sets, length-take-le, sets}
 use borrow.Author.Tests.{le-leb}
-use Rattle.base.specs.Refusals.{After, kept, orElse, textLimit}
+use Rattle.base.specs.Refusals.{After, unwritten, orElse, textLimit}
 use Rattle.base.specs.declared.Refusal.{Refusal}
 use Rattle.base.specs.declared.Refusal.the-variants.{NoFinding, OutputTooShort}
 use Rattle.utf8.specs.Rfc3629.{chars, encodeAll}
@@ -39,7 +39,8 @@ use Rattle.formatter.proofs.Calls.{pass-intake}
 -- ---- the text that is put together
 
 -- A part's cells are written in at most four times the text's bytes.
-pub cells-few : (p : Policy) (text : List ℕ) (start end : ℕ) (ds : List Presentation) → length (cellsWritten p text start end ds) ≤ 4 * length text
+pub cells-few : (p : Policy) (text : List ℕ) (start end : ℕ) (ds : List Presentation)
+    → length (cellsWritten p text start end ds) ≤ 4 * length text
 cells-few p text start end ds =
     let raw = part text start end in
     let t = chars raw in
@@ -58,22 +59,31 @@ module _ (p : Policy) (text : List ℕ) (start : ℕ) (decisions : List ℕ) {en
   start-length = length-take-le start text (omega arith)
 
   wanted-is : start + n + (length text - end) ≡ length R
-  wanted-is = omega (arith, start-length, length-append (take start text ++ B) (drop end text), length-append (take start text) B, length-drop end text)
+  wanted-is = omega (
+    arith,
+    start-length,
+    length-append (take start text ++ B) (drop end text),
+    length-append (take start text) B,
+    length-drop end text,
+  )
 
-  pub exchange-short : length out < start + n + (length text - end) → kept (Refused (OutputTooShort (start + n + (length text - end)))) out ≡ writeOut R out
+  pub exchange-short : length out < start + n + (length text - end)
+      → unwritten (Refused (OutputTooShort (start + n + (length text - end)))) out ≡ writeOut R out
   exchange-short l = out-short R out _ wanted-is l
 
   -- In a part of their length they are all that is left.
   part-filled : (a : List ℕ) → length a ≡ n → writeOut B a .buffer ≡ B
   part-filled a l =
       let t = le-leb (length B) (length a) (omega arith) in
-      let b : B ++ drop (length B) a ≡ B = ap (λ (k : ℕ). B ++ drop k a) (sym (l ∙ g)) ∙ ap (λ (l : List ℕ). B ++ l) (drop-length a) ∙ append-nil B in
+      let b : B ++ drop (length B) a ≡ B = ap (λ (k : ℕ). B ++ drop k a) (sym (l ∙ g)) ∙ ap (λ (l : List ℕ). B ++ l) (drop-length a)
+      ∙ append-nil B in
       sym (simp t) ∙ b
 
   -- The bytes around them are put, and they into the part between them.
   pub exchange-written : start + n + (length text - end) ≤ length out → {k : ℕ} → k ≡ n
       → {o : List ℕ} → o ≡ sets (sets out 0 (take start text)) (start + n) (drop end text)
-      → {w : MendAnswer} {b : List ℕ} → record { answer = w; buffer = b } ≡ withinLimit (part text start end) (take k (drop start o)) (writeOut B (take k (drop start o)))
+      → {w : MendAnswer} {b : List ℕ} → record { answer = w; buffer = b }
+      ≡ withinLimit (part text start end) (take k (drop start o)) (writeOut B (take k (drop start o)))
       → record { answer = Mended (start + n + (length text - end)); buffer = take start o ++ (b ++ drop k (drop start o)) } ≡ writeOut R out
   exchange-written l {k} f {o} c {w} {b} r =
       let a = take start text in
@@ -84,11 +94,13 @@ module _ (p : Policy) (text : List ℕ) (start : ℕ) (decisions : List ℕ) {en
       let m : b ≡ B = ap (λ (a : After MendAnswer ℕ). a .buffer) (part-written text q start end h r) ∙ part-filled q filled in
       let z = between a B d out start-length (sym g) (omega (arith, length-drop end text)) in
       let v : take start o ++ (b ++ drop k (drop start o)) ≡ R ++ drop (length R) out =
-      ap₂ (λ (b : List ℕ) (k : ℕ). take start o ++ (b ++ drop k (drop start o))) m f ∙ ap (λ (o : List ℕ). take start o ++ (B ++ drop n (drop start o))) c ∙ z in
+      ap₂ (λ (b : List ℕ) (k : ℕ). take start o ++ (b ++ drop k (drop start o))) m f
+      ∙ ap (λ (o : List ℕ). take start o ++ (B ++ drop n (drop start o))) c ∙ z in
       out-written R out _ wanted-is _ l v
 
   -- Written in none, they leave what was put around them.
-  pub exchange-nothing : n ≡ 0 → start + n + (length text - end) ≤ length out → {o : List ℕ} → o ≡ sets (sets out 0 (take start text)) (start + n) (drop end text)
+  pub exchange-nothing : n ≡ 0 → start + n + (length text - end) ≤ length out → {o : List ℕ} → o
+      ≡ sets (sets out 0 (take start text)) (start + n) (drop end text)
       → record { answer = Mended (start + n + (length text - end)); buffer = o } ≡ writeOut R out
   exchange-nothing f l {o} c =
       let b : B ≡ [] = nothing B (sym g ∙ f) in
@@ -111,33 +123,41 @@ module _ (policy text : List ℕ) (acc : Accepted policy text) (offset : ℕ) (d
   abbrev ds : List Presentation
   ds = map meaning decisions
 
-  -- The call behind the intake, by the finding at the offset.
+  -- The call after the intake, by the finding at the offset.
   mend-by : {x : Option Item} → findingAt offset (findingsFrom P text 0) ≡ x
       → (out : List ℕ) → mend text policy offset decisions out ≡ judge P x decisions (exchanged text P offset ds x) out
   unfolding mend findings
   mend-by e out =
       let f : Option Item → After MendAnswer ℕ = λ x. judge P x decisions (exchanged text P offset ds x) out in
-      ap (λ (o : Option Refusal). orElse o (λ (r : Refusal). kept (Refused r) out) (f (findingAt offset (findings text policy)))) (pass-intake policy text acc)
+      ap (λ (o : Option Refusal). orElse o (λ (r : Refusal). unwritten (Refused r) out) (f (findingAt offset (findings text policy))))
+      (pass-intake policy text acc)
       ∙ ap f e
 
-  pub mend-nothing : findingAt offset (findingsFrom P text 0) ≡ none → (out : List ℕ) → kept (Refused NoFinding) out ≡ mend text policy offset decisions out
+  pub mend-nothing : findingAt offset (findingsFrom P text 0) ≡ none → (out : List ℕ) → unwritten (Refused NoFinding) out
+      ≡ mend text policy offset decisions out
   unfolding judge
   mend-nothing e out = sym (mend-by e out)
 
   -- A finding starts at the offset, and ends at end; its bytes have these counts, and the decisions are tested for them.
-  pub mend-tested : {end : ℕ} → Starts P text offset end → {q : Policy} → q ≡ P → {n : NonCanonicality} → n ≡ totalCells q (chars (part text offset end))
+  pub mend-tested : {end : ℕ} → Starts P text offset end → {q : Policy} → q ≡ P → {n : NonCanonicality} → n
+      ≡ totalCells q (chars (part text offset end))
       → {t : Option Refusal} → decisionsRefusal (n .«presentation_decisions») decisions ≡ t → (out : List ℕ) {a : After MendAnswer ℕ}
-      → a ≡ orElse t (λ (r : Refusal). kept (Refused r) out) (writeOut (take offset text ++ cellsWritten q text offset end ds ++ drop end text) out)
+      → a ≡ orElse t (λ (r : Refusal). unwritten (Refused r) out)
+      (writeOut (take offset text ++ cellsWritten q text offset end ds ++ drop end text) out)
       → a ≡ mend text policy offset decisions out
   unfolding judge
   mend-tested {end} s {q} r {n} c {t} d out e =
       let h = s .finds in
       let x = h .item in
       let o = finding-no-passthrough P x (h .is-finding) in
-      let m : n ≡ nonCanonicality P x = c ∙ ap (λ (q : Policy). totalCells q (chars (part text offset end))) r ∙ item-totals P text offset (h .items-are) o (h .end-is) in
+      let m : n ≡ nonCanonicality P x = c ∙ ap (λ (q : Policy). totalCells q (chars (part text offset end))) r
+      ∙ item-totals P text offset (h .items-are) o (h .end-is) in
       let w : cellsWritten q text offset end ds ≡ encodeAll (replacement P x ds) =
       ap (λ (q : Policy). cellsWritten q text offset end ds) r ∙ item-written P text offset (h .items-are) o (h .end-is) ds in
       let k : end ≡ offset + length (encodeAll (x .chars)) = omega (arith, h .end-is, size-width (x .chars)) in
-      e ∙ ap₂ (λ (b : List ℕ) (k : ℕ). orElse t (λ (r : Refusal). kept (Refused r) out) (writeOut (take offset text ++ b ++ drop k text) out)) w k
-      ∙ ap (λ (t : Option Refusal). orElse t (λ (r : Refusal). kept (Refused r) out) (writeOut (exchanged text P offset ds (some x)) out)) (sym d ∙ ap (λ (n : NonCanonicality). decisionsRefusal (n .«presentation_decisions») decisions) m)
+      e ∙ ap₂ (λ (b : List ℕ) (k : ℕ). orElse t (λ (r : Refusal). unwritten (Refused r) out)
+      (writeOut (take offset text ++ b ++ drop k text) out)) w k
+      ∙ ap (λ (t : Option Refusal). orElse t (λ (r : Refusal). unwritten (Refused r) out)
+      (writeOut (exchanged text P offset ds (some x)) out))
+      (sym d ∙ ap (λ (n : NonCanonicality). decisionsRefusal (n .«presentation_decisions») decisions) m)
       ∙ sym (mend-by (s .found) out)

@@ -13,7 +13,7 @@ use Rattle.policy.specs.declared.Policy.{Policy}
 use Rattle.scanner.specs.Items.{items}
 use Rattle.scanner.specs.Spans.{Found, found, size, width}
 use Rattle.analysis.specs.Findings.{findingAt, findingsFrom}
-use Rattle.text_pass.specs.Findings.{Finds, Left, NextFinding, all-left, one-less}
+use Rattle.text_pass.specs.Findings.{Finds, SkipsFindings, NextFinding, none-skipped, one-skipped}
 use Rattle.text_pass.specs.declared.findings.FindingSpan.{FindingSpan}
 use Rattle.mending.specs.Parts.{FindingStarting, Starts}
 use Rattle.text_pass.proofs.Passing.{finds-here}
@@ -21,15 +21,17 @@ use Rattle.analysis.proofs.StartingItems.{no-finding-past}
 use Rattle.formatter.proofs.Steps.{none-found}
 
 -- No finding that is passed starts at the limit.
-left-at : (o : ℕ) {n : ℕ} {fs gs : List Found} → Left o fs n gs → findingAt o fs ≡ findingAt o gs
+left-at : (o : ℕ) {n : ℕ} {fs gs : List Found} → SkipsFindings o fs n gs → findingAt o fs ≡ findingAt o gs
 unfolding findingAt
-left-at o all-left = refl
-left-at o (one-less {f} {fs} h a) = ap (λ (b : Bool). cond b (some (f .item)) (findingAt o fs)) (ne-eqb (f .start) o (λ e. omega arith)) ∙ left-at o a
+left-at o none-skipped = refl
+left-at o (one-skipped {f} {fs} h a) = ap (λ (b : Bool). cond b (some (f .item)) (findingAt o fs)) (ne-eqb (f .start) o (λ e. omega arith))
+    ∙ left-at o a
 
 module _ {p : Policy} {text : List ℕ} where
   module _ (o : ℕ) {start end : ℕ} (h : Finds p text start end) where
     -- The finding at the offset, by whether this is it.
-    finding-by : {b : Bool} → eqb start o ≡ b → findingAt o (findingsFrom p text start) ≡ cond b (some (h .item)) (findingAt o (findingsFrom p text end))
+    finding-by : {b : Bool} → eqb start o ≡ b → findingAt o (findingsFrom p text start)
+        ≡ cond b (some (h .item)) (findingAt o (findingsFrom p text end))
     unfolding findingAt
     finding-by e = ap (findingAt o) (finds-here h) ∙ ap (λ (b : Bool). cond b (some (h .item)) (findingAt o (findingsFrom p text end))) e
 
@@ -37,7 +39,7 @@ module _ {p : Policy} {text : List ℕ} where
     starts-here e i = record {
       finds = record {
         item = h .item;
-        behind = h .behind;
+        after = h .after;
         items-are = ap (λ (k : ℕ). items (chars (drop k text))) (sym e) ∙ h .items-are;
         end-is = h .end-is ∙ ap (λ (k : ℕ). k + size width (h .item .chars)) e;
         is-finding = h .is-finding;
@@ -51,15 +53,24 @@ module _ {p : Policy} {text : List ℕ} where
     next-same = left-at o (n .0 .left)
 
     -- There is none.
-    pub none-further : r .more ≡ false → FindingStarting p text o r
+    pub none-further : r .present ≡ false → FindingStarting p text o r
     unfolding findingAt
     none-further m = (λ t. absurd (true≢false (sym t ∙ m)), λ _. next-same ∙ ap (findingAt o) (none-found p text (r .start) (n .2 m .0)))
 
-    -- There is one, at the offset or behind it.
-    pub none-before : r .more ≡ true → FindingStarting p text o (record { start = r .start; end = r .end; counts = r .counts; more = eqb (r .start) o; passed = r .passed })
+    -- There is one, at the offset or after it.
+    pub none-before : r .present ≡ true
+        → FindingStarting p text o (record {
+          start = r .start;
+          end = r .end;
+          counts = r .counts;
+          present = eqb (r .start) o;
+          passed =
+              r .passed;
+        })
     none-before m = (
       λ t. starts-here o (n .1 m .1 .finds) (eqb-true (r .start) o t) next-same,
-      λ f. next-same ∙ no-finding-past p o (r .start) (items (chars (drop (r .start) text))) (let d = eqb-false (r .start) o f in let l = n .1 m .0 in omega arith),
+      λ f. next-same ∙ no-finding-past p o (r .start) (items (chars (drop (r .start) text)))
+          (let d = eqb-false (r .start) o f in let l = n .1 m .0 in omega arith),
     )
 
     pub next-valid : r .start + validUpTo (drop (r .start) text) ≡ validUpTo text

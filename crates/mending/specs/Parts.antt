@@ -22,7 +22,7 @@ pub record Starts (p : Policy) (text : List ℕ) (offset end : ℕ) : Type 0 whe
 -- .. or that none does.
 abbrev pub FindingStarting : Policy → List ℕ → ℕ → FindingSpan → Type 0
 FindingStarting p text offset r =
-    (r .more ≡ true → Starts p text offset (r .end)) × (r .more ≡ false → findingAt offset (findingsFrom p text 0) ≡ none)
+    (r .present ≡ true → Starts p text offset (r .end)) × (r .present ≡ false → findingAt offset (findingsFrom p text 0) ≡ none)
 
 -- The cells of a text from an offset up to another, written with the selectors that the rules and the decisions give them.
 abbrev pub cellsWritten : Policy → List ℕ → ℕ → ℕ → List Presentation → List ℕ

@@ -32,21 +32,22 @@ use text_pass::findings::next_finding;
 // well-formed.
 fn finding_starting(text: &[u8], policy: &[u8], offset: usize) -> FindingSpan
     ensures starts { λ r. ⌜ FindingStarting (policyOf (now (policy .entry))) (now (text .entry)) offset r ⌝ }
-    ensures valid { λ r. ⌜ (r .end ≤ length (now (text .entry))) × (r .end + validUpTo (drop (r .end) (now (text .entry))) ≡ validUpTo (now (text .entry))) ⌝ }
+    ensures valid { λ r. ⌜ (r .end ≤ length (now (text .entry)))
+        × (r .end + validUpTo (drop (r .end) (now (text .entry))) ≡ validUpTo (now (text .entry))) ⌝ }
 {
     let FindingSpan {
         start,
         end,
         counts,
-        more,
+        present,
         passed,
     } = next_finding(text, policy, offset, 0);
-    if !more {
+    if !present {
         return FindingSpan {
             start,
             end,
             counts,
-            more,
+            present,
             passed,
         };
     }
@@ -55,15 +56,16 @@ fn finding_starting(text: &[u8], policy: &[u8], offset: usize) -> FindingSpan
         start,
         end,
         counts,
-        more: there,
+        present: there,
         passed,
     }
 }
 
-// Puts the bytes before an item and those behind it, with room for so many bytes between them.
+// Puts the bytes before an item and those after it, with room for so many bytes between them.
 fn put_around(text: &[u8], start: usize, end: usize, len: usize, out: &mut [u8])
     requires { ⌜ (start ≤ end) × (end ≤ length (now text)) × (start + len + (length (now text) - end) ≤ length (now out)) ⌝ }
-    ensures { λ _. ⌜ now (out .exit) ≡ sets (sets (now (out .entry)) 0 (take start (now (text .entry)))) (start + len) (drop end (now (text .entry))) ⌝ }
+    ensures { λ _. ⌜ now (out .exit) ≡ sets (sets (now (out .entry)) 0 (take start (now (text .entry)))) (start + len)
+        (drop end (now (text .entry))) ⌝ }
 {
     base::write_bytes(out, 0, &text[..start]);
     base::write_bytes(out, start + len, &text[end..]);
@@ -80,8 +82,12 @@ fn exchange(
     decisions: &[u8],
     out: &mut [u8],
 ) -> MendAnswer
-    requires { ⌜ (start ≤ end) × (end ≤ length (now text)) × (length (now text) ≤ textLimit) × (len ≡ length (cellsWritten policy (now text) start end (map meaning (now decisions)))) ⌝ }
-    ensures { λ r. ⌜ record { answer = r; buffer = now (out .exit) } ≡ writeOut (take start (now (text .entry)) ++ cellsWritten policy (now (text .entry)) start end (map meaning (now (decisions .entry))) ++ drop end (now (text .entry))) (now (out .entry)) ⌝ }
+    requires { ⌜ (start ≤ end) × (end ≤ length (now text)) × (length (now text) ≤ textLimit)
+        × (len ≡ length (cellsWritten policy (now text) start end (map meaning (now decisions)))) ⌝ }
+    ensures { λ r. ⌜ record { answer = r; buffer = now (out .exit) }
+        ≡ writeOut (take start (now (text .entry))
+        ++ cellsWritten policy (now (text .entry)) start end (map meaning (now (decisions .entry))) ++ drop end (now (text .entry)))
+        (now (out .entry)) ⌝ }
 {
     let stop = start + len;
     let wanted = stop + (text.len() - end);
@@ -106,7 +112,8 @@ fn mend_finding(
     out: &mut [u8],
 ) -> MendAnswer
     requires { ⌜ Accepted (now policy) (now text) × Starts (policyOf (now policy)) (now text) offset end ⌝ }
-    ensures { λ r. ⌜ record { answer = r; buffer = now (out .exit) } ≡ mend (now (text .entry)) (now (policy .entry)) offset (now (decisions .entry)) (now (out .entry)) ⌝ }
+    ensures { λ r. ⌜ record { answer = r; buffer = now (out .exit) }
+        ≡ mend (now (text .entry)) (now (policy .entry)) offset (now (decisions .entry)) (now (out .entry)) ⌝ }
 {
     let ReadPolicy {
         accepted: _,
@@ -127,7 +134,8 @@ pub fn mend(
     decisions: &[u8],
     out: &mut [u8],
 ) -> MendAnswer
-    ensures { λ r. ⌜ EndsAs mendRow (mend (now (text .entry)) (now (policy .entry)) offset (now (decisions .entry)) (now (out .entry))) r (now (out .exit)) ⌝ }
+    ensures { λ r. ⌜ EndsAs mendRow (mend (now (text .entry)) (now (policy .entry)) offset (now (decisions .entry)) (now (out .entry))) r
+        (now (out .exit)) ⌝ }
 {
     if TEXT_LIMIT < text.len() {
         return MendAnswer::Refused(Refusal::TextTooLong);
@@ -139,14 +147,14 @@ pub fn mend(
         start: _,
         end,
         counts: _,
-        more,
+        present,
         passed: _,
     } = finding_starting(text, policy, offset);
     let valid_up_to = end + utf8::valid_up_to(&text[end..]);
     if valid_up_to != text.len() {
         return MendAnswer::Refused(Refusal::NotWellFormed { valid_up_to });
     }
-    if !more {
+    if !present {
         return MendAnswer::Refused(Refusal::NoFinding);
     }
     mend_finding(text, policy, offset, end, decisions, out)

@@ -3,12 +3,12 @@ use mathlib.Core.Path.{refl}
 use native.Mathlib.Omega.{arith}
 use Rattle.base.specs.Texts.{parted}
 use Rattle.message_io.specs.Lines.{decimal, decimalBy, findingLine, line, refusalLine, totalLine}
-use Rattle.message_io.specs.Theorems.{DecimalTells, WorkedLines}
+use Rattle.message_io.specs.Theorems.{DecimalReadsBack, WorkedLines}
 use Rattle.message_io.proofs.Digits.{tells}
 
-pub decimal-tells : DecimalTells
-unfolding DecimalTells decimal
-decimal-tells n = tells n n (omega arith)
+pub decimal-reads-back : DecimalReadsBack
+unfolding DecimalReadsBack decimal
+decimal-reads-back n = tells n n (omega arith)
 
 pub worked-lines : WorkedLines
 unfolding WorkedLines findingLine totalLine refusalLine line parted decimal decimalBy

@@ -22,9 +22,11 @@ filled {o} {o′} {r} e w =
     ∙ ap (λ (k : ℕ). r ++ drop k o) e ∙ ap (λ (xs : List ℕ). r ++ xs) (drop-length o) ∙ append-nil r
 
 pub default-length : length (policyBytes defaultPolicy) ≡ 192
-unfolding policyBytes bytesOf policyWords keyWords defaultPolicy preferBare preferBareKeycap bareAsText bareAsTextKeycap wordBytes littleEndian
+unfolding policyBytes bytesOf policyWords keyWords defaultPolicy preferBare preferBareKeycap bareAsText bareAsTextKeycap wordBytes
+    littleEndian
 default-length = refl
 
 pub default-written : {o o′ : List ℕ} {p : Policy} {a : WriteAnswer} → length o ≡ 192 → p ≡ defaultPolicy → Wrote (policyBytes p) o o′ a
     → o′ ≡ policyBytes defaultPolicy
-default-written {o} {o′} {a = a} l e w = filled (omega (arith, l, default-length)) (subst (λ (q : Policy). Wrote (policyBytes q) o o′ a) e w)
+default-written {o} {o′} {a = a} l e w = filled (omega (arith, l, default-length))
+    (subst (λ (q : Policy). Wrote (policyBytes q) o o′ a) e w)

@@ -44,7 +44,9 @@ by-fuel (suc fuel) (suc zero) n h f =
 by-fuel (suc fuel) (suc (suc k)) n h f =
     let g = subst (λ (m : ℕ). 10 ^ m ≤ n) (shown k) (f .2 (omega arith)) in
     rw (le-ltb n 10 (omega (arith, ten k)))
-    (ap₂ (λ (xs : List ℕ) (d : ℕ). xs ++ (d ∷ [])) (by-fuel fuel (suc k) (n / 10) (omega arith) (omega arith, omega arith, λ w. subst (λ (m : ℕ). 10 ^ m ≤ n / 10) (sym (less k)) (omega arith))) (last n))
+    (ap₂ (λ (xs : List ℕ) (d : ℕ). xs ++ (d ∷ []))
+    (by-fuel fuel (suc k) (n / 10) (omega arith)
+    (omega arith, omega arith, λ w. subst (λ (m : ℕ). 10 ^ m ≤ n / 10) (sym (less k)) (omega arith))) (last n))
 
 -- 20 digits hold every number of 64 bits
 many : (i : ℕ) → 100000000000000000000 ≤ 10 ^ (i + 20)
@@ -68,10 +70,10 @@ decimal-digits k n f = by-fuel n k n (omega arith) f
 -- ---- the digits make the number
 
 -- a last digit
-behind : (m : ℕ) (xs : List ℕ) (d : ℕ) → digitsNumber m (xs ++ (d ∷ [])) ≡ 10 * digitsNumber m xs + (d - 48)
+after : (m : ℕ) (xs : List ℕ) (d : ℕ) → digitsNumber m (xs ++ (d ∷ [])) ≡ 10 * digitsNumber m xs + (d - 48)
 unfolding digitsNumber
-behind m [] d = refl
-behind m (x ∷ xs) d = behind (10 * m + (x - 48)) xs d
+after m [] d = refl
+after m (x ∷ xs) d = after (10 * m + (x - 48)) xs d
 
 pub tells : (fuel n : ℕ) → n ≤ fuel → digitsNumber 0 (decimalBy fuel n) ≡ n
 unfolding decimalBy digitsNumber
@@ -83,4 +85,4 @@ tells (suc fuel) n h = go (ltb n 10) refl (λ w. tells fuel (n / 10) w)
     go true e i = omega arith
     go false e i =
         let g = ltb-false n 10 e in
-        omega (arith, i (omega arith), behind 0 (decimalBy fuel (n / 10)) (48 + n % 10))
+        omega (arith, i (omega arith), after 0 (decimalBy fuel (n / 10)) (48 + n % 10))

@@ -8,7 +8,7 @@ use lib.Dec.{ltb}
 use lib.ListN.{length, length-append}
 use borrow.Author.Tests.{lt-ltb}
 use Rattle.base.specs.Texts.{parted}
-use Rattle.message_io.specs.Lines.{behindBlanks, decimal, decimalBy, findingLine, line, totalLine}
+use Rattle.message_io.specs.Lines.{withBlanks, decimal, decimalBy, findingLine, line, totalLine}
 use Rattle.message_io.proofs.Texts.{blanks}
 
 -- The sum of numbers.
@@ -32,17 +32,17 @@ five-digits : (n : ℕ) → n < 100000 → length (decimal n) ≤ 5
 unfolding decimal
 five-digits n h = digits-few 4 n n (omega arith)
 
-blanks-length : (ns : List ℕ) → sum ns < 100000 → length (behindBlanks (map decimal ns)) ≤ 6 * length ns
-unfolding behindBlanks
+blanks-length : (ns : List ℕ) → sum ns < 100000 → length (withBlanks (map decimal ns)) ≤ 6 * length ns
+unfolding withBlanks
 blanks-length [] h = omega arith
 blanks-length (n ∷ ns) h =
-    omega (arith, length-append (decimal n) (behindBlanks (map decimal ns)), five-digits n (omega arith), blanks-length ns (omega arith))
+    omega (arith, length-append (decimal n) (withBlanks (map decimal ns)), five-digits n (omega arith), blanks-length ns (omega arith))
 
-line-length : (t : List ℕ) (ts : List (List ℕ)) → length (line (t ∷ ts)) ≡ length t + length (behindBlanks ts) + 1
+line-length : (t : List ℕ) (ts : List (List ℕ)) → length (line (t ∷ ts)) ≡ length t + length (withBlanks ts) + 1
 unfolding line
 line-length t ts =
     length-append (parted 0x20 (t ∷ ts)) (0x0A ∷ [])
-    ∙ ap (λ (n : ℕ). n + 1) (ap length (blanks t ts) ∙ length-append t (behindBlanks ts))
+    ∙ ap (λ (n : ℕ). n + 1) (ap length (blanks t ts) ∙ length-append t (withBlanks ts))
 
 pub finding-length : (n : ℕ) (ns : List ℕ) → n + sum ns < 100000 → length (findingLine (n ∷ ns)) ≤ 6 * suc (length ns)
 unfolding findingLine

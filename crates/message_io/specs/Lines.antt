@@ -24,9 +24,9 @@ decimal n = decimalBy n n
 -- ---- lines
 
 -- Texts with a blank before each.
-unfoldable pub behindBlanks : List (List ℕ) → List ℕ
-behindBlanks [] = []
-behindBlanks (t ∷ ts) = 0x20 ∷ (t ++ behindBlanks ts)
+unfoldable pub withBlanks : List (List ℕ) → List ℕ
+withBlanks [] = []
+withBlanks (t ∷ ts) = 0x20 ∷ (t ++ withBlanks ts)
 
 -- ".. each line ended by 0A; numbers are parted by one blank"
 unfoldable pub line : List (List ℕ) → List ℕ
@@ -36,7 +36,7 @@ line ts = parted 0x20 ts ++ (0x0A ∷ [])
 unfoldable pub findingLine : List ℕ → List ℕ
 findingLine numbers = line (map decimal numbers)
 
--- ".. then totals", behind the word `total`: of the eight.
+-- ".. then totals", after the word `total`: of the eight.
 unfoldable pub totalLine : List ℕ → List ℕ
 totalLine numbers = line ((0x74 ∷ 0x6F ∷ 0x74 ∷ 0x61 ∷ 0x6C ∷ []) ∷ map decimal numbers)
 

@@ -7,13 +7,13 @@ ghost use lib.ListN.{drop, length, take};
 ghost use Rattle.io.specs.Counts.{Counts};
 ghost use Rattle.base.specs.Output.{PutAt};
 ghost use Rattle.base.specs.Refusals.{returned};
-ghost use Rattle.message_io.specs.Lines.{behindBlanks, decimal, findingLine, refusalLine, totalLine};
+ghost use Rattle.message_io.specs.Lines.{withBlanks, decimal, findingLine, refusalLine, totalLine};
 use base::Refusal;
 use base::refusals::refusal_number;
 use base::refusals::refusal_value;
 use base::refusals::returns_value;
 
-// The most bytes of a line, with its 0A: ten numbers of up to 20 digits, each with a blank or the line's end behind it.
+// The most bytes of a line, with its 0A: ten numbers of up to 20 digits, each with a blank or the line's end after it.
 pub const LINE_ROOM: usize = 210;
 
 // Puts bytes at a place, for which there is room, and says where they end.
@@ -47,7 +47,8 @@ fn put_number(out: &mut [u8], start: usize, n: usize) -> usize
 // Puts each number after a blank.
 fn put_numbers(out: &mut [u8], start: usize, numbers: &[usize]) -> usize
     requires { ⌜ start + 21 * length (now numbers) ≤ length (now out) ⌝ }
-    ensures { λ r. ⌜ PutAt (now (out .entry)) start (behindBlanks (map decimal (now (numbers .entry)))) (now (out .exit)) r × (r ≤ start + 21 * length (now (numbers .entry))) ⌝ }
+    ensures { λ r. ⌜ PutAt (now (out .entry)) start (withBlanks (map decimal (now (numbers .entry)))) (now (out .exit)) r
+        × (r ≤ start + 21 * length (now (numbers .entry))) ⌝ }
 {
     let mut at = start;
     let mut i = 0;
@@ -89,7 +90,7 @@ pub fn total_line(numbers: &[usize; 8], out: &mut [u8; LINE_ROOM]) -> usize
 // Puts what is returned with a refusal, after a blank, if anything is.
 fn put_returned(out: &mut [u8], start: usize, refusal: Refusal) -> usize
     requires { ⌜ start + 21 ≤ length (now out) ⌝ }
-    ensures { λ r. ⌜ PutAt (now (out .entry)) start (behindBlanks (map decimal (returned refusal))) (now (out .exit)) r × (r ≤ start + 21) ⌝ }
+    ensures { λ r. ⌜ PutAt (now (out .entry)) start (withBlanks (map decimal (returned refusal))) (now (out .exit)) r × (r ≤ start + 21) ⌝ }
 {
     if returns_value(refusal) {
         return put_number(out, start, refusal_value(refusal));

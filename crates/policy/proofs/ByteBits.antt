@@ -20,7 +20,7 @@ use Rattle.policy_key_set.proofs.Bits.{bits-determine, not-one}
 use Rattle.policy.specs.PolicyBytes.{wordsFrom}
 use Rattle.policy.proofs.Bytes.{getD-wordsFrom}
 
--- entry i of a set is bit i mod 8 of the byte i / 8 behind the place where the set's bytes begin
+-- entry i of a set is bit i mod 8 of the byte i / 8 after the place where the set's bytes begin
 pub member-of-bytes : (n at i : ℕ) (bs : List ℕ) → ((j : ℕ) → getD bs j 0 < 256) → i < n * 64
     → member i (wordsFrom n at bs) ≡ one (i % 8) (getD (drop at bs) (i / 8) 0)
 unfolding member

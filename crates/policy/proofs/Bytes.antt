@@ -27,7 +27,11 @@ getD-wordsFrom (suc n) at bs (suc k) h =
 -- four sets of words, as a policy
 pub policy-made : (a b c d : CharSet) (bs : List ℕ) → a .bits ≡ setOf 0 bs .bits → b .bits ≡ setOf 1 bs .bits → c .bits ≡ setOf 2 bs .bits
     → d .bits ≡ setOf 3 bs .bits
-    → _≡_ {A = Policy} (record { «prefer_bare» = record { chars = a; «keycap_chars» = b }; «bare_as_text» = record { chars = c; «keycap_chars» = d } }) (policyOf bs)
+    → _≡_ {A = Policy} (record {
+      «prefer_bare» = record { chars = a; «keycap_chars» = b };
+      «bare_as_text» =
+          record { chars = c; «keycap_chars» = d };
+    }) (policyOf bs)
 unfolding policyOf
 policy-made a b c d bs p q r s =
     let e : a ≡ setOf 0 bs = ap (λ (ws : List ℕ). record { bits = ws }) p in

@@ -22,7 +22,17 @@ use Rattle.policy_key_set.proofs.Contains.{contains-chars}
 use Rattle.policy_key_set.proofs.Entries.{right-words}
 use Rattle.policy.specs.Policy.{holdsBase, ruleOf, singletonRule}
 use Rattle.policy.specs.DefaultPolicy.{bareAsText, bareAsTextKeycap, defaultPolicy, preferBare, preferBareKeycap}
-use Rattle.policy.specs.PolicyBytes.{PolicyValue, isPolicy, keyWords, noUnusedBits, policyBytes, policyFault, policyOf, policyWords, wordsFrom}
+use Rattle.policy.specs.PolicyBytes.{
+  PolicyValue,
+  isPolicy,
+  keyWords,
+  noUnusedBits,
+  policyBytes,
+  policyFault,
+  policyOf,
+  policyWords,
+  wordsFrom,
+}
 use Rattle.policy.specs.declared.Policy.{Policy}
 use Rattle.policy.specs.declared.SingletonRule.the-variants.{BareToText, EmojiToBare, TextToBare}
 use Rattle.policy.specs.Theorems.{
@@ -46,7 +56,8 @@ use Rattle.policy.proofs.Unused.{refused-by, refused-for}
 
 -- what each of the default policy's sets holds, by one computed test
 holds-prefer-bare : rightWords (λ (c : ℕ). isAscii c || isEmojiDefault c) preferBare ≡ true
-unfolding rightWords allBelow member one entryCount isEmojiDefault isEmojiPresentation hasVariationSequence inRanges Tables·member emojiPresentationRanges variationEntries preferBare
+unfolding rightWords allBelow member one entryCount isEmojiDefault isEmojiPresentation hasVariationSequence inRanges Tables·member
+    emojiPresentationRanges variationEntries preferBare
 holds-prefer-bare = refl
 
 holds-prefer-bare-keycap : rightWords (λ (c : ℕ). false) preferBareKeycap ≡ true
@@ -54,7 +65,8 @@ unfolding rightWords allBelow member one entryCount variationEntries preferBareK
 holds-prefer-bare-keycap = refl
 
 holds-bare-as-text : rightWords isTextDefault bareAsText ≡ true
-unfolding rightWords allBelow member one entryCount isTextDefault isEmojiPresentation hasVariationSequence inRanges Tables·member emojiPresentationRanges variationEntries bareAsText
+unfolding rightWords allBelow member one entryCount isTextDefault isEmojiPresentation hasVariationSequence inRanges Tables·member
+    emojiPresentationRanges variationEntries bareAsText
 holds-bare-as-text = refl
 
 holds-bare-as-text-keycap : rightWords (λ (c : ℕ). true) bareAsTextKeycap ≡ true
@@ -89,7 +101,8 @@ default-rules c h =
     (λ p ws t. contains-chars p ws (right-words p ws t) c ∙ ap (λ (b : Bool). b && p c) h) in
     let text : isTextDefault c ≡ not (isEmojiDefault c) =
     ap (λ (b : Bool). b && not (isEmojiPresentation c)) h ∙ ap (λ (b : Bool). not (b && isEmojiPresentation c)) (sym h) in (
-      ap₂ ruleOf (in-both (λ (x : ℕ). isAscii x || isEmojiDefault x) preferBare holds-prefer-bare) (in-both isTextDefault bareAsText holds-bare-as-text ∙ text)
+      ap₂ ruleOf (in-both (λ (x : ℕ). isAscii x || isEmojiDefault x) preferBare holds-prefer-bare)
+          (in-both isTextDefault bareAsText holds-bare-as-text ∙ text)
           ∙ default-rule (isEmojiDefault c) (isAscii c),
       ap₂ ruleOf (in-both (λ (x : ℕ). false) preferBareKeycap holds-prefer-bare-keycap)
           (in-both (λ (x : ℕ). true) bareAsTextKeycap holds-bare-as-text-keycap),
@@ -151,7 +164,8 @@ read-written p v =
     let ws = policyWords p in
     let many = many-words p (sixes p v) in
     let read : wordsFrom 24 0 (bytesOf ws) ≡ ws = ap (λ (n : ℕ). wordsFrom n 0 (bytesOf ws)) (sym many) ∙ read-words ws (words-below p v) in
-    let back : policyOf (bytesOf ws) ≡ p = same-words (policyOf (bytesOf ws)) p (sixes-of (bytesOf ws)) (sixes p v) (words-of (bytesOf ws) ∙ read) in
+    let back : policyOf (bytesOf ws) ≡ p = same-words (policyOf (bytesOf ws)) p (sixes-of (bytesOf ws)) (sixes p v)
+    (words-of (bytesOf ws) ∙ read) in
     let long : length (bytesOf ws) ≡ 192 = omega (arith, length-bytesOf ws) in
     (back, ap₂ _&&_ (eq-eqb (length (bytesOf ws)) 192 long) (ap noUnusedBits back))
 

@@ -24,7 +24,7 @@ wordsFrom-drop (suc n) at bs =
     ap (λ (ws : List ℕ). number (take 8 (drop at bs)) ∷ ws)
     (wordsFrom-drop n (at + 8) bs ∙ ap (wordsFrom n 0) (sym (drop-drop 8 at bs)) ∙ sym (wordsFrom-drop n 8 (drop at bs)))
 
--- words behind words
+-- words after words
 pub wordsFrom-append : (m n at : ℕ) (bs : List ℕ) → wordsFrom (m + n) at bs ≡ wordsFrom m at bs ++ wordsFrom n (at + m * 8) bs
 unfolding wordsFrom
 wordsFrom-append zero n at bs =
@@ -81,7 +81,11 @@ same-policy p q e f g h = made (as-set e) (as-set f) (as-set g) (as-set h)
     as-set e = cc
 
     made : {a b c d x y z w : CharSet} → a ≡ x → b ≡ y → c ≡ z → d ≡ w
-        → _≡_ {A = Policy} (record { «prefer_bare» = record { chars = a; «keycap_chars» = b }; «bare_as_text» = record { chars = c; «keycap_chars» = d } })
+        → _≡_ {A = Policy} (record {
+          «prefer_bare» = record { chars = a; «keycap_chars» = b };
+          «bare_as_text» =
+              record { chars = c; «keycap_chars» = d };
+        })
         (record { «prefer_bare» = record { chars = x; «keycap_chars» = y }; «bare_as_text» = record { chars = z; «keycap_chars» = w } })
     made e f g h = cc
 

@@ -13,7 +13,17 @@ use Rattle.base.proofs.Tests.{le-or-lt, same-test}
 use Rattle.base.specs.Bits.{one}
 use Rattle.policy_key_set.specs.Sets.{allBelow, entryCount, member, wordCount}
 use Rattle.policy_key_set.proofs.Below.{all-below, below-all}
-use Rattle.policy.specs.PolicyBytes.{NoPolicy, UnusedOne, isPolicy, noUnusedBit, noUnusedBits, not-4W-words, policyOf, setOf, unused-bit}
+use Rattle.policy.specs.PolicyBytes.{
+  NoPolicy,
+  UnusedOne,
+  isPolicy,
+  noUnusedBit,
+  noUnusedBits,
+  not-4W-words,
+  policyOf,
+  setOf,
+  unused-bit,
+}
 use Rattle.policy.proofs.Bounds.{high-bits, low-word}
 
 -- a bit that is no entry's, and a test of it
@@ -64,7 +74,8 @@ small-word n base u w e l h =
     le-leb w (2 ^ u - 1) (omega arith))
     (λ t. below-all 64 test (λ k a.
     ⊎-elim
-    (λ (m : n ≤ base + k). unused n (base + k) (one k w) m ∙ ap not (high-bits u k w (omega (arith, leb-true w (2 ^ u - 1) t, pow-pos u)) (omega arith)))
+    (λ (m : n ≤ base + k). unused n (base + k) (one k w) m
+    ∙ ap not (high-bits u k w (omega (arith, leb-true w (2 ^ u - 1) t, pow-pos u)) (omega arith)))
     (λ m. used n (base + k) (one k w) m) (le-or-lt n (base + k))))
   where
     test : ℕ → Bool
@@ -96,7 +107,13 @@ unfolding noUnusedBit
 unused-one ws e =
     let r = not-all (wordCount * 64) (λ (i : ℕ). ltb i entryCount || not (member i ws)) e in
     let f = both-false (ltb (r .at) entryCount) (not (member (r .at) ws)) (r .fails) in
-    record { bit = r .at; no-entry = ltb-false (r .at) entryCount (f .0); in-words = r .below; is-one = not-false (member (r .at) ws) (f .1) }
+    record {
+      bit = r .at;
+      no-entry = ltb-false (r .at) entryCount (f .0);
+      in-words = r .below;
+      is-one = not-false (member (r .at) ws)
+          (f .1);
+    }
 
 one-unused : (ws : List ℕ) → UnusedOne ws → noUnusedBit ws ≡ false
 unfolding noUnusedBit
@@ -107,7 +124,8 @@ one-unused ws u = go (noUnusedBit ws) refl
 
     go : (b : Bool) → noUnusedBit ws ≡ b → b ≡ false
     go false e = refl
-    go true e = sym (sym (unused entryCount (u .bit) (member (u .bit) ws) (u .no-entry) ∙ ap not (u .is-one)) ∙ all-below (wordCount * 64) test e (u .bit) (u .in-words))
+    go true e = sym (sym (unused entryCount (u .bit) (member (u .bit) ws) (u .no-entry) ∙ ap not (u .is-one))
+        ∙ all-below (wordCount * 64) test e (u .bit) (u .in-words))
 
 -- one of four sets
 one-of : (a b c d : Bool) → ((a && b) && (c && d)) ≡ false → (a ≡ false) ⊎ ((b ≡ false) ⊎ ((c ≡ false) ⊎ (d ≡ false)))
@@ -142,7 +160,8 @@ module _ (bs : List ℕ) where
   pub refused-by : NoPolicy bs → isPolicy bs ≡ false
   unfolding isPolicy noUnusedBits policyOf
   refused-by (not-4W-words h) = ap (λ (b : Bool). b && noUnusedBits (policyOf bs)) (ne-eqb (length bs) (4 * (wordCount * 8)) h)
-  refused-by (unused-bit k l u) = and-false (eqb (length bs) (4 * (wordCount * 8))) (noUnusedBits (policyOf bs)) (go k l (one-unused (setOf k bs .bits) u))
+  refused-by (unused-bit k l u) = and-false (eqb (length bs) (4 * (wordCount * 8))) (noUnusedBits (policyOf bs))
+      (go k l (one-unused (setOf k bs .bits) u))
     where
       go : (k : ℕ) → k < 4 → clean k ≡ false → ((clean 0 && clean 1) && (clean 2 && clean 3)) ≡ false
       go zero l f = ap (λ (b : Bool). (b && clean 1) && (clean 2 && clean 3)) f

@@ -43,7 +43,7 @@ policyOf bs = record {
   «bare_as_text» = record { chars = setOf 2 bs; «keycap_chars» = setOf 3 bs };
 }
 
--- no bit behind the last entry is one
+-- no bit after the last entry is one
 unfoldable pub noUnusedBit : List ℕ → Bool
 noUnusedBit ws = allBelow (wordCount * 64) (λ (i : ℕ). ltb i entryCount || not (member i ws))
 

@@ -64,7 +64,7 @@ pub fn policy_refusal(bytes: &[u8]) -> Refusal
     Refusal::NotAPolicy
 }
 
-// Whether the set whose bytes begin at a place holds an entry. Behind the set's bits there is none.
+// Whether the set whose bytes begin at a place holds an entry. After the set's bits there is none.
 fn holds_entry(bytes: &[u8], at: usize, index: usize) -> bool
     ensures { λ r. ⌜ r ≡ member index (wordsFrom wordCount at (now (bytes .entry))) ⌝ }
 {

@@ -63,7 +63,8 @@ pub count-all : (n : ℕ) (p : ℕ → Bool) → countBelow n p ≡ n → (k : �
 unfolding countBelow
 count-all zero p e k h = absurd (not-suc-le-zero h)
 count-all (suc n) p e k h =
-    ⊎-elim (λ (q : k ≡ n). ap p q ∙ yes (p n) (omega (arith, count-le n p))) (λ (l : k < n). count-all n p (omega (arith, number-le (p n), count-le n p)) k l)
+    ⊎-elim (λ (q : k ≡ n). ap p q ∙ yes (p n) (omega (arith, count-le n p)))
+    (λ (l : k < n). count-all n p (omega (arith, number-le (p n), count-le n p)) k l)
     (eq-or-lt-of-le (le-of-suc-le-suc h))
   where
     yes : (b : Bool) → 0 < number b → b ≡ true

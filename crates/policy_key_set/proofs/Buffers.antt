@@ -1,4 +1,4 @@
--- What the writers leave in the buffer: texts one behind the other, and the answer of a call.
+-- What the writers leave in the buffer: texts one after the other, and the answer of a call.
 use mathlib.Core.Path.{_≡_, refl, sym, ap, _∙_}
 use mathlib.Core.Bool.{Bool, true, false}
 use mathlib.Core.List.{List, [], _∷_, _++_, append-nil}
@@ -34,11 +34,12 @@ unfolding keyText
 text-put keycap c p e q u =
     put-then p (put-then (put-as (hexDigits (hexWidth c) c) (ap (λ (n : ℕ). hexDigits n c) e) q) u)
 
--- a text behind a comma
-pub later-put : {o o₁ o₂ : List ℕ} {s i r : ℕ} (t : List ℕ) → 0 < s → PutAt o s (0x2C ∷ []) o₁ i → PutAt o₁ i t o₂ r → PutAt o s (piece s t) o₂ r
+-- a text after a comma
+pub later-put : {o o₁ o₂ : List ℕ} {s i r : ℕ} (t : List ℕ) → 0 < s → PutAt o s (0x2C ∷ []) o₁ i → PutAt o₁ i t o₂ r
+    → PutAt o s (piece s t) o₂ r
 later-put {s = s} t h p q = put-as (piece s t) (sym (piece-later s t h)) (put-then p q)
 
--- the two domains one behind the other are the list of the keys
+-- the two domains one after the other are the list of the keys
 module _ (s : PolicyKeySet) where
   abbrev pub ordinaryTexts : List (List ℕ)
   ordinaryTexts = keyTexts false (s .chars .bits) 0 variationEntries
@@ -53,15 +54,15 @@ module _ (s : PolicyKeySet) where
       rw append-nil at (written-texts true (s .«keycap_chars» .bits) 0 variationEntries [] refl) in
       sym (written-append 0 ordinaryTexts keycapTexts) ∙ written-texts false (s .chars .bits) 0 variationEntries keycapTexts e
 
-  behind-first : {i : ℕ} → i ≡ 0 + length (written 0 ordinaryTexts) → written 0 ordinaryTexts ++ written i keycapTexts ≡ keyList s
-  behind-first e = ap (λ (n : ℕ). written 0 ordinaryTexts ++ written n keycapTexts) e ∙ key-list
+  after-first : {i : ℕ} → i ≡ 0 + length (written 0 ordinaryTexts) → written 0 ordinaryTexts ++ written i keycapTexts ≡ keyList s
+  after-first e = ap (λ (n : ℕ). written 0 ordinaryTexts ++ written n keycapTexts) e ∙ key-list
 
   pub list-length : {i r : ℕ} → i ≡ 0 + length (written 0 ordinaryTexts) → r ≡ i + length (written i keycapTexts) → r ≡ length (keyList s)
-  list-length {i} e f = omega (arith, ap length (behind-first e), length-append (written 0 ordinaryTexts) (written i keycapTexts))
+  list-length {i} e f = omega (arith, ap length (after-first e), length-append (written 0 ordinaryTexts) (written i keycapTexts))
 
   pub list-put : {o o₁ o₂ : List ℕ} {i r : ℕ} → PutAt o 0 (written 0 ordinaryTexts) o₁ i → PutAt o₁ i (written i keycapTexts) o₂ r
       → PutAt o 0 (keyList s) o₂ r
-  list-put p q = put-as (keyList s) (behind-first (p .ends)) (put-then p q)
+  list-put p q = put-as (keyList s) (after-first (p .ends)) (put-then p q)
 
   -- what is shown, by the number of keys
   pub display-none : keysSize s ≡ 0 → display s ≡ 0x6E ∷ 0x6F ∷ 0x6E ∷ 0x65 ∷ []

@@ -113,8 +113,10 @@ complement-of-union n x y u v h g =
 pub size-of-union : SizeOfUnion
 unfolding SizeOfUnion sizeOf
 size-of-union x y u v h g =
-    let e = count-same entryCount (λ (i : ℕ). member i u) (λ (i : ℕ). member i x || member i y) (held entryCount (λ (i : ℕ). member i x || member i y) u h) in
-    let f = count-same entryCount (λ (i : ℕ). member i v) (λ (i : ℕ). member i x && member i y) (held entryCount (λ (i : ℕ). member i x && member i y) v g) in
+    let e = count-same entryCount (λ (i : ℕ). member i u) (λ (i : ℕ). member i x || member i y)
+    (held entryCount (λ (i : ℕ). member i x || member i y) u h) in
+    let f = count-same entryCount (λ (i : ℕ). member i v) (λ (i : ℕ). member i x && member i y)
+    (held entryCount (λ (i : ℕ). member i x && member i y) v g) in
     omega (arith, count-union entryCount (λ (i : ℕ). member i x) (λ (i : ℕ). member i y))
 
 pub same-entries-means : SameEntriesMeans
@@ -147,5 +149,6 @@ size-of-all s =
     )
 
 pub display-example : DisplayExample
-unfolding DisplayExample display keyList parted keyTexts keyText opening hexWidth hexDigits hexDigit sizeOf countBelow member one entryCount variationEntries
+unfolding DisplayExample display keyList parted keyTexts keyText opening hexWidth hexDigits hexDigit sizeOf countBelow member one entryCount
+    variationEntries
 display-example = refl

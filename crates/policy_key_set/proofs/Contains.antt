@@ -20,7 +20,8 @@ unfolding contains memberAt
 contains-entry ws i h = ap (λ (x : VariationSequenceIndex). memberAt x ws) (place-has-index i h)
 
 -- .. and so a test that a set holds the character at a place is the test of the place
-pub contains-place : {b : Bool} {ch : ℕ} (ws : List ℕ) (i : ℕ) → i < 354 → ch ≡ getD variationEntries i 0 → b ≡ contains ch ws → member i ws ≡ b
+pub contains-place : {b : Bool} {ch : ℕ} (ws : List ℕ) (i : ℕ) → i < 354 → ch ≡ getD variationEntries i 0 → b ≡ contains ch ws → member i ws
+    ≡ b
 contains-place ws i h e f = sym (f ∙ ap (λ (c : ℕ). contains c ws) e ∙ contains-entry ws i (omega (arith, entry-count)))
 
 -- what a set holds at an index
@@ -49,7 +50,8 @@ contains-chars p ws h ch =
     contains-held (λ (i : ℕ). p (getD variationEntries i 0)) ws h ch ∙ go (variationSequenceIndex ch) refl
     ∙ ap (λ (b : Bool). b && p ch) (sym (has-index ch))
   where
-    go : (r : VariationSequenceIndex) → variationSequenceIndex ch ≡ r → testAt r (λ (i : ℕ). p (getD variationEntries i 0)) ≡ (isAt r && p ch)
+    go : (r : VariationSequenceIndex) → variationSequenceIndex ch ≡ r → testAt r (λ (i : ℕ). p (getD variationEntries i 0))
+        ≡ (isAt r && p ch)
     go (Index.At i) e = ap p (index-has-place ch i e .1)
     go Index.NoEntry e = refl
 

@@ -47,11 +47,14 @@ place-has-index i h =
     place-is-index variationEntries variation-entries-ascend (getD variationEntries i 0) i (entry-in i variationEntries h)
 
 -- the entries that are one character: the one at its index, or none
-pub only-entry : (ch i : ℕ) → variationSequenceIndex ch ≡ Index.At i → (j : ℕ) → j < entryCount → eqb (getD variationEntries j 0) ch ≡ eqb j i
+pub only-entry : (ch i : ℕ) → variationSequenceIndex ch ≡ Index.At i → (j : ℕ) → j < entryCount → eqb (getD variationEntries j 0) ch
+    ≡ eqb j i
 only-entry ch i e j h =
-    ⊎-elim (λ p. eq-eqb (getD variationEntries j 0) ch (ap (λ (k : ℕ). getD variationEntries k 0) p ∙ index-has-place ch i e .1) ∙ sym (eq-eqb j i p))
+    ⊎-elim (λ p. eq-eqb (getD variationEntries j 0) ch (ap (λ (k : ℕ). getD variationEntries k 0) p ∙ index-has-place ch i e .1)
+    ∙ sym (eq-eqb j i p))
     (λ p.
-    ne-eqb (getD variationEntries j 0) ch (λ q. p (let f = place-has-index j h in let g = ap variationSequenceIndex q in cc)) ∙ sym (ne-eqb j i p))
+    ne-eqb (getD variationEntries j 0) ch (λ q. p (let f = place-has-index j h in let g = ap variationSequenceIndex q in cc))
+    ∙ sym (ne-eqb j i p))
     (decide j i)
 
 pub no-entry : (ch : ℕ) → variationSequenceIndex ch ≡ Index.NoEntry → (j : ℕ) → j < entryCount → eqb (getD variationEntries j 0) ch ≡ false

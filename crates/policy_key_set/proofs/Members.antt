@@ -103,7 +103,8 @@ held n p ws h i l = h i ∙ ap (λ (b : Bool). b && p i) (lt-ltb i n l)
 pub complement-held : (n : ℕ) (all ws vs : List ℕ) → HoldsBelow n (λ (i : ℕ). true) all
     → HoldsBelow n (λ (i : ℕ). butNot (member i all) (member i ws)) vs → HoldsBelow n (λ (i : ℕ). not (member i ws)) vs
 complement-held n all ws vs h g =
-    holds-same n _ (λ (i : ℕ). not (member i ws)) vs g (λ i l. ap (λ (b : Bool). b && not (member i ws)) (held n (λ (i : ℕ). true) all h i l))
+    holds-same n _ (λ (i : ℕ). not (member i ws)) vs g
+    (λ i l. ap (λ (b : Bool). b && not (member i ws)) (held n (λ (i : ℕ). true) all h i l))
 
 -- words below 2 ^ 64 are determined by their members
 pub members-determine : (ws vs : List ℕ) → length ws ≡ length vs → ((k : ℕ) → getD ws k 0 < 2 ^ 64) → ((k : ℕ) → getD vs k 0 < 2 ^ 64)
@@ -115,5 +116,6 @@ members-determine ws vs e h g m =
     (λ j q.
     let d : (k * 64 + j) / 64 ≡ k = omega arith in
     let r : (k * 64 + j) % 64 ≡ j = omega arith in
-    let f : one ((k * 64 + j) % 64) (getD ws ((k * 64 + j) / 64) 0) ≡ one ((k * 64 + j) % 64) (getD vs ((k * 64 + j) / 64) 0) = m (k * 64 + j) in
+    let f : one ((k * 64 + j) % 64) (getD ws ((k * 64 + j) / 64) 0) ≡ one ((k * 64 + j) % 64) (getD vs ((k * 64 + j) / 64) 0) =
+    m (k * 64 + j) in
     rw (d, r) at f))

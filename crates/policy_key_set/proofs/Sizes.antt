@@ -47,7 +47,8 @@ part-word : (ws : List ℕ) (j k : ℕ) → k ≤ 64
     → countBelow (j * 64 + k) (λ (i : ℕ). member i ws) ≡ countBelow (j * 64) (λ (i : ℕ). member i ws) + bitCount k (getD ws j 0)
 unfolding countBelow member
 part-word ws j zero h =
-    ap (λ (n : ℕ). countBelow n (λ (i : ℕ). member i ws)) (add-zero (j * 64)) ∙ sym (add-zero (countBelow (j * 64) (λ (i : ℕ). member i ws)))
+    ap (λ (n : ℕ). countBelow n (λ (i : ℕ). member i ws)) (add-zero (j * 64))
+    ∙ sym (add-zero (countBelow (j * 64) (λ (i : ℕ). member i ws)))
 part-word ws j (suc k) h =
     let e = part-word ws j k (omega arith) in
     let d : (j * 64 + k) / 64 ≡ j = omega arith in

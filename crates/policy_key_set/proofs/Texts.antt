@@ -1,4 +1,4 @@
--- The texts of the keys: their lengths, the walk along the entries, and texts written one behind the other.
+-- The texts of the keys: their lengths, the walk along the entries, and texts written one after the other.
 use mathlib.Core.Path.{_≡_, refl, sym, ap, _∙_}
 use mathlib.Core.Bool.{Bool, true, false, cond}
 use mathlib.Core.List.{List, [], _∷_, _++_, append-assoc, append-nil}
@@ -64,7 +64,7 @@ module _ (keycap : Bool) (ws cs : List ℕ) (i j : ℕ) where
   unfolding keyTexts written
   keys-done h = rw (drop-of-length-le cs h) refl
 
--- texts behind other texts
+-- texts after other texts
 pub written-append : (j : ℕ) (ts us : List (List ℕ)) → written j (ts ++ us) ≡ written j ts ++ written (j + length (written j ts)) us
 unfolding written
 written-append j [] us = ap (λ (n : ℕ). written n us) (sym (add-zero j))
@@ -75,18 +75,18 @@ written-append j (t ∷ ts) us =
     ap (λ (xs : List ℕ). p ++ xs) (written-append (j + length p) ts us ∙ ap (λ (n : ℕ). w ++ written n us) e)
     ∙ sym (append-assoc p w (written (j + length (p ++ w)) us))
 
--- behind a first text there is a comma before each
-behind : (j : ℕ) (t : List ℕ) (ts : List (List ℕ)) → 0 < j → written j (t ∷ ts) ≡ 0x2C ∷ parted 0x2C (t ∷ ts)
+-- after a first text there is a comma before each
+after : (j : ℕ) (t : List ℕ) (ts : List (List ℕ)) → 0 < j → written j (t ∷ ts) ≡ 0x2C ∷ parted 0x2C (t ∷ ts)
 unfolding written parted
-behind j t [] h = rw (piece-later j t h) (ap (λ (xs : List ℕ). 0x2C ∷ xs) (append-nil t))
-behind j t (u ∷ ts) h =
-    rw (piece-later j t h) (ap (λ (xs : List ℕ). 0x2C ∷ (t ++ xs)) (behind (j + length (0x2C ∷ t)) u ts (omega arith)))
+after j t [] h = rw (piece-later j t h) (ap (λ (xs : List ℕ). 0x2C ∷ xs) (append-nil t))
+after j t (u ∷ ts) h =
+    rw (piece-later j t h) (ap (λ (xs : List ℕ). 0x2C ∷ (t ++ xs)) (after (j + length (0x2C ∷ t)) u ts (omega arith)))
 
 -- texts of which the first is not empty, written from the front on
 pub written-parted : (t : List ℕ) (ts : List (List ℕ)) → 0 < length t → written 0 (t ∷ ts) ≡ parted 0x2C (t ∷ ts)
 unfolding written parted piece
 written-parted t [] h = append-nil t
-written-parted t (u ∷ ts) h = ap (λ (xs : List ℕ). t ++ xs) (behind (0 + length t) u ts (omega arith))
+written-parted t (u ∷ ts) h = ap (λ (xs : List ℕ). t ++ xs) (after (0 + length t) u ts (omega arith))
 
 -- the texts of keys are not empty
 text-full : (keycap : Bool) (c : ℕ) → 0 < length (keyText keycap c)

@@ -44,7 +44,7 @@ unfoldable pub piece : ℕ → List ℕ → List ℕ
 piece zero t = t
 piece (suc j) t = 0x2C ∷ t
 
--- texts that are written one behind the other from place j on; from place 0 on they are parted by commas
+-- texts that are written one after the other from place j on; from place 0 on they are parted by commas
 unfoldable pub written : ℕ → List (List ℕ) → List ℕ
 written j [] = []
 written j (t ∷ ts) = piece j t ++ written (j + length (piece j t)) ts

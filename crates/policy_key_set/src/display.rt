@@ -104,7 +104,7 @@ fn put_text(out: &mut [u8], start: usize, keycap: bool, ch: u32) -> usize
     put_bytes(out, j, b")")
 }
 
-// Writes a key's text, behind a comma where it is not the first.
+// Writes a key's text, after a comma where it is not the first.
 fn put_key(out: &mut [u8], start: usize, keycap: bool, ch: u32) -> usize
     requires { ⌜ start + length (piece start (keyText keycap ch)) ≤ length (now out) ⌝ }
     ensures { λ r. ⌜ PutAt (now (out .entry)) start (piece start (keyText keycap ch)) (now (out .exit)) r ⌝ }

@@ -1,4 +1,4 @@
-// The cells of a slice, one after the other: a character that is no selector, the selectors behind it, and of the next cell only
+// The cells of a slice, one after the other: a character that is no selector, the selectors after it, and of the next cell only
 // its character's class. A cell is read once. This pass serves the analysis of an item, mending and the report; listing sums up the
 // same outcomes on its way (crate text_pass).
 // document 01, "Counts and finding". `measure_cells` equals `totalCells` and the length of `formatCells` of crate analysis,
@@ -49,7 +49,8 @@ fn class_at(text: &[u8], at: usize) -> Class
 
 // What the rules say of the cell whose character is the base and whose selectors begin at the offset.
 pub fn cell_outcome(text: &[u8], at: usize, base: u32, policy: Policy) -> CellOutcome
-    ensures outcome { λ r. ⌜ r .outcome ≡ outcome policy base (following (cells (chars (drop at (now (text .entry)))))) (leading (chars (drop at (now (text .entry))))) ⌝ }
+    ensures outcome { λ r. ⌜ r .outcome ≡ outcome policy base (following (cells (chars (drop at (now (text .entry))))))
+        (leading (chars (drop at (now (text .entry))))) ⌝ }
     ensures end { λ r. ⌜ r .end ≡ at + 3 * length (leading (chars (drop at (now (text .entry))))) ⌝ }
 {
     let PresentationSelectors {
@@ -101,16 +102,16 @@ pub fn measure_cells(text: &[u8], policy: Policy) -> Measure
             return Measure { counts, len };
         }
         let width = (packed % 8) as usize;
-        let behind = at + width;
+        let after = at + width;
         if unicode::has_variation_sequence_by_block(packed / 8) {
-            let CellOutcome { outcome, end } = cell_outcome(text, behind, packed / 8, policy);
+            let CellOutcome { outcome, end } = cell_outcome(text, after, packed / 8, policy);
             let slot = outcome.slot;
             counts = counts.add(outcome.counts);
             len = add_count(len, width + slot_len(slot));
             at = end;
         } else {
-            let end = selectors_end(text, behind);
-            counts = counts.add(NonCanonicality::unsanctioned((end - behind) / SELECTOR_BYTES));
+            let end = selectors_end(text, after);
+            counts = counts.add(NonCanonicality::unsanctioned((end - after) / SELECTOR_BYTES));
             len = add_count(len, width);
             at = end;
         }

@@ -93,8 +93,8 @@ fn put_cell(out: &mut [u8], at: usize, ch: u32, slot: Slot, decisions: &[u8], i:
     ensures { λ r. ⌜ PutAt (now (out .entry)) at (cellBytes ch slot (map meaning (drop i (now (decisions .entry))))) (now (out .exit)) r ⌝ }
 {
     let selector = selector_of(slot, decisions, i);
-    let behind = put_char(out, at, ch);
-    put_selector(out, behind, selector)
+    let after = put_char(out, at, ch);
+    put_selector(out, after, selector)
 }
 
 // How many decisions a slot takes.
@@ -111,7 +111,8 @@ fn decisions_used(slot: Slot) -> usize
 // Puts the cells of a slice with the selectors that the rules and the decisions give them, for which there is room.
 fn put_cells(text: &[u8], policy: Policy, decisions: &[u8], out: &mut [u8]) -> usize
     requires { ⌜ length (encodeAll (render policy (cells (chars (now text))) (map meaning (now decisions)))) ≤ length (now out) ⌝ }
-    ensures { λ r. ⌜ PutAt (now (out .entry)) 0 (encodeAll (render policy (cells (chars (now (text .entry)))) (map meaning (now (decisions .entry))))) (now (out .exit)) r ⌝ }
+    ensures { λ r. ⌜ PutAt (now (out .entry)) 0
+        (encodeAll (render policy (cells (chars (now (text .entry)))) (map meaning (now (decisions .entry))))) (now (out .exit)) r ⌝ }
 {
     let PresentationSelectors {
         first: _,
@@ -184,7 +185,8 @@ pub fn canonical_replacement_with_decisions(
     decisions: &[u8],
     out: &mut [u8],
 ) -> MendAnswer
-    ensures { λ r. ⌜ EndsAs mendRow (replaceAt policy (now (text .entry)) at (now (decisions .entry)) (now (out .entry))) r (now (out .exit)) ⌝ }
+    ensures { λ r. ⌜ EndsAs mendRow (replaceAt policy (now (text .entry)) at (now (decisions .entry)) (now (out .entry))) r
+        (now (out .exit)) ⌝ }
 {
     if let Check::Refused(refusal) = check_text(text) {
         return MendAnswer::Refused(refusal);

@@ -9,10 +9,10 @@ use denote.Enum.Declared.{tagOf}
 use Rattle.scanner.proofs.char_class.Class.{the-type as the-class}
 use Rattle.scanner.specs.RunKinds.{inRun}
 use Rattle.scanner.specs.declared.consume.RunKind.{RunKind}
-use Rattle.scanner.specs.declared.place.Next.{Next}
-use Rattle.scanner.proofs.place.Place.{the-type as the-place}
+use Rattle.scanner.specs.declared.state.Next.{Next}
+use Rattle.scanner.proofs.state.State.{the-type as the-place}
 use Rattle.scanner.specs.Classes.{Class, selector, link, ri, modifier, emoji, keycap, tag, other}
-use Rattle.scanner.specs.Items.{Place, plain, selectors, links, oneRi, unit, joined, leftOver, nextOf, step}
+use Rattle.scanner.specs.Items.{State, plain, selectors, links, oneRi, unit, joined, leftOver, nextOf, transition}
 
 -- What is to be shown of the variant with a number: nothing where the arm does not name it.
 abbrev pub When : Bool → Type 0 → Type 0
@@ -45,12 +45,12 @@ class-arm ks P e other h = named ks 7 (P other) (e .7) h
 
 -- ---- a match on a place
 
-abbrev pub OfPlaces : List ℕ → (Place → Type 0) → Type 0
+abbrev pub OfPlaces : List ℕ → (State → Type 0) → Type 0
 OfPlaces ks P =
     When (hasKey ks 0) (P plain) × When (hasKey ks 1) (P selectors) × When (hasKey ks 2) (P links) × When (hasKey ks 3) (P oneRi)
     × When (hasKey ks 4) (P unit) × When (hasKey ks 5) (P joined) × When (hasKey ks 6) (P leftOver)
 
-pub place-arm : (ks : List ℕ) (P : Place → Type 0) → OfPlaces ks P → (p : Place) → OneOf ks (tagOf the-place p) → P p
+pub place-arm : (ks : List ℕ) (P : State → Type 0) → OfPlaces ks P → (p : State) → OneOf ks (tagOf the-place p) → P p
 place-arm ks P e plain h = named ks 0 (P plain) (e .0) h
 place-arm ks P e selectors h = named ks 1 (P selectors) (e .1) h
 place-arm ks P e links h = named ks 2 (P links) (e .2) h
@@ -61,10 +61,12 @@ place-arm ks P e leftOver h = named ks 6 (P leftOver) (e .6) h
 
 -- ---- a match on a place and then on a class
 
-pub step-arm : (ks : List ℕ) (q : Place) (n : Next) → OfClasses ks (λ k. n ≡ nextOf (step q k)) → (p : Place) (k : Class) → p ≡ q → OneOf ks (tagOf the-class k) → n ≡ nextOf (step p k)
-step-arm ks q n h p k e o = class-arm ks (λ k. n ≡ nextOf (step q k)) h k o ∙ ap (λ (x : Place). nextOf (step x k)) (sym e)
+pub step-arm : (ks : List ℕ) (q : State) (n : Next) → OfClasses ks (λ k. n ≡ nextOf (transition q k)) → (p : State) (k : Class) → p ≡ q
+    → OneOf ks (tagOf the-class k) → n ≡ nextOf (transition p k)
+step-arm ks q n h p k e o = class-arm ks (λ k. n ≡ nextOf (transition q k)) h k o ∙ ap (λ (x : State). nextOf (transition x k)) (sym e)
 
 -- ---- a match on a run and then on a class
 
-pub run-arm : (ks : List ℕ) (q : RunKind) (b : Bool) → OfClasses ks (λ k. b ≡ inRun q k) → (r : RunKind) (k : Class) → r ≡ q → OneOf ks (tagOf the-class k) → b ≡ inRun r k
+pub run-arm : (ks : List ℕ) (q : RunKind) (b : Bool) → OfClasses ks (λ k. b ≡ inRun q k) → (r : RunKind) (k : Class) → r ≡ q
+    → OneOf ks (tagOf the-class k) → b ≡ inRun r k
 run-arm ks q b h r k e o = class-arm ks (λ k. b ≡ inRun q k) h k o ∙ ap (λ (x : RunKind). inRun x k) (sym e)

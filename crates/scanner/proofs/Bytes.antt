@@ -1,4 +1,4 @@
--- The bytes of a beginning of a text's characters, what is read behind them, and that inside a character none begins.
+-- The bytes of a beginning of a text's characters, what is read after them, and that inside a character none begins.
 use mathlib.Core.Path.{_≡_, refl, ap, sym, _∙_, subst}
 use mathlib.Core.Logic.{⊎-elim}
 use mathlib.Core.Bool.{true}
@@ -28,38 +28,42 @@ pub width-some : (c : ℕ) → 1 ≤ width c
 unfolding width
 width-some c = encode-few c .0
 
--- ---- behind a beginning of the characters
+-- ---- after a beginning of the characters
 
-scalar-behind : (vs us : List ℕ) → allScalar (vs ++ us) ≡ true → allScalar us ≡ true
+scalar-after : (vs us : List ℕ) → allScalar (vs ++ us) ≡ true → allScalar us ≡ true
 unfolding allScalar
-scalar-behind [] us e = e
-scalar-behind (v ∷ vs) us e = scalar-behind vs us (both-true (isScalar v) (allScalar (vs ++ us)) e .1)
+scalar-after [] us e = e
+scalar-after (v ∷ vs) us e = scalar-after vs us (both-true (isScalar v) (allScalar (vs ++ us)) e .1)
 
--- Behind the longest well-formed beginning no character is read.
+-- After the longest well-formed beginning no character is read.
 rest-empty : (s : List ℕ) → chars (drop (validUpTo s) s) ≡ []
 rest-empty s =
     append-cancel-left (chars s) (chars (drop (validUpTo s) s)) []
-    (sym (chars-encodeAll (chars s) (drop (validUpTo s) s) (chars-allScalar s)) ∙ ap chars (encodeAll-chars-rest s) ∙ sym (append-nil (chars s)))
+    (sym (chars-encodeAll (chars s) (drop (validUpTo s) s) (chars-allScalar s)) ∙ ap chars (encodeAll-chars-rest s)
+    ∙ sym (append-nil (chars s)))
 
 split-bytes : (s vs us : List ℕ) → chars s ≡ vs ++ us → s ≡ encodeAll vs ++ (encodeAll us ++ drop (validUpTo s) s)
 split-bytes s vs us e =
     sym (encodeAll-chars-rest s) ∙ ap (λ (l : List ℕ). encodeAll l ++ drop (validUpTo s) s) e
-    ∙ ap (λ (l : List ℕ). l ++ drop (validUpTo s) s) (encodeAll-append vs us) ∙ append-assoc (encodeAll vs) (encodeAll us) (drop (validUpTo s) s)
+    ∙ ap (λ (l : List ℕ). l ++ drop (validUpTo s) s) (encodeAll-append vs us)
+    ∙ append-assoc (encodeAll vs) (encodeAll us) (drop (validUpTo s) s)
 
 pub take-chars : (s vs us : List ℕ) → chars s ≡ vs ++ us → take (length (encodeAll vs)) s ≡ encodeAll vs
-take-chars s vs us e = ap (take (length (encodeAll vs))) (split-bytes s vs us e) ∙ take-append-seam (encodeAll vs) (encodeAll us ++ drop (validUpTo s) s)
+take-chars s vs us e = ap (take (length (encodeAll vs))) (split-bytes s vs us e)
+    ∙ take-append-seam (encodeAll vs) (encodeAll us ++ drop (validUpTo s) s)
 
 pub chars-drop : (s vs us : List ℕ) → chars s ≡ vs ++ us → chars (drop (length (encodeAll vs)) s) ≡ us
 chars-drop s vs us e =
     ap (λ (l : List ℕ). chars (drop (length (encodeAll vs)) l)) (split-bytes s vs us e)
     ∙ ap chars (drop-append-seam (encodeAll vs) (encodeAll us ++ drop (validUpTo s) s))
-    ∙ chars-encodeAll us (drop (validUpTo s) s) (scalar-behind vs us (subst (λ (l : List ℕ). allScalar l ≡ true) e (chars-allScalar s)))
+    ∙ chars-encodeAll us (drop (validUpTo s) s) (scalar-after vs us (subst (λ (l : List ℕ). allScalar l ≡ true) e (chars-allScalar s)))
     ∙ ap (λ (l : List ℕ). us ++ l) (rest-empty s) ∙ append-nil us
 
 -- The same at an offset, by the size of the characters.
 pub chars-from : (text : List ℕ) (at : ℕ) (vs us : List ℕ) → chars (drop at text) ≡ vs ++ us → chars (drop (at + size width vs) text) ≡ us
 chars-from text at vs us e =
-    ap (λ (n : ℕ). chars (drop (at + n) text)) (size-width vs) ∙ ap chars (sym (drop-drop (length (encodeAll vs)) at text)) ∙ chars-drop (drop at text) vs us e
+    ap (λ (n : ℕ). chars (drop (at + n) text)) (size-width vs) ∙ ap chars (sym (drop-drop (length (encodeAll vs)) at text))
+    ∙ chars-drop (drop at text) vs us e
 
 pub size-chars : (s : List ℕ) → size width (chars s) ≡ validUpTo s
 size-chars s = size-width (chars s) ∙ length-encodeAll-chars s
@@ -78,7 +82,8 @@ tail-ill-formed : (s : List ℕ) → TailFirst s → readChar s ≡ IllFormed
 unfolding readChar
 tail-ill-formed s f =
     ap readChar (f .bytes)
-    ∙ sym (ill-formed-80-C1 (f .byte) (getD (f .rest) 0 0) (getD (f .rest) 1 0) (getD (f .rest) 2 0) (f .low) (let h = f .high in omega arith))
+    ∙ sym (ill-formed-80-C1 (f .byte) (getD (f .rest) 0 0) (getD (f .rest) 1 0) (getD (f .rest) 2 0) (f .low)
+    (let h = f .high in omega arith))
 
 inside : (v k : ℕ) → 0 < k → k < length (encode v) → TailFirst (drop k (encode v))
 inside v k p q =
@@ -87,7 +92,7 @@ inside v k p q =
     (λ l₂. ⊎-elim (λ h. three (encode-3 v l₂ h)) (λ l₃. four (encode-4 v l₃)) (le-or-lt v 0xFFFF))
     (le-or-lt v 0x7FF)) (le-or-lt v 0x7F)
   where
-    -- The bytes behind the first of an encoding, at k.
+    -- The bytes after the first of an encoding, at k.
     at : {a : ℕ} {t : List ℕ} → encode v ≡ a ∷ t → ((j : ℕ) → j < length t → TailFirst (drop j t)) → TailFirst (drop k (encode v))
     at {a} {t} e f = go k p q
       where
@@ -116,7 +121,8 @@ inside v k p q =
         go (suc zero) h = tail (omega arith) (omega arith)
         go (suc (suc j)) h = absurd (omega arith)
 
-    four : encode v ≡ (0xF0 + v / 262144) ∷ (0x80 + v / 4096 % 64) ∷ (0x80 + v / 64 % 64) ∷ (0x80 + v % 64) ∷ [] → TailFirst (drop k (encode v))
+    four : encode v ≡ (0xF0 + v / 262144) ∷ (0x80 + v / 4096 % 64) ∷ (0x80 + v / 64 % 64) ∷ (0x80 + v % 64) ∷ []
+        → TailFirst (drop k (encode v))
     four e = at e go
       where
         go : (j : ℕ) → j < 3 → TailFirst (drop j ((0x80 + v / 4096 % 64) ∷ (0x80 + v / 64 % 64) ∷ (0x80 + v % 64) ∷ []))
@@ -126,7 +132,14 @@ inside v k p q =
         go (suc (suc (suc j))) h = absurd (omega arith)
 
 tail-append : {s : List ℕ} (t : List ℕ) → TailFirst s → TailFirst (s ++ t)
-tail-append t f = record { byte = f .byte; rest = f .rest ++ t; bytes = ap (λ (l : List ℕ). l ++ t) (f .bytes); low = f .low; high = f .high }
+tail-append t f = record {
+  byte = f .byte;
+  rest = f .rest ++ t;
+  bytes = ap (λ (l : List ℕ). l ++ t) (f .bytes);
+  low = f .low;
+  high =
+      f .high;
+}
 
 -- Inside a character no character is read.
 pub chars-inside : (text : List ℕ) (at v w k : ℕ) → readChar (drop at text) ≡ Char v w → 0 < k → k < w → chars (drop (at + k) text) ≡ []

@@ -16,11 +16,11 @@ use Rattle.unicode.specs.Unicode.{isEmoji, isEmojiModifier, isRi, isTag}
 use Rattle.unicode.specs.UnicodeData.{emojiModifiers, emojiRanges, riRanges}
 use Rattle.scanner.specs.Classes.{classOf}
 use Rattle.scanner.specs.Grammar.{Derives}
-use Rattle.scanner.specs.Items.{Item, begin, cut, items, kindOf, step}
-use Rattle.scanner.specs.Runs.{behindRun, linkAt, run, selectorsAt}
+use Rattle.scanner.specs.Items.{Item, startState, splitFrom, items, kindOf, transition}
+use Rattle.scanner.specs.Runs.{afterRun, linkAt, run, selectorsAt}
 use Rattle.scanner.specs.Structure.{
-  behindSecondRi,
-  cutAtLinks,
+  afterSecondRi,
+  splitAtLinks,
   emojiLike,
   joinOne,
   joinedOf,
@@ -34,7 +34,41 @@ use Rattle.scanner.specs.Structure.{
 }
 use Rattle.scanner.specs.Spans.{firstOf, scan, scanAt, scanFrom, size, spans, width}
 use Rattle.scanner.specs.Tags.{allComplete, complete, tagModifications, tagRuns, tagsComplete, withTags}
-use Rattle.scanner.specs.Theorems.{CursorAtItemEnd, CursorAtStart, CursorEnds, CursorInsideCharacter, CursorPastEnd, FirstItemByRuns, ItemAlone, ItemsAfresh, ItemsAreAReading, ItemsTile, NoItemIsEmpty, OnlyReading, RestByRuns, RunsAreDerived, RunsAreLongest, RunsByClass, SelectorsMoveNothing, SpansAfresh, SpansCover, SpansSpellItems, SpansTile, SpansTileFrom, Spells, span, StructureFlattens, StructureIsDerived, Structured, TagsAreInStructure, TagsCompleteMeans, Tiles, ItemExamples, StructureExample, TagExamples}
+use Rattle.scanner.specs.Theorems.{
+  CursorAtItemEnd,
+  CursorAtStart,
+  CursorEnds,
+  CursorInsideCharacter,
+  CursorPastEnd,
+  FirstItemByRuns,
+  ItemAlone,
+  ItemsAfresh,
+  ItemsAreAReading,
+  ItemsTile,
+  NoItemIsEmpty,
+  OnlyReading,
+  RestByRuns,
+  RunsAreDerived,
+  RunsAreLongest,
+  RunsByClass,
+  SelectorsKeepItems,
+  SpansAfresh,
+  SpansCover,
+  SpansAreItems,
+  SpansTile,
+  SpansTileFrom,
+  Spells,
+  span,
+  StructureFlattens,
+  StructureIsDerived,
+  Structured,
+  TagsAreInStructure,
+  TagsCompleteMeans,
+  Tiles,
+  ItemExamples,
+  StructureExample,
+  TagExamples,
+}
 use Rattle.scanner.specs.Walks.{SequenceWalk, StructureIsWalked}
 use Rattle.scanner.specs.declared.ScanKind.{ScanKind}
 use Rattle.scanner.specs.declared.ScanItem.{ScanItem}
@@ -70,7 +104,7 @@ use Rattle.scanner.proofs.RunLaws.{
   unit-derived,
 }
 use Rattle.scanner.proofs.Runs.{Stops, at-char, at-end}
-use Rattle.scanner.proofs.Spans.{scan-behind, scan-spells, scan-tiles, spells-first}
+use Rattle.scanner.proofs.Spans.{scan-after, scan-spells, scan-tiles, spells-first}
 use Rattle.scanner.proofs.Tiling.{afresh, never-empty, tiling}
 use Rattle.scanner.proofs.Reading.{derive-inner, derives-alike, item-alone, item-derives, only-reading, reading}
 use Rattle.scanner.proofs.Structure.{StructureRead, emoji-headed-read, links-only-read}
@@ -99,9 +133,9 @@ pub item-is-alone : ItemAlone
 unfolding ItemAlone
 item-is-alone = item-alone
 
-pub selectors-move-nothing : SelectorsMoveNothing
-unfolding SelectorsMoveNothing
-selectors-move-nothing k c s t o e d = derives-alike c s t (derive-inner c s o d) e d
+pub selectors-keep-items : SelectorsKeepItems
+unfolding SelectorsKeepItems
+selectors-keep-items k c s t o e d = derives-alike c s t (derive-inner c s o d) e d
 
 pub runs-are-derived : RunsAreDerived
 unfolding RunsAreDerived
@@ -134,14 +168,15 @@ runs-are-longest = (
 pub first-item-by-runs : FirstItemByRuns
 unfolding FirstItemByRuns items
 first-item-by-runs c t x xs e =
-    let f : x .chars ≡ c ∷ (cut (begin (classOf c)) t) .0 = ap (λ (i : Item). i .chars) (sym (head-eq-of-cons-eq e)) in
+    let f : x .chars ≡ c ∷ (splitFrom (startState (classOf c)) t) .0 = ap (λ (i : Item). i .chars) (sym (head-eq-of-cons-eq e)) in
     (λ s. f ∙ item-selectors c t s, λ l. f ∙ item-links c t l, λ m. f ∙ unit-item c t m .item, λ p. f ∙ item-passthrough c t p)
 
 pub rest-by-runs : RestByRuns
 unfolding RestByRuns linkAt
 rest-by-runs = (
   λ c t e f. unit-ends (at-char e) (at-char f),
-  λ t c u e f. ap (λ (a : List ℕ × List Item). a .0) (unit-joins t c u e f) ∙ ap (λ (l : List ℕ). 0x200D ∷ (selectorsAt t ++ l)) (unit-item c u f .item),
+  λ t c u e f. ap (λ (a : List ℕ × List Item). a .0) (unit-joins t c u e f)
+      ∙ ap (λ (l : List ℕ). 0x200D ∷ (selectorsAt t ++ l)) (unit-item c u f .item),
   λ t e. unit-left t (subst (Stops isEmoji) (sym e) at-end),
   λ t c u e f. unit-left t (subst (Stops isEmoji) (sym e) (at-char f)),
 )
@@ -158,13 +193,13 @@ pub spans-cover : SpansCover
 unfolding SpansCover SpansTile
 spans-cover text w = subst (Tiles 0 (scan text)) (well-formed-whole w) (spans-tile text)
 
-pub spans-spell-items : SpansSpellItems
-unfolding SpansSpellItems scan
-spans-spell-items text = scan-spells text 0
+pub spans-are-items : SpansAreItems
+unfolding SpansAreItems scan
+spans-are-items text = scan-spells text 0
 
 pub spans-afresh : SpansAfresh
 unfolding SpansAfresh scan
-spans-afresh text before behind x e = scan-behind text 0 before x behind e
+spans-afresh text before after x e = scan-after text 0 before x after e
 
 pub cursor-at-start : CursorAtStart
 unfolding CursorAtStart scanAt scan
@@ -172,7 +207,7 @@ cursor-at-start text = refl
 
 pub cursor-at-item-end : CursorAtItemEnd
 unfolding CursorAtItemEnd scanAt scan
-cursor-at-item-end text before behind x e = ap firstOf (scan-behind text 0 before x behind e)
+cursor-at-item-end text before after x e = ap firstOf (scan-after text 0 before x after e)
 
 pub cursor-ends : CursorEnds
 unfolding CursorEnds scanAt scanFrom spans items firstOf
@@ -213,19 +248,25 @@ unfolding TagsCompleteMeans tagsComplete
 tags-complete-means t x m k =
     subst (λ (l : List (List ℕ)). (tagsComplete (x .kind) (x .chars) ≡ true) ↔ ((ts : List ℕ) → List·Memᴰ ts l → Ends ts))
     (item-structure t x m (inr k) .tags)
-    (subst (λ (i : ScanKind). (tagsComplete i (x .chars) ≡ true) ↔ ((ts : List ℕ) → List·Memᴰ ts (tagModifications (x .chars)) → Ends ts)) (sym k)
+    (subst (λ (i : ScanKind). (tagsComplete i (x .chars) ≡ true) ↔ ((ts : List ℕ) → List·Memᴰ ts (tagModifications (x .chars)) → Ends ts))
+    (sym k)
     (all-complete-means (tagModifications (x .chars))))
 
 pub item-examples : ItemExamples
-unfolding ItemExamples classOf isSelector isTag isRi isEmojiModifier isEmoji inRanges member emojiModifiers emojiRanges riRanges step begin kindOf cut items
+unfolding ItemExamples classOf isSelector isTag isRi isEmojiModifier isEmoji inRanges member emojiModifiers emojiRanges riRanges transition
+    startState kindOf splitFrom items
 item-examples = (refl, refl, refl, refl, refl)
 
 pub tag-examples : TagExamples
-unfolding TagExamples classOf isSelector isTag isRi isEmojiModifier isEmoji inRanges member emojiModifiers emojiRanges riRanges step begin kindOf cut items utf8-1 utf8-2 utf8-3 utf8-4 readFour readChar foldStep foldChars chars encode encodeAll width spans scanFrom scan tagsComplete tagModifications tagRuns withTags allComplete complete getLastD
+unfolding TagExamples classOf isSelector isTag isRi isEmojiModifier isEmoji inRanges member emojiModifiers emojiRanges riRanges transition
+    startState kindOf splitFrom items utf8-1 utf8-2 utf8-3 utf8-4 readFour readChar foldStep foldChars chars encode encodeAll width spans
+    scanFrom scan tagsComplete tagModifications tagRuns withTags allComplete complete getLastD
 tag-examples = (refl, refl, refl, refl, refl)
 
 pub structure-example : StructureExample
-unfolding StructureExample classOf isSelector isTag isRi isEmojiModifier isEmoji inRanges member emojiModifiers emojiRanges riRanges run behindRun tagToRuns tagToModifications toModifications modificationsOf riStem behindSecondRi emojiLike cutAtLinks joinOne joinedOf sequenceOf structure
+unfolding StructureExample classOf isSelector isTag isRi isEmojiModifier isEmoji inRanges member emojiModifiers emojiRanges riRanges run
+    afterRun tagToRuns tagToModifications toModifications modificationsOf riStem afterSecondRi emojiLike splitAtLinks joinOne joinedOf
+    sequenceOf structure
 structure-example = refl
 
 pub runs-by-class : RunsByClass
@@ -237,12 +278,18 @@ unfolding StructureIsWalked scanAt scanFrom spans firstOf
 structure-is-walked text at x e k = go (items (chars (drop at text))) refl (scan-spells text at) e
   where
     Walked : ScanItem → Type 0
-    Walked y = (t : List ℕ) × (take (y .end - y .start) (drop (y .start) text) ≡ encodeAll t) × SequenceWalk text (y .start) (y .end) (structure t)
+    Walked y = (t : List ℕ) × (take (y .end - y .start) (drop (y .start) text) ≡ encodeAll t)
+        × SequenceWalk text (y .start) (y .end) (structure t)
 
-    go : (xs : List Item) → items (chars (drop at text)) ≡ xs → Spells text (spans at xs) xs → firstOf (spans at xs) ≡ Step.Item x → Walked x
+    go : (xs : List Item) → items (chars (drop at text)) ≡ xs → Spells text (spans at xs) xs → firstOf (spans at xs) ≡ Step.Item x
+        → Walked x
     go [] p s q = absurd (true≢false (cc))
     go (y ∷ ys) p s q =
         let f : span at (at + size width (y .chars)) (y .kind) (tagsComplete (y .kind) (y .chars)) ≡ x = cc in
         let m = subst (λ (z : ScanItem). Structured (z .kind)) (sym f) k in
-        subst Walked f
-        (y .chars, spells-first s, structure-walk text at y ys p m (item-structure (chars (drop at text)) y (subst (List·Memᴰ y) (sym p) (List·Memᴰ·head refl)) m .are))
+        subst Walked f (
+          y .chars,
+          spells-first s,
+          structure-walk text at y ys p m
+              (item-structure (chars (drop at text)) y (subst (List·Memᴰ y) (sym p) (List·Memᴰ·head refl)) m .are),
+        )

@@ -117,12 +117,14 @@ pub modification-test : (c : ℕ) → isModification c ≡ forModification (clas
 unfolding isModification
 modification-test c =
     same-test (isModification c) (forModification (classOf c)) forth
-    (passed forModification c (isModification c ≡ true) (tt, tt, tt, either-left (isEmojiModifier c) (eqb c 0x20E3 || isTag c), tt, by-keycap, by-tag, tt) (hasClass c))
+    (passed forModification c (isModification c ≡ true)
+    (tt, tt, tt, either-left (isEmojiModifier c) (eqb c 0x20E3 || isTag c), tt, by-keycap, by-tag, tt) (hasClass c))
   where
     forth : isModification c ≡ true → forModification (classOf c) ≡ true
     forth e =
         ⊎-elim (λ m. at-class forModification (is-modifier m) refl)
-        (λ o. ⊎-elim (λ k. at-class forModification (is-keycap (eqb-true c 0x20E3 k)) refl) (λ t. at-class forModification (is-tag t) refl) (either-true (eqb c 0x20E3) (isTag c) o))
+        (λ o. ⊎-elim (λ k. at-class forModification (is-keycap (eqb-true c 0x20E3 k)) refl) (λ t. at-class forModification (is-tag t) refl)
+        (either-true (eqb c 0x20E3) (isTag c) o))
         (either-true (isEmojiModifier c) (eqb c 0x20E3 || isTag c) e)
 
     by-keycap : c ≡ 0x20E3 → isModification c ≡ true
@@ -145,7 +147,8 @@ run-same f g e [] = refl
 run-same f g e (c ∷ t) = ap₂ (λ (b : Bool) (l : List ℕ). cond b (c ∷ l) []) (e c) (run-same f g e t)
 
 -- Two tests by class that agree on each class.
-class-by-class : (f g : Class → Bool) → f selector ≡ g selector → f link ≡ g link → f ri ≡ g ri → f modifier ≡ g modifier → f emoji ≡ g emoji
+class-by-class : (f g : Class → Bool) → f selector ≡ g selector → f link ≡ g link → f ri ≡ g ri → f modifier ≡ g modifier → f emoji
+    ≡ g emoji
     → f keycap ≡ g keycap → f tag ≡ g tag → f other ≡ g other → (k : Class) → f k ≡ g k
 class-by-class f g s l r m e k t o selector = s
 class-by-class f g s l r m e k t o link = l
@@ -166,7 +169,8 @@ run-links = run-same _ inLinks (λ c. in-class (classOf c) ∙ sym (ap₂ (λ (x
     in-class = class-by-class (inRun Links) (λ k. forLink k || forSelector k) refl refl refl refl refl refl refl refl
 
 pub run-modifications : (t : List ℕ) → runOf Modifications t ≡ run inModifications t
-run-modifications = run-same _ inModifications (λ c. in-class (classOf c) ∙ sym (ap₂ (λ (x y : Bool). x || y) (modification-test c) (selector-test c)))
+run-modifications = run-same _ inModifications
+    (λ c. in-class (classOf c) ∙ sym (ap₂ (λ (x y : Bool). x || y) (modification-test c) (selector-test c)))
   where
     in-class : (k : Class) → inRun Modifications k ≡ (forModification k || forSelector k)
     in-class = class-by-class (inRun Modifications) (λ k. forModification k || forSelector k) refl refl refl refl refl refl refl refl
@@ -178,7 +182,9 @@ pub run-passthrough : (t : List ℕ) → runOf Passthrough t ≡ passthroughAt t
 unfolding passthroughAt
 run-passthrough =
     run-same _ isPassthrough
-    (λ c. in-class (classOf c) ∙ sym (ap₂ (λ (x y : Bool). not (x || y)) (selector-test c) (ap₂ (λ (x y : Bool). x || y) (link-test c) (emoji-test c))))
+    (λ c. in-class (classOf c) ∙ sym
+    (ap₂ (λ (x y : Bool). not (x || y)) (selector-test c) (ap₂ (λ (x y : Bool). x || y) (link-test c) (emoji-test c))))
   where
     in-class : (k : Class) → inRun Passthrough k ≡ not (forSelector k || (forLink k || forEmoji k))
-    in-class = class-by-class (inRun Passthrough) (λ k. not (forSelector k || (forLink k || forEmoji k))) refl refl refl refl refl refl refl refl
+    in-class = class-by-class (inRun Passthrough) (λ k. not (forSelector k || (forLink k || forEmoji k))) refl refl refl refl refl refl refl
+        refl

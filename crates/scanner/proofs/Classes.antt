@@ -49,9 +49,11 @@ pub data HasClass (c : ℕ) : Class → Type 0 where
 
 pub hasClass : (c : ℕ) → HasClass c (classOf c)
 unfolding classOf
-hasClass c = go (isSelector c) (eqb c 0x200D) (eqb c 0x20E3) (isTag c) (isRi c) (isEmojiModifier c) (isEmoji c) refl refl refl refl refl refl refl
+hasClass c = go (isSelector c) (eqb c 0x200D) (eqb c 0x20E3) (isTag c) (isRi c) (isEmojiModifier c)
+    (isEmoji c) refl refl refl refl refl refl refl
   where
-    go : (s l k t r m e : Bool) → isSelector c ≡ s → eqb c 0x200D ≡ l → eqb c 0x20E3 ≡ k → isTag c ≡ t → isRi c ≡ r → isEmojiModifier c ≡ m → isEmoji c ≡ e
+    go : (s l k t r m e : Bool) → isSelector c ≡ s → eqb c 0x200D ≡ l → eqb c 0x20E3 ≡ k → isTag c ≡ t → isRi c ≡ r → isEmojiModifier c ≡ m
+        → isEmoji c ≡ e
         → HasClass c (cond s selector (cond l link (cond k keycap (cond t tag (cond r ri (cond m modifier (cond e emoji other)))))))
     go true l k t r m e s′ l′ k′ t′ r′ m′ e′ = is-selector s′
     go false true k t r m e s′ l′ k′ t′ r′ m′ e′ = is-link (eqb-true c 0x200D l′)
@@ -60,7 +62,8 @@ hasClass c = go (isSelector c) (eqb c 0x200D) (eqb c 0x20E3) (isTag c) (isRi c) 
     go false false false false true m e s′ l′ k′ t′ r′ m′ e′ = is-ri r′
     go false false false false false true e s′ l′ k′ t′ r′ m′ e′ = is-modifier m′
     go false false false false false false true s′ l′ k′ t′ r′ m′ e′ = is-emoji e′ r′ m′
-    go false false false false false false false s′ l′ k′ t′ r′ m′ e′ = is-other (record { no-selector = s′; no-link = l′; no-emoji = e′ }) k′ t′
+    go false false false false false false false s′ l′ k′ t′ r′ m′ e′ = is-other (record { no-selector = s′; no-link = l′; no-emoji = e′ })
+        k′ t′
 
 -- ---- no character is two things
 
@@ -78,11 +81,13 @@ emoji-no-selector = contrary isSelector false no-selector-is-emoji
 
 pub emoji-no-link : (c : ℕ) → isEmoji c ≡ true → eqb c 0x200D ≡ false
 unfolding LinkAndKeycapAreNotEmoji
-emoji-no-link = contrary (λ c. eqb c 0x200D) false (λ c p. subst (λ (x : ℕ). isEmoji x ≡ false) (sym (eqb-true c 0x200D p)) (link-and-keycap-are-not-emoji .0))
+emoji-no-link = contrary (λ c. eqb c 0x200D) false
+    (λ c p. subst (λ (x : ℕ). isEmoji x ≡ false) (sym (eqb-true c 0x200D p)) (link-and-keycap-are-not-emoji .0))
 
 pub emoji-no-keycap : (c : ℕ) → isEmoji c ≡ true → eqb c 0x20E3 ≡ false
 unfolding LinkAndKeycapAreNotEmoji
-emoji-no-keycap = contrary (λ c. eqb c 0x20E3) false (λ c p. subst (λ (x : ℕ). isEmoji x ≡ false) (sym (eqb-true c 0x20E3 p)) (link-and-keycap-are-not-emoji .1))
+emoji-no-keycap = contrary (λ c. eqb c 0x20E3) false
+    (λ c p. subst (λ (x : ℕ). isEmoji x ≡ false) (sym (eqb-true c 0x20E3 p)) (link-and-keycap-are-not-emoji .1))
 
 pub emoji-no-tag : (c : ℕ) → isEmoji c ≡ true → isTag c ≡ false
 unfolding NoTagIsEmoji
@@ -137,15 +142,18 @@ class-is {c} (is-other p k t) =
     simp (p .no-selector, p .no-link, k, t, contrary isRi true ri-emoji c e, contrary isEmojiModifier true modifier-emoji c e, e)
 
 -- A character that is neither emoji nor one of the others is of the class other.
-pub class-other : (c : ℕ) → isEmoji c ≡ false → (c ≡ 0xFE0E → ⊥) → (c ≡ 0xFE0F → ⊥) → (c ≡ 0x200D → ⊥) → (c ≡ 0x20E3 → ⊥) → isTag c ≡ false → classOf c ≡ other
+pub class-other : (c : ℕ) → isEmoji c ≡ false → (c ≡ 0xFE0E → ⊥) → (c ≡ 0xFE0F → ⊥) → (c ≡ 0x200D → ⊥) → (c ≡ 0x20E3 → ⊥) → isTag c ≡ false
+    → classOf c ≡ other
 unfolding isSelector
 class-other c e s s′ l k t =
-    class-is (is-other (record { no-selector = simp (ne-eqb c 0xFE0E s, ne-eqb c 0xFE0F s′); no-link = ne-eqb c 0x200D l; no-emoji = e }) (ne-eqb c 0x20E3 k) t)
+    class-is (is-other (record { no-selector = simp (ne-eqb c 0xFE0E s, ne-eqb c 0xFE0F s′); no-link = ne-eqb c 0x200D l; no-emoji = e })
+    (ne-eqb c 0x20E3 k) t)
 
 -- So is one below 200D that is no emoji.
 pub class-low : (c : ℕ) → isEmoji c ≡ false → c < 0x200D → classOf c ≡ other
 unfolding isTag
-class-low c e h = class-other c e (λ p. omega arith) (λ p. omega arith) (λ p. omega arith) (λ p. omega arith) (within-below 0xE0020 0xE007F c (omega arith))
+class-low c e h = class-other c e (λ p. omega arith) (λ p. omega arith) (λ p. omega arith) (λ p. omega arith)
+    (within-below 0xE0020 0xE007F c (omega arith))
 
 pub class-selector : (c : ℕ) → isSelector c ≡ true → classOf c ≡ selector
 class-selector c e = class-is (is-selector e)

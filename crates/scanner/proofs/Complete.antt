@@ -59,7 +59,8 @@ ends-all-complete : (tss : List (List ℕ)) → ((ts : List ℕ) → List·Mem�
 unfolding allComplete
 ends-all-complete [] h = refl
 ends-all-complete (us ∷ tss) h =
-    and-both (complete us) (allComplete tss) (ends-complete us (h us (List·Memᴰ·head refl))) (ends-all-complete tss (λ ts m. h ts (List·Memᴰ·tail m)))
+    and-both (complete us) (allComplete tss) (ends-complete us (h us (List·Memᴰ·head refl)))
+    (ends-all-complete tss (λ ts m. h ts (List·Memᴰ·tail m)))
 
 pub all-complete-means : (tss : List (List ℕ)) → (allComplete tss ≡ true) ↔ ((ts : List ℕ) → List·Memᴰ ts tss → Ends ts)
 all-complete-means tss = (all-complete-ends tss, ends-all-complete tss)

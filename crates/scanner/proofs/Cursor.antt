@@ -12,21 +12,21 @@ use Rattle.utf8.specs.Rfc3629.{chars}
 use Rattle.unicode.specs.Presentation.{isSelector}
 use Rattle.unicode.specs.Unicode.{isTag}
 use Rattle.scanner.specs.Classes.{Class, classOf, tag}
-use Rattle.scanner.specs.Items.{Item, Place, unit, begin, beginsTags, cut, items, kindOf, nextOf, step}
-use Rattle.scanner.specs.Runs.{behindRun, inTags, run, tagModificationAt}
+use Rattle.scanner.specs.Items.{Item, State, unit, startState, beginsTags, splitFrom, items, kindOf, nextOf, transition}
+use Rattle.scanner.specs.Runs.{afterRun, inTags, run, tagModificationAt}
 use Rattle.scanner.specs.Spans.{firstOf, restAt, scanAt, scanFrom, size, spans, width}
 use Rattle.scanner.specs.Tags.{allComplete, tagModifications, tagsComplete}
 use Rattle.scanner.specs.declared.ScanKind.{ScanKind}
 use Rattle.scanner.specs.declared.ScanStep.the-variants as Answer
-use Rattle.scanner.specs.declared.place.Next.the-variants as Next
+use Rattle.scanner.specs.declared.state.Next.the-variants as Next
 use Rattle.scanner.proofs.Bytes.{chars-from}
 use Rattle.scanner.proofs.Classes.{class-is, is-selector, is-tag}
 use Rattle.scanner.proofs.ClassTests.{forTags, tags-test}
 use Rattle.scanner.proofs.ItemRuns.{walk-passes}
 use Rattle.scanner.proofs.Peek.{Seen, Unseen}
-use Rattle.scanner.proofs.Places.{headed-step, tag-begins}
+use Rattle.scanner.proofs.States.{headed-step, tag-begins}
 use Rattle.scanner.proofs.Rescan.{size-append}
-use Rattle.scanner.proofs.Runs.{Stops, at-char, at-end, behind-stops, run-behind, run-passes}
+use Rattle.scanner.proofs.Runs.{Stops, at-char, at-end, after-stops, run-after, run-passes}
 use Rattle.scanner.proofs.RunsAt.{run-on}
 use Rattle.scanner.proofs.Walk.{walk-cut}
 use Rattle.scanner.proofs.Tiling.{cut-none, cut-some}
@@ -34,53 +34,55 @@ use Rattle.scanner.proofs.TagsRead.{first-tags, tags-headed, tags-nil, 
 
 -- ---- the code's answer for a step
 
-pub next-on : (o : Option Place) (q : Place) → nextOf o ≡ Next.On q → o ≡ some q
+pub next-on : (o : Option State) (q : State) → nextOf o ≡ Next.On q → o ≡ some q
 next-on (some p) q e = cc
 next-on none q e = cc
 
-pub next-stop : (o : Option Place) → nextOf o ≡ Next.Stop → o ≡ none
+pub next-stop : (o : Option State) → nextOf o ≡ Next.Stop → o ≡ none
 next-stop (some p) e = cc
 next-stop none e = refl
 
 -- ---- the rest of an item
 
-pub rest-none : {text : List ℕ} {at : ℕ} (p : Place) → Unseen text at → restAt text at p ≡ []
-unfolding cut
-rest-none p h = ap (λ (l : List ℕ). (cut p l) .0) (h .chars-none)
+pub rest-none : {text : List ℕ} {at : ℕ} (p : State) → Unseen text at → restAt text at p ≡ []
+unfolding splitFrom
+rest-none p h = ap (λ (l : List ℕ). (splitFrom p l) .0) (h .chars-none)
 
-module _ {text : List ℕ} {at v : ℕ} {k : Class} {next : ℕ} (h : Seen text at v k next) (p : Place) where
-  pub rest-on : (q : Place) → nextOf (step p k) ≡ Next.On q → restAt text at p ≡ v ∷ restAt text next q
+module _ {text : List ℕ} {at v : ℕ} {k : Class} {next : ℕ} (h : Seen text at v k next) (p : State) where
+  pub rest-on : (q : State) → nextOf (transition p k) ≡ Next.On q → restAt text at p ≡ v ∷ restAt text next q
   rest-on q e =
-      ap (λ (l : List ℕ). (cut p l) .0) (h .chars-on)
-      ∙ ap (λ (r : List ℕ × List Item). r .0) (cut-some p q v (chars (drop next text)) (ap (step p) (sym (h .class)) ∙ next-on (step p k) q e))
+      ap (λ (l : List ℕ). (splitFrom p l) .0) (h .chars-on)
+      ∙ ap (λ (r : List ℕ × List Item). r .0)
+      (cut-some p q v (chars (drop next text)) (ap (transition p) (sym (h .class)) ∙ next-on (transition p k) q e))
 
-  pub rest-ends : nextOf (step p k) ≡ Next.Stop → restAt text at p ≡ []
+  pub rest-ends : nextOf (transition p k) ≡ Next.Stop → restAt text at p ≡ []
   rest-ends e =
-      ap (λ (l : List ℕ). (cut p l) .0) (h .chars-on)
-      ∙ ap (λ (r : List ℕ × List Item). r .0) (cut-none p v (chars (drop next text)) (ap (step p) (sym (h .class)) ∙ next-stop (step p k) e))
+      ap (λ (l : List ℕ). (splitFrom p l) .0) (h .chars-on)
+      ∙ ap (λ (r : List ℕ × List Item). r .0)
+      (cut-none p v (chars (drop next text)) (ap (transition p) (sym (h .class)) ∙ next-stop (transition p k) e))
 
   -- Its bytes.
-  width-on : (q : Place) → nextOf (step p k) ≡ Next.On q → at + size width (restAt text at p) ≡ next + size width (restAt text next q)
-  width-on q e = omega (arith, h .behind, ap (size width) (rest-on q e))
+  width-on : (q : State) → nextOf (transition p k) ≡ Next.On q → at + size width (restAt text at p) ≡ next + size width (restAt text next q)
+  width-on q e = omega (arith, h .after, ap (size width) (rest-on q e))
 
 -- ---- a tag modification in it
 
-tags-stay : (c : ℕ) → inTags c ≡ true → step unit (classOf c) ≡ some unit
-unfolding step
-tags-stay c e = ⊎-elim (λ t. ap (step unit) (class-is (is-tag t))) (λ t. ap (step unit) (class-is (is-selector t)))
+tags-stay : (c : ℕ) → inTags c ≡ true → transition unit (classOf c) ≡ some unit
+unfolding transition
+tags-stay c e = ⊎-elim (λ t. ap (transition unit) (class-is (is-tag t))) (λ t. ap (transition unit) (class-is (is-selector t)))
     (either-true (isTag c) (isSelector c) e)
 
-cut-stops : (f : ℕ → Bool) (p : Place) {t : List ℕ} → Stops f t → Stops f ((cut p t) .0)
-unfolding cut
+cut-stops : (f : ℕ → Bool) (p : State) {t : List ℕ} → Stops f t → Stops f ((splitFrom p t) .0)
+unfolding splitFrom
 cut-stops f p at-end = at-end
-cut-stops f p (at-char {c = c} {s = t} e) = go (step p (classOf c)) refl
+cut-stops f p (at-char {c = c} {s = t} e) = go (transition p (classOf c)) refl
   where
-    go : (o : Option Place) → step p (classOf c) ≡ o → Stops f ((cut p (c ∷ t)) .0)
+    go : (o : Option State) → transition p (classOf c) ≡ o → Stops f ((splitFrom p (c ∷ t)) .0)
     go (some q) g = rw (cut-some p q c t g) (at-char e)
     go none g = rw (cut-none p c t g) at-end
 
--- Where a tag stands at a unit, the rest is the tag modification there and the rest behind it.
-module _ {text : List ℕ} {at v next : ℕ} (h : Seen text at v tag next) (p : Place) (e : nextOf (step p tag) ≡ Next.On unit) where
+-- Where a tag stands at a unit, the rest is the tag modification there and the rest after it.
+module _ {text : List ℕ} {at v next : ℕ} (h : Seen text at v tag next) (p : State) (e : nextOf (transition p tag) ≡ Next.On unit) where
   abbrev t : List ℕ
   t = chars (drop at text)
 
@@ -90,15 +92,15 @@ module _ {text : List ℕ} {at v next : ℕ} (h : Seen text at v tag next) (p : 
   abbrev end : ℕ
   end = at + size width tags
 
-  behind-tags : chars (drop end text) ≡ behindRun inTags t
-  behind-tags = chars-from text at tags (behindRun inTags t) (sym (run-behind inTags t))
+  after-tags : chars (drop end text) ≡ afterRun inTags t
+  after-tags = chars-from text at tags (afterRun inTags t) (sym (run-after inTags t))
 
   rest-parts : restAt text at p ≡ tags ++ restAt text end unit
-  unfolding step
+  unfolding transition
   rest-parts =
-      rest-on h p unit e ∙ sym (rest-on h unit unit refl) ∙ ap (λ (l : List ℕ). (cut unit l) .0) (sym (run-behind inTags t))
-      ∙ ap (λ (r : List ℕ × List Item). r .0) (walk-cut (walk-passes unit inTags tags-stay (run-passes inTags t)) (behindRun inTags t))
-      ∙ ap (λ (l : List ℕ). tags ++ (cut unit l) .0) (sym behind-tags)
+      rest-on h p unit e ∙ sym (rest-on h unit unit refl) ∙ ap (λ (l : List ℕ). (splitFrom unit l) .0) (sym (run-after inTags t))
+      ∙ ap (λ (r : List ℕ × List Item). r .0) (walk-cut (walk-passes unit inTags tags-stay (run-passes inTags t)) (afterRun inTags t))
+      ∙ ap (λ (l : List ℕ). tags ++ (splitFrom unit l) .0) (sym after-tags)
 
   tags-width : at + size width (restAt text at p) ≡ end + size width (restAt text end unit)
   tags-width = omega (arith, ap (size width) rest-parts, size-append width tags (restAt text end unit))
@@ -106,8 +108,8 @@ module _ {text : List ℕ} {at v next : ℕ} (h : Seen text at v tag next) (p : 
   tags-parts : tagsComplete (kindOf p) (restAt text at p) ≡
       (allComplete (tagModifications tags) && tagsComplete (kindOf unit) (restAt text end unit))
   tags-parts =
-      let stops = cut-stops inTags unit (subst (Stops inTags) (sym behind-tags) (behind-stops inTags t)) in
-      tags-headed p (restAt text at p) (headed-step p unit tag (next-on (step p tag) unit e))
+      let stops = cut-stops inTags unit (subst (Stops inTags) (sym after-tags) (after-stops inTags t)) in
+      tags-headed p (restAt text at p) (headed-step p unit tag (next-on (transition p tag) unit e))
       ∙ ap (λ (l : List ℕ). allComplete (tagModifications l)) rest-parts ∙ tags-then (run-passes inTags t) stops
       ∙ ap (λ (b : Bool). allComplete (tagModifications tags) && b) (sym (tags-headed unit (restAt text end unit) refl))
 
@@ -116,15 +118,15 @@ module _ {text : List ℕ} {at v next : ℕ} (h : Seen text at v tag next) (p : 
 
 -- ---- the loop over the rest of an item, begun at an offset and a place: at each turn what is left gives the same end and the same tags
 
-pub record Reading (text : List ℕ) (from : ℕ) (first : Place) (at : ℕ) (p : Place) (b : Bool) : Type 0 where
+pub record Reading (text : List ℕ) (from : ℕ) (first : State) (at : ℕ) (p : State) (b : Bool) : Type 0 where
   pub end-same : from + size width (restAt text from first) ≡ at + size width (restAt text at p)
   pub tags-same : tagsComplete (kindOf first) (restAt text from first) ≡ (b && tagsComplete (kindOf p) (restAt text at p))
 
-pub reading-begin : (text : List ℕ) (from : ℕ) (first : Place) → Reading text from first from first true
+pub reading-begin : (text : List ℕ) (from : ℕ) (first : State) → Reading text from first from first true
 reading-begin text from first = record { end-same = refl; tags-same = refl }
 
-module _ {text : List ℕ} {from at : ℕ} {first p : Place} {b : Bool} (l : Reading text from first at p b) where
-  module _ {v : ℕ} {k : Class} {next : ℕ} (h : Seen text at v k next) (q : Place) (e : nextOf (step p k) ≡ Next.On q) where
+module _ {text : List ℕ} {from at : ℕ} {first p : State} {b : Bool} (l : Reading text from first at p b) where
+  module _ {v : ℕ} {k : Class} {next : ℕ} (h : Seen text at v k next) (q : State) (e : nextOf (transition p k) ≡ Next.On q) where
     -- A character with which no tag modification begins.
     pub reading-on : beginsTags q k ≡ false → Reading text from first next q b
     reading-on n = record {
@@ -132,7 +134,7 @@ module _ {text : List ℕ} {from at : ℕ} {first p : Place} {b : Bool} (l : Rea
       tags-same =
           l .tags-same
           ∙ ap (λ (c : Bool). b && c) (ap (tagsComplete (kindOf p)) (rest-on h p q e)
-          ∙ tags-on p q v (restAt text next q) (h .class) (next-on (step p k) q e) n);
+          ∙ tags-on p q v (restAt text next q) (h .class) (next-on (transition p k) q e) n);
     }
 
     -- A tag modification, as it is read in one go.
@@ -143,7 +145,8 @@ module _ {text : List ℕ} {from at : ℕ} {first p : Place} {b : Bool} (l : Rea
     reading-tags {c} {end} n f g =
         let z = tag-begins q k n in
         let s = subst (λ (x : Class). Seen text at v x next) (z .0) h in
-        let r : nextOf (step p tag) ≡ Next.On unit = ap (λ (x : Class). nextOf (step p x)) (sym (z .0)) ∙ e ∙ ap Next.On (z .1) in
+        let r : nextOf (transition p tag) ≡ Next.On unit = ap (λ (x : Class). nextOf (transition p x)) (sym (z .0)) ∙ e
+        ∙ ap Next.On (z .1) in
         rw (z .1) (
           omega (arith, f, tags-go-on s p r),
           record {
@@ -171,18 +174,19 @@ unfolding scanAt scanFrom firstOf spans items
 cursor-end {text} {at} h = ap (λ (l : List ℕ). firstOf (spans at (items l))) (h .chars-none)
 
 -- The item as the cursor makes it: the place of the first character, the end and the tag report of the rest, and the kind.
-pub cursor-item : {text : List ℕ} {at v : ℕ} {c : Class} {next : ℕ} → Seen text at v c next → (p : Place) (e : ℕ) (b : Bool) (k : ScanKind)
-    → p ≡ begin c → e ≡ next + size width (restAt text next p) → b ≡ tagsComplete (kindOf p) (restAt text next p) → k ≡ kindOf p
+pub cursor-item : {text : List ℕ} {at v : ℕ} {c : Class} {next : ℕ} → Seen text at v c next → (p : State) (e : ℕ) (b : Bool) (k : ScanKind)
+    → p ≡ startState c → e ≡ next + size width (restAt text next p) → b ≡ tagsComplete (kindOf p) (restAt text next p) → k ≡ kindOf p
     → Answer.Item (record { start = at; end = e; kind = k; «tags_complete» = b }) ≡ scanAt text at
 unfolding scanAt scanFrom firstOf spans items
 cursor-item {text} {at} {v} {c} {next} h p e b k hp he hb hk =
-    let q = begin (classOf v) in
+    let q = startState (classOf v) in
     let s = restAt text next q in
-    let f : p ≡ q = hp ∙ ap begin (h .class) in
-    let n : e ≡ at + size width (v ∷ s) = omega (arith, h .behind, he ∙ ap (λ (x : Place). next + size width (restAt text next x)) f) in
+    let f : p ≡ q = hp ∙ ap startState (h .class) in
+    let n : e ≡ at + size width (v ∷ s) = omega (arith, h .after, he ∙ ap (λ (x : State). next + size width (restAt text next x)) f) in
     let m : k ≡ kindOf q = hk ∙ ap kindOf f in
-    let t : b ≡ tagsComplete (kindOf q) (v ∷ s) = hb ∙ ap (λ (x : Place). tagsComplete (kindOf x) (restAt text next x)) f
+    let t : b ≡ tagsComplete (kindOf q) (v ∷ s) = hb ∙ ap (λ (x : State). tagsComplete (kindOf x) (restAt text next x)) f
     ∙ sym (first-tags v s) in
     ap₂ (λ (x : ℕ) (y : Bool). Answer.Item (record { start = at; end = x; kind = k; «tags_complete» = y })) n t
-    ∙ ap (λ (x : ScanKind). Answer.Item (record { start = at; end = at + size width (v ∷ s); kind = x; «tags_complete» = tagsComplete (kindOf q) (v ∷ s) })) m
+    ∙ ap (λ (x : ScanKind). Answer.Item
+    (record { start = at; end = at + size width (v ∷ s); kind = x; «tags_complete» = tagsComplete (kindOf q) (v ∷ s) })) m
     ∙ ap (λ (l : List ℕ). firstOf (spans at (items l))) (sym (h .chars-on))

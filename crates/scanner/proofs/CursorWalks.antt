@@ -12,7 +12,7 @@ use Rattle.unicode.specs.Unicode.{isTag}
 use Rattle.scanner.specs.Classes.{Class}
 use Rattle.scanner.specs.Grammar.{S, no-selectors, selector-and, Tags, one-tag, tag-and}
 use Rattle.scanner.specs.Parts.{firstFrom, modificationFrom, modificationRead, tagRunFrom, tagRunRead}
-use Rattle.scanner.specs.Runs.{behindRun, inModifications, inTags, isModification, modificationAt, run, selectorsAt, tagModificationAt}
+use Rattle.scanner.specs.Runs.{afterRun, inModifications, inTags, isModification, modificationAt, run, selectorsAt, tagModificationAt}
 use Rattle.scanner.specs.Spans.{size, width}
 use Rattle.scanner.specs.Structure.{
   EmojiModification,
@@ -32,11 +32,11 @@ use Rattle.scanner.specs.declared.parts.EmojiTagRun.the-variants.{NoTags
 use Rattle.scanner.proofs.Bytes.{chars-from}
 use Rattle.scanner.proofs.Classes.{HasClass, class-is, is-keycap, is-modifier, is-selector, tag-no-selector}
 use Rattle.scanner.proofs.ClassTests.{forModification, forTag, modification-test, tag-test}
-use Rattle.scanner.proofs.ModificationWalks.{no-tag-behind, Mods, mods-end, mods-keycap, mods-modifier, mods-tags}
+use Rattle.scanner.proofs.ModificationWalks.{no-tag-after, Mods, mods-end, mods-keycap, mods-modifier, mods-tags}
 use Rattle.scanner.proofs.Modifications.{RunsOk, one-run, run-and as run-more, of-class}
 use Rattle.scanner.proofs.Rescan.{size-append}
 use Rattle.scanner.proofs.RunLaws.{modification-other, modification-tag}
-use Rattle.scanner.proofs.Runs.{Passes, all-pass, pass-and, Stops, at-char, at-end, S-passes, behind-all, run-all}
+use Rattle.scanner.proofs.Runs.{Passes, all-pass, pass-and, Stops, at-char, at-end, S-passes, after-all, run-all}
 use Rattle.scanner.proofs.TagRuns.{of-selectors, of-tags}
 use Rattle.scanner.proofs.UnitsAt.{tag-run-by}
 
@@ -68,7 +68,8 @@ tags-first u (tag-and e h) = tag-first e
 no-selector-first : {t : List ℕ} → TagFirst t → Stops isSelector t
 no-selector-first (tag-first {c = c} e) = at-char (tag-no-selector c e)
 
-run-read : (at : ℕ) {u : List ℕ} → TagFirst u → tagRunRead at u ≡ tagRunFrom at (record { tags = run isTag u; after = selectorsAt (behindRun isTag u) })
+run-read : (at : ℕ) {u : List ℕ} → TagFirst u → tagRunRead at u
+    ≡ tagRunFrom at (record { tags = run isTag u; after = selectorsAt (afterRun isTag u) })
 run-read at (tag-first {c = c} {t = t} e) = tag-run-by at c t true e
 
 no-run-read : (at : ℕ) {t : List ℕ} → Stops isTag t → tagRunRead at t ≡ NoTags
@@ -82,7 +83,7 @@ group-read : (at : ℕ) {g s t : List ℕ} → Tags g → S s → Stops isTag (s
 group-read at {g} {s} {t} a b p q =
     run-read at (tags-first (s ++ t) a)
     ∙ ap₂ (λ (x y : List ℕ). tagRunFrom at (record { tags = x; after = y })) (run-all isTag (tags-pass a) p)
-    (ap selectorsAt (behind-all isTag (tags-pass a) p) ∙ run-all isSelector (S-passes b) q)
+    (ap selectorsAt (after-all isTag (tags-pass a) p) ∙ run-all isSelector (S-passes b) q)
 
 -- ---- the runs of a tag modification
 
@@ -92,51 +93,63 @@ groups-first u (one-run {t = t} {s = s} a b) = subst TagFirst (sym (append-assoc
 groups-first u (run-more {t = t} {s = s} {d = d} {rs = rs} a e b g) =
     subst TagFirst (sym (append-assoc t ((d ∷ s) ++ flattenRuns rs) u)) (tags-first (((d ∷ s) ++ flattenRuns rs) ++ u) a)
 
-runs-split : (r : EmojiTagRun) (rs : List EmojiTagRun) (u : List ℕ) → flattenRuns (r ∷ rs) ++ u ≡ r .tags ++ (r .after ++ (flattenRuns rs ++ u))
+runs-split : (r : EmojiTagRun) (rs : List EmojiTagRun) (u : List ℕ) → flattenRuns (r ∷ rs) ++ u ≡ r .tags
+    ++ (r .after ++ (flattenRuns rs ++ u))
 unfolding flattenRuns
-runs-split r rs u = append-assoc (r .tags) (r .after ++ flattenRuns rs) u ∙ ap (λ (l : List ℕ). r .tags ++ l) (append-assoc (r .after) (flattenRuns rs) u)
+runs-split r rs u = append-assoc (r .tags) (r .after ++ flattenRuns rs) u
+    ∙ ap (λ (l : List ℕ). r .tags ++ l) (append-assoc (r .after) (flattenRuns rs) u)
 
-runs-size : (r : EmojiTagRun) (rs : List EmojiTagRun) → size width (flattenRuns (r ∷ rs)) ≡ size width (r .tags ++ r .after) + size width (flattenRuns rs)
+runs-size : (r : EmojiTagRun) (rs : List EmojiTagRun) → size width (flattenRuns (r ∷ rs))
+    ≡ size width (r .tags ++ r .after) + size width (flattenRuns rs)
 unfolding flattenRuns
-runs-size r rs = ap (size width) (sym (append-assoc (r .tags) (r .after) (flattenRuns rs))) ∙ size-append width (r .tags ++ r .after) (flattenRuns rs)
+runs-size r rs = ap (size width) (sym (append-assoc (r .tags) (r .after) (flattenRuns rs)))
+    ∙ size-append width (r .tags ++ r .after) (flattenRuns rs)
 
 module _ (text : List ℕ) where
-  -- The offset behind a run.
+  -- The offset after a run.
   next-run : (at : ℕ) (r : EmojiTagRun) (rs : List EmojiTagRun) (u : List ℕ) → chars (drop at text) ≡ flattenRuns (r ∷ rs) ++ u
       → chars (drop (at + size width (r .tags ++ r .after)) text) ≡ flattenRuns rs ++ u
   next-run at r rs u e =
-      chars-from text at (r .tags ++ r .after) (flattenRuns rs ++ u) (e ∙ runs-split r rs u ∙ sym (append-assoc (r .tags) (r .after) (flattenRuns rs ++ u)))
+      chars-from text at (r .tags ++ r .after) (flattenRuns rs ++ u)
+      (e ∙ runs-split r rs u ∙ sym (append-assoc (r .tags) (r .after) (flattenRuns rs ++ u)))
 
-  runs-walk : {end : ℕ} {rs : List EmojiTagRun} (at : ℕ) (u : List ℕ) → RunsOk rs → Stops inTags u → chars (drop at text) ≡ flattenRuns rs ++ u
+  runs-walk : {end : ℕ} {rs : List EmojiTagRun} (at : ℕ) (u : List ℕ) → RunsOk rs → Stops inTags u → chars (drop at text) ≡ flattenRuns rs
+      ++ u
       → at + size width (flattenRuns rs) ≡ end → RunsWalk text end at rs
   unfolding flattenRuns
   runs-walk at u (one-run {t = t} {s = s} a b) p e n =
       let r : EmojiTagRun = record { tags = t; after = s } in
       let q = neither p in
       run-and (ap (tagRunRead at) (e ∙ runs-split r [] u) ∙ group-read at a b (no-tag-front b (q .0)) (q .1))
-      (runs-end {at = at + size width (t ++ s)} (omega (arith, n, runs-size r [])) (ap (tagRunRead (at + size width (t ++ s))) (next-run at r [] u e) ∙ no-run-read (at + size width (t ++ s)) (q .0)))
+      (runs-end {at = at + size width (t ++ s)} (omega (arith, n, runs-size r []))
+      (ap (tagRunRead (at + size width (t ++ s))) (next-run at r [] u e) ∙ no-run-read (at + size width (t ++ s)) (q .0)))
   runs-walk at u (run-more {t = t} {s = s} {d = d} {rs = rs} a f b g) p e n =
       let r : EmojiTagRun = record { tags = t; after = d ∷ s } in
-      run-and (ap (tagRunRead at) (e ∙ runs-split r rs u) ∙ group-read at a (selector-and f b) (at-char (selector-no-tag d f)) (no-selector-first (groups-first u g)))
+      run-and (ap (tagRunRead at) (e ∙ runs-split r rs u) ∙ group-read at a (selector-and f b) (at-char (selector-no-tag d f))
+      (no-selector-first (groups-first u g)))
       (runs-walk (at + size width (t ++ d ∷ s)) u g p (next-run at r rs u e) (omega (arith, n, runs-size r rs)))
 
 -- ---- one modification
 
-front-read : (at : ℕ) (t : List ℕ) {s : List ℕ} {ms : List EmojiModification} → modificationAt t ≡ s → (modificationsOf s) .1 ≡ ms → modificationRead at t ≡ firstFrom at ms
+front-read : (at : ℕ) (t : List ℕ) {s : List ℕ} {ms : List EmojiModification} → modificationAt t ≡ s → (modificationsOf s) .1 ≡ ms
+    → modificationRead at t ≡ firstFrom at ms
 unfolding modificationRead
 front-read at t e f = ap (λ (l : List ℕ). firstFrom at ((modificationsOf l) .1)) e ∙ ap (firstFrom at) f
 
 module _ {c : ℕ} {k : Class} (h : HasClass c k) (s t : List ℕ) where
   -- A modifier or 20E3 and its selectors, before t.
-  one-read : (at : ℕ) → forTag k ≡ false → forModification k ≡ true → S s → Stops isSelector t → modificationRead at (c ∷ (s ++ t)) ≡ firstFrom at ((toModifications k c (s, [])) .1)
+  one-read : (at : ℕ) → forTag k ≡ false → forModification k ≡ true → S s → Stops isSelector t → modificationRead at (c ∷ (s ++ t))
+      ≡ firstFrom at ((toModifications k c (s, [])) .1)
   one-read at e f a p =
-      front-read at (c ∷ (s ++ t)) (modification-other c (s ++ t) true (tag-test c ∙ ap forTag (class-is h) ∙ e) (modification-test c ∙ ap forModification (class-is h) ∙ f) ∙ ap (λ (l : List ℕ). c ∷ l) (run-all isSelector (S-passes a) p))
+      front-read at (c ∷ (s ++ t)) (modification-other c (s ++ t) true (tag-test c ∙ ap forTag (class-is h) ∙ e)
+      (modification-test c ∙ ap forModification (class-is h) ∙ f) ∙ ap (λ (l : List ℕ). c ∷ l) (run-all isSelector (S-passes a) p))
       (ap (λ (x : List ℕ × List EmojiModification). x .1) (of-class s h ∙ ap (toModifications k c) (of-selectors (S-passes a))))
 
 none-read : (at : ℕ) {t : List ℕ} → Stops inModifications t → modificationRead at t ≡ Value.NoModification
 unfolding modificationRead modificationAt modificationsOf firstFrom
 none-read at at-end = refl
-none-read at (at-char {c = c} {s = t} e) = front-read at (c ∷ t) (modification-other c t false (no-tag (neither (no-tag-behind (at-char e)) .0)) (both-false (isModification c) (isSelector c) e .0)) refl
+none-read at (at-char {c = c} {s = t} e) = front-read at (c ∷ t)
+    (modification-other c t false (no-tag (neither (no-tag-after (at-char e)) .0)) (both-false (isModification c) (isSelector c) e .0)) refl
   where
     no-tag : Stops isTag (c ∷ t) → isTag c ≡ false
     no-tag (at-char f) = f
@@ -165,13 +178,16 @@ tags-read at (tag-first {c = c} {t = t} e) =
     let m = of-tags c t e in
     front-read at (c ∷ t) (modification-tag c t e) (m .is) ∙ ap (λ (l : List ℕ). Value.TagModifier (at + size width l)) (m .flat)
 
-groups-read : (at : ℕ) {rs : List EmojiTagRun} {t : List ℕ} → RunsOk rs → Stops inTags t → modificationRead at (flattenRuns rs ++ t) ≡ modificationFrom at (TagModifier rs)
+groups-read : (at : ℕ) {rs : List EmojiTagRun} {t : List ℕ} → RunsOk rs → Stops inTags t → modificationRead at (flattenRuns rs ++ t)
+    ≡ modificationFrom at (TagModifier rs)
 unfolding modificationFrom tagModificationAt
-groups-read at {rs} {t} g p = tags-read at (groups-first t g) ∙ ap (λ (l : List ℕ). Value.TagModifier (at + size width l)) (run-all inTags (groups-in g) p)
+groups-read at {rs} {t} g p = tags-read at (groups-first t g) ∙ ap (λ (l : List ℕ). Value.TagModifier (at + size width l))
+    (run-all inTags (groups-in g) p)
 
 -- ---- all modifications of a unit
 
-modifications-size : (m : EmojiModification) (ms : List EmojiModification) → size width (flattenModifications (m ∷ ms)) ≡ size width (flattenModification m) + size width (flattenModifications ms)
+modifications-size : (m : EmojiModification) (ms : List EmojiModification) → size width (flattenModifications (m ∷ ms))
+    ≡ size width (flattenModification m) + size width (flattenModifications ms)
 unfolding flattenModifications
 modifications-size m ms = size-append width (flattenModification m) (flattenModifications ms)
 
@@ -181,10 +197,13 @@ unfolding flattenModifications flattenModification firstFrom toModifications
 modifications-walk text end at (mods-end p) e n = modifications-end {at = at} (omega arith) (ap (modificationRead at) e ∙ none-read at p)
 modifications-walk text end at (mods-modifier {c = c} {s = s} {t = t} {ms = ms} f a p m) e n =
     modification-and {m = EmojiModifier c s} (ap (modificationRead at) e ∙ one-read (is-modifier f) s t at refl refl a p) tt
-    (modifications-walk text end (at + size width (c ∷ s)) m (chars-from text at (c ∷ s) t e) (omega (arith, n, modifications-size (EmojiModifier c s) ms)))
+    (modifications-walk text end (at + size width (c ∷ s)) m (chars-from text at (c ∷ s) t e)
+    (omega (arith, n, modifications-size (EmojiModifier c s) ms)))
 modifications-walk text end at (mods-keycap {s = s} {t = t} {ms = ms} a p m) e n =
     modification-and {m = EnclosingKeycap s} (ap (modificationRead at) e ∙ one-read (is-keycap refl) s t at refl refl a p) tt
-    (modifications-walk text end (at + size width (0x20E3 ∷ s)) m (chars-from text at (0x20E3 ∷ s) t e) (omega (arith, n, modifications-size (EnclosingKeycap s) ms)))
+    (modifications-walk text end (at + size width (0x20E3 ∷ s)) m (chars-from text at (0x20E3 ∷ s) t e)
+    (omega (arith, n, modifications-size (EnclosingKeycap s) ms)))
 modifications-walk text end at (mods-tags {t = t} {rs = rs} {ms = ms} q g p m) e n =
     modification-and {m = TagModifier rs} (ap (modificationRead at) (e ∙ q) ∙ groups-read at g p) (runs-walk text at t g p (e ∙ q) refl)
-    (modifications-walk text end (at + size width (flattenRuns rs)) m (chars-from text at (flattenRuns rs) t (e ∙ q)) (omega (arith, n, modifications-size (TagModifier rs) ms)))
+    (modifications-walk text end (at + size width (flattenRuns rs)) m (chars-from text at (flattenRuns rs) t (e ∙ q))
+    (omega (arith, n, modifications-size (TagModifier rs) ms)))

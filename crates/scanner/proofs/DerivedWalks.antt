@@ -4,7 +4,7 @@ use mathlib.Core.Option.{some}
 use mathlib.Core.List.{List, _∷_, _++_}
 use Prim.Native.Nat.{ℕ}
 use Rattle.scanner.specs.Classes.{Class, selector, link, ri, modifier, emoji, classOf}
-use Rattle.scanner.specs.Items.{Place, plain, selectors, links, oneRi, unit, joined, leftOver, step, begin}
+use Rattle.scanner.specs.Items.{State, plain, selectors, links, oneRi, unit, joined, leftOver, transition, startState}
 use Rattle.scanner.specs.Grammar.{
   S,
   no-selectors,
@@ -69,34 +69,34 @@ use Rattle.scanner.proofs.Classes.{
 use Rattle.scanner.proofs.Walk.{Walk, stay, pass, walk-append}
 
 -- The places of a unit.
-pub data InUnit : Place → Type 0 where
+pub data InUnit : State → Type 0 where
   in-oneRi : InUnit oneRi
   in-unit : InUnit unit
 
 -- A walk that begins with a character of the class.
-pub via : {p q r : Place} {k : Class} {c : ℕ} {t : List ℕ} → HasClass c k → step p k ≡ some q → Walk q t r → Walk p (c ∷ t) r
-via {p = p} h f w = pass (ap (step p) (class-is h) ∙ f) w
+pub via : {p q r : State} {k : Class} {c : ℕ} {t : List ℕ} → HasClass c k → transition p k ≡ some q → Walk q t r → Walk p (c ∷ t) r
+via {p = p} h f w = pass (ap (transition p) (class-is h) ∙ f) w
 
-pub walk-S : {s : List ℕ} (p : Place) → step p selector ≡ some p → S s → Walk p s p
+pub walk-S : {s : List ℕ} (p : State) → transition p selector ≡ some p → S s → Walk p s p
 walk-S p e no-selectors = stay
 walk-S p e (selector-and f h) = via (is-selector f) e (walk-S p e h)
 
 -- ---- modifications
 
-walk-tags : {s : List ℕ} {p : Place} → InUnit p → Tags s → Walk p s unit
-unfolding step
+walk-tags : {s : List ℕ} {p : State} → InUnit p → Tags s → Walk p s unit
+unfolding transition
 walk-tags in-oneRi (one-tag e) = via (is-tag e) refl stay
 walk-tags in-unit (one-tag e) = via (is-tag e) refl stay
 walk-tags in-oneRi (tag-and e h) = via (is-tag e) refl (walk-tags in-unit h)
 walk-tags in-unit (tag-and e h) = via (is-tag e) refl (walk-tags in-unit h)
 
-walk-groups : {s : List ℕ} {p : Place} → InUnit p → TagGroups s → Walk p s unit
-unfolding step
+walk-groups : {s : List ℕ} {p : State} → InUnit p → TagGroups s → Walk p s unit
+unfolding transition
 walk-groups i (one-group t s) = walk-append (walk-tags i t) (walk-S unit refl s)
 walk-groups i (group-and t s g) = walk-append (walk-tags i t) (walk-append (walk-S unit refl s) (walk-groups in-unit g))
 
-pub walk-modification : {s : List ℕ} {p : Place} → InUnit p → Modification s → Walk p s unit
-unfolding step
+pub walk-modification : {s : List ℕ} {p : State} → InUnit p → Modification s → Walk p s unit
+unfolding transition
 walk-modification in-oneRi (by-modifier e s) = via (is-modifier e) refl (walk-S unit refl s)
 walk-modification in-unit (by-modifier e s) = via (is-modifier e) refl (walk-S unit refl s)
 walk-modification in-oneRi (by-keycap s) = via (is-keycap refl) refl (walk-S unit refl s)
@@ -104,122 +104,142 @@ walk-modification in-unit (by-keycap s) = via (is-keycap refl) refl (walk-S unit
 walk-modification i (by-tags g) = walk-groups i g
 
 -- A walk that ends inside a unit.
-pub record ToUnit (p : Place) (s : List ℕ) : Type 0 where
-  pub end : Place
+pub record ToUnit (p : State) (s : List ℕ) : Type 0 where
+  pub end : State
   pub inside : InUnit end
   pub walked : Walk p s end
 
-pub walk-modifications : {s : List ℕ} {p : Place} → InUnit p → Modifications s → ToUnit p s
+pub walk-modifications : {s : List ℕ} {p : State} → InUnit p → Modifications s → ToUnit p s
 walk-modifications {s} {p} i unmodified = record { end = p; inside = i; walked = stay }
 walk-modifications i (modified m h) =
     let r = walk-modifications in-unit h in
     record { end = r .end; inside = r .inside; walked = walk-append (walk-modification i m) (r .walked) }
 
--- ---- stems and units, behind one link and at the front of an item
+-- ---- stems and units, after one link and at the front of an item
 
--- Where an emoji's place is reached: by `step` behind one link, by `begin` at the front of an item.
-pub record Starts (P : Class → Place → Type 0) : Type 0 where
+-- Where an emoji's place is reached: by `step` after one link, by `begin` at the front of an item.
+pub record Starts (P : Class → State → Type 0) : Type 0 where
   pub at-ri : P ri oneRi
   pub at-modifier : P modifier unit
   pub at-emoji : P emoji unit
 
 -- A text walked from the place of its first character on.
-pub data Front (P : Class → Place → Type 0) : List ℕ → Place → Type 0 where
-  front : {k : Class} {p q : Place} {c : ℕ} {t : List ℕ} → HasClass c k → P k p → Walk p t q → Front P (c ∷ t) q
+pub data Front (P : Class → State → Type 0) : List ℕ → State → Type 0 where
+  front : {k : Class} {p q : State} {c : ℕ} {t : List ℕ} → HasClass c k → P k p → Walk p t q → Front P (c ∷ t) q
 
-pub record UnitFront (P : Class → Place → Type 0) (s : List ℕ) : Type 0 where
-  pub end : Place
+pub record UnitFront (P : Class → State → Type 0) (s : List ℕ) : Type 0 where
+  pub end : State
   pub inside : InUnit end
   pub walked : Front P s end
 
-front-append : {P : Class → Place → Type 0} {s t : List ℕ} {q r : Place} → Front P s q → Walk q t r → Front P (s ++ t) r
+front-append : {P : Class → State → Type 0} {s t : List ℕ} {q r : State} → Front P s q → Walk q t r → Front P (s ++ t) r
 front-append (front i e w) v = front i e (walk-append w v)
 
-walk-single : {P : Class → Place → Type 0} {c : ℕ} {s : List ℕ} → Starts P → EmojiClass c → S s → UnitFront P (c ∷ s)
-unfolding step
+walk-single : {P : Class → State → Type 0} {c : ℕ} {s : List ℕ} → Starts P → EmojiClass c → S s → UnitFront P (c ∷ s)
+unfolding transition
 walk-single h (an-ri e) s = record { end = oneRi; inside = in-oneRi; walked = front (is-ri e) (h .at-ri) (walk-S oneRi refl s) }
-walk-single h (a-modifier e) s = record { end = unit; inside = in-unit; walked = front (is-modifier e) (h .at-modifier) (walk-S unit refl s) }
+walk-single h (a-modifier e) s = record {
+  end = unit;
+  inside = in-unit;
+  walked = front (is-modifier e) (h .at-modifier)
+      (walk-S unit refl s);
+}
 walk-single h (an-emoji e) s = record { end = unit; inside = in-unit; walked = front e (h .at-emoji) (walk-S unit refl s) }
 
-walk-stem : {P : Class → Place → Type 0} {s : List ℕ} → Starts P → Stem s → UnitFront P s
-unfolding step
-walk-stem h (flag a b e s f t) = record { end = unit; inside = in-unit; walked = front (is-ri e) (h .at-ri) (walk-append (walk-S oneRi refl s) (via (is-ri f) refl (walk-S unit refl t))) }
+walk-stem : {P : Class → State → Type 0} {s : List ℕ} → Starts P → Stem s → UnitFront P s
+unfolding transition
+walk-stem h (flag a b e s f t) = record {
+  end = unit;
+  inside = in-unit;
+  walked = front (is-ri e) (h .at-ri)
+      (walk-append (walk-S oneRi refl s) (via (is-ri f) refl (walk-S unit refl t)));
+}
 walk-stem h (single {c = c} e s) = walk-single h (emoji-class c e) s
 
-pub walk-unit : {P : Class → Place → Type 0} {s : List ℕ} → Starts P → EmojiUnit s → UnitFront P s
+pub walk-unit : {P : Class → State → Type 0} {s : List ℕ} → Starts P → EmojiUnit s → UnitFront P s
 walk-unit h (unit-of s m) =
     let r = walk-stem h s in
     let v = walk-modifications (r .inside) m in
     record { end = v .end; inside = v .inside; walked = front-append (r .walked) (v .walked) }
 
--- Behind one link.
-abbrev pub Behind : Class → Place → Type 0
-Behind k p = step joined k ≡ some p
+-- After one link.
+abbrev pub Behind : Class → State → Type 0
+Behind k p = transition joined k ≡ some p
 
-pub behind : Starts Behind
-unfolding step
-behind = record { at-ri = refl; at-modifier = refl; at-emoji = refl }
+pub after : Starts Behind
+unfolding transition
+after = record { at-ri = refl; at-modifier = refl; at-emoji = refl }
 
-pub walk-front : {s : List ℕ} {q : Place} → Front Behind s q → Walk joined s q
+pub walk-front : {s : List ℕ} {q : State} → Front Behind s q → Walk joined s q
 walk-front (front i e w) = via i e w
 
 -- At the front of an item.
-abbrev pub First : Class → Place → Type 0
-First k p = begin k ≡ p
+abbrev pub First : Class → State → Type 0
+First k p = startState k ≡ p
 
 pub first : Starts First
-unfolding begin
+unfolding startState
 first = record { at-ri = refl; at-modifier = refl; at-emoji = refl }
 
 -- ---- links and joined units
 
-pub to-joined : (p : Place) → InUnit p → step p link ≡ some joined
-unfolding step
+pub to-joined : (p : State) → InUnit p → transition p link ≡ some joined
+unfolding transition
 to-joined oneRi in-oneRi = refl
 to-joined unit in-unit = refl
 
-pub walk-link : {s : List ℕ} {p : Place} (q : Place) → step p link ≡ some q → step q selector ≡ some q → Link s → Walk p s q
+pub walk-link : {s : List ℕ} {p : State} (q : State) → transition p link ≡ some q → transition q selector ≡ some q → Link s → Walk p s q
 walk-link q e f (a-link s) = via (is-link refl) e (walk-S q f s)
 
-pub walk-joined : {s : List ℕ} {p : Place} → InUnit p → JoinedUnits s → ToUnit p s
-unfolding step
+pub walk-joined : {s : List ℕ} {p : State} → InUnit p → JoinedUnits s → ToUnit p s
+unfolding transition
 walk-joined {s} {p} i no-units = record { end = p; inside = i; walked = stay }
 walk-joined {s} {p} i (joined-and a v t) =
-    let r = walk-unit behind v in
+    let r = walk-unit after v in
     let o = walk-joined (r .inside) t in
-    record { end = o .end; inside = o .inside; walked = walk-append (walk-link joined (to-joined p i) refl a) (walk-append (walk-front (r .walked)) (o .walked)) }
+    record {
+      end = o .end;
+      inside = o .inside;
+      walked = walk-append (walk-link joined (to-joined p i) refl a)
+          (walk-append (walk-front (r .walked)) (o .walked));
+    }
 
 -- Some walk.
-pub record SomeWalk (p : Place) (s : List ℕ) : Type 0 where
-  pub end : Place
+pub record SomeWalk (p : State) (s : List ℕ) : Type 0 where
+  pub end : State
   pub walked : Walk p s end
 
--- Links behind a place that links lead to itself.
-pub walk-links : {s : List ℕ} (p : Place) → step p link ≡ some p → step p selector ≡ some p → Links s → Walk p s p
+-- Links after a place that links lead to itself.
+pub walk-links : {s : List ℕ} (p : State) → transition p link ≡ some p → transition p selector ≡ some p → Links s → Walk p s p
 walk-links p e f no-links = stay
 walk-links p e f (link-and a l) = walk-append (walk-link p e f a) (walk-links p e f l)
 
 -- The links left over.
-walk-left : {s : List ℕ} {p : Place} → InUnit p → Links s → SomeWalk p s
-unfolding step
+walk-left : {s : List ℕ} {p : State} → InUnit p → Links s → SomeWalk p s
+unfolding transition
 walk-left {s} {p} i no-links = record { end = p; walked = stay }
 walk-left {s} {p} i (link-and a no-links) = record { end = joined; walked = walk-append (walk-link joined (to-joined p i) refl a) stay }
-walk-left {s} {p} i (link-and a (link-and b l)) = record { end = leftOver; walked = walk-append (walk-link joined (to-joined p i) refl a) (walk-append (walk-link leftOver refl refl b) (walk-links leftOver refl refl l)) }
+walk-left {s} {p} i (link-and a (link-and b l)) =
+    record {
+      end = leftOver;
+      walked = walk-append (walk-link joined (to-joined p i) refl a)
+          (walk-append (walk-link leftOver refl refl b) (walk-links leftOver refl refl l));
+    }
 
 -- ---- items
 
 pub record Accepted (s : List ℕ) : Type 0 where
-  pub end : Place
+  pub end : State
   pub walked : Front First s end
 
 plain-front : {c : ℕ} {s : List ℕ} {k : Class} → HasClass c k → PlainClass k → Walk plain s plain → Front First (c ∷ s) plain
-unfolding begin
+unfolding startState
 plain-front h of-keycap w = front h refl w
 plain-front h of-tag w = front h refl w
 plain-front h of-other w = front h refl w
 
-plain-on : {k : Class} → PlainClass k → step plain k ≡ some plain
-unfolding step
+plain-on : {k : Class} → PlainClass k → transition plain k ≡ some plain
+unfolding transition
 plain-on of-keycap = refl
 plain-on of-tag = refl
 plain-on of-other = refl
@@ -229,19 +249,27 @@ walk-plain-run no-plain = stay
 walk-plain-run (plain-and {c = c} p h) = via (hasClass c) (plain-on (plain-class (hasClass c) p)) (walk-plain-run h)
 
 pub derive-walk : {k : ScanKind} {s : List ℕ} → Derives k s → Accepted s
-unfolding step begin
-derive-walk (links-only (a-link s) l) = record { end = links; walked = front (is-link refl) refl (walk-append (walk-S links refl s) (walk-links links refl refl l)) }
+unfolding transition startState
+derive-walk (links-only (a-link s) l) = record {
+  end = links;
+  walked = front (is-link refl) refl
+      (walk-append (walk-S links refl s) (walk-links links refl refl l));
+}
 derive-walk (selector-run e s) = record { end = selectors; walked = front (is-selector e) refl (walk-S selectors refl s) }
 derive-walk (emoji-headed v j l) =
     let a = walk-unit first v in
     let b = walk-joined (a .inside) j in
     let c = walk-left (b .inside) l in
     record { end = c .end; walked = front-append (a .walked) (walk-append (b .walked) (c .walked)) }
-derive-walk (passthrough {c = c} p h) = record { end = plain; walked = plain-front (hasClass c) (plain-class (hasClass c) p) (walk-plain-run h) }
+derive-walk (passthrough {c = c} p h) = record {
+  end = plain;
+  walked = plain-front (hasClass c) (plain-class (hasClass c) p)
+      (walk-plain-run h);
+}
 
 -- The same from the place of the first character.
-pub accepted-walk : {c : ℕ} {s : List ℕ} → Accepted (c ∷ s) → SomeWalk (begin (classOf c)) s
+pub accepted-walk : {c : ℕ} {s : List ℕ} → Accepted (c ∷ s) → SomeWalk (startState (classOf c)) s
 accepted-walk {c} {s} a = go (a .walked)
   where
-    go : {q : Place} → Front First (c ∷ s) q → SomeWalk (begin (classOf c)) s
-    go {q} (front h f w) = record { end = q; walked = subst (λ (p : Place). Walk p s q) (sym (ap begin (class-is h) ∙ f)) w }
+    go : {q : State} → Front First (c ∷ s) q → SomeWalk (startState (classOf c)) s
+    go {q} (front h f w) = record { end = q; walked = subst (λ (p : State). Walk p s q) (sym (ap startState (class-is h) ∙ f)) w }

@@ -16,8 +16,8 @@ pub record ItemAt (text : List ℕ) (at : ℕ) (x : Item) (xs : List Item) : Typ
   pub some : at < at + size width (x .chars)
   pub room : at + size width (x .chars) ≤ length text
   pub bytes : chars (drop at text) ≡ x .chars ++ join xs
-  pub text-behind : chars (drop (at + size width (x .chars)) text) ≡ join xs
-  pub behind : items (chars (drop (at + size width (x .chars)) text)) ≡ xs
+  pub text-after : chars (drop (at + size width (x .chars)) text) ≡ join xs
+  pub after : items (chars (drop (at + size width (x .chars)) text)) ≡ xs
 
 filled-some : {x : Item} {xs : List Item} → Filled (x ∷ xs) → 1 ≤ size width (x .chars)
 filled-some (and-item c s l h) = let k = width-some c in omega (arith, ap (size width) l)
@@ -30,8 +30,16 @@ item-at text at {x} {xs} e =
     let b = chars-from text at (x .chars) (join xs) c in
     record {
       some = omega arith;
-      room = omega (arith, size-chars (drop at text), validUpTo-le (drop at text), length-drop at text, ap (size width) c, size-append width (x .chars) (join xs));
+      room = omega (
+        arith,
+        size-chars (drop at text),
+        validUpTo-le (drop at text),
+        length-drop at text,
+        ap (size width) c,
+        size-append width
+            (x .chars) (join xs),
+      );
       bytes = c;
-      text-behind = b;
-      behind = ap items b ∙ items-tail t x xs e;
+      text-after = b;
+      after = ap items b ∙ items-tail t x xs e;
     }

@@ -15,7 +15,19 @@ use Rattle.unicode.specs.Theorems.{LinkAndKeycapAreNotEmoji}
 use Rattle.unicode.specs.Unicode.{isEmoji}
 use Rattle.unicode.proofs.Claims.{link-and-keycap-are-not-emoji}
 use Rattle.scanner.specs.Classes.{strip}
-use Rattle.scanner.specs.Grammar.{Derives, emoji-headed, EmojiUnit, joined-and, no-units, no-links, Longest, Reads, reads-item, S, a-link}
+use Rattle.scanner.specs.Grammar.{
+  Derives,
+  emoji-headed,
+  EmojiUnit,
+  joined-and,
+  no-units,
+  no-links,
+  Longest,
+  Reads,
+  reads-item,
+  S,
+  a-link,
+}
 use Rattle.scanner.specs.Items.{Item, items}
 use Rattle.scanner.specs.SelectorRun.{selectorsFrom}
 use Rattle.scanner.specs.Parts.{joins, linkFrom, linkRead, partRead}
@@ -61,23 +73,26 @@ module _ (text : List ℕ) (end at : ℕ) {s t : List ℕ} (h : S s) (p : Stops 
   unfolding linkFrom the-link
   link-end = omega arith
 
-  link-behind : chars (drop (linkFrom at the-link .end) text) ≡ t
-  link-behind = ap (λ (n : ℕ). chars (drop n text)) link-end ∙ chars-from text at (0x200D ∷ s) t e
+  link-after : chars (drop (linkFrom at the-link .end) text) ≡ t
+  link-after = ap (λ (n : ℕ). chars (drop n text)) link-end ∙ chars-from text at (0x200D ∷ s) t e
 
   -- It is left over where no emoji follows within the item ..
   link-left : at < end → (linkFrom at the-link .end < end → Stops isEmoji t) → partRead text end at ≡ LeftOverLink (linkFrom at the-link)
   unfolding joins
-  link-left n q = ⊎-elim (λ k. sym (part-last text end at n link-is k)) (λ k. sym (joins-is text end at n link-is k) ∙ ap (joins (linkFrom at the-link)) link-behind ∙ go (q k)) (le-or-lt end (linkFrom at the-link .end))
+  link-left n q = ⊎-elim (λ k. sym (part-last text end at n link-is k))
+      (λ k. sym (joins-is text end at n link-is k) ∙ ap (joins (linkFrom at the-link)) link-after ∙ go (q k))
+      (le-or-lt end (linkFrom at the-link .end))
     where
       go : {u : List ℕ} → Stops isEmoji u → joins (linkFrom at the-link) u ≡ LeftOverLink (linkFrom at the-link)
       go at-end = refl
       go (at-char f) = ap (λ (b : Bool). cond b (JoiningLink (linkFrom at the-link)) (LeftOverLink (linkFrom at the-link))) f
 
   -- .. and joins an emoji that does.
-  link-joins : {c : ℕ} {u : List ℕ} → at < end → linkFrom at the-link .end < end → t ≡ c ∷ u → isEmoji c ≡ true → partRead text end at ≡ JoiningLink (linkFrom at the-link)
+  link-joins : {c : ℕ} {u : List ℕ} → at < end → linkFrom at the-link .end < end → t ≡ c ∷ u → isEmoji c ≡ true → partRead text end at
+      ≡ JoiningLink (linkFrom at the-link)
   unfolding joins
   link-joins n k q f =
-      sym (joins-is text end at n link-is k) ∙ ap (joins (linkFrom at the-link)) (link-behind ∙ q)
+      sym (joins-is text end at n link-is k) ∙ ap (joins (linkFrom at the-link)) (link-after ∙ q)
       ∙ ap (λ (b : Bool). cond b (JoiningLink (linkFrom at the-link)) (LeftOverLink (linkFrom at the-link))) f
 
 -- ---- the links left over
@@ -92,7 +107,8 @@ unfolding isSelector
 links-selector no-links-are p = p
 links-selector (link-are h k) p = at-char refl
 
-links-walk : {l : List ℕ} {ls : List ZwjLink} (text : List ℕ) (end at : ℕ) (r : List ℕ) → LinksAre l ls → Stops isSelector r → chars (drop at text) ≡ l ++ r
+links-walk : {l : List ℕ} {ls : List ZwjLink} (text : List ℕ) (end at : ℕ) (r : List ℕ) → LinksAre l ls → Stops isSelector r
+    → chars (drop at text) ≡ l ++ r
     → at + size width l ≡ end → LinksWalk text end at ls
 unfolding flattenLink the-link
 links-walk text end at r no-links-are p e n = links-end {at = at} (omega arith) (sym (part-past text end at (omega arith)))
@@ -100,10 +116,11 @@ links-walk text end at r (link-are {s = s} {l = l} h k) p e n =
     let q = e ∙ ap (λ (x : List ℕ). 0x200D ∷ x) (append-assoc s l r) in
     let b = links-selector k p in
     let z = size-append width s l in
-    link-and (link-left text end at h b q (omega (arith, n, z, width-some 0x200D)) (λ i. links-emoji r k (omega (arith, n, z, i, link-end text end at h b q))))
+    link-and (link-left text end at h b q (omega (arith, n, z, width-some 0x200D))
+    (λ i. links-emoji r k (omega (arith, n, z, i, link-end text end at h b q))))
     (links-walk text end (at + size width (0x200D ∷ s)) r k p (chars-from text at (0x200D ∷ s) (l ++ r) q) (omega (arith, n, z)))
 
--- ---- units before what follows in the item, and behind it
+-- ---- units before what follows in the item, and after it
 
 last-link : (s : List ℕ) (d : ℕ) → NoLink (s ++ d ∷ []) → eqb d 0x200D ≡ false
 last-link [] d (no-link-and e k) = e
@@ -116,63 +133,78 @@ before-link {v} = record {
   no-more = λ d f e u. true≢false (sym (eq-eqb d 0x200D (sym (head-eq-of-cons-eq e))) ∙ last-link v d (unit-no-link u));
 }
 
--- What is read, and no character behind it can be taken in.
+-- What is read, and no character after it can be taken in.
 abbrev Whole : List ℕ → List ℕ → Type 0
 Whole t r = (d : ℕ) (f : List ℕ) → r ≡ d ∷ f → Derives EmojiHeaded (t ++ d ∷ []) → ⊥
 
-last-unit : {v w r : List ℕ} {js : List ZwjJoinedEmoji} {ls : List ZwjLink} → JoinsAre w js ls → Stops isSelector r → Whole (v ++ w) r → Last v (w ++ r)
+last-unit : {v w r : List ℕ} {js : List ZwjJoinedEmoji} {ls : List ZwjLink} → JoinsAre w js ls → Stops isSelector r → Whole (v ++ w) r
+    → Last v (w ++ r)
 last-unit {v} (no-joins-are no-links-are) p n = record {
   no-selector = p;
-  no-more = λ d f e u. n d f e (subst (Derives EmojiHeaded) (append-nil (v ++ d ∷ []) ∙ ap (λ (x : List ℕ). x ++ d ∷ []) (sym (append-nil v))) (emoji-headed u no-units no-links));
+  no-more = λ d f e u. n d f e (subst (Derives EmojiHeaded)
+      (append-nil (v ++ d ∷ []) ∙ ap (λ (x : List ℕ). x ++ d ∷ []) (sym (append-nil v))) (emoji-headed u no-units no-links));
 }
 last-unit (no-joins-are (link-are h k)) p n = before-link
 last-unit (join-are h d k) p n = before-link
 
 join-before : {v s t : List ℕ} → EmojiUnit v → S s → Derives EmojiHeaded t → Derives EmojiHeaded (v ++ (0x200D ∷ (s ++ t)))
 join-before {v} {s} u h (emoji-headed {v = w} {j = j} {l = l} a b c) =
-    subst (λ (x : List ℕ). Derives EmojiHeaded (v ++ (0x200D ∷ x))) (append-assoc s (w ++ j) l ∙ ap (λ (x : List ℕ). s ++ x) (append-assoc w j l))
+    subst (λ (x : List ℕ). Derives EmojiHeaded (v ++ (0x200D ∷ x)))
+    (append-assoc s (w ++ j) l ∙ ap (λ (x : List ℕ). s ++ x) (append-assoc w j l))
     (emoji-headed u (joined-and (a-link h) a b) c)
 
-whole-behind : {v s : List ℕ} (t r : List ℕ) → EmojiUnit v → S s → Whole (v ++ (0x200D ∷ (s ++ t))) r → Whole t r
-whole-behind {v} {s} t r u h n d f e k =
-    n d f e (subst (Derives EmojiHeaded) (sym (append-assoc v (0x200D ∷ (s ++ t)) (d ∷ []) ∙ ap (λ (x : List ℕ). v ++ (0x200D ∷ x)) (append-assoc s t (d ∷ [])))) (join-before u h k))
+whole-after : {v s : List ℕ} (t r : List ℕ) → EmojiUnit v → S s → Whole (v ++ (0x200D ∷ (s ++ t))) r → Whole t r
+whole-after {v} {s} t r u h n d f e k =
+    n d f e (subst (Derives EmojiHeaded)
+    (sym (append-assoc v (0x200D ∷ (s ++ t)) (d ∷ []) ∙ ap (λ (x : List ℕ). v ++ (0x200D ∷ x)) (append-assoc s t (d ∷ []))))
+    (join-before u h k))
 
 -- ---- further units
 
-joins-walk : {v w : List ℕ} {js : List ZwjJoinedEmoji} {ls : List ZwjLink} (text : List ℕ) (end at : ℕ) (r : List ℕ) → EmojiUnit v → JoinsAre w js ls
+joins-walk : {v w : List ℕ} {js : List ZwjJoinedEmoji} {ls : List ZwjLink} (text : List ℕ) (end at : ℕ) (r : List ℕ) → EmojiUnit v
+    → JoinsAre w js ls
     → Stops isSelector r → Whole (v ++ w) r → chars (drop at text) ≡ w ++ r → at + size width w ≡ end → JoinsWalk text end at js ls
 unfolding flattenLink the-link
 joins-walk text end at r u (no-joins-are k) p n e z = no-more-units (links-walk text end at r k p e z)
 joins-walk text end at r u (join-are {s = s} {v = v} {w = w} h d k) p n e z =
     let b = unit-read d in
-    let q : chars (drop at text) ≡ 0x200D ∷ (s ++ (v ++ (w ++ r))) = e ∙ ap (λ (x : List ℕ). 0x200D ∷ x) (append-assoc s (v ++ w) r ∙ ap (λ (x : List ℕ). s ++ x) (append-assoc v w r)) in
-    let f : Stops isSelector (v ++ (w ++ r)) = subst (λ (x : List ℕ). Stops isSelector (x ++ (w ++ r))) (sym (b .split)) (at-char (emoji-no-selector (b .char) (b .is-emoji))) in
-    let m = whole-behind (v ++ w) r u h n in
-    let i : size width (0x200D ∷ (s ++ (v ++ w))) ≡ size width (0x200D ∷ s) + (size width v + size width w) = omega (arith, size-append width s (v ++ w), size-append width v w) in
+    let q : chars (drop at text) ≡ 0x200D ∷ (s ++ (v ++ (w ++ r))) = e
+    ∙ ap (λ (x : List ℕ). 0x200D ∷ x) (append-assoc s (v ++ w) r ∙ ap (λ (x : List ℕ). s ++ x) (append-assoc v w r)) in
+    let f : Stops isSelector (v ++ (w ++ r)) = subst (λ (x : List ℕ). Stops isSelector (x ++ (w ++ r))) (sym (b .split))
+    (at-char (emoji-no-selector (b .char) (b .is-emoji))) in
+    let m = whole-after (v ++ w) r u h n in
+    let i : size width (0x200D ∷ (s ++ (v ++ w))) ≡ size width (0x200D ∷ s) + (size width v + size width w) =
+    omega (arith, size-append width s (v ++ w), size-append width v w) in
     let j : 0 < size width v = omega (arith, ap (size width) (b .split), width-some (b .char)) in
     let x = unit-flatten b in
-    let g : at + size width ((0x200D ∷ s) ++ flattenUnit (emojiLike (b .char) (b .rest))) ≡ at + size width (0x200D ∷ s) + size width v = omega (arith, size-append width s (flattenUnit (emojiLike (b .char) (b .rest))), ap (size width) x) in
-    unit-and (link-joins text end at h f q (omega (arith, z, i, j)) (omega (arith, z, i, j, link-end text end at h f q)) (ap (λ (y : List ℕ). y ++ (w ++ r)) (b .split)) (b .is-emoji))
+    let g : at + size width ((0x200D ∷ s) ++ flattenUnit (emojiLike (b .char) (b .rest))) ≡ at + size width (0x200D ∷ s) + size width v =
+    omega (arith, size-append width s (flattenUnit (emojiLike (b .char) (b .rest))), ap (size width) x) in
+    unit-and (link-joins text end at h f q (omega (arith, z, i, j)) (omega (arith, z, i, j, link-end text end at h f q))
+    (ap (λ (y : List ℕ). y ++ (w ++ r)) (b .split)) (b .is-emoji))
     (unit-walk text (at + size width (0x200D ∷ s)) (w ++ r) d (last-unit k p m) (chars-from text at (0x200D ∷ s) (v ++ (w ++ r)) q))
     (joins-walk text end (at + size width ((0x200D ∷ s) ++ flattenUnit (emojiLike (b .char) (b .rest)))) r d k p m
-    (ap (λ (y : ℕ). chars (drop y text)) g ∙ chars-from text (at + size width (0x200D ∷ s)) v (w ++ r) (chars-from text at (0x200D ∷ s) (v ++ (w ++ r)) q)) (omega (arith, z, i, g)))
+    (ap (λ (y : ℕ). chars (drop y text)) g
+    ∙ chars-from text (at + size width (0x200D ∷ s)) v (w ++ r) (chars-from text at (0x200D ∷ s) (v ++ (w ++ r)) q))
+    (omega (arith, z, i, g)))
 
 -- ---- an item
 
-sequence-walk : {t : List ℕ} {x : EmojiSequence} (text : List ℕ) (at : ℕ) (r : List ℕ) → SequenceAre t x → Stops isSelector r → Whole t r → chars (drop at text) ≡ t ++ r
+sequence-walk : {t : List ℕ} {x : EmojiSequence} (text : List ℕ) (at : ℕ) (r : List ℕ) → SequenceAre t x → Stops isSelector r → Whole t r
+    → chars (drop at text) ≡ t ++ r
     → SequenceWalk text at (at + size width t) x
 unfolding SequenceWalk
 sequence-walk {t} text at r (links-are k) p n e = links-walk text (at + size width t) at r k p e refl
 sequence-walk {t} text at r (emoji-are {v = v} {w = w} d k) p n e =
     let b = unit-read d in
     let q = e ∙ append-assoc v w r in
-    let g : at + size width (flattenUnit (emojiLike (b .char) (b .rest))) ≡ at + size width v = ap (λ (y : List ℕ). at + size width y) (unit-flatten b) in (
+    let g : at + size width (flattenUnit (emojiLike (b .char) (b .rest))) ≡ at + size width v = ap (λ (y : List ℕ). at + size width y)
+    (unit-flatten b) in (
       unit-walk text at (w ++ r) d (last-unit k p n) q,
       joins-walk text (at + size width t) (at + size width (flattenUnit (emojiLike (b .char) (b .rest)))) r d k p n
           (ap (λ (y : ℕ). chars (drop y text)) g ∙ chars-from text at v (w ++ r) q) (omega (arith, g, size-append width v w)),
     )
 
--- The first item of a text, and what stands behind it.
+-- The first item of a text, and what stands after it.
 record FirstRead (t : List ℕ) (x : Item) : Type 0 where
   rest : List ℕ
   whole : t ≡ x .chars ++ rest
@@ -199,10 +231,13 @@ item-stops {t} {x} f k = go (f .rest) refl
         by true i =
             let h = derive-head (f .derives) in
             let q = subst (Derives (x .kind)) (h .split) (f .derives) in
-            absurd (f .longest (x .kind) d [] r e (subst (λ (s : List ℕ). Derives (x .kind) (s ++ d ∷ [])) (sym (h .split)) (derives-alike (h .char) (h .tail) (h .tail ++ d ∷ []) (derive-inner (h .char) (h .tail) k q) (strip-end (h .tail) d i) q)))
+            absurd (f .longest (x .kind) d [] r e
+            (subst (λ (s : List ℕ). Derives (x .kind) (s ++ d ∷ [])) (sym (h .split))
+            (derives-alike (h .char) (h .tail) (h .tail ++ d ∷ []) (derive-inner (h .char) (h .tail) k q) (strip-end (h .tail) d i) q)))
         by false i = i
 
-pub structure-walk : (text : List ℕ) (at : ℕ) (x : Item) (xs : List Item) → items (chars (drop at text)) ≡ x ∷ xs → Structured (x .kind) → SequenceAre (x .chars) (structure (x .chars))
+pub structure-walk : (text : List ℕ) (at : ℕ) (x : Item) (xs : List Item) → items (chars (drop at text)) ≡ x ∷ xs → Structured (x .kind)
+    → SequenceAre (x .chars) (structure (x .chars))
     → SequenceWalk text at (at + size width (x .chars)) (structure (x .chars))
 unfolding Longest
 structure-walk text at x xs e k s =

@@ -2,7 +2,7 @@
 pub mod Classes
 pub mod Arms
 pub mod Tiling
-pub mod Places
+pub mod States
 pub mod Walk
 pub mod DerivedWalks
 pub mod LinksTail

@@ -36,9 +36,9 @@ use Rattle.scanner.specs.Grammar.{
   link-and,
 }
 use Rattle.scanner.specs.Runs.{
-  behindRun,
-  behindSelectors,
-  behindStem,
+  afterRun,
+  afterSelectors,
+  afterStem,
   inLinks,
   inModifications,
   inTags,
@@ -74,7 +74,7 @@ use Rattle.scanner.proofs.Modifications.{
   run-tag,
 }
 use Rattle.scanner.proofs.RunLaws.{groups-tag, modification-other, modification-tag, run-over}
-use Rattle.scanner.proofs.Runs.{Passes, all-pass, pass-and, S-passes, Stops, at-char, at-end, behind-all, run-all, run-behind}
+use Rattle.scanner.proofs.Runs.{Passes, all-pass, pass-and, S-passes, Stops, at-char, at-end, after-all, run-all, run-after}
 use Rattle.scanner.proofs.Units.{front-no-ri, front-stops}
 
 -- ---- fronts
@@ -91,7 +91,7 @@ nothing : {t : List ℕ} → Front [] t
 nothing {t} = record { rest = t; whole = refl }
 
 run-front : (f : ℕ → Bool) (t : List ℕ) → Front (run f t) t
-run-front f t = record { rest = behindRun f t; whole = run-behind f t }
+run-front f t = record { rest = afterRun f t; whole = run-after f t }
 
 after-one : (c : ℕ) {a t : List ℕ} → Front a t → Front (c ∷ a) (c ∷ t)
 after-one c f = record { rest = f .rest; whole = ap (λ (l : List ℕ). c ∷ l) (f .whole) }
@@ -109,7 +109,7 @@ pass-all : {f g : ℕ → Bool} {s : List ℕ} → ((c : ℕ) → f c ≡ true �
 pass-all i all-pass = all-pass
 pass-all i (pass-and {c = c} e p) = pass-and (i c e) (pass-all i p)
 
--- A run over what passes goes on behind it.
+-- A run over what passes goes on after it.
 run-on : {f : ℕ → Bool} {s : List ℕ} → Passes f s → (t : List ℕ) → run f (s ++ t) ≡ s ++ run f t
 run-on p t = run-over (λ c e. e) p t
 
@@ -121,7 +121,7 @@ longest-selectors = record {
   longest = λ s r d. as-long s (selectorsAt r) (run-on (S-passes d) r);
 }
 
--- A character and S behind it.
+-- A character and S after it.
 and-selectors : (c : ℕ) {u : List ℕ} {l : List ℕ} (r : List ℕ) → S u → l ≡ c ∷ selectorsAt (u ++ r) → length (c ∷ u) ≤ length l
 and-selectors c {u} r d e = as-long (c ∷ u) (selectorsAt r) (e ∙ ap (λ (l : List ℕ). c ∷ l) (run-on (S-passes d) r))
 
@@ -224,7 +224,8 @@ longest-modification = record { front = λ t. front-of (modification-front t); l
 modifications-pass : {s : List ℕ} → ModRun s → Passes inModifications s
 modifications-pass run-end = all-pass
 modifications-pass (run-selector {c = c} e h) = pass-and (either-right (isModification c) (isSelector c) e) (modifications-pass h)
-modifications-pass (run-modifier {c = c} e h) = pass-and (either-left (isModification c) (isSelector c) (modifier-is c e)) (modifications-pass h)
+modifications-pass (run-modifier {c = c} e h) = pass-and (either-left (isModification c) (isSelector c) (modifier-is c e))
+    (modifications-pass h)
 modifications-pass (run-keycap h) = pass-and (either-left (isModification 0x20E3) (isSelector 0x20E3) keycap-is) (modifications-pass h)
 modifications-pass (run-tag {c = c} e h) = pass-and (either-left (isModification c) (isSelector c) (tag-is c e)) (modifications-pass h)
 
@@ -237,7 +238,8 @@ front-on r (front-tag e) = inr (front-tag e)
 modifications-longest : (s r : List ℕ) → Modifications s → length s ≤ length (modificationsAt (s ++ r))
 modifications-longest s r d =
     ⊎-elim (λ e. omega (arith, ap length e))
-    (λ f. as-long s (run inModifications r) (Emoji.modifications-run (front-stops f) ∙ run-on (modifications-pass (Modified.modifications-run d)) r))
+    (λ f. as-long s (run inModifications r)
+    (Emoji.modifications-run (front-stops f) ∙ run-on (modifications-pass (Modified.modifications-run d)) r))
     (front-on r (Modified.modifications-front d))
 
 modifications-front : (t : List ℕ) → Front (modificationsAt t) t
@@ -255,23 +257,27 @@ longest-modifications = record { front = λ t. front-of (modifications-front t);
 -- ---- a stem
 
 -- A flag's first part, before its second RI.
-flag-at : (a b : ℕ) {s : List ℕ} (q : List ℕ) → isRi a ≡ true → S s → isRi b ≡ true → stemAt (a ∷ (s ++ b ∷ q)) ≡ a ∷ (s ++ b ∷ selectorsAt q)
+flag-at : (a b : ℕ) {s : List ℕ} (q : List ℕ) → isRi a ≡ true → S s → isRi b ≡ true → stemAt (a ∷ (s ++ b ∷ q))
+    ≡ a ∷ (s ++ b ∷ selectorsAt q)
 unfolding secondRiAt
 flag-at a b {s} q e d f =
     let stops : Stops isSelector (b ∷ q) = at-char (emoji-no-selector b (ri-emoji b f)) in
     Emoji.stem-emoji a (s ++ b ∷ q) (ri-emoji a e)
-    ∙ ap₂ (λ (l m : List ℕ). a ∷ (l ++ cond (isRi a) (secondRiAt m) [])) (run-all isSelector (S-passes d) stops) (behind-all isSelector (S-passes d) stops)
+    ∙ ap₂ (λ (l m : List ℕ). a ∷ (l ++ cond (isRi a) (secondRiAt m) [])) (run-all isSelector (S-passes d) stops)
+    (after-all isSelector (S-passes d) stops)
     ∙ ap₂ (λ (x y : Bool). a ∷ (s ++ cond x (cond y (b ∷ selectorsAt q) []) [])) e f
 
 stem-longest : (s r : List ℕ) → Stem s → length s ≤ length (stemAt (s ++ r))
 stem-longest s r (flag {s = u} {t = v} a b e d f g) =
     as-long (a ∷ (u ++ b ∷ v)) (selectorsAt r)
     (ap (λ (l : List ℕ). stemAt (a ∷ l)) (append-assoc u (b ∷ v) r) ∙ flag-at a b (v ++ r) e d f
-    ∙ ap (λ (l : List ℕ). a ∷ (u ++ b ∷ l)) (run-on (S-passes g) r) ∙ ap (λ (l : List ℕ). a ∷ l) (sym (append-assoc u (b ∷ v) (selectorsAt r))))
+    ∙ ap (λ (l : List ℕ). a ∷ (u ++ b ∷ l)) (run-on (S-passes g) r)
+    ∙ ap (λ (l : List ℕ). a ∷ l) (sym (append-assoc u (b ∷ v) (selectorsAt r))))
 stem-longest s r (single {c = c} {s = u} e d) =
-    let more = cond (isRi c) (secondRiAt (behindSelectors (u ++ r))) [] in
+    let more = cond (isRi c) (secondRiAt (afterSelectors (u ++ r))) [] in
     as-long (c ∷ u) (selectorsAt r ++ more)
-    (Emoji.stem-emoji c (u ++ r) e ∙ ap (λ (l : List ℕ). c ∷ (l ++ more)) (run-on (S-passes d) r) ∙ ap (λ (l : List ℕ). c ∷ l) (append-assoc u (selectorsAt r) more))
+    (Emoji.stem-emoji c (u ++ r) e ∙ ap (λ (l : List ℕ). c ∷ (l ++ more)) (run-on (S-passes d) r)
+    ∙ ap (λ (l : List ℕ). c ∷ l) (append-assoc u (selectorsAt r) more))
 
 stem-front : (t : List ℕ) → Front (stemAt t) t
 unfolding stemAt
@@ -279,12 +285,16 @@ stem-front [] = nothing
 stem-front (c ∷ t) = go (isEmoji c) refl
   where
     more : List ℕ
-    more = cond (isRi c) (secondRiAt (behindSelectors t)) []
+    more = cond (isRi c) (secondRiAt (afterSelectors t)) []
 
     go : (b : Bool) → isEmoji c ≡ b → Front (cond b (c ∷ (selectorsAt t ++ more)) []) (c ∷ t)
     go true e =
         let r = Emoji.stem-read c t e in
-        record { rest = r .rest; whole = ap (λ (l : List ℕ). l ++ r .rest) (sym (Emoji.stem-emoji c t e) ∙ r .stem-is) ∙ ap (λ (l : List ℕ). c ∷ l) (r .whole) }
+        record {
+          rest = r .rest;
+          whole = ap (λ (l : List ℕ). l ++ r .rest) (sym (Emoji.stem-emoji c t e) ∙ r .stem-is)
+              ∙ ap (λ (l : List ℕ). c ∷ l) (r .whole);
+        }
     go false e = nothing
 
 pub longest-stem : LongestAt Stem stemAt
@@ -305,13 +315,15 @@ stem-ends {q = q} (flag {s = u} {t = v} a b e d f g) stops n =
     ∙ ap (λ (l : List ℕ). a ∷ (u ++ b ∷ l)) (run-all isSelector (S-passes g) stops)
 stem-ends {q = q} (single {c = c} {s = u} e d) stops n =
     Emoji.stem-emoji c (u ++ q) e
-    ∙ ap₂ (λ (l m : List ℕ). c ∷ (l ++ cond (isRi c) (secondRiAt m) [])) (run-all isSelector (S-passes d) stops) (behind-all isSelector (S-passes d) stops)
+    ∙ ap₂ (λ (l m : List ℕ). c ∷ (l ++ cond (isRi c) (secondRiAt m) [])) (run-all isSelector (S-passes d) stops)
+    (after-all isSelector (S-passes d) stops)
     ∙ ap (λ (l : List ℕ). c ∷ (u ++ l)) (no-second (isRi c) n) ∙ ap (λ (l : List ℕ). c ∷ l) (append-nil u)
 
 unit-ends : {s q : List ℕ} → Stem s → Stops isSelector q → Stops isRi q → unitAt (s ++ q) ≡ s ++ modificationsAt q
-unfolding unitAt behindStem
+unfolding unitAt afterStem
 unit-ends {s} {q} d stops n =
-    ap (λ (l : List ℕ). l ++ modificationsAt (drop (length l) (s ++ q))) (stem-ends d stops n) ∙ ap (λ (l : List ℕ). s ++ modificationsAt l) (drop-append-seam s q)
+    ap (λ (l : List ℕ). l ++ modificationsAt (drop (length l) (s ++ q))) (stem-ends d stops n)
+    ∙ ap (λ (l : List ℕ). s ++ modificationsAt l) (drop-append-seam s q)
 
 unit-longest : (v r : List ℕ) → EmojiUnit v → length v ≤ length (unitAt (v ++ r))
 unfolding unitAt
@@ -327,7 +339,7 @@ unit-longest v r (unit-of {s = s} {m = m} d h) = ⊎-elim bare with-some (front-
           ap length e,
           stem-longest s r d,
           ap (λ (l : List ℕ). length (stemAt l)) same,
-          length-append (stemAt t) (modificationsAt (behindStem t)),
+          length-append (stemAt t) (modificationsAt (afterStem t)),
         )
 
     with-some : ModFront (m ++ r) → length (s ++ m) ≤ length (unitAt ((s ++ m) ++ r))
@@ -341,7 +353,7 @@ unit-longest v r (unit-of {s = s} {m = m} d h) = ⊎-elim bare with-some (front-
         )
 
 unit-front : (t : List ℕ) → Front (unitAt t) t
-unfolding unitAt behindStem
+unfolding unitAt afterStem
 unit-front t =
     let f = stem-front t in
     let b : drop (length (stemAt t)) t ≡ f .rest = ap (drop (length (stemAt t))) (sym (f .whole)) ∙ drop-append-seam (stemAt t) (f .rest) in
@@ -375,12 +387,14 @@ longest-link = record { front = λ t. front-of (link-front t); longest = link-lo
 
 links-pass : {s : List ℕ} → Links s → Passes inLinks s
 links-pass no-links = all-pass
-links-pass (link-and (a-link d) l) = pass-and refl (pass-append (pass-all (λ c e. either-right (eqb c 0x200D) (isSelector c) e) (S-passes d)) (links-pass l))
+links-pass (link-and (a-link d) l) = pass-and refl
+    (pass-append (pass-all (λ c e. either-right (eqb c 0x200D) (isSelector c) e) (S-passes d)) (links-pass l))
 
 links-longest : (s r : List ℕ) → Links s → length s ≤ length (linksAt (s ++ r))
 unfolding linksAt
 links-longest s r no-links = omega arith
-links-longest s r (link-and {l = l} (a-link {s = u} d) h) = as-long (0x200D ∷ (u ++ l)) (run inLinks r) (run-on (links-pass (link-and (a-link d) h)) r)
+links-longest s r (link-and {l = l} (a-link {s = u} d) h) = as-long (0x200D ∷ (u ++ l)) (run inLinks r)
+    (run-on (links-pass (link-and (a-link d) h)) r)
 
 links-front : (t : List ℕ) → Front (linksAt t) t
 unfolding linksAt

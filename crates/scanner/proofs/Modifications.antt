@@ -1,4 +1,4 @@
--- The modifications behind a stem: `modificationsOf` takes them apart, loses nothing, and each is the grammar's.
+-- The modifications after a stem: `modificationsOf` takes them apart, loses nothing, and each is the grammar's.
 use mathlib.Core.Path.{_≡_, refl, ap, sym, _∙_, subst}
 use mathlib.Core.Bool.{true}
 use mathlib.Core.List.{List, [], _∷_, _++_, append-assoc, append-nil}
@@ -61,7 +61,8 @@ tags-run (tag-and e s) h = run-tag e (tags-run s h)
 groups-run : {s t : List ℕ} → TagGroups s → ModRun t → ModRun (s ++ t)
 groups-run {t = u} (one-group {t = t} {s = s} a b) h = subst ModRun (sym (append-assoc t s u)) (tags-run a (S-run b h))
 groups-run {t = u} (group-and {t = t} {s = s} {r = r} a b g) h =
-    subst ModRun (sym (append-assoc t (s ++ r) u ∙ ap (λ (l : List ℕ). t ++ l) (append-assoc s r u))) (tags-run a (S-run b (groups-run g h)))
+    subst ModRun (sym (append-assoc t (s ++ r) u ∙ ap (λ (l : List ℕ). t ++ l) (append-assoc s r u)))
+    (tags-run a (S-run b (groups-run g h)))
 
 modification-run : {s t : List ℕ} → Modification s → ModRun t → ModRun (s ++ t)
 modification-run (by-modifier e s) h = run-modifier e (S-run s h)
@@ -114,10 +115,12 @@ runs-flatten c s [] = refl
 runs-flatten c [] (r ∷ rs) = refl
 runs-flatten c (d ∷ s) (r ∷ rs) = refl
 
-pub runs-before : (c : ℕ) (s : List ℕ) (rs : List EmojiTagRun) (t : List ℕ) → flattenRuns (tagToRuns c s rs) ++ t ≡ c ∷ (s ++ (flattenRuns rs ++ t))
+pub runs-before : (c : ℕ) (s : List ℕ) (rs : List EmojiTagRun) (t : List ℕ) → flattenRuns (tagToRuns c s rs) ++ t
+    ≡ c ∷ (s ++ (flattenRuns rs ++ t))
 runs-before c s rs t = ap (λ (l : List ℕ). l ++ t) (runs-flatten c s rs) ∙ ap (λ (l : List ℕ). c ∷ l) (append-assoc s (flattenRuns rs) t)
 
-tag-flatten : (c : ℕ) (s : List ℕ) (ms : List EmojiModification) → flattenModifications (tagToModifications c s ms) ≡ c ∷ (s ++ flattenModifications ms)
+tag-flatten : (c : ℕ) (s : List ℕ) (ms : List EmojiModification) → flattenModifications (tagToModifications c s ms)
+    ≡ c ∷ (s ++ flattenModifications ms)
 unfolding flattenModifications flattenModification flattenRuns tagToModifications
 tag-flatten c s [] = runs-before c s [] []
 tag-flatten c s (EmojiModifier d u ∷ ms) = runs-before c s [] (flattenModifications (EmojiModifier d u ∷ ms))
@@ -127,22 +130,27 @@ tag-flatten c s (TagModifier rs ∷ ms) = runs-before c s rs (flattenModificatio
 pub modifications-flatten : {t : List ℕ} → ModRun t → (modificationsOf t) .0 ++ flattenModifications ((modificationsOf t) .1) ≡ t
 unfolding modificationsOf toModifications flattenModifications flattenModification
 modifications-flatten run-end = refl
-modifications-flatten (run-selector {c = c} {t = t} e h) = rw (of-class t (is-selector e)) (ap (λ (l : List ℕ). c ∷ l) (modifications-flatten h))
-modifications-flatten (run-modifier {c = c} {t = t} e h) = rw (of-class t (is-modifier e)) (ap (λ (l : List ℕ). c ∷ l) (modifications-flatten h))
+modifications-flatten (run-selector {c = c} {t = t} e h) = rw (of-class t (is-selector e))
+    (ap (λ (l : List ℕ). c ∷ l) (modifications-flatten h))
+modifications-flatten (run-modifier {c = c} {t = t} e h) = rw (of-class t (is-modifier e))
+    (ap (λ (l : List ℕ). c ∷ l) (modifications-flatten h))
 modifications-flatten (run-keycap {t = t} h) = rw (of-class t (is-keycap refl)) (ap (λ (l : List ℕ). 0x20E3 ∷ l) (modifications-flatten h))
 modifications-flatten (run-tag {c = c} {t = t} e h) =
-    rw (of-class t (is-tag e)) (tag-flatten c ((modificationsOf t) .0) ((modificationsOf t) .1) ∙ ap (λ (l : List ℕ). c ∷ l) (modifications-flatten h))
+    rw (of-class t (is-tag e)) (tag-flatten c ((modificationsOf t) .0) ((modificationsOf t) .1)
+    ∙ ap (λ (l : List ℕ). c ∷ l) (modifications-flatten h))
 
 -- ---- each part is the grammar's
 
--- The runs of one tag modification: behind each but the last stands a selector.
+-- The runs of one tag modification: after each but the last stands a selector.
 pub data RunsOk : List EmojiTagRun → Type 0 where
   one-run : {t s : List ℕ} → Tags t → S s → RunsOk (record { tags = t; after = s } ∷ [])
-  run-and : {t s : List ℕ} {d : ℕ} {rs : List EmojiTagRun} → Tags t → isSelector d ≡ true → S s → RunsOk rs → RunsOk (record { tags = t; after = d ∷ s } ∷ rs)
+  run-and : {t s : List ℕ} {d : ℕ} {rs : List EmojiTagRun} → Tags t → isSelector d ≡ true → S s → RunsOk rs
+      → RunsOk (record { tags = t; after = d ∷ s } ∷ rs)
 
 pub data ModificationsOk : List EmojiModification → Type 0 where
   all-ok : ModificationsOk []
-  modifier-ok : {c : ℕ} {s : List ℕ} {ms : List EmojiModification} → isEmojiModifier c ≡ true → S s → ModificationsOk ms → ModificationsOk (EmojiModifier c s ∷ ms)
+  modifier-ok : {c : ℕ} {s : List ℕ} {ms : List EmojiModification} → isEmojiModifier c ≡ true → S s → ModificationsOk ms
+      → ModificationsOk (EmojiModifier c s ∷ ms)
   keycap-ok : {s : List ℕ} {ms : List EmojiModification} → S s → ModificationsOk ms → ModificationsOk (EnclosingKeycap s ∷ ms)
   tags-ok : {rs : List EmojiTagRun} {ms : List EmojiModification} → RunsOk rs → ModificationsOk ms → ModificationsOk (TagModifier rs ∷ ms)
 
@@ -157,7 +165,8 @@ tag-more c e no-selectors (run-and t f a h) = run-and (tag-and e t) f a h
 tag-more c e (selector-and f s) (one-run t a) = run-and (one-tag e) f s (one-run t a)
 tag-more c e (selector-and f s) (run-and t g a h) = run-and (one-tag e) f s (run-and t g a h)
 
-tag-ok : (c : ℕ) {s : List ℕ} {ms : List EmojiModification} → isTag c ≡ true → S s → ModificationsOk ms → ModificationsOk (tagToModifications c s ms)
+tag-ok : (c : ℕ) {s : List ℕ} {ms : List EmojiModification} → isTag c ≡ true → S s → ModificationsOk ms
+    → ModificationsOk (tagToModifications c s ms)
 unfolding tagToModifications
 tag-ok c e s all-ok = tags-ok (tag-one c e s) all-ok
 tag-ok c e s (modifier-ok f u h) = tags-ok (tag-one c e s) (modifier-ok f u h)
@@ -167,10 +176,14 @@ tag-ok c e s (tags-ok r h) = tags-ok (tag-more c e s r) h
 pub modifications-ok : {t : List ℕ} → ModRun t → S ((modificationsOf t) .0) × ModificationsOk ((modificationsOf t) .1)
 unfolding modificationsOf toModifications
 modifications-ok run-end = (no-selectors, all-ok)
-modifications-ok (run-selector {c = c} {t = t} e h) = let r = modifications-ok h in rw (of-class t (is-selector e)) (selector-and e (r .0), r .1)
-modifications-ok (run-modifier {c = c} {t = t} e h) = let r = modifications-ok h in rw (of-class t (is-modifier e)) (no-selectors, modifier-ok e (r .0) (r .1))
-modifications-ok (run-keycap {t = t} h) = let r = modifications-ok h in rw (of-class t (is-keycap refl)) (no-selectors, keycap-ok (r .0) (r .1))
-modifications-ok (run-tag {c = c} {t = t} e h) = let r = modifications-ok h in rw (of-class t (is-tag e)) (no-selectors, tag-ok c e (r .0) (r .1))
+modifications-ok (run-selector {c = c} {t = t} e h) = let r = modifications-ok h in rw (of-class t (is-selector e))
+    (selector-and e (r .0), r .1)
+modifications-ok (run-modifier {c = c} {t = t} e h) = let r = modifications-ok h in rw (of-class t (is-modifier e))
+    (no-selectors, modifier-ok e (r .0) (r .1))
+modifications-ok (run-keycap {t = t} h) = let r = modifications-ok h in rw (of-class t (is-keycap refl))
+    (no-selectors, keycap-ok (r .0) (r .1))
+modifications-ok (run-tag {c = c} {t = t} e h) = let r = modifications-ok h in rw (of-class t (is-tag e))
+    (no-selectors, tag-ok c e (r .0) (r .1))
 
 -- ---- as derivations
 

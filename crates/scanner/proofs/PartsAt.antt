@@ -11,10 +11,10 @@ use Rattle.utf8.specs.Rfc3629.{chars}
 use Rattle.unicode.specs.Presentation.{isSelector}
 use Rattle.unicode.specs.Unicode.{isEmoji, isRi}
 use Rattle.scanner.specs.Classes.{Class, keycap, link, modifier, ri, tag, classOf}
-use Rattle.scanner.specs.Parts.{firstFrom, linkFrom, linkRead, modificationFrom, modificationRead, stemBehind, stemRead}
+use Rattle.scanner.specs.Parts.{firstFrom, linkFrom, linkRead, modificationFrom, modificationRead, stemAfter, stemRead}
 use Rattle.scanner.specs.RunKinds.{runOf}
 use Rattle.scanner.specs.Runs.{
-  behindSelectors,
+  afterSelectors,
   inModifications,
   isModification,
   modificationAt,
@@ -51,7 +51,7 @@ use Rattle.scanner.proofs.ClassTests.{
 use Rattle.scanner.proofs.Modifications.{of-class}
 use Rattle.scanner.proofs.Peek.{Seen, Unseen}
 use Rattle.scanner.proofs.RunLaws.{modification-other, modification-tag}
-use Rattle.scanner.proofs.Runs.{run-behind, run-passes}
+use Rattle.scanner.proofs.Runs.{run-after, run-passes}
 use Rattle.scanner.proofs.TagRuns.{of-selectors, of-tags}
 
 -- ---- where no character begins
@@ -83,40 +83,47 @@ module _ {text : List ℕ} {at v : ℕ} {k : Class} {next : ℕ} (h : Seen text 
   tested : {b : Bool} (f : ℕ → Bool) (g : Class → Bool) → ((c : ℕ) → f c ≡ g (classOf c)) → g k ≡ b → f v ≡ b
   tested f g t e = t v ∙ ap g (sym (h .class)) ∙ e
 
-  -- The selectors behind it.
-  selectors-behind : {r : PresentationSelectors} → r ≡ selectorRun text next → r ≡ selectorsFrom (at + width v) (selectorsAt (chars (drop next text)))
+  -- The selectors after it.
+  selectors-after : {r : PresentationSelectors} → r ≡ selectorRun text next → r
+      ≡ selectorsFrom (at + width v) (selectorsAt (chars (drop next text)))
   unfolding selectorRun
-  selectors-behind e = e ∙ ap (λ (n : ℕ). selectorsFrom n (selectorsAt (chars (drop next text)))) (h .behind)
+  selectors-after e = e ∙ ap (λ (n : ℕ). selectorsFrom n (selectorsAt (chars (drop next text)))) (h .after)
 
   -- ---- all modifications
 
-  modifications-by : (b : Bool) → forModification k ≡ b → modificationsAt (chars (drop at text)) ≡ cond b (run inModifications (chars (drop at text))) []
+  modifications-by : (b : Bool) → forModification k ≡ b → modificationsAt (chars (drop at text))
+      ≡ cond b (run inModifications (chars (drop at text))) []
   unfolding modificationsAt
   modifications-by b e =
-      ap modificationsAt (h .chars-on) ∙ ap (λ (x : Bool). cond x (run inModifications (v ∷ chars (drop next text))) []) (tested isModification forModification modification-test e)
+      ap modificationsAt (h .chars-on) ∙ ap (λ (x : Bool). cond x (run inModifications (v ∷ chars (drop next text))) [])
+      (tested isModification forModification modification-test e)
       ∙ ap (λ (t : List ℕ). cond b (run inModifications t) []) (sym (h .chars-on))
 
   pub modifications-on : {end : ℕ} → forModification k ≡ true → end ≡ at + size width (runOf Modifications (chars (drop at text)))
       → end ≡ at + size width (modificationsAt (chars (drop at text)))
-  modifications-on e r = r ∙ ap (λ (s : List ℕ). at + size width s) (run-modifications (chars (drop at text)) ∙ sym (modifications-by true e))
+  modifications-on e r = r ∙ ap (λ (s : List ℕ). at + size width s)
+      (run-modifications (chars (drop at text)) ∙ sym (modifications-by true e))
 
   pub modifications-off : forModification k ≡ false → at ≡ at + size width (modificationsAt (chars (drop at text)))
   modifications-off e = omega (arith, ap (size width) (modifications-by false e))
 
   -- ---- a link
 
-  link-by : (b : Bool) → forLink k ≡ b → linkRead at (chars (drop at text)) ≡ cond b (Link (linkFrom at (linkOf (chars (drop next text))))) NoLink
+  link-by : (b : Bool) → forLink k ≡ b → linkRead at (chars (drop at text))
+      ≡ cond b (Link (linkFrom at (linkOf (chars (drop next text))))) NoLink
   unfolding linkRead
   link-by b e =
       ap (linkRead at) (h .chars-on)
-      ∙ ap (λ (x : Bool). cond x (Link (linkFrom at (linkOf (chars (drop next text))))) NoLink) (tested (λ c. eqb c 0x200D) forLink link-test e)
+      ∙ ap (λ (x : Bool). cond x (Link (linkFrom at (linkOf (chars (drop next text))))) NoLink)
+      (tested (λ c. eqb c 0x200D) forLink link-test e)
 
   pub link-on : {r : PresentationSelectors} → k ≡ link → r ≡ selectorRun text next → Link r ≡ linkRead at (chars (drop at text))
   unfolding linkFrom
   link-on e r =
       let f : forLink k ≡ true = ap forLink e in
       let i : v ≡ 0x200D = eqb-true v 0x200D (tested (λ c. eqb c 0x200D) forLink link-test f) in
-      ap Link (selectors-behind r ∙ ap (λ (c : ℕ). selectorsFrom (at + width c) (selectorsAt (chars (drop next text)))) i) ∙ sym (link-by true f)
+      ap Link (selectors-after r ∙ ap (λ (c : ℕ). selectorsFrom (at + width c) (selectorsAt (chars (drop next text)))) i)
+      ∙ sym (link-by true f)
 
   pub link-off : forLink k ≡ false → NoLink ≡ linkRead at (chars (drop at text))
   link-off e = sym (link-by false e)
@@ -124,34 +131,45 @@ module _ {text : List ℕ} {at v : ℕ} {k : Class} {next : ℕ} (h : Seen text 
   -- ---- a modification
 
   -- The modification that is read, by the characters of it.
-  modification-is : {s : List ℕ} {ms : List Structure.EmojiModification} → modificationAt (v ∷ chars (drop next text)) ≡ s → (modificationsOf s) .1 ≡ ms → firstFrom at ms ≡ modificationRead at (chars (drop at text))
+  modification-is : {s : List ℕ} {ms : List Structure.EmojiModification} → modificationAt (v ∷ chars (drop next text)) ≡ s
+      → (modificationsOf s) .1 ≡ ms → firstFrom at ms ≡ modificationRead at (chars (drop at text))
   unfolding modificationRead
-  modification-is p q = sym (ap (modificationRead at) (h .chars-on) ∙ ap (λ (l : List ℕ). firstFrom at ((modificationsOf l) .1)) p ∙ ap (firstFrom at) q)
+  modification-is p q = sym (ap (modificationRead at) (h .chars-on) ∙ ap (λ (l : List ℕ). firstFrom at ((modificationsOf l) .1)) p
+      ∙ ap (firstFrom at) q)
 
   -- A modifier or 20E3, and its selectors.
-  one-modification : forTag k ≡ false → forModification k ≡ true → (ms : List Structure.EmojiModification) → (toModifications k v (selectorsAt (chars (drop next text)), [])) .1 ≡ ms → firstFrom at ms ≡ modificationRead at (chars (drop at text))
+  one-modification : forTag k ≡ false → forModification k ≡ true → (ms : List Structure.EmojiModification)
+      → (toModifications k v (selectorsAt (chars (drop next text)), [])) .1 ≡ ms → firstFrom at ms
+      ≡ modificationRead at (chars (drop at text))
   one-modification e f ms q =
       let s = selectorsAt (chars (drop next text)) in
-      modification-is (modification-other v (chars (drop next text)) true (tested _ forTag tag-test e) (tested isModification forModification modification-test f))
+      modification-is (modification-other v (chars (drop next text)) true (tested _ forTag tag-test e)
+      (tested isModification forModification modification-test f))
       (ap (λ (r : List ℕ × List Structure.EmojiModification). r .1)
-      (of-class s (subst (HasClass v) (sym (h .class)) (hasClass v)) ∙ ap (toModifications k v) (of-selectors (run-passes isSelector (chars (drop next text))))) ∙ q)
+      (of-class s (subst (HasClass v) (sym (h .class)) (hasClass v))
+      ∙ ap (toModifications k v) (of-selectors (run-passes isSelector (chars (drop next text))))) ∙ q)
 
-  pub modifier-on : {r : PresentationSelectors} → k ≡ modifier → r ≡ selectorRun text next → EmojiModifier v r ≡ modificationRead at (chars (drop at text))
+  pub modifier-on : {r : PresentationSelectors} → k ≡ modifier → r ≡ selectorRun text next → EmojiModifier v r
+      ≡ modificationRead at (chars (drop at text))
   unfolding toModifications firstFrom modificationFrom
   modifier-on e r =
       let s = selectorsAt (chars (drop next text)) in
-      ap (EmojiModifier v) (selectors-behind r)
-      ∙ one-modification (ap forTag e) (ap forModification e) (Structure.EmojiModifier v s ∷ []) (ap (λ (x : Class). (toModifications x v (s, [])) .1) e)
+      ap (EmojiModifier v) (selectors-after r)
+      ∙ one-modification (ap forTag e) (ap forModification e) (Structure.EmojiModifier v s ∷ [])
+      (ap (λ (x : Class). (toModifications x v (s, [])) .1) e)
 
-  pub keycap-on : {r : PresentationSelectors} → k ≡ keycap → r ≡ selectorRun text next → EnclosingKeycap r ≡ modificationRead at (chars (drop at text))
+  pub keycap-on : {r : PresentationSelectors} → k ≡ keycap → r ≡ selectorRun text next → EnclosingKeycap r
+      ≡ modificationRead at (chars (drop at text))
   unfolding toModifications firstFrom modificationFrom
   keycap-on e r =
       let s = selectorsAt (chars (drop next text)) in
       let i : v ≡ 0x20E3 = keycap-is (subst (HasClass v) (sym (h .class) ∙ e) (hasClass v)) in
-      ap EnclosingKeycap (selectors-behind r ∙ ap (λ (c : ℕ). selectorsFrom (at + width c) s) i)
-      ∙ one-modification (ap forTag e) (ap forModification e) (Structure.EnclosingKeycap s ∷ []) (ap (λ (x : Class). (toModifications x v (s, [])) .1) e)
+      ap EnclosingKeycap (selectors-after r ∙ ap (λ (c : ℕ). selectorsFrom (at + width c) s) i)
+      ∙ one-modification (ap forTag e) (ap forModification e) (Structure.EnclosingKeycap s ∷ [])
+      (ap (λ (x : Class). (toModifications x v (s, [])) .1) e)
 
-  pub tags-on : {end : ℕ} → k ≡ tag → end ≡ at + size width (tagModificationAt (chars (drop at text))) → TagModifier end ≡ modificationRead at (chars (drop at text))
+  pub tags-on : {end : ℕ} → k ≡ tag → end ≡ at + size width (tagModificationAt (chars (drop at text))) → TagModifier end
+      ≡ modificationRead at (chars (drop at text))
   unfolding firstFrom modificationFrom
   tags-on e r =
       let p = tested _ forTag tag-test (ap forTag e) in
@@ -162,27 +180,33 @@ module _ {text : List ℕ} {at v : ℕ} {k : Class} {next : ℕ} (h : Seen text 
   pub modification-off : forModification k ≡ false → forTag k ≡ false → NoModification ≡ modificationRead at (chars (drop at text))
   unfolding modificationsOf firstFrom
   modification-off e f =
-      modification-is (modification-other v (chars (drop next text)) false (tested _ forTag tag-test f) (tested isModification forModification modification-test e)) refl
+      modification-is (modification-other v (chars (drop next text)) false (tested _ forTag tag-test f)
+      (tested isModification forModification modification-test e)) refl
 
   -- ---- a stem
 
   stem-by : (a b : Bool) → forEmoji k ≡ a → forRi k ≡ b
       → stemRead at (chars (drop at text))
-      ≡ cond a (stemBehind next (cond b (riStem v (selectorsAt (chars (drop next text))) (behindSelectors (chars (drop next text)))) (Structure.SingletonBase v (selectorsAt (chars (drop next text)))))) NoStem
+      ≡ cond a (stemAfter next (cond b (riStem v (selectorsAt (chars (drop next text))) (afterSelectors (chars (drop next text))))
+      (Structure.SingletonBase v (selectorsAt (chars (drop next text)))))) NoStem
   unfolding stemRead emojiLike
   stem-by a b e f =
       let t = chars (drop next text) in
       ap (stemRead at) (h .chars-on)
-      ∙ ap₂ (λ (x y : Bool). cond x (stemBehind (at + width v) (cond y (riStem v (selectorsAt t) (behindSelectors t)) (Structure.SingletonBase v (selectorsAt t)))) NoStem)
+      ∙ ap₂ (λ (x y : Bool). cond x (stemAfter (at + width v)
+      (cond y (riStem v (selectorsAt t) (afterSelectors t)) (Structure.SingletonBase v (selectorsAt t)))) NoStem)
       (tested isEmoji forEmoji emoji-test e) (tested isRi forRi ri-test f)
-      ∙ ap (λ (n : ℕ). cond a (stemBehind n (cond b (riStem v (selectorsAt t) (behindSelectors t)) (Structure.SingletonBase v (selectorsAt t)))) NoStem) (sym (h .behind))
+      ∙ ap (λ (n : ℕ). cond a (stemAfter n
+      (cond b (riStem v (selectorsAt t) (afterSelectors t)) (Structure.SingletonBase v (selectorsAt t)))) NoStem) (sym (h .after))
 
-  pub stem-ri : {r : EmojiStem} → k ≡ ri → r ≡ stemBehind next (riStem v (selectorsAt (chars (drop next text))) (behindSelectors (chars (drop next text))))
+  pub stem-ri : {r : EmojiStem} → k ≡ ri → r
+      ≡ stemAfter next (riStem v (selectorsAt (chars (drop next text))) (afterSelectors (chars (drop next text))))
       → r ≡ stemRead at (chars (drop at text))
   stem-ri e r = r ∙ sym (stem-by true true (ap forEmoji e) (ap forRi e))
 
-  pub stem-on : {r : PresentationSelectors} → forEmoji k ≡ true → forRi k ≡ false → r ≡ selectorRun text next → SingletonBase v r ≡ stemRead at (chars (drop at text))
-  unfolding stemBehind selectorRun
+  pub stem-on : {r : PresentationSelectors} → forEmoji k ≡ true → forRi k ≡ false → r ≡ selectorRun text next → SingletonBase v r
+      ≡ stemRead at (chars (drop at text))
+  unfolding stemAfter selectorRun
   stem-on e f r = ap (SingletonBase v) r ∙ sym (stem-by true false e f)
 
   pub stem-off : forEmoji k ≡ false → NoStem ≡ stemRead at (chars (drop at text))
@@ -191,35 +215,44 @@ module _ {text : List ℕ} {at v : ℕ} {k : Class} {next : ℕ} (h : Seen text 
 -- ---- the stem of a first RI
 
 module _ (text : List ℕ) (at : ℕ) {r : PresentationSelectors} (e : r ≡ selectorRun text at) where
-  -- Behind the selectors.
-  mid-is : chars (drop (r .end) text) ≡ behindSelectors (chars (drop at text))
+  -- After the selectors.
+  mid-is : chars (drop (r .end) text) ≡ afterSelectors (chars (drop at text))
   unfolding selectorRun
   mid-is =
       let t = chars (drop at text) in
-      ap (λ (x : PresentationSelectors). chars (drop (x .end) text)) e ∙ chars-from text at (selectorsAt t) (behindSelectors t) (sym (run-behind isSelector t))
+      ap (λ (x : PresentationSelectors). chars (drop (x .end) text)) e
+      ∙ chars-from text at (selectorsAt t) (afterSelectors t) (sym (run-after isSelector t))
 
-  pub ri-alone : Unseen text (r .end) → (a : ℕ) → SingletonBase a r ≡ stemBehind at (riStem a (selectorsAt (chars (drop at text))) (behindSelectors (chars (drop at text))))
-  unfolding selectorRun stemBehind riStem
-  ri-alone h a = ap (SingletonBase a) e ∙ ap (λ (l : List ℕ). stemBehind at (riStem a (selectorsAt (chars (drop at text))) l)) (sym (h .chars-none) ∙ mid-is)
+  pub ri-alone : Unseen text (r .end) → (a : ℕ) → SingletonBase a r
+      ≡ stemAfter at (riStem a (selectorsAt (chars (drop at text))) (afterSelectors (chars (drop at text))))
+  unfolding selectorRun stemAfter riStem
+  ri-alone h a = ap (SingletonBase a) e ∙ ap (λ (l : List ℕ). stemAfter at (riStem a (selectorsAt (chars (drop at text))) l))
+      (sym (h .chars-none) ∙ mid-is)
 
   module _ {v : ℕ} {k : Class} {next : ℕ} (h : Seen text (r .end) v k next) (a : ℕ) where
     second-by : (b : Bool) → forRi k ≡ b
-        → stemBehind at (riStem a (selectorsAt (chars (drop at text))) (behindSelectors (chars (drop at text))))
-        ≡ stemBehind at (cond b (Structure.Flag a (selectorsAt (chars (drop at text))) v (selectorsAt (chars (drop next text)))) (Structure.SingletonBase a (selectorsAt (chars (drop at text)))))
+        → stemAfter at (riStem a (selectorsAt (chars (drop at text))) (afterSelectors (chars (drop at text))))
+        ≡ stemAfter at (cond b (Structure.Flag a (selectorsAt (chars (drop at text))) v (selectorsAt (chars (drop next text))))
+        (Structure.SingletonBase a (selectorsAt (chars (drop at text)))))
     unfolding riStem
     second-by b f =
         let s = selectorsAt (chars (drop at text)) in
-        ap (λ (l : List ℕ). stemBehind at (riStem a s l)) (sym mid-is ∙ h .chars-on)
-        ∙ ap (λ (x : Bool). stemBehind at (cond x (Structure.Flag a s v (selectorsAt (chars (drop next text)))) (Structure.SingletonBase a s))) (tested h isRi forRi ri-test f)
+        ap (λ (l : List ℕ). stemAfter at (riStem a s l)) (sym mid-is ∙ h .chars-on)
+        ∙ ap (λ (x : Bool). stemAfter at
+        (cond x (Structure.Flag a s v (selectorsAt (chars (drop next text)))) (Structure.SingletonBase a s)))
+        (tested h isRi forRi ri-test f)
 
-    pub ri-single : forRi k ≡ false → SingletonBase a r ≡ stemBehind at (riStem a (selectorsAt (chars (drop at text))) (behindSelectors (chars (drop at text))))
-    unfolding selectorRun stemBehind
+    pub ri-single : forRi k ≡ false → SingletonBase a r
+        ≡ stemAfter at (riStem a (selectorsAt (chars (drop at text))) (afterSelectors (chars (drop at text))))
+    unfolding selectorRun stemAfter
     ri-single f = ap (SingletonBase a) e ∙ sym (second-by false f)
 
-    pub ri-flag : {q : PresentationSelectors} → k ≡ ri → q ≡ selectorRun text next → Flag a r v q ≡ stemBehind at (riStem a (selectorsAt (chars (drop at text))) (behindSelectors (chars (drop at text))))
-    unfolding selectorRun stemBehind
+    pub ri-flag : {q : PresentationSelectors} → k ≡ ri → q ≡ selectorRun text next → Flag a r v q
+        ≡ stemAfter at (riStem a (selectorsAt (chars (drop at text))) (afterSelectors (chars (drop at text))))
+    unfolding selectorRun stemAfter
     ri-flag f g =
-        let n : r .end + width v ≡ at + size width (selectorsAt (chars (drop at text))) + width v = ap (λ (x : PresentationSelectors). x .end + width v) e in
+        let n : r .end + width v ≡ at + size width (selectorsAt (chars (drop at text))) + width v =
+        ap (λ (x : PresentationSelectors). x .end + width v) e in
         ap₂ (λ (x y : PresentationSelectors). Flag a x v y) e
-        (selectors-behind h g ∙ ap (λ (m : ℕ). selectorsFrom m (selectorsAt (chars (drop next text)))) n)
+        (selectors-after h g ∙ ap (λ (m : ℕ). selectorsFrom m (selectorsAt (chars (drop next text)))) n)
         ∙ sym (second-by true (ap forRi f))

@@ -18,10 +18,10 @@ use Rattle.scanner.proofs.Arms.{OfClasses, class-arm}
 use Rattle.scanner.proofs.char_class.Class.{the-type as the-class}
 use Rattle.scanner.proofs.Bytes.{chars-from, size-chars, width-some}
 
--- At an offset of a text stands the character v of class k, and the text goes on at an offset behind it.
+-- At an offset of a text stands the character v of class k, and the text goes on at an offset after it.
 pub record Seen (text : List ℕ) (at v : ℕ) (k : Class) (next : ℕ) : Type 0 where
   pub class : k ≡ classOf v
-  pub behind : next ≡ at + width v
+  pub after : next ≡ at + width v
   pub chars-on : chars (drop at text) ≡ v ∷ chars (drop next text)
   pub on : at < next
   pub room : next ≤ length text
@@ -56,7 +56,7 @@ module _ (text : List ℕ) (at : ℕ) where
           let b : width c + size width t ≡ validUpTo (drop at text) = ap (size width) (sym p) ∙ size-chars (drop at text) in
           record {
             class = y ∙ ap classOf x;
-            behind = n ∙ ap (λ (m : ℕ). at + width m) x;
+            after = n ∙ ap (λ (m : ℕ). at + width m) x;
             chars-on = p ∙ ap₂ (λ (a : ℕ) (l : List ℕ). a ∷ l) x (sym d);
             on = omega (arith, n, width-some c);
             room = omega (arith, n, b, width-some c, validUpTo-le (drop at text), length-drop at text);

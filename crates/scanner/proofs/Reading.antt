@@ -7,7 +7,7 @@ use mathlib.Core.List.{List, [], _∷_, _++_, append-nil, head-eq-of-cons-eq, ta
 use Prim.Native.Nat.{ℕ}
 use native.Mathlib.Omega.{arith}
 use Rattle.scanner.specs.Classes.{Class, classOf, strip}
-use Rattle.scanner.specs.Items.{Place, step, begin, kindOf, Item, join, cut, items}
+use Rattle.scanner.specs.Items.{State, transition, startState, kindOf, Item, join, splitFrom, items}
 use Rattle.scanner.specs.Grammar.{
   Stem,
   flag,
@@ -45,48 +45,62 @@ use Rattle.scanner.proofs.Classes.{
   of-other,
   plain-class,
 }
-use Rattle.scanner.proofs.Tiling.{first, behind, cut-some, cut-none, tiling}
+use Rattle.scanner.proofs.Tiling.{first, after, cut-some, cut-none, tiling}
 use Rattle.scanner.proofs.Walk.{Walk, stay, pass, same-walk}
-use Rattle.scanner.proofs.Places.{inner, kind-emoji, kind-links}
+use Rattle.scanner.proofs.States.{inner, kind-emoji, kind-links}
 use Rattle.scanner.proofs.DerivedWalks.{derive-walk, accepted-walk}
 use Rattle.scanner.proofs.WalksDerive.{walk-derive}
 
 -- ---- an item is the longest that the grammar derives
 
-walk-stops : {p q r : Place} {s : List ℕ} (d : ℕ) (t : List ℕ) → Walk p s q → step q (classOf d) ≡ none → Walk p (s ++ d ∷ t) r → ⊥
+walk-stops : {p q r : State} {s : List ℕ} (d : ℕ) (t : List ℕ) → Walk p s q → transition q (classOf d) ≡ none → Walk p (s ++ d ∷ t) r → ⊥
 walk-stops d t stay e (pass f v) = let z : _≡_ {A = ℕ} 0 1 = cc in omega arith
 walk-stops {r = r} d t (pass {q = x} {t = s} e w) f (pass {q = y} g v) =
     let z : y ≡ x = cc in
-    walk-stops d t w f (subst (λ (p : Place). Walk p (s ++ d ∷ t) r) z v)
+    walk-stops d t w f (subst (λ (p : State). Walk p (s ++ d ∷ t) r) z v)
 
-pub longest : {k : ScanKind} {q : Place} (c : ℕ) {s : List ℕ} (d : ℕ) (t : List ℕ) → Walk (begin (classOf c)) s q → step q (classOf d) ≡ none → Derives k (c ∷ (s ++ d ∷ t)) → ⊥
+pub longest : {k : ScanKind} {q : State} (c : ℕ) {s : List ℕ} (d : ℕ) (t : List ℕ) → Walk (startState (classOf c)) s q
+    → transition q (classOf d) ≡ none → Derives k (c ∷ (s ++ d ∷ t)) → ⊥
 longest c d t w e h = walk-stops d t w e (accepted-walk (derive-walk h) .walked)
 
-first-longest : {q : Place} (c : ℕ) (s r : List ℕ) (k : ScanKind) → Walk (begin (classOf c)) s q → ((d : ℕ) (f : List ℕ) → r ≡ d ∷ f → step q (classOf d) ≡ none)
+first-longest : {q : State} (c : ℕ) (s r : List ℕ) (k : ScanKind) → Walk (startState (classOf c)) s q
+    → ((d : ℕ) (f : List ℕ) → r ≡ d ∷ f → transition q (classOf d) ≡ none)
     → Longest (record { kind = k; chars = c ∷ s }) r
 unfolding Longest
 first-longest c s r k w h j d f g e = longest c d f w (h d (f ++ g) e)
 
 -- ---- the items are a reading
 
--- The rest of an item, and the items behind it.
-record Read (p : Place) (t : List ℕ) : Type 0 where
-  end : Place
-  walked : Walk p ((cut p t) .0) end
-  stops : (d : ℕ) (f : List ℕ) → join ((cut p t) .1) ≡ d ∷ f → step end (classOf d) ≡ none
-  reads : Reads (join ((cut p t) .1)) ((cut p t) .1)
+-- The rest of an item, and the items after it.
+record Read (p : State) (t : List ℕ) : Type 0 where
+  end : State
+  walked : Walk p ((splitFrom p t) .0) end
+  stops : (d : ℕ) (f : List ℕ) → join ((splitFrom p t) .1) ≡ d ∷ f → transition end (classOf d) ≡ none
+  reads : Reads (join ((splitFrom p t) .1)) ((splitFrom p t) .1)
 
-read-first : (c : ℕ) (t : List ℕ) → Read (begin (classOf c)) t → Reads (join (first c t ∷ behind c t)) (first c t ∷ behind c t)
-read-first c t h = reads-item (join (behind c t)) (walk-derive c (h .walked)) (first-longest c _ _ _ (h .walked) (h .stops)) (h .reads)
+read-first : (c : ℕ) (t : List ℕ) → Read (startState (classOf c)) t → Reads (join (first c t ∷ after c t)) (first c t ∷ after c t)
+read-first c t h = reads-item (join (after c t)) (walk-derive c (h .walked)) (first-longest c _ _ _ (h .walked) (h .stops)) (h .reads)
 
-read-cut : (p : Place) (t : List ℕ) → Read p t
-unfolding cut
+read-cut : (p : State) (t : List ℕ) → Read p t
+unfolding splitFrom
 read-cut p [] = record { end = p; walked = stay; stops = λ d f e. cc; reads = at-the-end }
-read-cut p (c ∷ t) = go (step p (classOf c)) refl (λ q. read-cut q t)
+read-cut p (c ∷ t) = go (transition p (classOf c)) refl (λ q. read-cut q t)
   where
-    go : (o : Option Place) → step p (classOf c) ≡ o → ((q : Place) → Read q t) → Read p (c ∷ t)
-    go (some q) e h = record { end = h q .end; walked = rw (cut-some p q c t e) (pass e (h q .walked)); stops = rw (cut-some p q c t e) (h q .stops); reads = rw (cut-some p q c t e) (h q .reads) }
-    go none e h = record { end = p; walked = rw (cut-none p c t e) stay; stops = rw (cut-none p c t e) (λ d f z. cc); reads = rw (cut-none p c t e) (read-first c t (h (begin (classOf c)))) }
+    go : (o : Option State) → transition p (classOf c) ≡ o → ((q : State) → Read q t) → Read p (c ∷ t)
+    go (some q) e h = record {
+      end = h q .end;
+      walked = rw (cut-some p q c t e) (pass e (h q .walked));
+      stops = rw (cut-some p q c t e)
+          (h q .stops);
+      reads = rw (cut-some p q c t e) (h q .reads);
+    }
+    go none e h = record {
+      end = p;
+      walked = rw (cut-none p c t e) stay;
+      stops = rw (cut-none p c t e) (λ d f z. cc);
+      reads =
+          rw (cut-none p c t e) (read-first c t (h (startState (classOf c))));
+    }
 
 pub reading : (t : List ℕ) → Reads t (items t)
 unfolding items
@@ -94,7 +108,7 @@ reading t = subst (λ (l : List ℕ). Reads l (items t)) (tiling t) (go t)
   where
     go : (t : List ℕ) → Reads (join (items t)) (items t)
     go [] = at-the-end
-    go (c ∷ t) = read-first c t (read-cut (begin (classOf c)) t)
+    go (c ∷ t) = read-first c t (read-cut (startState (classOf c)) t)
 
 -- ---- the first character of a derivation decides its kind
 
@@ -102,16 +116,16 @@ pub record HeadIs (k : ScanKind) (s : List ℕ) : Type 0 where
   pub char : ℕ
   pub tail : List ℕ
   pub split : s ≡ char ∷ tail
-  pub kind : k ≡ kindOf (begin (classOf char))
+  pub kind : k ≡ kindOf (startState (classOf char))
 
-emoji-kind : (c : ℕ) → EmojiClass c → EmojiHeaded ≡ kindOf (begin (classOf c))
-unfolding kindOf begin
+emoji-kind : (c : ℕ) → EmojiClass c → EmojiHeaded ≡ kindOf (startState (classOf c))
+unfolding kindOf startState
 emoji-kind c (an-ri e) = rw (class-is (is-ri e))
 emoji-kind c (a-modifier e) = rw (class-is (is-modifier e))
 emoji-kind c (an-emoji h) = rw (class-is h)
 
-plain-kind : (k : Class) → PlainClass k → Passthrough ≡ kindOf (begin k)
-unfolding kindOf begin
+plain-kind : (k : Class) → PlainClass k → Passthrough ≡ kindOf (startState k)
+unfolding kindOf startState
 plain-kind _ of-keycap = refl
 plain-kind _ of-tag = refl
 plain-kind _ of-other = refl
@@ -127,11 +141,17 @@ unit-head : {s : List ℕ} → EmojiUnit s → HeadIs EmojiHeaded s
 unit-head (unit-of s m) = head-more _ (stem-head s)
 
 pub derive-head : {k : ScanKind} {s : List ℕ} → Derives k s → HeadIs k s
-unfolding kindOf begin
+unfolding kindOf startState
 derive-head (links-only (a-link s) l) = record { char = 0x200D; tail = _; split = refl; kind = rw (class-is {c = 0x200D} (is-link refl)) }
 derive-head (selector-run {c = c} e s) = record { char = c; tail = _; split = refl; kind = rw (class-selector c e) }
 derive-head (emoji-headed v j l) = head-more _ (unit-head v)
-derive-head (passthrough {c = c} p h) = record { char = c; tail = _; split = refl; kind = plain-kind (classOf c) (plain-class (hasClass c) p) }
+derive-head (passthrough {c = c} p h) = record {
+  char = c;
+  tail = _;
+  split = refl;
+  kind = plain-kind (classOf c)
+      (plain-class (hasClass c) p);
+}
 
 -- ---- there is no other reading
 
@@ -156,15 +176,18 @@ fronts (c ∷ s) r (d ∷ s′) r′ e = fronts-cons c d (head-eq-of-cons-eq e) 
 pub unique : {t t′ : List ℕ} {xs ys : List Item} → Reads t xs → Reads t′ ys → t ≡ t′ → xs ≡ ys
 unfolding Longest
 unique at-the-end at-the-end e = refl
-unique at-the-end (reads-item {x = y} r d l h) e = let z = derive-head d in let a = z .split in let b : [] ≡ z .char ∷ (z .tail ++ r) = e ∙ ap (λ (l : List ℕ). l ++ r) a in cc
-unique (reads-item {x = x} r d l h) at-the-end e = let z = derive-head d in let a = z .split in let b : [] ≡ z .char ∷ (z .tail ++ r) = sym e ∙ ap (λ (l : List ℕ). l ++ r) a in cc
-unique (reads-item {x = x} {xs = xs} r d l h) (reads-item {x = y} {xs = ys} r′ d′ l′ h′) e = go (fronts (x .chars) r (y .chars) r′ e) (λ z. unique h h′ z)
+unique at-the-end (reads-item {x = y} r d l h) e = let z = derive-head d in let a = z .split in let b : [] ≡ z .char ∷ (z .tail ++ r) = e
+    ∙ ap (λ (l : List ℕ). l ++ r) a in cc
+unique (reads-item {x = x} r d l h) at-the-end e = let z = derive-head d in let a = z .split in let b : []
+    ≡ z .char ∷ (z .tail ++ r) = sym e ∙ ap (λ (l : List ℕ). l ++ r) a in cc
+unique (reads-item {x = x} {xs = xs} r d l h) (reads-item {x = y} {xs = ys} r′ d′ l′ h′) e = go (fronts (x .chars) r (y .chars) r′ e)
+    (λ z. unique h h′ z)
   where
     same-kind : x .chars ≡ y .chars → x .kind ≡ y .kind
     same-kind p =
         let a = derive-head d in
         let b = derive-head d′ in
-        a .kind ∙ ap (λ (c : ℕ). kindOf (begin (classOf c))) (head-eq-of-cons-eq (sym (a .split) ∙ p ∙ b .split)) ∙ sym (b .kind)
+        a .kind ∙ ap (λ (c : ℕ). kindOf (startState (classOf c))) (head-eq-of-cons-eq (sym (a .split) ∙ p ∙ b .split)) ∙ sym (b .kind)
 
     go : Fronts (x .chars) r (y .chars) r′ → (r ≡ r′ → xs ≡ ys) → x ∷ xs ≡ y ∷ ys
     go (same-front p q) i = λ j. record { kind = same-kind p j; chars = p j } ∷ i q j
@@ -186,17 +209,23 @@ item-derives t x m = reads-derive (reading t) m
 pub item-alone : (t : List ℕ) (x : Item) → List·Memᴰ x (items t) → items (x .chars) ≡ x ∷ []
 unfolding Longest
 item-alone t x m =
-    sym (only-reading (x .chars) (x ∷ []) (subst (λ (l : List ℕ). Reads l (x ∷ [])) (append-nil (x .chars)) (reads-item [] (item-derives t x m) (λ k d f g e w. let z : _≡_ {A = ℕ} 0 1 = cc in omega arith) at-the-end)))
+    sym (only-reading (x .chars) (x ∷ [])
+    (subst (λ (l : List ℕ). Reads l (x ∷ [])) (append-nil (x .chars))
+    (reads-item [] (item-derives t x m) (λ k d f g e w. let z : _≡_ {A = ℕ} 0 1 = cc in omega arith) at-the-end)))
 
--- Behind the first character, selectors do not make or unmake an item of links or units.
-pub derives-alike : {k : ScanKind} (c : ℕ) (s t : List ℕ) → inner (begin (classOf c)) ≡ true → strip s ≡ strip t → Derives k (c ∷ s) → Derives k (c ∷ t)
+-- After the first character, selectors do not make or unmake an item of links or units.
+pub derives-alike : {k : ScanKind} (c : ℕ) (s t : List ℕ) → inner (startState (classOf c)) ≡ true → strip s ≡ strip t → Derives k (c ∷ s)
+    → Derives k (c ∷ t)
 derives-alike {k} c s t i e d =
     let h = derive-head d in
     let z : h .char ≡ c = sym (head-eq-of-cons-eq (h .split)) in
-    subst (λ (k : ScanKind). Derives k (c ∷ t)) (sym (h .kind ∙ ap (λ (x : ℕ). kindOf (begin (classOf x))) z)) (walk-derive c (same-walk s t i e (accepted-walk (derive-walk d) .walked)))
+    subst (λ (k : ScanKind). Derives k (c ∷ t)) (sym (h .kind ∙ ap (λ (x : ℕ). kindOf (startState (classOf x))) z))
+    (walk-derive c (same-walk s t i e (accepted-walk (derive-walk d) .walked)))
 
-pub derive-inner : {k : ScanKind} (c : ℕ) (s : List ℕ) → (k ≡ LinksOnly) ⊎ (k ≡ EmojiHeaded) → Derives k (c ∷ s) → inner (begin (classOf c)) ≡ true
+pub derive-inner : {k : ScanKind} (c : ℕ) (s : List ℕ) → (k ≡ LinksOnly) ⊎ (k ≡ EmojiHeaded) → Derives k (c ∷ s)
+    → inner (startState (classOf c)) ≡ true
 derive-inner {k} c s o d =
     let h = derive-head d in
-    let z : k ≡ kindOf (begin (classOf c)) = h .kind ∙ ap (λ (x : ℕ). kindOf (begin (classOf x))) (sym (head-eq-of-cons-eq (h .split))) in
+    let z : k ≡ kindOf (startState (classOf c)) = h .kind
+    ∙ ap (λ (x : ℕ). kindOf (startState (classOf x))) (sym (head-eq-of-cons-eq (h .split))) in
     ⊎-elim (λ e. kind-links (classOf c) (sym z ∙ e)) (λ e. kind-emoji (classOf c) (sym z ∙ e)) o

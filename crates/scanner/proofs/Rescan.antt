@@ -8,12 +8,12 @@ use Prim.Native.Nat.{ℕ, _+_}
 use native.Mathlib.Omega.{arith}
 use native.Mathlib.Nat.{add-zero}
 use Rattle.scanner.specs.Classes.{classOf}
-use Rattle.scanner.specs.Items.{Place, plain, step, begin, kindOf, Item, join, cut, items}
+use Rattle.scanner.specs.Items.{State, plain, transition, startState, kindOf, Item, join, splitFrom, items}
 use Rattle.scanner.specs.Spans.{Found, size, found}
 use Rattle.scanner.specs.declared.ScanKind.{ScanKind}
 use Rattle.scanner.specs.declared.ScanKind.the-variants.{Passthrough}
-use Rattle.scanner.proofs.Places.{isPlain, kind-plain, plain-step}
-use Rattle.scanner.proofs.Tiling.{first, behind, cut-some, cut-none}
+use Rattle.scanner.proofs.States.{isPlain, kind-plain, plain-step}
+use Rattle.scanner.proofs.Tiling.{first, after, cut-some, cut-none}
 use Rattle.scanner.proofs.Walk.{Walk, walk-plain, walk-cut, stops, merges, Chain, done, then}
 
 module _ (w : ℕ → ℕ) where
@@ -29,93 +29,106 @@ module _ (test : Item → Bool) (w : ℕ → ℕ) where
       ap (λ (b : Bool). cond b (record { start = n; item = x } ∷ l) l) e
 
   pub found-tail : (n : ℕ) (x : Item) (xs ys : List Item)
-      → found test w (n + size w (x .chars)) xs ≡ found test w (n + size w (x .chars)) ys → found test w n (x ∷ xs) ≡ found test w n (x ∷ ys)
+      → found test w (n + size w (x .chars)) xs ≡ found test w (n + size w (x .chars)) ys → found test w n (x ∷ xs)
+      ≡ found test w n (x ∷ ys)
   unfolding found
   found-tail n x xs ys e = ap (λ (l : List Found). cond (test x) (record { start = n; item = x } ∷ l) l) e
 
 -- A test that no passthrough passes.
 module _ (test : Item → Bool) (w : ℕ → ℕ) (plain-fails : (x : Item) → x .kind ≡ Passthrough → test x ≡ false) where
-  pub found-skip : (n : ℕ) (x : Item) (xs : List Item) → x .kind ≡ Passthrough → found test w n (x ∷ xs) ≡ found test w (n + size w (x .chars)) xs
+  pub found-skip : (n : ℕ) (x : Item) (xs : List Item) → x .kind ≡ Passthrough → found test w n (x ∷ xs)
+      ≡ found test w (n + size w (x .chars)) xs
   found-skip n x xs e = found-none test w n x xs (plain-fails x e)
 
-  pub record Again (p : Place) (xs : List Item) : Type 0 where
-    pub same : (n : ℕ) → found test w (n + size w ((cut p (join xs)) .0)) ((cut p (join xs)) .1) ≡ found test w n xs
-    pub whole : isPlain p ≡ false → (cut p (join xs)) .0 ≡ []
+  pub record Again (p : State) (xs : List Item) : Type 0 where
+    pub same : (n : ℕ) → found test w (n + size w ((splitFrom p (join xs)) .0)) ((splitFrom p (join xs)) .1) ≡ found test w n xs
+    pub whole : isPlain p ≡ false → (splitFrom p (join xs)) .0 ≡ []
 
-  -- What a scan makes of an item and the items behind it, where it ends the item before.
-  abbrev next : Item → List Item → Place → ℕ → List ℕ → Item
-  next x xs q c s = record { kind = x .kind; chars = c ∷ (s ++ (cut q (join xs)) .0) }
+  -- What a scan makes of an item and the items after it, where it ends the item before.
+  abbrev next : Item → List Item → State → ℕ → List ℕ → Item
+  next x xs q c s = record { kind = x .kind; chars = c ∷ (s ++ (splitFrom q (join xs)) .0) }
 
-  cut-next : (p : Place) {q : Place} (x : Item) (xs : List Item) (c : ℕ) (s : List ℕ) → step p (classOf c) ≡ none → x .kind ≡ kindOf (begin (classOf c)) → x .chars ≡ c ∷ s → Walk (begin (classOf c)) s q
-      → cut p (join (x ∷ xs)) ≡ ([], next x xs q c s ∷ (cut q (join xs)) .1)
+  cut-next : (p : State) {q : State} (x : Item) (xs : List Item) (c : ℕ) (s : List ℕ) → transition p (classOf c) ≡ none → x .kind
+      ≡ kindOf (startState (classOf c)) → x .chars ≡ c ∷ s → Walk (startState (classOf c)) s q
+      → splitFrom p (join (x ∷ xs)) ≡ ([], next x xs q c s ∷ (splitFrom q (join xs)) .1)
   cut-next p {q} x xs c s e k l wk =
-      ap (λ (t : List ℕ). cut p (t ++ join xs)) l ∙ cut-none p c (s ++ join xs) e
-      ∙ ap (λ (a : List ℕ × List Item). ([], record { kind = kindOf (begin (classOf c)); chars = c ∷ a .0 } ∷ a .1)) (walk-cut wk (join xs))
-      ∙ ap (λ (i : ScanKind). ([], record { kind = i; chars = c ∷ (s ++ (cut q (join xs)) .0) } ∷ (cut q (join xs)) .1)) (sym k)
+      ap (λ (t : List ℕ). splitFrom p (t ++ join xs)) l ∙ cut-none p c (s ++ join xs) e
+      ∙ ap (λ (a : List ℕ × List Item). ([], record { kind = kindOf (startState (classOf c)); chars = c ∷ a .0 } ∷ a .1))
+      (walk-cut wk (join xs))
+      ∙ ap (λ (i : ScanKind). ([], record { kind = i; chars = c ∷ (s ++ (splitFrom q (join xs)) .0) } ∷ (splitFrom q (join xs)) .1)) (sym k)
 
-  again-plain : {q : Place} (x : Item) {xs : List Item} (c : ℕ) (s : List ℕ) → x .kind ≡ Passthrough → x .chars ≡ c ∷ s → Again q xs
-      → (n : ℕ) → found test w (n + size w (c ∷ (s ++ (cut q (join xs)) .0))) ((cut q (join xs)) .1) ≡ found test w n (x ∷ xs)
+  again-plain : {q : State} (x : Item) {xs : List Item} (c : ℕ) (s : List ℕ) → x .kind ≡ Passthrough → x .chars ≡ c ∷ s → Again q xs
+      → (n : ℕ) → found test w (n + size w (c ∷ (s ++ (splitFrom q (join xs)) .0))) ((splitFrom q (join xs)) .1) ≡ found test w n (x ∷ xs)
   again-plain {q} x {xs} c s k l h n =
-      let R = cut q (join xs) in
+      let R = splitFrom q (join xs) in
       let a : n + size w (c ∷ (s ++ R .0)) ≡ n + size w (x .chars) + size w (R .0) = omega (arith, size-append w s (R .0), ap (size w) l) in
       ap (λ (m : ℕ). found test w m (R .1)) a ∙ h .same (n + size w (x .chars)) ∙ sym (found-skip n x xs k)
 
-  again-solid : {q : Place} (x : Item) {xs : List Item} (c : ℕ) (s : List ℕ) → x .chars ≡ c ∷ s → (cut q (join xs)) .0 ≡ [] → Again q xs
-      → (n : ℕ) → found test w n (next x xs q c s ∷ (cut q (join xs)) .1) ≡ found test w n (x ∷ xs)
+  again-solid : {q : State} (x : Item) {xs : List Item} (c : ℕ) (s : List ℕ) → x .chars ≡ c ∷ s → (splitFrom q (join xs)) .0 ≡ []
+      → Again q xs
+      → (n : ℕ) → found test w n (next x xs q c s ∷ (splitFrom q (join xs)) .1) ≡ found test w n (x ∷ xs)
   again-solid {q} x {xs} c s l z h n =
-      let R = cut q (join xs) in
-      let y : next x xs q c s ≡ x = λ i. record { kind = x .kind; chars = (ap (λ (r : List ℕ). c ∷ (s ++ r)) z ∙ ap (λ (r : List ℕ). c ∷ r) (append-nil s) ∙ sym l) i } in
+      let R = splitFrom q (join xs) in
+      let y : next x xs q c s ≡ x = λ i.
+      record { kind = x .kind; chars = (ap (λ (r : List ℕ). c ∷ (s ++ r)) z ∙ ap (λ (r : List ℕ). c ∷ r) (append-nil s) ∙ sym l) i } in
       let a : n + size w (x .chars) + size w (R .0) ≡ n + size w (x .chars) = omega (arith, ap (size w) z) in
       ap (λ (i : Item). found test w n (i ∷ R .1)) y
       ∙ found-tail test w n x (R .1) xs (ap (λ (m : ℕ). found test w m (R .1)) (sym a) ∙ h .same (n + size w (x .chars)))
 
   -- The item begins anew.
-  again-none : {p q : Place} {x : Item} {xs : List Item} (c : ℕ) (s : List ℕ) → step p (classOf c) ≡ none → x .kind ≡ kindOf (begin (classOf c)) → x .chars ≡ c ∷ s → Walk (begin (classOf c)) s q → Again q xs → Again p (x ∷ xs)
+  again-none : {p q : State} {x : Item} {xs : List Item} (c : ℕ) (s : List ℕ) → transition p (classOf c) ≡ none → x .kind
+      ≡ kindOf (startState (classOf c)) → x .chars ≡ c ∷ s → Walk (startState (classOf c)) s q → Again q xs → Again p (x ∷ xs)
   again-none {p} {q} {x} {xs} c s e k l wk h = record {
-    same = λ n. rw (cut-next p x xs c s e k l wk) (go (isPlain (begin (classOf c))) refl n);
+    same = λ n. rw (cut-next p x xs c s e k l wk) (go (isPlain (startState (classOf c))) refl n);
     whole = λ _. ap (λ (a : List ℕ × List Item). a .0) (cut-next p x xs c s e k l wk);
   }
     where
-      go : (b : Bool) → isPlain (begin (classOf c)) ≡ b → (n : ℕ) → found test w (n + 0) (next x xs q c s ∷ (cut q (join xs)) .1) ≡ found test w n (x ∷ xs)
+      go : (b : Bool) → isPlain (startState (classOf c)) ≡ b → (n : ℕ) → found test w (n + 0) (next x xs q c s ∷ (splitFrom q (join xs)) .1)
+          ≡ found test w n (x ∷ xs)
       go true i n =
-          let kp : x .kind ≡ Passthrough = k ∙ kind-plain (begin (classOf c)) i in
-          found-skip (n + 0) (next x xs q c s) ((cut q (join xs)) .1) kp ∙ rw (add-zero n) (again-plain x c s kp l h n)
+          let kp : x .kind ≡ Passthrough = k ∙ kind-plain (startState (classOf c)) i in
+          found-skip (n + 0) (next x xs q c s) ((splitFrom q (join xs)) .1) kp ∙ rw (add-zero n) (again-plain x c s kp l h n)
       go false i n = rw (add-zero n) (again-solid x c s l (h .whole (sym (walk-plain wk) ∙ i)) h n)
 
   -- Or passthrough goes on with it.
-  again-some : {q : Place} {x : Item} {xs : List Item} (c : ℕ) (s : List ℕ) (r : Place) → step plain (classOf c) ≡ some r → x .kind ≡ kindOf (begin (classOf c)) → x .chars ≡ c ∷ s → Walk (begin (classOf c)) s q → Again q xs → Again plain (x ∷ xs)
+  again-some : {q : State} {x : Item} {xs : List Item} (c : ℕ) (s : List ℕ) (r : State) → transition plain (classOf c) ≡ some r → x .kind
+      ≡ kindOf (startState (classOf c)) → x .chars ≡ c ∷ s → Walk (startState (classOf c)) s q → Again q xs → Again plain (x ∷ xs)
   unfolding kindOf
   again-some {q} {x} {xs} c s r e k l wk h =
       let b = plain-step (classOf c) r e in
       let kp : x .kind ≡ Passthrough = k ∙ ap kindOf (b .1) in
-      let f : cut plain (join (x ∷ xs)) ≡ (c ∷ (s ++ (cut q (join xs)) .0), (cut q (join xs)) .1) =
-      ap (λ (t : List ℕ). cut plain (t ++ join xs)) l ∙ cut-some plain r c (s ++ join xs) e
-      ∙ ap (λ (a : List ℕ × List Item). (c ∷ a .0, a .1)) (ap (λ (p : Place). cut p (s ++ join xs)) (b .0 ∙ sym (b .1)) ∙ walk-cut wk (join xs)) in
+      let f : splitFrom plain (join (x ∷ xs)) ≡ (c ∷ (s ++ (splitFrom q (join xs)) .0), (splitFrom q (join xs)) .1) =
+      ap (λ (t : List ℕ). splitFrom plain (t ++ join xs)) l ∙ cut-some plain r c (s ++ join xs) e
+      ∙ ap (λ (a : List ℕ × List Item). (c ∷ a .0, a .1))
+      (ap (λ (p : State). splitFrom p (s ++ join xs)) (b .0 ∙ sym (b .1)) ∙ walk-cut wk (join xs)) in
       record { same = λ n. rw f (again-plain x c s kp l h n); whole = λ i. absurd (true≢false i) }
 
-  again-both : {q : Place} {x : Item} {xs : List Item} (c : ℕ) (s : List ℕ) (o : Option Place) → step plain (classOf c) ≡ o → x .kind ≡ kindOf (begin (classOf c)) → x .chars ≡ c ∷ s → Walk (begin (classOf c)) s q → Again q xs → Again plain (x ∷ xs)
+  again-both : {q : State} {x : Item} {xs : List Item} (c : ℕ) (s : List ℕ) (o : Option State) → transition plain (classOf c) ≡ o → x .kind
+      ≡ kindOf (startState (classOf c)) → x .chars ≡ c ∷ s → Walk (startState (classOf c)) s q → Again q xs → Again plain (x ∷ xs)
   again-both c s none e = again-none c s e
   again-both c s (some r) e = again-some c s r e
 
-  pub rescan : {p : Place} {xs : List Item} → Chain p xs → Again p xs
-  unfolding cut found
+  pub rescan : {p : State} {xs : List Item} → Chain p xs → Again p xs
+  unfolding splitFrom found
   rescan done = record { same = λ n. refl; whole = λ e. refl }
   rescan (then c s (stops e) k l wk h) = again-none c s e k l wk (rescan h)
-  rescan (then {p = p} {x = x} {xs = xs} c s (merges e) k l wk h) = subst (λ (p : Place). Again p (x ∷ xs)) (sym e) (again-both c s (step plain (classOf c)) refl k l wk (rescan h))
+  rescan (then {p = p} {x = x} {xs = xs} c s (merges e) k l wk h) = subst (λ (p : State). Again p (x ∷ xs)) (sym e)
+      (again-both c s (transition plain (classOf c)) refl k l wk (rescan h))
 
-  -- At the start of a text, what passes the test is the same as behind passthrough.
-  pub found-items : (n : ℕ) (t : List ℕ) → found test w n (items t) ≡ found test w (n + size w ((cut plain t) .0)) ((cut plain t) .1)
-  unfolding items cut found kindOf
+  -- At the start of a text, what passes the test is the same as after passthrough.
+  pub found-items : (n : ℕ) (t : List ℕ) → found test w n (items t)
+      ≡ found test w (n + size w ((splitFrom plain t) .0)) ((splitFrom plain t) .1)
+  unfolding items splitFrom found kindOf
   found-items n [] = refl
-  found-items n (c ∷ t) = go (step plain (classOf c)) refl
+  found-items n (c ∷ t) = go (transition plain (classOf c)) refl
     where
-      go : (o : Option Place) → step plain (classOf c) ≡ o
-          → found test w n (first c t ∷ behind c t) ≡ found test w (n + size w ((cut plain (c ∷ t)) .0)) ((cut plain (c ∷ t)) .1)
-      go none e = rw (cut-none plain c t e) (ap (λ (m : ℕ). found test w m (first c t ∷ behind c t)) (sym (add-zero n)))
+      go : (o : Option State) → transition plain (classOf c) ≡ o
+          → found test w n (first c t ∷ after c t) ≡ found test w (n + size w ((splitFrom plain (c ∷ t)) .0)) ((splitFrom plain (c ∷ t)) .1)
+      go none e = rw (cut-none plain c t e) (ap (λ (m : ℕ). found test w m (first c t ∷ after c t)) (sym (add-zero n)))
       go (some q) e =
           let b = plain-step (classOf c) q e in
-          found-skip n (first c t) (behind c t) (ap kindOf (b .1))
-          ∙ ap (λ (p : Place). found test w (n + size w (c ∷ (cut p t) .0)) ((cut p t) .1)) (b .1 ∙ sym (b .0))
+          found-skip n (first c t) (after c t) (ap kindOf (b .1))
+          ∙ ap (λ (p : State). found test w (n + size w (c ∷ (splitFrom p t) .0)) ((splitFrom p t) .1)) (b .1 ∙ sym (b .0))
           ∙ sym (ap (λ (a : List ℕ × List Item). found test w (n + size w (a .0)) (a .1)) (cut-some plain q c t e))
 
   -- Items in a row, scanned afresh.

@@ -1,4 +1,4 @@
--- The rest of an emoji-headed item behind a unit, by the runs at its front: nothing, a link and a unit, or the links left over.
+-- The rest of an emoji-headed item after a unit, by the runs at its front: nothing, a link and a unit, or the links left over.
 use mathlib.Core.Path.{_≡_, refl, ap, ap₂, sym, _∙_}
 use mathlib.Core.Bool.{Bool, true, false, _||_, true≢false}
 use mathlib.Core.Option.{none, some}
@@ -10,8 +10,8 @@ use Rattle.base.proofs.Tests.{either-left, either-right}
 use Rattle.unicode.specs.Presentation.{isSelector}
 use Rattle.unicode.specs.Unicode.{isEmoji, isEmojiModifier, isTag}
 use Rattle.scanner.specs.Classes.{Class, classOf}
-use Rattle.scanner.specs.Items.{Item, unit, joined, leftOver, step, begin, cut}
-use Rattle.scanner.specs.Runs.{behindSelectors, inLinks, inModifications, isModification, linksAt, run, selectorsAt}
+use Rattle.scanner.specs.Items.{Item, unit, joined, leftOver, transition, startState, splitFrom}
+use Rattle.scanner.specs.Runs.{afterSelectors, inLinks, inModifications, isModification, linksAt, run, selectorsAt}
 use Rattle.scanner.proofs.Classes.{
   HasClass,
   is-emoji,
@@ -41,56 +41,69 @@ use Rattle.scanner.proofs.Runs.{
   all-pass,
   pass-and,
   passes-S,
-  run-behind,
+  run-after,
   run-false,
   run-passes,
   run-true,
   Stops,
   at-char,
   at-end,
-  behind-stops,
+  after-stops,
 }
 use Rattle.scanner.proofs.ItemRuns.{cut-run, links-off, links-on}
 
-unit-off : {c : ℕ} {k : Class} → HasClass c k → inModifications c ≡ false → eqb c 0x200D ≡ false → step unit k ≡ none
-unfolding step isModification
+unit-off : {c : ℕ} {k : Class} → HasClass c k → inModifications c ≡ false → eqb c 0x200D ≡ false → transition unit k ≡ none
+unfolding transition isModification
 unit-off {c} (is-selector s) e f = absurd (true≢false (sym (either-right (isModification c) (isSelector c) s) ∙ e))
 unit-off {c} (is-link s) e f = absurd (true≢false (sym (eq-eqb c 0x200D s) ∙ f))
-unit-off {c} (is-keycap s) e f = absurd (true≢false (sym (either-left (isModification c) (isSelector c) (either-right (isEmojiModifier c) (eqb c 0x20E3 || isTag c) (either-left (eqb c 0x20E3) (isTag c) (eq-eqb c 0x20E3 s)))) ∙ e))
-unit-off {c} (is-tag s) e f = absurd (true≢false (sym (either-left (isModification c) (isSelector c) (either-right (isEmojiModifier c) (eqb c 0x20E3 || isTag c) (either-right (eqb c 0x20E3) (isTag c) s))) ∙ e))
+unit-off {c} (is-keycap s) e f = absurd
+    (true≢false (sym (either-left (isModification c) (isSelector c)
+    (either-right (isEmojiModifier c) (eqb c 0x20E3 || isTag c) (either-left (eqb c 0x20E3) (isTag c) (eq-eqb c 0x20E3 s)))) ∙ e))
+unit-off {c} (is-tag s) e f = absurd
+    (true≢false (sym (either-left (isModification c) (isSelector c)
+    (either-right (isEmojiModifier c) (eqb c 0x20E3 || isTag c) (either-right (eqb c 0x20E3) (isTag c) s))) ∙ e))
 unit-off (is-ri s) e f = refl
-unit-off {c} (is-modifier s) e f = absurd (true≢false (sym (either-left (isModification c) (isSelector c) (either-left (isEmojiModifier c) (eqb c 0x20E3 || isTag c) s)) ∙ e))
+unit-off {c} (is-modifier s) e f = absurd
+    (true≢false (sym (either-left (isModification c) (isSelector c) (either-left (isEmojiModifier c) (eqb c 0x20E3 || isTag c) s)) ∙ e))
 unit-off (is-emoji s r m) e f = refl
 unit-off (is-other s k t) e f = refl
 
 -- With no link there, the item ends.
-pub unit-ends : {r : List ℕ} → Stops inModifications r → Stops (λ c. eqb c 0x200D) r → (cut unit r) .0 ≡ []
-unfolding cut
+pub unit-ends : {r : List ℕ} → Stops inModifications r → Stops (λ c. eqb c 0x200D) r → (splitFrom unit r) .0 ≡ []
+unfolding splitFrom
 unit-ends at-end i = refl
 unit-ends (at-char {c = c} {s = t} e) (at-char f) = ap (λ (a : List ℕ × List Item). a .0) (cut-none unit c t (unit-off (hasClass c) e f))
 
 -- A link and its S.
-link-cut : (t : List ℕ) → cut unit (0x200D ∷ t) ≡ (0x200D ∷ (selectorsAt t ++ (cut joined (behindSelectors t)) .0), (cut joined (behindSelectors t)) .1)
-unfolding step
+link-cut : (t : List ℕ) → splitFrom unit (0x200D ∷ t)
+    ≡ (0x200D ∷ (selectorsAt t ++ (splitFrom joined (afterSelectors t)) .0), (splitFrom joined (afterSelectors t)) .1)
+unfolding transition
 link-cut t =
-    cut-some unit joined 0x200D t (ap (step unit) (class-is {c = 0x200D} (is-link refl)))
-    ∙ ap (λ (a : List ℕ × List Item). (0x200D ∷ a .0, a .1)) (ap (cut joined) (sym (run-behind isSelector t)) ∙ walk-cut (walk-S joined refl (passes-S (run-passes isSelector t))) (behindSelectors t))
+    cut-some unit joined 0x200D t (ap (transition unit) (class-is {c = 0x200D} (is-link refl)))
+    ∙ ap (λ (a : List ℕ × List Item). (0x200D ∷ a .0, a .1))
+    (ap (splitFrom joined) (sym (run-after isSelector t)) ∙ walk-cut (walk-S joined refl (passes-S (run-passes isSelector t)))
+    (afterSelectors t))
 
-joined-on : {c : ℕ} → EmojiClass c → step joined (classOf c) ≡ some (begin (classOf c))
-unfolding step begin
+joined-on : {c : ℕ} → EmojiClass c → transition joined (classOf c) ≡ some (startState (classOf c))
+unfolding transition startState
 joined-on (an-ri r) = rw (class-is (is-ri r))
 joined-on (a-modifier m) = rw (class-is (is-modifier m))
 joined-on (an-emoji h) = rw (class-is h)
 
--- With an emoji behind one link and its S, the item goes on as at an emoji.
-pub unit-joins : (t : List ℕ) (c : ℕ) (u : List ℕ) → behindSelectors t ≡ c ∷ u → isEmoji c ≡ true
-    → cut unit (0x200D ∷ t) ≡ (0x200D ∷ (selectorsAt t ++ c ∷ (cut (begin (classOf c)) u) .0), (cut (begin (classOf c)) u) .1)
+-- With an emoji after one link and its S, the item goes on as at an emoji.
+pub unit-joins : (t : List ℕ) (c : ℕ) (u : List ℕ) → afterSelectors t ≡ c ∷ u → isEmoji c ≡ true
+    → splitFrom unit (0x200D ∷ t) ≡ (
+      0x200D ∷ (selectorsAt t ++ c ∷ (splitFrom (startState (classOf c)) u) .0),
+      (splitFrom (startState (classOf c)) u) .1,
+    )
 unit-joins t c u e f =
-    link-cut t ∙ ap (λ (a : List ℕ × List Item). (0x200D ∷ (selectorsAt t ++ a .0), a .1)) (ap (cut joined) e ∙ cut-some joined (begin (classOf c)) c u (joined-on (emoji-class c f)))
+    link-cut t ∙ ap (λ (a : List ℕ × List Item). (0x200D ∷ (selectorsAt t ++ a .0), a .1))
+    (ap (splitFrom joined) e ∙ cut-some joined (startState (classOf c)) c u (joined-on (emoji-class c f)))
 
 -- Otherwise it takes in all links there, and ends.
-joined-off : {c : ℕ} {k : Class} → HasClass c k → isSelector c ≡ false → eqb c 0x200D ≡ false → isEmoji c ≡ false → step joined k ≡ none
-unfolding step
+joined-off : {c : ℕ} {k : Class} → HasClass c k → isSelector c ≡ false → eqb c 0x200D ≡ false → isEmoji c ≡ false → transition joined k
+    ≡ none
+unfolding transition
 joined-off (is-selector s) e f g = absurd (true≢false (sym s ∙ e))
 joined-off {c} (is-link s) e f g = absurd (true≢false (sym (eq-eqb c 0x200D s) ∙ f))
 joined-off (is-keycap s) e f g = refl
@@ -100,14 +113,14 @@ joined-off {c} (is-modifier s) e f g = absurd (true≢false (sym (modifier-emoji
 joined-off (is-emoji s r m) e f g = absurd (true≢false (sym s ∙ g))
 joined-off (is-other s k t) e f g = refl
 
-joined-links : {r : List ℕ} → Stops isSelector r → Stops isEmoji r → (cut joined r) .0 ≡ run inLinks r
-unfolding cut run step
+joined-links : {r : List ℕ} → Stops isSelector r → Stops isEmoji r → (splitFrom joined r) .0 ≡ run inLinks r
+unfolding splitFrom run transition
 joined-links at-end i = refl
 joined-links (at-char {c = c} {s = t} e) (at-char g) = go (eqb c 0x200D) refl
   where
-    go : (b : Bool) → eqb c 0x200D ≡ b → (cut joined (c ∷ t)) .0 ≡ run inLinks (c ∷ t)
+    go : (b : Bool) → eqb c 0x200D ≡ b → (splitFrom joined (c ∷ t)) .0 ≡ run inLinks (c ∷ t)
     go true f =
-        ap (λ (a : List ℕ × List Item). a .0) (cut-some joined leftOver c t (ap (step joined) (class-link c f)))
+        ap (λ (a : List ℕ × List Item). a .0) (cut-some joined leftOver c t (ap (transition joined) (class-link c f)))
         ∙ ap (λ (l : List ℕ). c ∷ l) (cut-run leftOver inLinks (links-on leftOver refl refl) (λ d h. links-off (hasClass d) h .1) t)
         ∙ sym (run-true inLinks c t (either-left (eqb c 0x200D) (isSelector c) f))
     go false f =
@@ -116,12 +129,13 @@ joined-links (at-char {c = c} {s = t} e) (at-char g) = go (eqb c 0x200D) refl
 
 run-selectors : {s : List ℕ} (t : List ℕ) → Passes isSelector s → run inLinks (s ++ t) ≡ s ++ run inLinks t
 run-selectors t all-pass = refl
-run-selectors t (pass-and {c = c} {s = s} e h) = run-true inLinks c (s ++ t) (either-right (eqb c 0x200D) (isSelector c) e) ∙ ap (λ (l : List ℕ). c ∷ l) (run-selectors t h)
+run-selectors t (pass-and {c = c} {s = s} e h) = run-true inLinks c (s ++ t) (either-right (eqb c 0x200D) (isSelector c) e)
+    ∙ ap (λ (l : List ℕ). c ∷ l) (run-selectors t h)
 
-pub unit-left : (t : List ℕ) → Stops isEmoji (behindSelectors t) → (cut unit (0x200D ∷ t)) .0 ≡ linksAt (0x200D ∷ t)
+pub unit-left : (t : List ℕ) → Stops isEmoji (afterSelectors t) → (splitFrom unit (0x200D ∷ t)) .0 ≡ linksAt (0x200D ∷ t)
 unfolding linksAt
 unit-left t n =
     ap (λ (a : List ℕ × List Item). a .0) (link-cut t)
-    ∙ ap (λ (l : List ℕ). 0x200D ∷ l) (ap (λ (l : List ℕ). selectorsAt t ++ l) (joined-links (behind-stops isSelector t) n)
-    ∙ sym (run-selectors (behindSelectors t) (run-passes isSelector t)) ∙ ap (run inLinks) (run-behind isSelector t))
+    ∙ ap (λ (l : List ℕ). 0x200D ∷ l) (ap (λ (l : List ℕ). selectorsAt t ++ l) (joined-links (after-stops isSelector t) n)
+    ∙ sym (run-selectors (afterSelectors t) (run-passes isSelector t)) ∙ ap (run inLinks) (run-after isSelector t))
     ∙ sym (run-true inLinks 0x200D t refl)

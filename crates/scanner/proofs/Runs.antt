@@ -1,11 +1,11 @@
--- The longest run at the front: what it and what is left behind it are, in front of any text.
+-- The longest run at the front: what it and what is left after it are, in front of any text.
 use mathlib.Core.Path.{_≡_, refl, ap, _∙_}
 use mathlib.Core.Bool.{Bool, true, false, cond}
 use mathlib.Core.List.{List, [], _∷_, _++_}
 use Prim.Native.Nat.{ℕ}
 use Rattle.unicode.specs.Presentation.{isSelector}
 use Rattle.scanner.specs.Grammar.{S, no-selectors, selector-and}
-use Rattle.scanner.specs.Runs.{run, behindRun}
+use Rattle.scanner.specs.Runs.{run, afterRun}
 
 module _ (f : ℕ → Bool) where
   -- All characters pass the test.
@@ -26,13 +26,13 @@ module _ (f : ℕ → Bool) where
   unfolding run
   run-false c t e = ap (λ (b : Bool). cond b (c ∷ run f t) []) e
 
-  pub behind-true : (c : ℕ) (t : List ℕ) → f c ≡ true → behindRun f (c ∷ t) ≡ behindRun f t
-  unfolding behindRun
-  behind-true c t e = ap (λ (b : Bool). cond b (behindRun f t) (c ∷ t)) e
+  pub after-true : (c : ℕ) (t : List ℕ) → f c ≡ true → afterRun f (c ∷ t) ≡ afterRun f t
+  unfolding afterRun
+  after-true c t e = ap (λ (b : Bool). cond b (afterRun f t) (c ∷ t)) e
 
-  pub behind-false : (c : ℕ) (t : List ℕ) → f c ≡ false → behindRun f (c ∷ t) ≡ c ∷ t
-  unfolding behindRun
-  behind-false c t e = ap (λ (b : Bool). cond b (behindRun f t) (c ∷ t)) e
+  pub after-false : (c : ℕ) (t : List ℕ) → f c ≡ false → afterRun f (c ∷ t) ≡ c ∷ t
+  unfolding afterRun
+  after-false c t e = ap (λ (b : Bool). cond b (afterRun f t) (c ∷ t)) e
 
   pub run-all : {s t : List ℕ} → Passes s → Stops t → run f (s ++ t) ≡ s
   unfolding run
@@ -40,19 +40,19 @@ module _ (f : ℕ → Bool) where
   run-all all-pass (at-char {c = c} {s = s} e) = run-false c s e
   run-all {t = t} (pass-and {c = c} {s = s} e h) p = run-true c (s ++ t) e ∙ ap (λ (l : List ℕ). c ∷ l) (run-all h p)
 
-  pub behind-all : {s t : List ℕ} → Passes s → Stops t → behindRun f (s ++ t) ≡ t
-  unfolding behindRun
-  behind-all all-pass at-end = refl
-  behind-all all-pass (at-char {c = c} {s = s} e) = behind-false c s e
-  behind-all {t = t} (pass-and {c = c} {s = s} e h) p = behind-true c (s ++ t) e ∙ behind-all h p
+  pub after-all : {s t : List ℕ} → Passes s → Stops t → afterRun f (s ++ t) ≡ t
+  unfolding afterRun
+  after-all all-pass at-end = refl
+  after-all all-pass (at-char {c = c} {s = s} e) = after-false c s e
+  after-all {t = t} (pass-and {c = c} {s = s} e h) p = after-true c (s ++ t) e ∙ after-all h p
 
-  -- The run is a beginning of the text, all of it passes, and behind it stands nothing that does.
-  pub run-behind : (t : List ℕ) → run f t ++ behindRun f t ≡ t
-  unfolding run behindRun
-  run-behind [] = refl
-  run-behind (c ∷ t) = go (f c) (run-behind t)
+  -- The run is a beginning of the text, all of it passes, and after it stands nothing that does.
+  pub run-after : (t : List ℕ) → run f t ++ afterRun f t ≡ t
+  unfolding run afterRun
+  run-after [] = refl
+  run-after (c ∷ t) = go (f c) (run-after t)
     where
-      go : (b : Bool) → run f t ++ behindRun f t ≡ t → cond b (c ∷ run f t) [] ++ cond b (behindRun f t) (c ∷ t) ≡ c ∷ t
+      go : (b : Bool) → run f t ++ afterRun f t ≡ t → cond b (c ∷ run f t) [] ++ cond b (afterRun f t) (c ∷ t) ≡ c ∷ t
       go true h = ap (λ (l : List ℕ). c ∷ l) h
       go false h = refl
 
@@ -65,12 +65,12 @@ module _ (f : ℕ → Bool) where
       go true e h = pass-and e h
       go false e h = all-pass
 
-  pub behind-stops : (t : List ℕ) → Stops (behindRun f t)
-  unfolding behindRun
-  behind-stops [] = at-end
-  behind-stops (c ∷ t) = go (f c) refl (behind-stops t)
+  pub after-stops : (t : List ℕ) → Stops (afterRun f t)
+  unfolding afterRun
+  after-stops [] = at-end
+  after-stops (c ∷ t) = go (f c) refl (after-stops t)
     where
-      go : (b : Bool) → f c ≡ b → Stops (behindRun f t) → Stops (cond b (behindRun f t) (c ∷ t))
+      go : (b : Bool) → f c ≡ b → Stops (afterRun f t) → Stops (cond b (afterRun f t) (c ∷ t))
       go true e h = h
       go false e h = at-char e
 

@@ -21,7 +21,7 @@ module _ (f : ℕ → Bool) where
   module _ {text : List ℕ} {at v : ℕ} {k : Class} {next : ℕ} (h : Seen text at v k next) where
     -- A character that passes the test adds its bytes.
     pub run-on : f v ≡ true → at + size width (run f (chars (drop at text))) ≡ next + size width (run f (chars (drop next text)))
-    run-on e = omega (arith, h .behind, ap (size width) (ap (run f) (h .chars-on) ∙ run-true f v (chars (drop next text)) e))
+    run-on e = omega (arith, h .after, ap (size width) (ap (run f) (h .chars-on) ∙ run-true f v (chars (drop next text)) e))
 
     -- At any other the run is over.
     pub run-over : f v ≡ false → size width (run f (chars (drop at text))) ≡ 0

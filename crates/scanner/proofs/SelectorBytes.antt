@@ -24,7 +24,8 @@ abbrev pub lastByte : Presentation → ℕ
 lastByte Text = 0x8E
 lastByte Emoji = 0x8F
 
-read-bytes : (s : List ℕ) (q : Presentation) → getD s 0 0 ≡ 0xEF → getD s 1 0 ≡ 0xB8 → getD s 2 0 ≡ lastByte q → readChar s ≡ Char (asSelector q) 3
+read-bytes : (s : List ℕ) (q : Presentation) → getD s 0 0 ≡ 0xEF → getD s 1 0 ≡ 0xB8 → getD s 2 0 ≡ lastByte q → readChar s
+    ≡ Char (asSelector q) 3
 unfolding readChar readFour utf8-1 utf8-2 utf8-3 asSelector
 read-bytes [] q a b c = absurd (omega arith)
 read-bytes (x ∷ s) q a b c = (λ i. readFour (a i) (b i) (c i) (getD s 2 0)) ∙ go q
@@ -54,7 +55,8 @@ module _ (text : List ℕ) (at : ℕ) where
       let j : Step text at (asSelector q) 3 = subst (Step text at (asSelector q)) (sym (i .width) ∙ width-selector q) i in
       record {
         read = j;
-        runs-on = ap (size width) (ap selectorsAt (j .chars-on) ∙ run-true isSelector (asSelector q) (chars (drop (at + 3) text)) (selector-is q)) ∙ omega (arith, width-selector q);
+        runs-on = ap (size width) (ap selectorsAt (j .chars-on) ∙ run-true isSelector (asSelector q) (chars (drop (at + 3) text))
+            (selector-is q)) ∙ omega (arith, width-selector q);
       }
 
   -- It is what the first character asks for, ..
@@ -78,11 +80,22 @@ module _ (text : List ℕ) (at : ℕ) where
     where
       go : (q : Presentation) → encode (asSelector q) ++ drop (at + 3) text ≡ drop at text
           → (getD (drop at text) 0 0 ≡ 0xEF) × (getD (drop at text) 1 0 ≡ 0xB8) × (getD (drop at text) 2 0 ≡ lastByte q)
-      go Text b = (ap (λ (l : List ℕ). getD l 0 0) (sym b), ap (λ (l : List ℕ). getD l 1 0) (sym b), ap (λ (l : List ℕ). getD l 2 0) (sym b))
-      go Emoji b = (ap (λ (l : List ℕ). getD l 0 0) (sym b), ap (λ (l : List ℕ). getD l 1 0) (sym b), ap (λ (l : List ℕ). getD l 2 0) (sym b))
+      go Text b = (
+        ap (λ (l : List ℕ). getD l 0 0) (sym b),
+        ap (λ (l : List ℕ). getD l 1 0) (sym b),
+        ap (λ (l : List ℕ). getD l 2 0)
+            (sym b),
+      )
+      go Emoji b = (
+        ap (λ (l : List ℕ). getD l 0 0) (sym b),
+        ap (λ (l : List ℕ). getD l 1 0) (sym b),
+        ap (λ (l : List ℕ). getD l 2 0)
+            (sym b),
+      )
 
   -- .. which nothing else has.
-  pub selector-read : (q : Presentation) → getD (drop at text) 0 0 ≡ 0xEF → getD (drop at text) 1 0 ≡ 0xB8 → getD (drop at text) 2 0 ≡ lastByte q → Selector q ≡ Front
+  pub selector-read : (q : Presentation) → getD (drop at text) 0 0 ≡ 0xEF → getD (drop at text) 1 0 ≡ 0xB8 → getD (drop at text) 2 0
+      ≡ lastByte q → Selector q ≡ Front
   selector-read q a b c = sym (front-read (step text at (asSelector q) 3 (read-bytes (drop at text) q a b c)) ∙ from-selector q)
 
   -- No selector stands where a test of the bytes fails that every selector passes.

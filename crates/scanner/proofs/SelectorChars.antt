@@ -25,7 +25,8 @@ unfolding isSelector asSelector
 char-is c = go (isSelector c) refl
   where
     go : (b : Bool) → isSelector c ≡ b → CharIs c
-    go true e = ⊎-elim (λ t. a-selector Text (eqb-true c 0xFE0E t)) (λ t. a-selector Emoji (eqb-true c 0xFE0F t)) (either-true (eqb c 0xFE0E) (eqb c 0xFE0F) e)
+    go true e = ⊎-elim (λ t. a-selector Text (eqb-true c 0xFE0E t)) (λ t. a-selector Emoji (eqb-true c 0xFE0F t))
+        (either-true (eqb c 0xFE0E) (eqb c 0xFE0F) e)
     go false e = no-selector e
 
 -- ---- by the tests
@@ -57,7 +58,8 @@ other-value c f = go (char-is c)
   where
     go : CharIs c → isSelector c ≡ false
     go (no-selector n) = n
-    go (a-selector q n) = let z : Selector q ≡ NoSelector = sym (ap fromSelector n ∙ from-selector q) ∙ f in let n : _≡_ {A = ℕ} 0 1 = cc in absurd (omega arith)
+    go (a-selector q n) = let z : Selector q ≡ NoSelector = sym (ap fromSelector n ∙ from-selector q)
+        ∙ f in let n : _≡_ {A = ℕ} 0 1 = cc in absurd (omega arith)
 
 -- ---- three bytes each
 

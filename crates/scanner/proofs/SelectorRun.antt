@@ -1,4 +1,4 @@
--- The run of selectors by its bytes: three for each, the first at the offset and the second three bytes behind it.
+-- The run of selectors by its bytes: three for each, the first at the offset and the second three bytes after it.
 use mathlib.Core.Path.{_≡_, refl, ap, sym, _∙_}
 use mathlib.Core.Logic.{⊎-elim}
 use mathlib.Core.Bool.{Bool, true, false}
@@ -43,7 +43,8 @@ pub second-is : (text : List ℕ) (at : ℕ) → 0 < length (selectorsAt (chars 
 unfolding secondSelector run
 second-is text at h = go (chars (drop at text)) refl h
   where
-    go : (t : List ℕ) → chars (drop at text) ≡ t → 0 < length (selectorsAt t) → firstSelector (chars (drop (at + 3) text)) ≡ secondSelector (selectorsAt t)
+    go : (t : List ℕ) → chars (drop at text) ≡ t → 0 < length (selectorsAt t) → firstSelector (chars (drop (at + 3) text))
+        ≡ secondSelector (selectorsAt t)
     go [] e n = absurd (omega arith)
     go (c ∷ t) e n = by (isSelector c) refl
       where

@@ -1,4 +1,4 @@
--- Spans tile the bytes, spell their items, and a scan or a cursor at a span's end goes on with the spans behind it.
+-- Spans tile the bytes, spell their items, and a scan or a cursor at a span's end goes on with the spans after it.
 use mathlib.Core.Path.{_≡_, refl, ap, sym, _∙_, subst}
 use mathlib.Core.List.{List, [], _∷_, _++_, append-nil, cons-ne-nil, head-eq-of-cons-eq, tail-eq-of-cons-eq}
 use Prim.Native.Nat.{ℕ, _+_, _-_, _≤_}
@@ -9,7 +9,7 @@ use Rattle.scanner.specs.Items.{Item, items, join}
 use Rattle.scanner.specs.Spans.{scanFrom, size, spans, width}
 use Rattle.scanner.specs.Theorems.{Spells, no-spans, span-and, Tiles}
 use Rattle.scanner.specs.declared.ScanItem.{ScanItem}
-use Rattle.scanner.proofs.Tiling.{Filled, no-item, and-item, filled, tiling, items-behind, join-append}
+use Rattle.scanner.proofs.Tiling.{Filled, no-item, and-item, filled, tiling, items-after, join-append}
 use Rattle.scanner.proofs.Rescan.{size-append}
 use Rattle.scanner.proofs.Bytes.{size-width, width-some, take-chars, chars-from, size-chars}
 
@@ -28,7 +28,8 @@ pub scan-tiles : (text : List ℕ) (at : ℕ) → Tiles at (scanFrom text at) (a
 unfolding scanFrom
 scan-tiles text at =
     let t = chars (drop at text) in
-    subst (λ (n : ℕ). Tiles at (spans at (items t)) (at + n)) (ap (size width) (tiling t) ∙ size-chars (drop at text)) (spans-tile at (filled t))
+    subst (λ (n : ℕ). Tiles at (spans at (items t)) (at + n)) (ap (size width) (tiling t) ∙ size-chars (drop at text))
+    (spans-tile at (filled t))
 
 -- ---- spans spell their items
 
@@ -51,19 +52,20 @@ spells-first (span-and b c d h) = b
 
 -- ---- afresh from a span's end
 
--- The items of the spans up to a span, and those behind it.
-record Parted (at : ℕ) (xs : List Item) (end : ℕ) (behind : List ScanItem) : Type 0 where
+-- The items of the spans up to a span, and those after it.
+record Parted (at : ℕ) (xs : List Item) (end : ℕ) (after : List ScanItem) : Type 0 where
   upTo : List Item
   rest : List Item
   whole : xs ≡ upTo ++ rest
   ends : end ≡ at + size width (join upTo)
-  spanned : behind ≡ spans end rest
+  spanned : after ≡ spans end rest
 
-part : (at : ℕ) (xs : List Item) (before : List ScanItem) (x : ScanItem) (behind : List ScanItem) → spans at xs ≡ before ++ x ∷ behind → Parted at xs (x .end) behind
+part : (at : ℕ) (xs : List Item) (before : List ScanItem) (x : ScanItem) (after : List ScanItem) → spans at xs ≡ before ++ x ∷ after
+    → Parted at xs (x .end) after
 unfolding spans
-part at [] [] x behind e = absurd (cons-ne-nil x behind (sym e))
-part at [] (y ∷ before) x behind e = absurd (cons-ne-nil y (before ++ x ∷ behind) (sym e))
-part at (i ∷ xs) [] x behind e =
+part at [] [] x after e = absurd (cons-ne-nil x after (sym e))
+part at [] (y ∷ before) x after e = absurd (cons-ne-nil y (before ++ x ∷ after) (sym e))
+part at (i ∷ xs) [] x after e =
     let f : x .end ≡ at + size width (i .chars) = ap (λ (s : ScanItem). s .end) (sym (head-eq-of-cons-eq e)) in
     record {
       upTo = i ∷ [];
@@ -72,8 +74,8 @@ part at (i ∷ xs) [] x behind e =
       ends = f ∙ ap (λ (l : List ℕ). at + size width l) (sym (append-nil (i .chars)));
       spanned = sym (tail-eq-of-cons-eq e) ∙ ap (λ (n : ℕ). spans n xs) (sym f);
     }
-part at (i ∷ xs) (y ∷ before) x behind e =
-    let r = part (at + size width (i .chars)) xs before x behind (tail-eq-of-cons-eq e) in
+part at (i ∷ xs) (y ∷ before) x after e =
+    let r = part (at + size width (i .chars)) xs before x after (tail-eq-of-cons-eq e) in
     record {
       upTo = i ∷ r .upTo;
       rest = r .rest;
@@ -82,12 +84,13 @@ part at (i ∷ xs) (y ∷ before) x behind e =
       spanned = r .spanned;
     }
 
-pub scan-behind : (text : List ℕ) (at : ℕ) (before : List ScanItem) (x : ScanItem) (behind : List ScanItem)
-    → scanFrom text at ≡ before ++ x ∷ behind → scanFrom text (x .end) ≡ behind
+pub scan-after : (text : List ℕ) (at : ℕ) (before : List ScanItem) (x : ScanItem) (after : List ScanItem)
+    → scanFrom text at ≡ before ++ x ∷ after → scanFrom text (x .end) ≡ after
 unfolding scanFrom
-scan-behind text at before x behind e =
+scan-after text at before x after e =
     let t = chars (drop at text) in
-    let r = part at (items t) before x behind e in
+    let r = part at (items t) before x after e in
     let c : t ≡ join (r .upTo) ++ join (r .rest) = sym (tiling t) ∙ ap join (r .whole) ∙ join-append (r .upTo) (r .rest) in
-    let d : chars (drop (x .end) text) ≡ join (r .rest) = ap (λ (n : ℕ). chars (drop n text)) (r .ends) ∙ chars-from text at (join (r .upTo)) (join (r .rest)) c in
-    ap (spans (x .end)) (ap items d ∙ items-behind t (r .upTo) (r .rest) (r .whole)) ∙ sym (r .spanned)
+    let d : chars (drop (x .end) text) ≡ join (r .rest) = ap (λ (n : ℕ). chars (drop n text)) (r .ends)
+    ∙ chars-from text at (join (r .upTo)) (join (r .rest)) c in
+    ap (spans (x .end)) (ap items d ∙ items-after t (r .upTo) (r .rest) (r .whole)) ∙ sym (r .spanned)

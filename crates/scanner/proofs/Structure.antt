@@ -26,14 +26,14 @@ use Rattle.scanner.specs.Grammar.{
   links-only,
   emoji-headed,
 }
-use Rattle.scanner.specs.Runs.{behindSelectors, selectorsAt}
+use Rattle.scanner.specs.Runs.{afterSelectors, selectorsAt}
 use Rattle.scanner.specs.Structure.{
   EmojiLike,
   EmojiModification,
   EmojiSequence,
   ZwjJoinedEmoji,
   ZwjLink,
-  cutAtLinks,
+  splitAtLinks,
   emojiHeaded,
   emojiLike,
   flatten,
@@ -55,7 +55,7 @@ use Rattle.scanner.specs.Tags.{tagModifications, tagRuns, withTags}
 use Rattle.scanner.specs.Theorems.{StructureDerives, UnitDerives}
 use Rattle.scanner.specs.declared.ScanKind.the-variants.{EmojiHeaded, LinksOnly}
 use Rattle.scanner.proofs.Classes.{emoji-no-selector}
-use Rattle.scanner.proofs.Runs.{Stops, at-char, at-end, S-passes, passes-S, run-all, run-passes, behind-all}
+use Rattle.scanner.proofs.Runs.{Stops, at-char, at-end, S-passes, passes-S, run-all, run-passes, after-all}
 use Rattle.scanner.proofs.Modifications.{
   ModificationsOk,
   all-ok,
@@ -71,16 +71,17 @@ use Rattle.scanner.proofs.Tags.{link-tags, unit-tags}
 
 -- ---- cut at links
 
-cut-char : (c : ℕ) (t : List ℕ) → eqb c 0x200D ≡ false → cutAtLinks (c ∷ t) ≡ (c ∷ (cutAtLinks t) .0, (cutAtLinks t) .1)
-unfolding cutAtLinks
+cut-char : (c : ℕ) (t : List ℕ) → eqb c 0x200D ≡ false → splitAtLinks (c ∷ t) ≡ (c ∷ (splitAtLinks t) .0, (splitAtLinks t) .1)
+unfolding splitAtLinks
 cut-char c t e = simp e
 
-cut-no-link : {v : List ℕ} (w : List ℕ) → NoLink v → cutAtLinks (v ++ w) ≡ (v ++ (cutAtLinks w) .0, (cutAtLinks w) .1)
+cut-no-link : {v : List ℕ} (w : List ℕ) → NoLink v → splitAtLinks (v ++ w) ≡ (v ++ (splitAtLinks w) .0, (splitAtLinks w) .1)
 cut-no-link w no-more = refl
-cut-no-link w (no-link-and {c = c} {s = s} e h) = cut-char c (s ++ w) e ∙ ap (λ (r : List ℕ × List (List ℕ)). (c ∷ r .0, r .1)) (cut-no-link w h)
+cut-no-link w (no-link-and {c = c} {s = s} e h) = cut-char c (s ++ w) e
+    ∙ ap (λ (r : List ℕ × List (List ℕ)). (c ∷ r .0, r .1)) (cut-no-link w h)
 
-cut-link : (t : List ℕ) → cutAtLinks (0x200D ∷ t) ≡ ([], (cutAtLinks t) .0 ∷ (cutAtLinks t) .1)
-unfolding cutAtLinks
+cut-link : (t : List ℕ) → splitAtLinks (0x200D ∷ t) ≡ ([], (splitAtLinks t) .0 ∷ (splitAtLinks t) .1)
+unfolding splitAtLinks
 cut-link t = refl
 
 -- ---- characters and the structure that is made of them
@@ -95,7 +96,8 @@ pub data JoinsAre : List ℕ → List ZwjJoinedEmoji → List ZwjLink → Type 0
   no-joins-are : {l : List ℕ} {ls : List ZwjLink} → LinksAre l ls → JoinsAre l [] ls
   join-are :
       {s v w : List ℕ} {js : List ZwjJoinedEmoji} {ls : List ZwjLink} → S s → (d : EmojiUnit v) → JoinsAre w js ls
-      → JoinsAre (0x200D ∷ (s ++ (v ++ w))) (record { link = record { after = s }; emoji = emojiLike (unit-read d .char) (unit-read d .rest) } ∷ js) ls
+      → JoinsAre (0x200D ∷ (s ++ (v ++ w)))
+      (record { link = record { after = s }; emoji = emojiLike (unit-read d .char) (unit-read d .rest) } ∷ js) ls
 
 -- An item.
 pub data SequenceAre : List ℕ → EmojiSequence → Type 0 where
@@ -115,20 +117,21 @@ links-derive ss l m = let p = Memᴰ·of-map linkOf ss m in subst (λ (x : ZwjLi
 
 -- A run of links: nothing stands before the first, and all are left over.
 record LinksRead (l : List ℕ) : Type 0 where
-  before : (cutAtLinks l) .0 ≡ []
-  flat : flattenLinks (map linkOf ((cutAtLinks l) .1)) ≡ l
-  left : joinedOf ((cutAtLinks l) .1) ≡ ([], map linkOf ((cutAtLinks l) .1))
+  before : (splitAtLinks l) .0 ≡ []
+  flat : flattenLinks (map linkOf ((splitAtLinks l) .1)) ≡ l
+  left : joinedOf ((splitAtLinks l) .1) ≡ ([], map linkOf ((splitAtLinks l) .1))
   tags : tagRuns l ≡ ([], [])
-  are : LinksAre l (map linkOf ((cutAtLinks l) .1))
+  are : LinksAre l (map linkOf ((splitAtLinks l) .1))
 
 link-more : {s l : List ℕ} → S s → LinksRead l → LinksRead (0x200D ∷ (s ++ l))
 unfolding flattenLinks flattenLink joinedOf joinOne tagModifications withTags
 link-more {s} {l} h r =
-    let ss = (cutAtLinks l) .1 in
-    let c : cutAtLinks (0x200D ∷ (s ++ l)) ≡ ([], (s ++ []) ∷ ss) =
-    cut-link (s ++ l) ∙ ap (λ (a : List ℕ × List (List ℕ)). ([], a .0 ∷ a .1)) (cut-no-link l (S-no-link h) ∙ ap (λ (b : List ℕ). (s ++ b, ss)) (r .before)) in
+    let ss = (splitAtLinks l) .1 in
+    let c : splitAtLinks (0x200D ∷ (s ++ l)) ≡ ([], (s ++ []) ∷ ss) =
+    cut-link (s ++ l) ∙ ap (λ (a : List ℕ × List (List ℕ)). ([], a .0 ∷ a .1))
+    (cut-no-link l (S-no-link h) ∙ ap (λ (b : List ℕ). (s ++ b, ss)) (r .before)) in
     let p : selectorsAt (s ++ []) ≡ s = run-all isSelector (S-passes h) at-end in
-    let q : behindSelectors (s ++ []) ≡ [] = behind-all isSelector (S-passes h) at-end in
+    let q : afterSelectors (s ++ []) ≡ [] = after-all isSelector (S-passes h) at-end in
     record {
       before = ap (λ (a : List ℕ × List (List ℕ)). a .0) c;
       flat = ap (λ (a : List ℕ × List (List ℕ)). flattenLinks (map linkOf (a .1))) c
@@ -137,22 +140,29 @@ link-more {s} {l} h r =
           ∙ ap (λ (b : List ℕ). joinOne (linkOf (s ++ [])) b ss (joinedOf ss)) q
           ∙ ap (λ (a : List ℕ × List (List ℕ)). ([], map linkOf (a .1))) (sym c);
       tags = link-tags l h ∙ ap (λ (a : List ℕ × List (List ℕ)). ([], withTags (a .0) (a .1))) (r .tags);
-      are = subst (LinksAre (0x200D ∷ (s ++ l))) (sym (ap (λ (a : List ℕ × List (List ℕ)). map linkOf (a .1)) c ∙ ap (λ (a : List ℕ). record { after = a } ∷ map linkOf ss) p)) (link-are h (r .are));
+      are = subst (LinksAre (0x200D ∷ (s ++ l)))
+          (sym (ap (λ (a : List ℕ × List (List ℕ)). map linkOf (a .1)) c ∙ ap (λ (a : List ℕ). record { after = a } ∷ map linkOf ss) p))
+          (link-are h (r .are));
     }
 
 links-read : {l : List ℕ} → Links l → LinksRead l
-unfolding cutAtLinks flattenLinks joinedOf tagRuns
+unfolding splitAtLinks flattenLinks joinedOf tagRuns
 links-read no-links = record { before = refl; flat = refl; left = refl; tags = refl; are = no-links-are }
 links-read (link-and (a-link h) l) = link-more h (links-read l)
 
 -- ---- units
 
-each-derives : {ms : List EmojiModification} → ModificationsOk ms → (m : EmojiModification) → List·Memᴰ m ms → Modification (flattenModification m)
+each-derives : {ms : List EmojiModification} → ModificationsOk ms → (m : EmojiModification) → List·Memᴰ m ms
+    → Modification (flattenModification m)
 unfolding flattenModification
 each-derives all-ok m i = absurd (List·Memᴰ·not-nil i)
-each-derives (modifier-ok e s h) m i = ⊎-elim (λ p. subst (λ (x : EmojiModification). Modification (flattenModification x)) (sym p) (by-modifier e s)) (λ j. each-derives h m j) (List·Memᴰ·cases-cons i)
-each-derives (keycap-ok s h) m i = ⊎-elim (λ p. subst (λ (x : EmojiModification). Modification (flattenModification x)) (sym p) (by-keycap s)) (λ j. each-derives h m j) (List·Memᴰ·cases-cons i)
-each-derives (tags-ok r h) m i = ⊎-elim (λ p. subst (λ (x : EmojiModification). Modification (flattenModification x)) (sym p) (by-tags (runs-derive r))) (λ j. each-derives h m j) (List·Memᴰ·cases-cons i)
+each-derives (modifier-ok e s h) m
+    i = ⊎-elim (λ p. subst (λ (x : EmojiModification). Modification (flattenModification x)) (sym p) (by-modifier e s))
+    (λ j. each-derives h m j) (List·Memᴰ·cases-cons i)
+each-derives (keycap-ok s h) m i = ⊎-elim (λ p. subst (λ (x : EmojiModification). Modification (flattenModification x)) (sym p)
+    (by-keycap s)) (λ j. each-derives h m j) (List·Memᴰ·cases-cons i)
+each-derives (tags-ok r h) m i = ⊎-elim (λ p. subst (λ (x : EmojiModification). Modification (flattenModification x)) (sym p)
+    (by-tags (runs-derive r))) (λ j. each-derives h m j) (List·Memᴰ·cases-cons i)
 
 unit-derives : {v : List ℕ} (r : UnitRead v) → UnitDerives (emojiLike (r .char) (r .rest))
 unit-derives r = subst UnitDerives (sym (r .like)) (record {
@@ -163,10 +173,10 @@ unit-derives r = subst UnitDerives (sym (r .like)) (record {
 -- ---- joined units and the links left over
 
 record JoinsRead (w : List ℕ) : Type 0 where
-  before : (cutAtLinks w) .0 ≡ []
+  before : (splitAtLinks w) .0 ≡ []
   joined : List ZwjJoinedEmoji
   left : List ZwjLink
-  parts : joinedOf ((cutAtLinks w) .1) ≡ (joined, left)
+  parts : joinedOf ((splitAtLinks w) .1) ≡ (joined, left)
   flat : flattenJoined joined ++ flattenLinks left ≡ w
   tags : tagRuns w ≡ ([], tagsOfJoined joined)
   joined-derive : (j : ZwjJoinedEmoji) → List·Memᴰ j joined → Link (flattenLink (j .link)) × UnitDerives (j .emoji)
@@ -178,12 +188,12 @@ unfolding flattenJoined tagsOfJoined
 no-joins {l} r = record {
   before = r .before;
   joined = [];
-  left = map linkOf ((cutAtLinks l) .1);
+  left = map linkOf ((splitAtLinks l) .1);
   parts = r .left;
   flat = r .flat;
   tags = r .tags;
   joined-derive = λ j m. absurd (List·Memᴰ·not-nil m);
-  left-derive = links-derive ((cutAtLinks l) .1);
+  left-derive = links-derive ((splitAtLinks l) .1);
   are = no-joins-are (r .are);
 }
 
@@ -191,14 +201,15 @@ one-join : {s v w : List ℕ} → S s → EmojiUnit v → JoinsRead w → JoinsR
 unfolding flattenJoined flattenLink joinedOf joinOne tagsOfJoined tagModifications withTags
 one-join {s} {v} {w} h d r =
     let u = unit-read d in
-    let ss = (cutAtLinks w) .1 in
+    let ss = (splitAtLinks w) .1 in
     let x : EmojiLike = emojiLike (u .char) (u .rest) in
     let st : Stops isSelector v = subst (Stops isSelector) (sym (u .split)) (at-char (emoji-no-selector (u .char) (u .is-emoji))) in
-    let c : cutAtLinks (0x200D ∷ (s ++ (v ++ w))) ≡ ([], (s ++ v) ∷ ss) =
+    let c : splitAtLinks (0x200D ∷ (s ++ (v ++ w))) ≡ ([], (s ++ v) ∷ ss) =
     cut-link (s ++ (v ++ w)) ∙ ap (λ (a : List ℕ × List (List ℕ)). ([], a .0 ∷ a .1)) (cut-no-link (v ++ w) (S-no-link h)
-    ∙ ap (λ (a : List ℕ × List (List ℕ)). (s ++ a .0, a .1)) (cut-no-link w (unit-no-link d) ∙ ap (λ (b : List ℕ). (b, ss)) (ap (λ (b : List ℕ). v ++ b) (r .before) ∙ append-nil v))) in
+    ∙ ap (λ (a : List ℕ × List (List ℕ)). (s ++ a .0, a .1))
+    (cut-no-link w (unit-no-link d) ∙ ap (λ (b : List ℕ). (b, ss)) (ap (λ (b : List ℕ). v ++ b) (r .before) ∙ append-nil v))) in
     let p : selectorsAt (s ++ v) ≡ s = run-all isSelector (S-passes h) st in
-    let q : behindSelectors (s ++ v) ≡ u .char ∷ u .rest = behind-all isSelector (S-passes h) st ∙ u .split in
+    let q : afterSelectors (s ++ v) ≡ u .char ∷ u .rest = after-all isSelector (S-passes h) st ∙ u .split in
     let l : ZwjLink = record { after = s } in
     record {
       before = ap (λ (a : List ℕ × List (List ℕ)). a .0) c;
@@ -208,9 +219,12 @@ one-join {s} {v} {w} h d r =
           ∙ ap₂ (λ (a b : List ℕ). joinOne (record { after = a }) b ss (joinedOf ss)) p q
           ∙ ap (λ (a : List ZwjJoinedEmoji × List ZwjLink). (record { link = l; emoji = x } ∷ a .0, a .1)) (r .parts);
       flat = ap (λ (a : List ℕ). 0x200D ∷ a) (append-assoc s (flattenUnit x ++ flattenJoined (r .joined)) (flattenLinks (r .left))
-          ∙ ap (λ (a : List ℕ). s ++ a) (append-assoc (flattenUnit x) (flattenJoined (r .joined)) (flattenLinks (r .left)) ∙ ap₂ (λ (a b : List ℕ). a ++ b) (unit-flatten u) (r .flat)));
-      tags = link-tags (v ++ w) h ∙ ap (λ (a : List ℕ × List (List ℕ)). ([], withTags (a .0) (a .1))) (unit-tags w (tagsOfJoined (r .joined)) (r .tags) u);
-      joined-derive = λ j m. ⊎-elim (λ e. subst (λ (y : ZwjJoinedEmoji). Link (flattenLink (y .link)) × UnitDerives (y .emoji)) (sym e) (a-link h, unit-derives u)) (λ i. r .joined-derive j i) (List·Memᴰ·cases-cons m);
+          ∙ ap (λ (a : List ℕ). s ++ a) (append-assoc (flattenUnit x) (flattenJoined (r .joined)) (flattenLinks (r .left))
+          ∙ ap₂ (λ (a b : List ℕ). a ++ b) (unit-flatten u) (r .flat)));
+      tags = link-tags (v ++ w) h ∙ ap (λ (a : List ℕ × List (List ℕ)). ([], withTags (a .0) (a .1)))
+          (unit-tags w (tagsOfJoined (r .joined)) (r .tags) u);
+      joined-derive = λ j m. ⊎-elim (λ e. subst (λ (y : ZwjJoinedEmoji). Link (flattenLink (y .link)) × UnitDerives (y .emoji)) (sym e)
+          (a-link h, unit-derives u)) (λ i. r .joined-derive j i) (List·Memᴰ·cases-cons m);
       left-derive = r .left-derive;
       are = join-are h d (r .are);
     }
@@ -218,7 +232,8 @@ one-join {s} {v} {w} h d r =
 joins-read : {j l : List ℕ} → JoinedUnits j → Links l → JoinsRead (j ++ l)
 joins-read no-units l = no-joins (links-read l)
 joins-read {l = l} (joined-and {v = v} {j = j} (a-link {s = s} h) d k) m =
-    subst JoinsRead (ap (λ (a : List ℕ). 0x200D ∷ a) (sym (append-assoc s (v ++ j) l ∙ ap (λ (a : List ℕ). s ++ a) (append-assoc v j l)))) (one-join h d (joins-read k m))
+    subst JoinsRead (ap (λ (a : List ℕ). 0x200D ∷ a) (sym (append-assoc s (v ++ j) l ∙ ap (λ (a : List ℕ). s ++ a) (append-assoc v j l))))
+    (one-join h d (joins-read k m))
 
 -- ---- items
 
@@ -236,12 +251,13 @@ sequence-read {v} {w} d r =
     let x : EmojiLike = emojiLike (u .char) (u .rest) in
     let e : structure (v ++ w) ≡ emojiHeaded x (r .joined) (r .left) =
     ap (λ (a : List ℕ × List (List ℕ)). sequenceOf (a .0) (a .1)) (cut-no-link w (unit-no-link d))
-    ∙ ap (λ (b : List ℕ). sequenceOf b ((cutAtLinks w) .1)) (ap (λ (b : List ℕ). v ++ b) (r .before) ∙ append-nil v ∙ u .split)
+    ∙ ap (λ (b : List ℕ). sequenceOf b ((splitAtLinks w) .1)) (ap (λ (b : List ℕ). v ++ b) (r .before) ∙ append-nil v ∙ u .split)
     ∙ ap (λ (a : List ZwjJoinedEmoji × List ZwjLink). emojiHeaded x (a .0) (a .1)) (r .parts) in
     record {
       flat = ap flatten e ∙ ap₂ (λ (a b : List ℕ). a ++ b) (unit-flatten u) (r .flat);
       derives = subst StructureDerives (sym e) (unit-derives u, r .joined-derive, r .left-derive);
-      tags = ap (λ (a : List ℕ × List (List ℕ)). withTags (a .0) (a .1)) (unit-tags w (tagsOfJoined (r .joined)) (r .tags) u) ∙ sym (ap tagsOf e);
+      tags = ap (λ (a : List ℕ × List (List ℕ)). withTags (a .0) (a .1)) (unit-tags w (tagsOfJoined (r .joined)) (r .tags) u)
+          ∙ sym (ap tagsOf e);
       are = subst (SequenceAre (v ++ w)) (sym e) (emoji-are d (r .are));
     }
 
@@ -252,10 +268,11 @@ pub links-only-read : {t : List ℕ} → Derives LinksOnly t → StructureRead t
 unfolding structure sequenceOf flatten tagsOf tagModifications withTags StructureDerives
 links-only-read {t} (links-only a l) =
     let r = links-read (link-and a l) in
-    let e : structure t ≡ linksOnly (map linkOf ((cutAtLinks t) .1)) = ap (λ (b : List ℕ). sequenceOf b ((cutAtLinks t) .1)) (r .before) in
+    let e : structure t ≡ linksOnly (map linkOf ((splitAtLinks t) .1)) = ap (λ (b : List ℕ). sequenceOf b ((splitAtLinks t) .1))
+    (r .before) in
     record {
       flat = ap flatten e ∙ r .flat;
-      derives = subst StructureDerives (sym e) (links-derive ((cutAtLinks t) .1));
+      derives = subst StructureDerives (sym e) (links-derive ((splitAtLinks t) .1));
       tags = ap (λ (b : List ℕ × List (List ℕ)). withTags (b .0) (b .1)) (r .tags) ∙ sym (ap tagsOf e);
       are = subst (SequenceAre t) (sym e) (links-are (r .are));
     }

@@ -6,17 +6,39 @@ use Prim.Native.Nat.{ℕ}
 use Rattle.unicode.specs.Presentation.{isSelector}
 use Rattle.unicode.specs.Unicode.{isTag}
 use Rattle.scanner.specs.Runs.{inTags, run, tagModificationAt}
-use Rattle.scanner.specs.Structure.{EmojiModification, EmojiTagRun, TagModifier, flattenModification, flattenModifications, flattenRuns, modificationsOf, tagToModifications, tagToRuns, toModifications}
+use Rattle.scanner.specs.Structure.{
+  EmojiModification,
+  EmojiTagRun,
+  TagModifier,
+  flattenModification,
+  flattenModifications,
+  flattenRuns,
+  modificationsOf,
+  tagToModifications,
+  tagToRuns,
+  toModifications,
+}
 use Rattle.base.proofs.Tests.{either-left, either-true}
 use Rattle.scanner.proofs.Classes.{is-selector, is-tag}
-use Rattle.scanner.proofs.Modifications.{ModFront, ModRun, front-none, front-tag, modifications-flatten, of-class, run-end, run-selector, run-tag}
+use Rattle.scanner.proofs.Modifications.{
+  ModFront,
+  ModRun,
+  front-none,
+  front-tag,
+  modifications-flatten,
+  of-class,
+  run-end,
+  run-selector,
+  run-tag,
+}
 use Rattle.scanner.proofs.Runs.{Passes, all-pass, pass-and, run-passes, run-true}
 use mathlib.Core.Logic.{⊎-elim}
 
 pub of-selectors : {s : List ℕ} → Passes isSelector s → modificationsOf s ≡ (s, [])
 unfolding modificationsOf toModifications
 of-selectors all-pass = refl
-of-selectors (pass-and {c = c} {s = s} e h) = of-class s (is-selector e) ∙ ap (λ (r : List ℕ × List EmojiModification). (c ∷ r .0, r .1)) (of-selectors h)
+of-selectors (pass-and {c = c} {s = s} e h) = of-class s (is-selector e) ∙ ap (λ (r : List ℕ × List EmojiModification). (c ∷ r .0, r .1))
+    (of-selectors h)
 
 -- At most one tag modification.
 data OneTags : List EmojiModification → Type 0 where
@@ -31,7 +53,8 @@ pub record OfTags (s : List ℕ) : Type 0 where
 
 passes-run : {s : List ℕ} → Passes inTags s → ModRun s
 passes-run all-pass = run-end
-passes-run (pass-and {c = c} e h) = ⊎-elim (λ t. run-tag t (passes-run h)) (λ t. run-selector t (passes-run h)) (either-true (isTag c) (isSelector c) e)
+passes-run (pass-and {c = c} e h) = ⊎-elim (λ t. run-tag t (passes-run h)) (λ t. run-selector t (passes-run h))
+    (either-true (isTag c) (isSelector c) e)
 
 tag-more : (c : ℕ) (s : List ℕ) {ms : List EmojiModification} → OneTags ms → OneTags (tagToModifications c s ms)
 unfolding tagToModifications
@@ -42,7 +65,8 @@ one-tags : {s : List ℕ} → Passes inTags s → OneTags ((modificationsOf s) .
 unfolding modificationsOf toModifications
 one-tags all-pass = no-tags
 one-tags (pass-and {c = c} {s = s} e h) =
-    ⊎-elim (λ t. rw (of-class s (is-tag t)) (tag-more c ((modificationsOf s) .0) (one-tags h))) (λ t. rw (of-class s (is-selector t)) (one-tags h))
+    ⊎-elim (λ t. rw (of-class s (is-tag t)) (tag-more c ((modificationsOf s) .0) (one-tags h)))
+    (λ t. rw (of-class s (is-selector t)) (one-tags h))
     (either-true (isTag c) (isSelector c) e)
 
 -- Where a tag stands at the front.
@@ -61,7 +85,8 @@ of-tags c t e = go ((modificationsOf s) .1) refl (one-tags passes)
 
     whole : flattenModifications ((modificationsOf s) .1) ≡ s
     whole =
-        ap (λ (l : List ℕ). l ++ flattenModifications ((modificationsOf s) .1)) (sym (front-none (subst ModFront (sym begins) (front-tag e))))
+        ap (λ (l : List ℕ). l ++ flattenModifications ((modificationsOf s) .1))
+        (sym (front-none (subst ModFront (sym begins) (front-tag e))))
         ∙ modifications-flatten (passes-run passes)
 
     go : (ms : List EmojiModification) → (modificationsOf s) .1 ≡ ms → OneTags ms → OfTags s

@@ -1,4 +1,4 @@
--- The tags of each tag modification, taken from an item's characters: behind links, stems and modifications.
+-- The tags of each tag modification, taken from an item's characters: after links, stems and modifications.
 use mathlib.Core.Path.{_≡_, refl, ap, ap₂, sym, _∙_}
 use mathlib.Core.Bool.{true, false, true≢false}
 use mathlib.Core.List.{List, [], _∷_, _++_, append-assoc}
@@ -85,7 +85,8 @@ unfolding isTag isSelector
 link-tags {s} t h = tag-runs-other 0x200D (s ++ t) refl refl ∙ ap (λ (l : List (List ℕ)). ([], l)) (tag-modifications-S t h)
 
 emoji-tags : (c : ℕ) {s : List ℕ} (t : List ℕ) → isEmoji c ≡ true → S s → tagRuns (c ∷ (s ++ t)) ≡ ([], tagModifications t)
-emoji-tags c {s} t e h = tag-runs-other c (s ++ t) (emoji-no-tag c e) (emoji-no-selector c e) ∙ ap (λ (l : List (List ℕ)). ([], l)) (tag-modifications-S t h)
+emoji-tags c {s} t e h = tag-runs-other c (s ++ t) (emoji-no-tag c e) (emoji-no-selector c e)
+    ∙ ap (λ (l : List (List ℕ)). ([], l)) (tag-modifications-S t h)
 
 stem-tags : {s : List ℕ} (t : List ℕ) → Stem s → tagRuns (s ++ t) ≡ ([], tagModifications t)
 unfolding tagModifications withTags
@@ -119,7 +120,8 @@ unfolding tagsOfRuns
 runs-some l (one-run t a) = tags-some [] l t
 runs-some l (run-and {rs = rs} t e a h) = tags-some (tagsOfRuns rs) l t
 
-with-front : {ms : List EmojiModification} (l : List (List ℕ)) → ModificationsOk ms → withTags (frontTags ms) (laterTags ms ++ l) ≡ tagsOfModifications ms ++ l
+with-front : {ms : List EmojiModification} (l : List (List ℕ)) → ModificationsOk ms → withTags (frontTags ms) (laterTags ms ++ l)
+    ≡ tagsOfModifications ms ++ l
 unfolding withTags frontTags laterTags tagsOfModifications
 with-front l all-ok = refl
 with-front l (modifier-ok e s h) = refl
@@ -157,7 +159,8 @@ module _ (w : List ℕ) (l : List (List ℕ)) (e : tagRuns w ≡ ([], l)) where
   unfolding tagModifications
   other-before c t p q h i =
       tag-runs-other c (t ++ w) p q
-      ∙ ap (λ (r : List ℕ × List (List ℕ)). ([], withTags (r .0) (r .1))) i ∙ ap (λ (x : List (List ℕ)). ([], x)) (with-front l (modifications-ok h .1))
+      ∙ ap (λ (r : List ℕ × List (List ℕ)). ([], withTags (r .0) (r .1))) i
+      ∙ ap (λ (x : List (List ℕ)). ([], x)) (with-front l (modifications-ok h .1))
 
   run-tags : {t : List ℕ} → ModRun t → TagsBefore t ((modificationsOf t) .1)
   unfolding modificationsOf toModifications frontTags laterTags isTag isSelector
@@ -175,12 +178,14 @@ module _ (w : List ℕ) (l : List (List ℕ)) (e : tagRuns w ≡ ([], l)) where
 
   -- ---- a unit
 
-  pub unit-tags : {v : List ℕ} (r : UnitRead v) → tagRuns (v ++ w) ≡ ([], tagsOfModifications ((emojiLike (r .char) (r .rest)) .modifiers) ++ l)
+  pub unit-tags : {v : List ℕ} (r : UnitRead v) → tagRuns (v ++ w)
+      ≡ ([], tagsOfModifications ((emojiLike (r .char) (r .rest)) .modifiers) ++ l)
   unfolding tagModifications
   unit-tags r =
       let m = r .modifications in
       let h = modifications-run (r .modifications-derive) in
-      ap (λ (x : List ℕ). tagRuns (x ++ w)) (r .whole) ∙ ap tagRuns (append-assoc (flattenStem (r .stem)) m w) ∙ stem-tags (m ++ w) (r .stem-derives)
+      ap (λ (x : List ℕ). tagRuns (x ++ w)) (r .whole) ∙ ap tagRuns (append-assoc (flattenStem (r .stem)) m w)
+      ∙ stem-tags (m ++ w) (r .stem-derives)
       ∙ ap (λ (a : List ℕ × List (List ℕ)). ([], withTags (a .0) (a .1))) (run-tags h)
       ∙ ap (λ (x : List (List ℕ)). ([], x)) (with-front l (modifications-ok h .1))
       ∙ ap (λ (u : EmojiLike). ([], tagsOfModifications (u .modifiers) ++ l)) (sym (r .like))

@@ -13,7 +13,20 @@ use Rattle.utf8.specs.Rfc3629.{chars}
 use Rattle.unicode.specs.Presentation.{isSelector}
 use Rattle.unicode.specs.Unicode.{isTag}
 use Rattle.scanner.specs.Classes.{Class, selector, link, ri, modifier, emoji, keycap, tag, other, classOf}
-use Rattle.scanner.specs.Items.{Place, plain, selectors, links, oneRi, unit, joined, leftOver, begin, beginsTags, kindOf, step}
+use Rattle.scanner.specs.Items.{
+  State,
+  plain,
+  selectors,
+  links,
+  oneRi,
+  unit,
+  joined,
+  leftOver,
+  startState,
+  beginsTags,
+  kindOf,
+  transition,
+}
 use Rattle.scanner.specs.Runs.{inTags, run}
 use Rattle.scanner.specs.Tags.{allComplete, complete, tagModifications, tagRuns, tagsComplete, withTags}
 use Rattle.scanner.specs.declared.ScanKind.{ScanKind}
@@ -22,7 +35,7 @@ use Rattle.scanner.proofs.ClassTests.{forSelector, forTag, selector-tes
 use Rattle.scanner.proofs.Complete.{complete-end, complete-other, complete-selector, complete-start, complete-tag, completeFrom}
 use Rattle.scanner.proofs.Complete.{last-of}
 use Rattle.scanner.proofs.Peek.{Seen, Unseen}
-use Rattle.scanner.proofs.Places.{headed, headed-step, tag-step}
+use Rattle.scanner.proofs.States.{headed, headed-step, tag-step}
 use Rattle.scanner.proofs.Runs.{Passes, all-pass, pass-and, Stops, at-char, at-end, run-false, run-true}
 use Rattle.scanner.proofs.Tags.{tag-runs-other, tag-runs-selector}
 
@@ -98,7 +111,7 @@ both-parts {t = t} ts (pass-and {c = c} {s = s} e h) f =
     ∙ ap (λ (b : Bool). b && completeFrom [] t) (sym (complete-selector ts c s g)))
     (either-true (isTag c) (isSelector c) e)
 
--- Behind a tag modification stands what is neither tag nor selector.
+-- After a tag modification stands what is neither tag nor selector.
 pub tags-then : {s t : List ℕ} → Passes inTags s → Stops inTags t
     → allComplete (tagModifications (s ++ t)) ≡ (allComplete (tagModifications s) && allComplete (tagModifications t))
 tags-then {s} {t} h f = complete-start (s ++ t) ∙ both-parts [] h f
@@ -118,7 +131,7 @@ other-tags c t e = go (isSelector c) refl
 abbrev tagsIn : Bool → List ℕ → Bool
 tagsIn b s = cond b (allComplete (tagModifications s)) true
 
-tags-by : (p : Place) (s : List ℕ) → tagsComplete (kindOf p) s ≡ tagsIn (headed p) s
+tags-by : (p : State) (s : List ℕ) → tagsComplete (kindOf p) s ≡ tagsIn (headed p) s
 unfolding tagsComplete kindOf
 tags-by plain s = refl
 tags-by selectors s = refl
@@ -128,7 +141,7 @@ tags-by unit s = refl
 tags-by joined s = refl
 tags-by leftOver s = refl
 
-pub tags-headed : (p : Place) (s : List ℕ) → headed p ≡ true → tagsComplete (kindOf p) s ≡ allComplete (tagModifications s)
+pub tags-headed : (p : State) (s : List ℕ) → headed p ≡ true → tagsComplete (kindOf p) s ≡ allComplete (tagModifications s)
 tags-headed p s h = tags-by p s ∙ ap (λ (b : Bool). tagsIn b s) h
 
 pub tags-nil : (k : ScanKind) → tagsComplete k [] ≡ true
@@ -139,7 +152,7 @@ tags-nil LinksOnly = refl
 tags-nil EmojiHeaded = refl
 
 -- A tag with which no tag modification begins stands in no emoji-headed item.
-no-tag : (p q : Place) (k : Class) → step p k ≡ some q → headed p ≡ true → beginsTags q k ≡ false → forTag k ≡ false
+no-tag : (p q : State) (k : Class) → transition p k ≡ some q → headed p ≡ true → beginsTags q k ≡ false → forTag k ≡ false
 unfolding beginsTags
 no-tag p q selector e h b = refl
 no-tag p q link e h b = refl
@@ -147,10 +160,10 @@ no-tag p q ri e h b = refl
 no-tag p q modifier e h b = refl
 no-tag p q emoji e h b = refl
 no-tag p q keycap e h b = refl
-no-tag p q tag e h b = absurd (true≢false (sym (ap (λ (r : Place). beginsTags r tag) (tag-step p q e h)) ∙ b))
+no-tag p q tag e h b = absurd (true≢false (sym (ap (λ (r : State). beginsTags r tag) (tag-step p q e h)) ∙ b))
 no-tag p q other e h b = refl
 
-pub tags-on : (p q : Place) {k : Class} (c : ℕ) (s : List ℕ) → k ≡ classOf c → step p k ≡ some q → beginsTags q k ≡ false
+pub tags-on : (p q : State) {k : Class} (c : ℕ) (s : List ℕ) → k ≡ classOf c → transition p k ≡ some q → beginsTags q k ≡ false
     → tagsComplete (kindOf p) (c ∷ s) ≡ tagsComplete (kindOf q) s
 tags-on p q {k} c s i e b = tags-by p (c ∷ s) ∙ go (headed p) refl ∙ ap (λ (h : Bool). tagsIn h s) (headed-step p q k e) ∙ sym (tags-by q s)
   where
@@ -159,14 +172,15 @@ tags-on p q {k} c s i e b = tags-by p (c ∷ s) ∙ go (headed p) refl ∙ ap (�
     go false f = refl
 
 -- The first character of an emoji-headed item is no tag.
-pub first-tags : (c : ℕ) (s : List ℕ) → tagsComplete (kindOf (begin (classOf c))) (c ∷ s) ≡ tagsComplete (kindOf (begin (classOf c))) s
-unfolding tagsComplete kindOf begin
+pub first-tags : (c : ℕ) (s : List ℕ) → tagsComplete (kindOf (startState (classOf c))) (c ∷ s)
+    ≡ tagsComplete (kindOf (startState (classOf c))) s
+unfolding tagsComplete kindOf startState
 first-tags c s = go (classOf c) refl
   where
     headed-first : forTag (classOf c) ≡ false → allComplete (tagModifications (c ∷ s)) ≡ allComplete (tagModifications s)
     headed-first e = ap allComplete (other-tags c s (tag-test c ∙ e))
 
-    go : (k : Class) → classOf c ≡ k → tagsComplete (kindOf (begin k)) (c ∷ s) ≡ tagsComplete (kindOf (begin k)) s
+    go : (k : Class) → classOf c ≡ k → tagsComplete (kindOf (startState k)) (c ∷ s) ≡ tagsComplete (kindOf (startState k)) s
     go selector e = refl
     go link e = refl
     go ri e = headed-first (ap forTag e)

@@ -16,7 +16,8 @@ use Rattle.scanner.specs.TextCheck.{textRefusal}
 abbrev pub byTextTests : Bool → Bool → List ℕ → Option Refusal
 byTextTests short formed text = cond (not short) (some TextTooLong) (cond (not formed) (some (NotWellFormed (validUpTo text))) none)
 
-pub text-is : (text : List ℕ) {a f : Bool} → leb (length text) textLimit ≡ a → eqb (validUpTo text) (length text) ≡ f → textRefusal text ≡ byTextTests a f text
+pub text-is : (text : List ℕ) {a f : Bool} → leb (length text) textLimit ≡ a → eqb (validUpTo text) (length text) ≡ f → textRefusal text
+    ≡ byTextTests a f text
 unfolding textRefusal
 text-is text {a} {f} p r =
     ap (λ (t : Bool). byTextTests t (eqb (validUpTo text) (length text)) text) p ∙ ap (λ (t : Bool). byTextTests a t text) r

@@ -12,8 +12,24 @@ use Rattle.base.proofs.Tests.{either-left, either-right, either-true, fails}
 use Rattle.utf8.specs.Rfc3629.{chars}
 use Rattle.unicode.specs.Presentation.{isSelector}
 use Rattle.unicode.specs.Unicode.{isEmojiModifier, isRi, isTag}
-use Rattle.scanner.specs.Grammar.{EmojiUnit, unit-of, Modification, by-keycap, by-modifier, by-tags, Modifications, modified, unmodified, S, no-selectors, flag, single, one-group, one-tag}
-use Rattle.scanner.specs.Parts.{stemBehind, stemFrom, stemRead, unitFrom}
+use Rattle.scanner.specs.Grammar.{
+  EmojiUnit,
+  unit-of,
+  Modification,
+  by-keycap,
+  by-modifier,
+  by-tags,
+  Modifications,
+  modified,
+  unmodified,
+  S,
+  no-selectors,
+  flag,
+  single,
+  one-group,
+  one-tag,
+}
+use Rattle.scanner.specs.Parts.{stemAfter, stemFrom, stemRead, unitFrom}
 use Rattle.scanner.specs.Runs.{inModifications, isModification, modificationsAt}
 use Rattle.scanner.specs.Spans.{size, width}
 use Rattle.scanner.specs.Structure.{
@@ -34,7 +50,18 @@ use Rattle.scanner.proofs.Classes.{emoji-no-selector, ri-emoji}
 use Rattle.scanner.proofs.CursorWalks.{modifications-walk}
 use Rattle.scanner.proofs.EmojiRuns as EmojiRuns
 use Rattle.scanner.proofs.ModificationWalks.{mods-read}
-use Rattle.scanner.proofs.Modifications.{ModRun, front-none, modifications-flatten, modifications-front, modifications-run, run-end, run-keycap, run-modifier, run-selector, run-tag}
+use Rattle.scanner.proofs.Modifications.{
+  ModRun,
+  front-none,
+  modifications-flatten,
+  modifications-front,
+  modifications-run,
+  run-end,
+  run-keycap,
+  run-modifier,
+  run-selector,
+  run-tag,
+}
 use Rattle.scanner.proofs.Rescan.{size-append}
 use Rattle.scanner.proofs.Runs.{Passes, all-pass, pass-and, Stops, at-char, at-end, run-all}
 use Rattle.scanner.proofs.Units.{front-no-ri, front-stops, like-flag, like-of, like-single, unit-read}
@@ -49,7 +76,8 @@ pub record Last (v r : List ℕ) : Type 0 where
 
 modifications-append : {s m : List ℕ} → Modifications s → Modification m → Modifications (s ++ m)
 modifications-append {m = m} unmodified h = subst Modifications (append-nil m) (modified h unmodified)
-modifications-append {m = m} (modified {s = s} {t = t} a k) h = subst Modifications (sym (append-assoc s t m)) (modified a (modifications-append k h))
+modifications-append {m = m} (modified {s = s} {t = t} a k) h = subst Modifications (sym (append-assoc s t m))
+    (modified a (modifications-append k h))
 
 unit-more : {v m : List ℕ} → EmojiUnit v → Modification m → EmojiUnit (v ++ m)
 unit-more {m = n} (unit-of {s = s} {m = m} a b) h = subst EmojiUnit (sym (append-assoc s m n)) (unit-of a (modifications-append b h))
@@ -58,21 +86,23 @@ one-modification : (c : ℕ) → isModification c ≡ true → Modification (c �
 unfolding isModification
 one-modification c e =
     ⊎-elim (λ m. by-modifier m no-selectors)
-    (λ o. ⊎-elim (λ k. subst (λ (x : ℕ). Modification (x ∷ [])) (sym (eqb-true c 0x20E3 k)) (by-keycap no-selectors)) (λ t. by-tags (one-group (one-tag t) no-selectors)) (either-true (eqb c 0x20E3) (isTag c) o))
+    (λ o. ⊎-elim (λ k. subst (λ (x : ℕ). Modification (x ∷ [])) (sym (eqb-true c 0x20E3 k)) (by-keycap no-selectors))
+    (λ t. by-tags (one-group (one-tag t) no-selectors)) (either-true (eqb c 0x20E3) (isTag c) o))
     (either-true (isEmojiModifier c) (eqb c 0x20E3 || isTag c) e)
 
--- Behind the unit no modification goes on ..
+-- After the unit no modification goes on ..
 last-stops : {v : List ℕ} (r : List ℕ) → EmojiUnit v → Last v r → Stops inModifications r
 last-stops [] u l = at-end
 last-stops (c ∷ t) u l = go (l .no-selector)
   where
     go : Stops isSelector (c ∷ t) → Stops inModifications (c ∷ t)
-    go (at-char f) = at-char (ap₂ (λ (x y : Bool). x || y) (fails (isModification c) (λ e. l .no-more c t refl (unit-more u (one-modification c e)))) f)
+    go (at-char f) = at-char (ap₂ (λ (x y : Bool). x || y)
+        (fails (isModification c) (λ e. l .no-more c t refl (unit-more u (one-modification c e)))) f)
 
--- .. and behind a lone RI there is no RI.
-no-ri-behind : {c : ℕ} {s : List ℕ} (r : List ℕ) → isRi c ≡ true → S s → Last ((c ∷ s) ++ []) r → Stops isRi r
-no-ri-behind [] e h l = at-end
-no-ri-behind {c} {s} (d ∷ t) e h l =
+-- .. and after a lone RI there is no RI.
+no-ri-after : {c : ℕ} {s : List ℕ} (r : List ℕ) → isRi c ≡ true → S s → Last ((c ∷ s) ++ []) r → Stops isRi r
+no-ri-after [] e h l = at-end
+no-ri-after {c} {s} (d ∷ t) e h l =
     at-char
     (fails (isRi d) (λ f. l .no-more d t refl (subst EmojiUnit
     (append-nil (c ∷ (s ++ d ∷ [])) ∙ ap (λ (x : List ℕ). (c ∷ x) ++ d ∷ []) (sym (append-nil s)))
@@ -90,15 +120,16 @@ unit-stem at r (unit-of {m = m} (single {c = c} {s = s} e h) d) l =
     let front = modifications-front d in
     let p : Stops isSelector (m ++ r) = stops-append (front-stops front) (λ _. l .no-selector) in
     ap (λ (t : List ℕ). stemRead at (c ∷ t)) (append-assoc s m r) ∙ stem-emoji at c (s ++ (m ++ r)) true e
-    ∙ ap (λ (u : EmojiLike). stemBehind (at + width c) (u .stem))
+    ∙ ap (λ (u : EmojiLike). stemAfter (at + width c) (u .stem))
     (like-of c h p
-    ∙ like-single c s (m ++ r) (isRi c) refl (λ i. stops-append (front-no-ri front) (λ n. no-ri-behind r i h (subst (λ (x : List ℕ). Last ((c ∷ s) ++ x) r) n l))))
+    ∙ like-single c s (m ++ r) (isRi c) refl
+    (λ i. stops-append (front-no-ri front) (λ n. no-ri-after r i h (subst (λ (x : List ℕ). Last ((c ∷ s) ++ x) r) n l))))
 unit-stem at r (unit-of {m = m} (flag {s = s} {t = t} a b e h f k) d) l =
     let p : Stops isSelector (m ++ r) = stops-append (front-stops (modifications-front d)) (λ _. l .no-selector) in
     ap (λ (x : List ℕ). stemRead at (a ∷ x))
     (append-assoc (s ++ b ∷ t) m r ∙ append-assoc s (b ∷ t) (m ++ r))
     ∙ stem-emoji at a (s ++ b ∷ (t ++ (m ++ r))) true (ri-emoji a e)
-    ∙ ap (λ (u : EmojiLike). stemBehind (at + width a) (u .stem))
+    ∙ ap (λ (u : EmojiLike). stemAfter (at + width a) (u .stem))
     (like-of a h (at-char (emoji-no-selector b (ri-emoji b f))) ∙ like-flag a s b t (m ++ r) e f k p)
 
 from-some : (at : ℕ) (s : EmojiStem) → stemFrom at s ≡ Value.NoStem → ⊥
@@ -107,7 +138,7 @@ from-some at (SingletonBase c s) e = no-stem (at + width c) (SingletonBase c s) 
 from-some at (Flag a s b t) e = no-stem (at + width a) (Flag a s b t) e
 
 from-end : (at : ℕ) (s : EmojiStem) → at + size width (flattenStem s) ≡ stemEnd at (stemFrom at s)
-unfolding stemFrom stemBehind flattenStem
+unfolding stemFrom stemAfter flattenStem
 from-end at (SingletonBase c s) = omega arith
 from-end at (Flag a s b t) = omega (arith, size-append width s (b ∷ t))
 
@@ -117,10 +148,13 @@ run-in : {m : List ℕ} → ModRun m → Passes inModifications m
 unfolding isModification
 run-in run-end = all-pass
 run-in (run-selector {c = c} e h) = pass-and (either-right (isModification c) (isSelector c) e) (run-in h)
-run-in (run-modifier {c = c} e h) = pass-and (either-left (isModification c) (isSelector c) (either-left (isEmojiModifier c) (eqb c 0x20E3 || isTag c) e)) (run-in h)
-run-in (run-keycap h) = pass-and (either-left (isModification 0x20E3) (isSelector 0x20E3) (either-right (isEmojiModifier 0x20E3) true refl)) (run-in h)
+run-in (run-modifier {c = c} e h) = pass-and
+    (either-left (isModification c) (isSelector c) (either-left (isEmojiModifier c) (eqb c 0x20E3 || isTag c) e)) (run-in h)
+run-in (run-keycap h) = pass-and (either-left (isModification 0x20E3) (isSelector 0x20E3) (either-right (isEmojiModifier 0x20E3) true refl))
+    (run-in h)
 run-in (run-tag {c = c} e h) =
-    pass-and (either-left (isModification c) (isSelector c) (either-right (isEmojiModifier c) (eqb c 0x20E3 || isTag c) (either-right (eqb c 0x20E3) (isTag c) e))) (run-in h)
+    pass-and (either-left (isModification c) (isSelector c)
+    (either-right (isEmojiModifier c) (eqb c 0x20E3 || isTag c) (either-right (eqb c 0x20E3) (isTag c) e))) (run-in h)
 
 -- ---- the unit
 
@@ -136,15 +170,21 @@ unit-walk {v} text at r d l e =
     let stops = last-stops r d l in
     let front = modifications-front (u .modifications-derive) in
     let flow = modifications-run (u .modifications-derive) in
-    let flat : flattenModifications ms ≡ m = ap (λ (y : List ℕ). y ++ flattenModifications ms) (sym (front-none front)) ∙ modifications-flatten flow in
-    let whole : chars (drop at text) ≡ flattenStem (u .stem) ++ (m ++ r) = e ∙ ap (λ (y : List ℕ). y ++ r) (u .whole) ∙ append-assoc (flattenStem (u .stem)) m r in
+    let flat : flattenModifications ms ≡ m = ap (λ (y : List ℕ). y ++ flattenModifications ms) (sym (front-none front))
+    ∙ modifications-flatten flow in
+    let whole : chars (drop at text) ≡ flattenStem (u .stem) ++ (m ++ r) = e ∙ ap (λ (y : List ℕ). y ++ r) (u .whole)
+    ∙ append-assoc (flattenStem (u .stem)) m r in
     let on : chars (drop start text) ≡ m ++ r = chars-from text at (flattenStem (u .stem)) (m ++ r) whole in
-    let all : modificationsAt (m ++ r) ≡ m = EmojiRuns.modifications-run (stops-append (front-stops front) (λ _. l .no-selector)) ∙ run-all inModifications (run-in flow) stops in
+    let all : modificationsAt (m ++ r) ≡ m = EmojiRuns.modifications-run (stops-append (front-stops front) (λ _. l .no-selector))
+    ∙ run-all inModifications (run-in flow) stops in
     let n : size width (flattenUnit x) ≡ size width (flattenStem (u .stem)) + size width m =
-    size-append width (flattenStem (u .stem)) (flattenModifications ms) ∙ ap (λ (y : List ℕ). size width (flattenStem (u .stem)) + size width y) flat in
+    size-append width (flattenStem (u .stem)) (flattenModifications ms)
+    ∙ ap (λ (y : List ℕ). size width (flattenStem (u .stem)) + size width y) flat in
     let i = mods-read flow stops in
     subst (UnitWalk text at) (sym (u .like)) (record {
-      unit = sym (unit-on text at {m = stemFrom at (u .stem)} (sym (ap (stemRead at) e ∙ unit-stem at r d l)) (from-some at (u .stem)) (from-end at (u .stem))
+      unit = sym (unit-on text at {m = stemFrom at (u .stem)} (sym (ap (stemRead at) e ∙ unit-stem at r d l)) (from-some at (u .stem))
+          (from-end at (u .stem))
           (omega (arith, n, ap (λ (y : List ℕ). size width (modificationsAt y)) on, ap (size width) all)));
-      modifications = modifications-walk text (at + size width (flattenUnit x)) start (i .mods) (on ∙ i .whole ∙ ap (λ (y : List ℕ). y ++ i .rest) (front-none front)) (omega (arith, n, ap (size width) flat));
+      modifications = modifications-walk text (at + size width (flattenUnit x)) start (i .mods)
+          (on ∙ i .whole ∙ ap (λ (y : List ℕ). y ++ i .rest) (front-none front)) (omega (arith, n, ap (size width) flat));
     })

@@ -11,13 +11,13 @@ use Rattle.unicode.specs.Tables.{inRanges}
 use Rattle.unicode.specs.Unicode.{isEmoji, isRi}
 use Rattle.unicode.specs.UnicodeData.{riRanges}
 use Rattle.scanner.specs.Grammar.{S, no-selectors, selector-and, Stem, flag, single, Modifications, EmojiUnit, unit-of}
-use Rattle.scanner.specs.Runs.{behindSelectors, selectorsAt}
+use Rattle.scanner.specs.Runs.{afterSelectors, selectorsAt}
 use Rattle.scanner.specs.Structure.{
   EmojiLike,
   EmojiStem,
   Flag,
   SingletonBase,
-  behindSecondRi,
+  afterSecondRi,
   emojiLike,
   flattenModifications,
   flattenStem,
@@ -35,7 +35,7 @@ use Rattle.scanner.proofs.Classes.{
   tag-no-ri,
   tag-no-selector,
 }
-use Rattle.scanner.proofs.Runs.{Stops, at-char, at-end, S-passes, run-all, behind-all}
+use Rattle.scanner.proofs.Runs.{Stops, at-char, at-end, S-passes, run-all, after-all}
 use Rattle.scanner.proofs.Modifications.{
   ModFront,
   front-end,
@@ -54,7 +54,7 @@ use Rattle.scanner.proofs.Modifications.{
   modifications-run,
 }
 
--- ---- behind a stem stand no selector and no RI
+-- ---- after a stem stand no selector and no RI
 
 pub front-stops : {m : List ℕ} → ModFront m → Stops isSelector m
 unfolding isSelector
@@ -70,43 +70,59 @@ front-no-ri (front-modifier {c = c} e) = at-char (modifier-no-ri c e)
 front-no-ri front-keycap = at-char refl
 front-no-ri (front-tag {c = c} e) = at-char (tag-no-ri c e)
 
-no-second : (a : ℕ) (s : List ℕ) {m : List ℕ} → Stops isRi m → (riStem a s m ≡ SingletonBase a s) × (behindSecondRi m ≡ m)
-unfolding riStem behindSecondRi
+no-second : (a : ℕ) (s : List ℕ) {m : List ℕ} → Stops isRi m → (riStem a s m ≡ SingletonBase a s) × (afterSecondRi m ≡ m)
+unfolding riStem afterSecondRi
 no-second a s at-end = (refl, refl)
-no-second a s (at-char {c = c} {s = t} e) = (ap (λ (b : Bool). cond b (Flag a s c (selectorsAt t)) (SingletonBase a s)) e, ap (λ (b : Bool). cond b (behindSelectors t) (c ∷ t)) e)
+no-second a s (at-char {c = c} {s = t} e) =
+    (ap (λ (b : Bool). cond b (Flag a s c (selectorsAt t)) (SingletonBase a s)) e, ap (λ (b : Bool). cond b (afterSelectors t) (c ∷ t)) e)
 
 second : (a : ℕ) (s : List ℕ) (b : ℕ) {t m : List ℕ} → isRi b ≡ true → S t → Stops isSelector m
-    → (riStem a s (b ∷ (t ++ m)) ≡ Flag a s b t) × (behindSecondRi (b ∷ (t ++ m)) ≡ m)
-unfolding riStem behindSecondRi
+    → (riStem a s (b ∷ (t ++ m)) ≡ Flag a s b t) × (afterSecondRi (b ∷ (t ++ m)) ≡ m)
+unfolding riStem afterSecondRi
 second a s b {t} {m} e h p = (
   ap (λ (x : Bool). cond x (Flag a s b (selectorsAt (t ++ m))) (SingletonBase a s)) e ∙ ap (Flag a s b) (run-all isSelector (S-passes h) p),
-  ap (λ (x : Bool). cond x (behindSelectors (t ++ m)) (b ∷ (t ++ m))) e ∙ behind-all isSelector (S-passes h) p,
+  ap (λ (x : Bool). cond x (afterSelectors (t ++ m)) (b ∷ (t ++ m))) e ∙ after-all isSelector (S-passes h) p,
 )
 
--- ---- the unit of a character, the selectors behind it and what follows these
+-- ---- the unit of a character, the selectors after it and what follows these
 
 abbrev pub likeOf : ℕ → List ℕ → List ℕ → EmojiLike
 likeOf c s m = record {
   stem = cond (isRi c) (riStem c s m) (SingletonBase c s);
-  modifiers = (modificationsOf (cond (isRi c) (behindSecondRi m) m)) .1;
+  modifiers = (modificationsOf (cond (isRi c) (afterSecondRi m) m)) .1;
 }
 
 pub like-of : (c : ℕ) {s m : List ℕ} → S s → Stops isSelector m → emojiLike c (s ++ m) ≡ likeOf c s m
 unfolding emojiLike
-like-of c {s} {m} h p = ap₂ (λ (a b : List ℕ). likeOf c a b) (run-all isSelector (S-passes h) p) (behind-all isSelector (S-passes h) p)
+like-of c {s} {m} h p = ap₂ (λ (a b : List ℕ). likeOf c a b) (run-all isSelector (S-passes h) p) (after-all isSelector (S-passes h) p)
 
-pub like-single : (c : ℕ) (s m : List ℕ) (b : Bool) → isRi c ≡ b → (b ≡ true → Stops isRi m) → likeOf c s m ≡ record { stem = SingletonBase c s; modifiers = (modificationsOf m) .1 }
+pub like-single : (c : ℕ) (s m : List ℕ) (b : Bool) → isRi c ≡ b → (b ≡ true → Stops isRi m) → likeOf c s m
+    ≡ record { stem = SingletonBase c s; modifiers = (modificationsOf m) .1 }
 like-single c s m true e p =
-    ap (λ (b : Bool). record { stem = cond b (riStem c s m) (SingletonBase c s); modifiers = (modificationsOf (cond b (behindSecondRi m) m)) .1 }) e
-    ∙ ap₂ (λ (x : EmojiStem) (l : List ℕ). record { stem = x; modifiers = (modificationsOf l) .1 }) (no-second c s (p refl) .0) (no-second c s (p refl) .1)
+    ap (λ (b : Bool). record {
+      stem = cond b (riStem c s m) (SingletonBase c s);
+      modifiers =
+          (modificationsOf (cond b (afterSecondRi m) m)) .1;
+    }) e
+    ∙ ap₂ (λ (x : EmojiStem) (l : List ℕ). record { stem = x; modifiers = (modificationsOf l) .1 }) (no-second c s (p refl) .0)
+    (no-second c s (p refl) .1)
 like-single c s m false e p =
-    ap (λ (b : Bool). record { stem = cond b (riStem c s m) (SingletonBase c s); modifiers = (modificationsOf (cond b (behindSecondRi m) m)) .1 }) e
+    ap (λ (b : Bool). record {
+      stem = cond b (riStem c s m) (SingletonBase c s);
+      modifiers =
+          (modificationsOf (cond b (afterSecondRi m) m)) .1;
+    }) e
 
 pub like-flag : (a : ℕ) (s : List ℕ) (b : ℕ) (t m : List ℕ) → isRi a ≡ true → isRi b ≡ true → S t → Stops isSelector m
     → likeOf a s (b ∷ (t ++ m)) ≡ record { stem = Flag a s b t; modifiers = (modificationsOf m) .1 }
 like-flag a s b t m e f h p =
-    ap (λ (x : Bool). record { stem = cond x (riStem a s (b ∷ (t ++ m))) (SingletonBase a s); modifiers = (modificationsOf (cond x (behindSecondRi (b ∷ (t ++ m))) (b ∷ (t ++ m)))) .1 }) e
-    ∙ ap₂ (λ (x : EmojiStem) (l : List ℕ). record { stem = x; modifiers = (modificationsOf l) .1 }) (second a s b f h p .0) (second a s b f h p .1)
+    ap (λ (x : Bool). record {
+      stem = cond x (riStem a s (b ∷ (t ++ m))) (SingletonBase a s);
+      modifiers =
+          (modificationsOf (cond x (afterSecondRi (b ∷ (t ++ m))) (b ∷ (t ++ m)))) .1;
+    }) e
+    ∙ ap₂ (λ (x : EmojiStem) (l : List ℕ). record { stem = x; modifiers = (modificationsOf l) .1 }) (second a s b f h p .0)
+    (second a s b f h p .1)
 
 -- ---- a unit
 
@@ -157,7 +173,8 @@ unfolding flattenUnit
 unit-flatten r =
     let m = r .modifications in
     ap flattenUnit (r .like)
-    ∙ ap (λ (l : List ℕ). flattenStem (r .stem) ++ (l ++ flattenModifications ((modificationsOf m) .1))) (sym (front-none (modifications-front (r .modifications-derive))))
+    ∙ ap (λ (l : List ℕ). flattenStem (r .stem) ++ (l ++ flattenModifications ((modificationsOf m) .1)))
+    (sym (front-none (modifications-front (r .modifications-derive))))
     ∙ ap (λ (l : List ℕ). flattenStem (r .stem) ++ l) (modifications-flatten (modifications-run (r .modifications-derive))) ∙ sym (r .whole)
 
 -- ---- no 200D is in a unit

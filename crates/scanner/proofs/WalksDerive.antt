@@ -7,7 +7,7 @@ use Prim.Native.Nat.{ℕ}
 use Rattle.unicode.specs.Presentation.{isSelector}
 use Rattle.unicode.specs.Unicode.{isEmoji, isRi}
 use Rattle.scanner.specs.Classes.{Class, link, modifier, keycap, tag, classOf}
-use Rattle.scanner.specs.Items.{Place, plain, selectors, links, oneRi, unit, joined, leftOver, step, begin, kindOf}
+use Rattle.scanner.specs.Items.{State, plain, selectors, links, oneRi, unit, joined, leftOver, transition, startState, kindOf}
 use Rattle.scanner.specs.Grammar.{
   S,
   no-selectors,
@@ -63,21 +63,21 @@ use Rattle.scanner.proofs.Walk.{Walk, stay, pass}
 
 -- ---- what may follow at a place, in the grammar's terms
 
--- Behind a stem that is whole.
+-- After a stem that is whole.
 data UnitTail : List ℕ → Type 0 where
   unit-tail : {a m j l : List ℕ} → S a → Modifications m → JoinedUnits j → Links l → UnitTail (a ++ (m ++ (j ++ l)))
 
--- Behind a first RI.
+-- After a first RI.
 data RiTail : List ℕ → Type 0 where
   no-flag : {s : List ℕ} → UnitTail s → RiTail s
   flag-tail : {a s : List ℕ} (b : ℕ) → S a → isRi b ≡ true → UnitTail s → RiTail (a ++ b ∷ s)
 
--- Behind one link.
+-- After one link.
 data JoinTail : List ℕ → Type 0 where
   no-unit : {s : List ℕ} → LinksTail s → JoinTail s
   with-unit : {a v j l : List ℕ} → S a → EmojiUnit v → JoinedUnits j → Links l → JoinTail (a ++ (v ++ (j ++ l)))
 
-abbrev Tail : Place → List ℕ → Type 0
+abbrev Tail : State → List ℕ → Type 0
 Tail plain s = PlainRun s
 Tail selectors s = S s
 Tail links s = LinksTail s
@@ -139,12 +139,12 @@ keycap-run {c} {t} (is-keycap e) h = subst (λ (x : ℕ). PlainRun (x ∷ t)) (s
 
 -- ---- a step, and a walk
 
-abbrev TailAfter : Option Place → List ℕ → Type 0
+abbrev TailAfter : Option State → List ℕ → Type 0
 TailAfter none t = ⊥
 TailAfter (some q) t = Tail q t
 
-tail-step : (p : Place) {k : Class} {c : ℕ} (t : List ℕ) → HasClass c k → TailAfter (step p k) t → Tail p (c ∷ t)
-unfolding step
+tail-step : (p : State) {k : Class} {c : ℕ} (t : List ℕ) → HasClass c k → TailAfter (transition p k) t → Tail p (c ∷ t)
+unfolding transition
 tail-step plain u (is-selector e) h = absurd h
 tail-step plain u (is-link e) h = absurd h
 tail-step plain u (is-ri e) h = absurd h
@@ -202,7 +202,7 @@ tail-step leftOver u (is-keycap e) h = absurd h
 tail-step leftOver u (is-tag e) h = absurd h
 tail-step leftOver u (is-other p k t) h = absurd h
 
-tail-end : (p : Place) → Tail p []
+tail-end : (p : State) → Tail p []
 tail-end plain = no-plain
 tail-end selectors = no-selectors
 tail-end links = links-tail no-selectors no-links
@@ -211,9 +211,10 @@ tail-end unit = unit-tail no-selectors unmodified no-units no-links
 tail-end joined = no-unit (links-tail no-selectors no-links)
 tail-end leftOver = links-tail no-selectors no-links
 
-tail-walk : {p q : Place} {s : List ℕ} → Walk p s q → Tail p s
+tail-walk : {p q : State} {s : List ℕ} → Walk p s q → Tail p s
 tail-walk {p} stay = tail-end p
-tail-walk (pass {p = p} {c = c} {t = t} e w) = tail-step p t (hasClass c) (subst (λ (o : Option Place). TailAfter o t) (sym e) (tail-walk w))
+tail-walk (pass {p = p} {c = c} {t = t} e w) = tail-step p t (hasClass c)
+    (subst (λ (o : Option State). TailAfter o t) (sym e) (tail-walk w))
 
 -- ---- items
 
@@ -236,8 +237,9 @@ keycap-derive : {c : ℕ} {s : List ℕ} → c ≡ 0x20E3 → PlainRun s → Der
 unfolding kindOf
 keycap-derive {c} {s} e h = subst (λ (x : ℕ). Derives (kindOf plain) (x ∷ s)) (sym e) (passthrough keycap-plain h)
 
-derive-class : {q : Place} {c : ℕ} {s : List ℕ} {k : Class} → HasClass c k → Walk (begin k) s q → Derives (kindOf (begin k)) (c ∷ s)
-unfolding begin kindOf
+derive-class : {q : State} {c : ℕ} {s : List ℕ} {k : Class} → HasClass c k → Walk (startState k) s q
+    → Derives (kindOf (startState k)) (c ∷ s)
+unfolding startState kindOf
 derive-class (is-selector e) w = selector-run e (tail-walk w)
 derive-class (is-link e) w = links-derive e (tail-walk w)
 derive-class (is-ri e) w = sequence-ri e (tail-walk w)
@@ -247,5 +249,5 @@ derive-class (is-keycap e) w = keycap-derive e (tail-walk w)
 derive-class {c = c} (is-tag e) w = passthrough (tag-plain c e) (tail-walk w)
 derive-class (is-other p k t) w = passthrough p (tail-walk w)
 
-pub walk-derive : {q : Place} (c : ℕ) {s : List ℕ} → Walk (begin (classOf c)) s q → Derives (kindOf (begin (classOf c))) (c ∷ s)
+pub walk-derive : {q : State} (c : ℕ) {s : List ℕ} → Walk (startState (classOf c)) s q → Derives (kindOf (startState (classOf c))) (c ∷ s)
 walk-derive c w = derive-class (hasClass c) w

@@ -89,4 +89,5 @@ Longest x r = (k : ScanKind) (d : ℕ) (f g : List ℕ) → r ≡ d ∷ (f ++ g)
 -- A reading of a text: items one after the other, each derived by its kind and the longest.
 pub data Reads : List ℕ → List Item → Type 0 where
   at-the-end : Reads [] []
-  reads-item : {x : Item} {xs : List Item} (r : List ℕ) → Derives (x .kind) (x .chars) → Longest x r → Reads r xs → Reads (x .chars ++ r) (x ∷ xs)
+  reads-item : {x : Item} {xs : List Item} (r : List ℕ) → Derives (x .kind) (x .chars) → Longest x r → Reads r xs
+      → Reads (x .chars ++ r) (x ∷ xs)

@@ -5,14 +5,14 @@ use mathlib.Core.Option.{Option, none, some}
 use mathlib.Core.List.{List, [], _∷_, _++_}
 use Prim.Native.Nat.{ℕ}
 use Rattle.scanner.specs.Classes.{Class, selector, link, ri, modifier, emoji, keycap, tag, other, classOf}
-use Rattle.scanner.specs.declared.place.Next.{Next}
-use Rattle.scanner.specs.declared.place.Next.the-variants.{On, Stop}
+use Rattle.scanner.specs.declared.state.Next.{Next}
+use Rattle.scanner.specs.declared.state.Next.the-variants.{On, Stop}
 use Rattle.scanner.specs.declared.ScanKind.{ScanKind}
 use Rattle.scanner.specs.declared.ScanKind.the-variants.{EmojiHeaded, LinksOnly, Passthrough, UnsanctionedPresentationSelectors}
 -- Where in an item a character stands: in passthrough; in a run of selectors; in a run of links; in a unit whose stem is one RI so
--- far; in a unit whose stem is whole; behind a unit and one link; behind a unit and two links or more.
-pub use Rattle.scanner.specs.declared.place.Place.{Place}
-pub use Rattle.scanner.specs.declared.place.Place.the-variants.{
+-- far; in a unit whose stem is whole; after a unit and one link; after a unit and two links or more.
+pub use Rattle.scanner.specs.declared.state.State.{State}
+pub use Rattle.scanner.specs.declared.state.State.the-variants.{
   Plain as plain,
   Selectors as selectors,
   Links as links,
@@ -23,89 +23,89 @@ pub use Rattle.scanner.specs.declared.place.Place.the-variants.{
 }
 
 -- Where a character of the class stands if the item goes on with it; `none` if the item ends before it.
-unfoldable pub step : Place → Class → Option Place
+unfoldable pub transition : State → Class → Option State
 -- "Otherwise passthrough, up to the next selector, 200D or emoji."
-step plain selector = none
-step plain link = none
-step plain ri = none
-step plain modifier = none
-step plain emoji = none
-step plain keycap = some plain
-step plain tag = some plain
-step plain other = some plain
+transition plain selector = none
+transition plain link = none
+transition plain ri = none
+transition plain modifier = none
+transition plain emoji = none
+transition plain keycap = some plain
+transition plain tag = some plain
+transition plain other = some plain
 -- "At a selector it is the run of selectors."
-step selectors selector = some selectors
-step selectors link = none
-step selectors ri = none
-step selectors modifier = none
-step selectors emoji = none
-step selectors keycap = none
-step selectors tag = none
-step selectors other = none
+transition selectors selector = some selectors
+transition selectors link = none
+transition selectors ri = none
+transition selectors modifier = none
+transition selectors emoji = none
+transition selectors keycap = none
+transition selectors tag = none
+transition selectors other = none
 -- "At 200D an item is the run of links, each 200D and S."
-step links selector = some links
-step links link = some links
-step links ri = none
-step links modifier = none
-step links emoji = none
-step links keycap = none
-step links tag = none
-step links other = none
+transition links selector = some links
+transition links link = some links
+transition links ri = none
+transition links modifier = none
+transition links emoji = none
+transition links keycap = none
+transition links tag = none
+transition links other = none
 -- "Stem: RI, S, RI, S (a flag); otherwise one emoji and S."
-step oneRi selector = some oneRi
-step oneRi link = some joined
-step oneRi ri = some unit
-step oneRi modifier = some unit
-step oneRi emoji = none
-step oneRi keycap = some unit
-step oneRi tag = some unit
-step oneRi other = none
+transition oneRi selector = some oneRi
+transition oneRi link = some joined
+transition oneRi ri = some unit
+transition oneRi modifier = some unit
+transition oneRi emoji = none
+transition oneRi keycap = some unit
+transition oneRi tag = some unit
+transition oneRi other = none
 -- "Unit: a stem and its modifications": a modifier and S; 20E3 and S; or groups of tags and S.
-step unit selector = some unit
-step unit link = some joined
-step unit ri = none
-step unit modifier = some unit
-step unit emoji = none
-step unit keycap = some unit
-step unit tag = some unit
-step unit other = none
+transition unit selector = some unit
+transition unit link = some joined
+transition unit ri = none
+transition unit modifier = some unit
+transition unit emoji = none
+transition unit keycap = some unit
+transition unit tag = some unit
+transition unit other = none
 -- ".. then further units each joined by exactly one link"
-step joined selector = some joined
-step joined link = some leftOver
-step joined ri = some oneRi
-step joined modifier = some unit
-step joined emoji = some unit
-step joined keycap = none
-step joined tag = none
-step joined other = none
+transition joined selector = some joined
+transition joined link = some leftOver
+transition joined ri = some oneRi
+transition joined modifier = some unit
+transition joined emoji = some unit
+transition joined keycap = none
+transition joined tag = none
+transition joined other = none
 -- ".. then the links left over, each link again with its S."
-step leftOver selector = some leftOver
-step leftOver link = some leftOver
-step leftOver ri = none
-step leftOver modifier = none
-step leftOver emoji = none
-step leftOver keycap = none
-step leftOver tag = none
-step leftOver other = none
+transition leftOver selector = some leftOver
+transition leftOver link = some leftOver
+transition leftOver ri = none
+transition leftOver modifier = none
+transition leftOver emoji = none
+transition leftOver keycap = none
+transition leftOver tag = none
+transition leftOver other = none
 
 -- What `step` says, as the code's enum `Next`.
-abbrev pub nextOf : Option Place → Next
+abbrev pub nextOf : Option State → Next
 nextOf (some q) = On q
 nextOf none = Stop
 
 -- Where the first character of an item stands.
-unfoldable pub begin : Class → Place
-begin selector = selectors
-begin link = links
-begin ri = oneRi
-begin modifier = unit
-begin emoji = unit
-begin keycap = plain
-begin tag = plain
-begin other = plain
+unfoldable pub startState : Class → State
+startState selector = selectors
+startState link = links
+startState ri = oneRi
+startState modifier = unit
+startState emoji = unit
+startState keycap = plain
+startState tag = plain
+startState other = plain
 
 -- The place is a unit whose stem is whole.
-abbrev pub inUnit : Place → Bool
+abbrev pub inUnit : State → Bool
 inUnit plain = false
 inUnit selectors = false
 inUnit links = false
@@ -116,7 +116,7 @@ inUnit leftOver = false
 
 -- Whether a tag modification begins with a character of the class that stands at the place: tags stand in units and in passthrough, and
 -- only "a stem and its modifications" has tag modifications.
-unfoldable pub beginsTags : Place → Class → Bool
+unfoldable pub beginsTags : State → Class → Bool
 beginsTags p selector = false
 beginsTags p link = false
 beginsTags p ri = false
@@ -127,7 +127,7 @@ beginsTags p tag = inUnit p
 beginsTags p other = false
 
 -- The kind of an item that has a character at the place.
-unfoldable pub kindOf : Place → ScanKind
+unfoldable pub kindOf : State → ScanKind
 kindOf plain = Passthrough
 kindOf selectors = UnsanctionedPresentationSelectors
 kindOf links = LinksOnly
@@ -146,20 +146,20 @@ abbrev pub join : List Item → List ℕ
 join [] = []
 join (x ∷ xs) = x .chars ++ join xs
 
--- The item that begins with a character, and the items behind it, given what is cut behind that character.
+-- The item that begins with a character, and the items after it, given what is cut after that character.
 abbrev pub beginItem : ℕ → List ℕ × List Item → List Item
-beginItem c r = record { kind = kindOf (begin (classOf c)); chars = c ∷ r .0 } ∷ r .1
+beginItem c r = record { kind = kindOf (startState (classOf c)); chars = c ∷ r .0 } ∷ r .1
 
--- From inside an item, at a place: the rest of that item, and the items behind it.
-unfoldable pub cut : Place → List ℕ → List ℕ × List Item
-cut p [] = ([], [])
-cut p (c ∷ t) =
-    elim (step p (classOf c)) [
-      | some q ↦ (c ∷ (cut q t) .0, (cut q t) .1)
-      | none ↦ ([], beginItem c (cut (begin (classOf c)) t))
+-- From inside an item, at a place: the rest of that item, and the items after it.
+unfoldable pub splitFrom : State → List ℕ → List ℕ × List Item
+splitFrom p [] = ([], [])
+splitFrom p (c ∷ t) =
+    elim (transition p (classOf c)) [
+      | some q ↦ (c ∷ (splitFrom q t) .0, (splitFrom q t) .1)
+      | none ↦ ([], beginItem c (splitFrom (startState (classOf c)) t))
     ]
 
 -- The items of a text.
 unfoldable pub items : List ℕ → List Item
 items [] = []
-items (c ∷ t) = beginItem c (cut (begin (classOf c)) t)
+items (c ∷ t) = beginItem c (splitFrom (startState (classOf c)) t)

@@ -8,7 +8,7 @@ use lib.Dec.{eqb, leb}
 use lib.ListN.{drop}
 use Rattle.utf8.specs.Rfc3629.{chars}
 use Rattle.unicode.specs.Unicode.{isEmoji, isTag}
-use Rattle.scanner.specs.Runs.{behindRun, behindSelectors, modificationAt, run, selectorsAt, stemAt, unitAt}
+use Rattle.scanner.specs.Runs.{afterRun, afterSelectors, modificationAt, run, selectorsAt, stemAt, unitAt}
 use Rattle.scanner.specs.SelectorRun.{selectorsFrom}
 use Rattle.scanner.specs.Spans.{size, width}
 use Rattle.scanner.specs.Structure as Structure
@@ -38,15 +38,15 @@ modificationFrom at (Structure.EmojiModifier c s) = EmojiModifier c (selectorsFr
 modificationFrom at (Structure.EnclosingKeycap s) = EnclosingKeycap (selectorsFrom (at + width 0x20E3) s)
 modificationFrom at (Structure.TagModifier rs) = TagModifier (at + size width (flattenRuns rs))
 
--- A stem, by the offset behind its first character.
-unfoldable pub stemBehind : ℕ → Structure.EmojiStem → EmojiStem
-stemBehind at (Structure.SingletonBase c s) = SingletonBase c (selectorsFrom at s)
-stemBehind at (Structure.Flag a s b t) = Flag a (selectorsFrom at s) b (selectorsFrom (at + size width s + width b) t)
+-- A stem, by the offset after its first character.
+unfoldable pub stemAfter : ℕ → Structure.EmojiStem → EmojiStem
+stemAfter at (Structure.SingletonBase c s) = SingletonBase c (selectorsFrom at s)
+stemAfter at (Structure.Flag a s b t) = Flag a (selectorsFrom at s) b (selectorsFrom (at + size width s + width b) t)
 
 -- A stem, by the offset of its first character.
 unfoldable pub stemFrom : ℕ → Structure.EmojiStem → EmojiStem
-stemFrom at (Structure.SingletonBase c s) = stemBehind (at + width c) (Structure.SingletonBase c s)
-stemFrom at (Structure.Flag a s b t) = stemBehind (at + width a) (Structure.Flag a s b t)
+stemFrom at (Structure.SingletonBase c s) = stemAfter (at + width c) (Structure.SingletonBase c s)
+stemFrom at (Structure.Flag a s b t) = stemAfter (at + width a) (Structure.Flag a s b t)
 
 -- A unit.
 unfoldable pub unitFrom : ℕ → Structure.EmojiLike → EmojiLike
@@ -66,7 +66,7 @@ linkFrom at l = selectorsFrom (at + width 0x200D) (l .after)
 unfoldable pub tagRunRead : ℕ → List ℕ → EmojiTagRun
 tagRunRead at [] = NoTags
 tagRunRead at (c ∷ t) =
-    cond (isTag c) (tagRunFrom at (record { tags = run isTag (c ∷ t); after = selectorsAt (behindRun isTag (c ∷ t)) })) NoTags
+    cond (isTag c) (tagRunFrom at (record { tags = run isTag (c ∷ t); after = selectorsAt (afterRun isTag (c ∷ t)) })) NoTags
 
 -- The first of modifications.
 unfoldable pub firstFrom : ℕ → List Structure.EmojiModification → EmojiModification
@@ -77,14 +77,14 @@ firstFrom at (m ∷ ms) = modificationFrom at m
 unfoldable pub modificationRead : ℕ → List ℕ → EmojiModification
 modificationRead at t = firstFrom at ((modificationsOf (modificationAt t)) .1)
 
--- The stem of a first RI, by the characters behind it: "RI, S, RI, S (a flag)".
+-- The stem of a first RI, by the characters after it: "RI, S, RI, S (a flag)".
 abbrev pub riStemRead : ℕ → ℕ → List ℕ → EmojiStem
-riStemRead c at t = stemBehind at (riStem c (selectorsAt t) (behindSelectors t))
+riStemRead c at t = stemAfter at (riStem c (selectorsAt t) (afterSelectors t))
 
 -- "Stem: RI, S, RI, S (a flag); otherwise one emoji and S."
 unfoldable pub stemRead : ℕ → List ℕ → EmojiStem
 stemRead at [] = NoStem
-stemRead at (c ∷ t) = cond (isEmoji c) (stemBehind (at + width c) ((emojiLike c t) .stem)) NoStem
+stemRead at (c ∷ t) = cond (isEmoji c) (stemAfter (at + width c) ((emojiLike c t) .stem)) NoStem
 
 -- Where no unit begins.
 abbrev pub noUnit : ℕ → EmojiLike
@@ -107,12 +107,12 @@ unfoldable pub linkRead : ℕ → List ℕ → ZwjLink
 linkRead at [] = NoLink
 linkRead at (c ∷ t) = cond (eqb c 0x200D) (Link (linkFrom at (linkOf t))) NoLink
 
--- A link before what stands behind its selectors.
+-- A link before what stands after its selectors.
 unfoldable pub joins : PresentationSelectors → List ℕ → SequencePart
 joins s [] = LeftOverLink s
 joins s (c ∷ t) = cond (isEmoji c) (JoiningLink s) (LeftOverLink s)
 
--- A link of an item that ends at an offset: nothing joins behind that.
+-- A link of an item that ends at an offset: nothing joins after that.
 unfoldable pub linkPart : List ℕ → ℕ → ZwjLink → SequencePart
 linkPart text end NoLink = NoPart
 linkPart text end (Link s) = cond (leb end (s .end)) (LeftOverLink s) (joins s (chars (drop (s .end) text)))

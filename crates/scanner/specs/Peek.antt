@@ -1,4 +1,4 @@
--- What stands at an offset: the first character from there on, its class and the offset behind it.
+-- What stands at an offset: the first character from there on, its class and the offset after it.
 use mathlib.Core.List.{List, [], _∷_}
 use Prim.Native.Nat.{ℕ, _+_}
 use Rattle.scanner.specs.Classes.{classOf}

@@ -14,18 +14,18 @@ module _ (test : ℕ → Bool) where
   run [] = []
   run (c ∷ t) = cond (test c) (c ∷ run t) []
 
-  -- What is left behind it.
-  unfoldable pub behindRun : List ℕ → List ℕ
-  behindRun [] = []
-  behindRun (c ∷ t) = cond (test c) (behindRun t) (c ∷ t)
+  -- What is left after it.
+  unfoldable pub afterRun : List ℕ → List ℕ
+  afterRun [] = []
+  afterRun (c ∷ t) = cond (test c) (afterRun t) (c ∷ t)
 
 -- S: the selectors at the front.
 abbrev pub selectorsAt : List ℕ → List ℕ
 selectorsAt t = run isSelector t
 
--- What is left behind them.
-abbrev pub behindSelectors : List ℕ → List ℕ
-behindSelectors t = behindRun isSelector t
+-- What is left after them.
+abbrev pub afterSelectors : List ℕ → List ℕ
+afterSelectors t = afterRun isSelector t
 
 -- The tags at the front.
 abbrev pub tagsAt : List ℕ → List ℕ
@@ -70,19 +70,19 @@ secondRiAt (c ∷ t) = cond (isRi c) (c ∷ selectorsAt t) []
 -- The stem at the front, if an emoji stands there.
 unfoldable pub stemAt : List ℕ → List ℕ
 stemAt [] = []
-stemAt (c ∷ t) = cond (isEmoji c) (c ∷ (selectorsAt t ++ cond (isRi c) (secondRiAt (behindSelectors t)) [])) []
+stemAt (c ∷ t) = cond (isEmoji c) (c ∷ (selectorsAt t ++ cond (isRi c) (secondRiAt (afterSelectors t)) [])) []
 
--- What is left behind the stem.
-unfoldable pub behindStem : List ℕ → List ℕ
-behindStem t = drop (length (stemAt t)) t
+-- What is left after the stem.
+unfoldable pub afterStem : List ℕ → List ℕ
+afterStem t = drop (length (stemAt t)) t
 
--- The unit at the front: the stem, and the modifications behind it.
+-- The unit at the front: the stem, and the modifications after it.
 unfoldable pub unitAt : List ℕ → List ℕ
-unitAt t = stemAt t ++ modificationsAt (behindStem t)
+unitAt t = stemAt t ++ modificationsAt (afterStem t)
 
--- What is left behind the unit.
-unfoldable pub behindUnit : List ℕ → List ℕ
-behindUnit t = drop (length (unitAt t)) t
+-- What is left after the unit.
+unfoldable pub afterUnit : List ℕ → List ℕ
+afterUnit t = drop (length (unitAt t)) t
 
 -- The link at the front, if 200D stands there.
 unfoldable pub linkAt : List ℕ → List ℕ

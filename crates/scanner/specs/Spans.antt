@@ -4,7 +4,7 @@ use mathlib.Core.List.{List, [], _∷_}
 use Prim.Native.Nat.{ℕ, _+_}
 use lib.ListN.{length, drop}
 use Rattle.utf8.specs.Rfc3629.{chars, encode}
-use Rattle.scanner.specs.Items.{Item, Place, cut, items}
+use Rattle.scanner.specs.Items.{Item, State, splitFrom, items}
 use Rattle.scanner.specs.Tags.{tagsComplete}
 use Rattle.scanner.specs.declared.ScanItem.{ScanItem}
 use Rattle.scanner.specs.declared.ScanKind.{ScanKind}
@@ -54,8 +54,8 @@ unfoldable pub scanAt : List ℕ → ℕ → ScanStep
 scanAt text at = firstOf (scanFrom text at)
 
 -- From inside an item, at a place: the characters of the rest of that item from a byte offset on.
-abbrev pub restAt : List ℕ → ℕ → Place → List ℕ
-restAt text at p = (cut p (chars (drop at text))) .0
+abbrev pub restAt : List ℕ → ℕ → State → List ℕ
+restAt text at p = (splitFrom p (chars (drop at text))) .0
 
 -- An item and where it starts.
 pub record Found : Type 0 where

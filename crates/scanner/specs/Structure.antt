@@ -6,11 +6,11 @@ use Prim.Native.Nat.{ℕ}
 use lib.Dec.{eqb}
 use Rattle.unicode.specs.Unicode.{isRi}
 use Rattle.scanner.specs.Classes.{Class, selector, link, ri, modifier, emoji, keycap, tag, other, classOf}
-use Rattle.scanner.specs.Runs.{behindSelectors, selectorsAt}
+use Rattle.scanner.specs.Runs.{afterSelectors, selectorsAt}
 
 -- ---- the types
 
--- One or more tags, and the selectors behind them.
+-- One or more tags, and the selectors after them.
 pub record EmojiTagRun : Type 0 where
   pub tags : List ℕ
   pub after : List ℕ
@@ -31,7 +31,7 @@ pub record EmojiLike : Type 0 where
   pub stem : EmojiStem
   pub modifiers : List EmojiModification
 
--- A link: the selectors behind 200D.
+-- A link: the selectors after 200D.
 pub record ZwjLink : Type 0 where
   pub after : List ℕ
 
@@ -93,7 +93,7 @@ flatten (emojiHeaded u js ls) = flattenUnit u ++ (flattenJoined js ++ flattenLin
 
 -- ---- from characters: modifications
 
--- A tag, with the selectors behind it, in front of tag runs: with no selector between, it is of the first run.
+-- A tag, with the selectors after it, in front of tag runs: with no selector between, it is of the first run.
 unfoldable pub tagToRuns : ℕ → List ℕ → List EmojiTagRun → List EmojiTagRun
 tagToRuns c s [] = record { tags = c ∷ []; after = s } ∷ []
 tagToRuns c [] (r ∷ rs) = record { tags = c ∷ r .tags; after = r .after } ∷ rs
@@ -106,7 +106,7 @@ tagToModifications c s (EmojiModifier d u ∷ ms) = TagModifier (tagToRuns c s [
 tagToModifications c s (EnclosingKeycap u ∷ ms) = TagModifier (tagToRuns c s []) ∷ EnclosingKeycap u ∷ ms
 tagToModifications c s (TagModifier rs ∷ ms) = TagModifier (tagToRuns c s rs) ∷ ms
 
--- A character in front of selectors and the modifications behind them.
+-- A character in front of selectors and the modifications after them.
 unfoldable pub toModifications : Class → ℕ → List ℕ × List EmojiModification → List ℕ × List EmojiModification
 toModifications modifier c r = ([], EmojiModifier c (r .0) ∷ r .1)
 toModifications keycap c r = ([], EnclosingKeycap (r .0) ∷ r .1)
@@ -117,7 +117,7 @@ toModifications ri c r = (c ∷ r .0, r .1)
 toModifications emoji c r = (c ∷ r .0, r .1)
 toModifications other c r = (c ∷ r .0, r .1)
 
--- The selectors at the front of what follows a stem, and the modifications behind them.
+-- The selectors at the front of what follows a stem, and the modifications after them.
 unfoldable pub modificationsOf : List ℕ → List ℕ × List EmojiModification
 modificationsOf [] = ([], [])
 modificationsOf (c ∷ t) = toModifications (classOf c) c (modificationsOf t)
@@ -129,49 +129,49 @@ unfoldable pub riStem : ℕ → List ℕ → List ℕ → EmojiStem
 riStem a s [] = SingletonBase a s
 riStem a s (b ∷ t) = cond (isRi b) (Flag a s b (selectorsAt t)) (SingletonBase a s)
 
--- What is left behind a second RI and its selectors, if there is one.
-unfoldable pub behindSecondRi : List ℕ → List ℕ
-behindSecondRi [] = []
-behindSecondRi (b ∷ t) = cond (isRi b) (behindSelectors t) (b ∷ t)
+-- What is left after a second RI and its selectors, if there is one.
+unfoldable pub afterSecondRi : List ℕ → List ℕ
+afterSecondRi [] = []
+afterSecondRi (b ∷ t) = cond (isRi b) (afterSelectors t) (b ∷ t)
 
 -- The unit that begins with a character.
 unfoldable pub emojiLike : ℕ → List ℕ → EmojiLike
 emojiLike c t = record {
-  stem = cond (isRi c) (riStem c (selectorsAt t) (behindSelectors t)) (SingletonBase c (selectorsAt t));
-  modifiers = (modificationsOf (cond (isRi c) (behindSecondRi (behindSelectors t)) (behindSelectors t))) .1;
+  stem = cond (isRi c) (riStem c (selectorsAt t) (afterSelectors t)) (SingletonBase c (selectorsAt t));
+  modifiers = (modificationsOf (cond (isRi c) (afterSecondRi (afterSelectors t)) (afterSelectors t))) .1;
 }
 
 -- ---- from characters: items
 
--- The characters before the first 200D, and the characters behind each 200D up to the next.
-unfoldable pub cutAtLinks : List ℕ → List ℕ × List (List ℕ)
-cutAtLinks [] = ([], [])
-cutAtLinks (c ∷ t) =
-    let r = cutAtLinks t in
+-- The characters before the first 200D, and the characters after each 200D up to the next.
+unfoldable pub splitAtLinks : List ℕ → List ℕ × List (List ℕ)
+splitAtLinks [] = ([], [])
+splitAtLinks (c ∷ t) =
+    let r = splitAtLinks t in
     cond (eqb c 0x200D) ([], r .0 ∷ r .1) (c ∷ r .0, r .1)
 
--- The link with the selectors at the front of what is behind 200D.
+-- The link with the selectors at the front of what is after 200D.
 abbrev pub linkOf : List ℕ → ZwjLink
 linkOf s = record { after = selectorsAt s }
 
--- One link more: with a unit behind its selectors it joins that; otherwise it and all behind it are left over.
+-- One link more: with a unit after its selectors it joins that; otherwise it and all after it are left over.
 unfoldable pub joinOne : ZwjLink → List ℕ → List (List ℕ) → List ZwjJoinedEmoji × List ZwjLink → List ZwjJoinedEmoji × List ZwjLink
 joinOne l [] ss r = ([], l ∷ map linkOf ss)
 joinOne l (c ∷ t) ss r = (record { link = l; emoji = emojiLike c t } ∷ r .0, r .1)
 
--- The joined units and the links left over, from the characters behind each 200D.
+-- The joined units and the links left over, from the characters after each 200D.
 unfoldable pub joinedOf : List (List ℕ) → List ZwjJoinedEmoji × List ZwjLink
 joinedOf [] = ([], [])
-joinedOf (s ∷ ss) = joinOne (linkOf s) (behindSelectors s) ss (joinedOf ss)
+joinedOf (s ∷ ss) = joinOne (linkOf s) (afterSelectors s) ss (joinedOf ss)
 
--- The structure, from the characters before the first 200D and those behind each.
+-- The structure, from the characters before the first 200D and those after each.
 unfoldable pub sequenceOf : List ℕ → List (List ℕ) → EmojiSequence
 sequenceOf [] ss = linksOnly (map linkOf ss)
 sequenceOf (c ∷ t) ss = emojiHeaded (emojiLike c t) ((joinedOf ss) .0) ((joinedOf ss) .1)
 
 -- The structure of a links-only or emoji-headed item.
 unfoldable pub structure : List ℕ → EmojiSequence
-structure t = sequenceOf ((cutAtLinks t) .0) ((cutAtLinks t) .1)
+structure t = sequenceOf ((splitAtLinks t) .0) ((splitAtLinks t) .1)
 
 -- ---- the tags in it
 

@@ -23,7 +23,7 @@ withTags [] tss = tss
 withTags (c ∷ ts) tss = (c ∷ ts) ∷ tss
 
 -- The tags at the front, selectors left out, up to the first character that is neither tag nor selector;
--- and the tags of each tag modification behind that character.
+-- and the tags of each tag modification after that character.
 unfoldable pub tagRuns : List ℕ → List ℕ × List (List ℕ)
 tagRuns [] = ([], [])
 tagRuns (c ∷ t) =

@@ -11,10 +11,10 @@ use Rattle.unicode.specs.Unicode.{isEmoji, isTag}
 use Rattle.utf8.specs.Rfc3629.{WellFormed, chars, encodeAll, readChar, validUpTo}
 use Rattle.utf8.specs.declared.ReadChar.the-variants as Read
 use Rattle.scanner.specs.Classes.{strip}
-use Rattle.scanner.specs.Items.{Item, cut, items, join, unit}
+use Rattle.scanner.specs.Items.{Item, splitFrom, items, join, unit}
 use Rattle.scanner.specs.Runs.{
-  behindSelectors,
-  behindUnit,
+  afterSelectors,
+  afterUnit,
   inLinks,
   inModifications,
   isModification,
@@ -90,9 +90,9 @@ ItemsAfresh = (t : List ℕ) (xs ys : List Item) → items t ≡ xs ++ ys → it
 unfoldable pub ItemAlone : Type 0
 ItemAlone = (t : List ℕ) (x : Item) → List·Memᴰ x (items t) → items (x .chars) ≡ x ∷ []
 
--- Behind its first character, selectors do not make or unmake an item of links or units.
-unfoldable pub SelectorsMoveNothing : Type 0
-SelectorsMoveNothing =
+-- After its first character, selectors do not make or unmake an item of links or units.
+unfoldable pub SelectorsKeepItems : Type 0
+SelectorsKeepItems =
     (k : ScanKind) (c : ℕ) (s t : List ℕ) → Structured k → strip s ≡ strip t → Derives k (c ∷ s) → Derives k (c ∷ t)
 
 -- ---- items by the runs at the front of a text
@@ -130,24 +130,25 @@ RunsAreLongest =
     × LongestAt Links linksAt
 
 -- The first item of a text: at a selector, at 200D and otherwise it is the run there; at an emoji it is the unit there and the
--- rest of the item behind that.
+-- rest of the item after that.
 unfoldable pub FirstItemByRuns : Type 0
 FirstItemByRuns =
     (c : ℕ) (t : List ℕ) (x : Item) (xs : List Item) → items (c ∷ t) ≡ x ∷ xs
     → (isSelector c ≡ true → x .chars ≡ selectorsAt (c ∷ t))
     × (eqb c 0x200D ≡ true → x .chars ≡ linksAt (c ∷ t))
-    × (isEmoji c ≡ true → x .chars ≡ unitAt (c ∷ t) ++ (cut unit (behindUnit (c ∷ t))) .0)
+    × (isEmoji c ≡ true → x .chars ≡ unitAt (c ∷ t) ++ (splitFrom unit (afterUnit (c ∷ t))) .0)
     × (isPassthrough c ≡ true → x .chars ≡ passthroughAt (c ∷ t))
 
--- The rest of an item behind a unit: nothing where no link stands; a link and the next unit where exactly one link stands before
+-- The rest of an item after a unit: nothing where no link stands; a link and the next unit where exactly one link stands before
 -- an emoji; otherwise all links there.
 unfoldable pub RestByRuns : Type 0
 RestByRuns =
-    ((c : ℕ) (t : List ℕ) → inModifications c ≡ false → eqb c 0x200D ≡ false → (cut unit (c ∷ t)) .0 ≡ [])
-    × ((t : List ℕ) (c : ℕ) (u : List ℕ) → behindSelectors t ≡ c ∷ u → isEmoji c ≡ true
-    → (cut unit (0x200D ∷ t)) .0 ≡ linkAt (0x200D ∷ t) ++ (unitAt (c ∷ u) ++ (cut unit (behindUnit (c ∷ u))) .0))
-    × ((t : List ℕ) → behindSelectors t ≡ [] → (cut unit (0x200D ∷ t)) .0 ≡ linksAt (0x200D ∷ t))
-    × ((t : List ℕ) (c : ℕ) (u : List ℕ) → behindSelectors t ≡ c ∷ u → isEmoji c ≡ false → (cut unit (0x200D ∷ t)) .0 ≡ linksAt (0x200D ∷ t))
+    ((c : ℕ) (t : List ℕ) → inModifications c ≡ false → eqb c 0x200D ≡ false → (splitFrom unit (c ∷ t)) .0 ≡ [])
+    × ((t : List ℕ) (c : ℕ) (u : List ℕ) → afterSelectors t ≡ c ∷ u → isEmoji c ≡ true
+    → (splitFrom unit (0x200D ∷ t)) .0 ≡ linkAt (0x200D ∷ t) ++ (unitAt (c ∷ u) ++ (splitFrom unit (afterUnit (c ∷ u))) .0))
+    × ((t : List ℕ) → afterSelectors t ≡ [] → (splitFrom unit (0x200D ∷ t)) .0 ≡ linksAt (0x200D ∷ t))
+    × ((t : List ℕ) (c : ℕ) (u : List ℕ) → afterSelectors t ≡ c ∷ u → isEmoji c ≡ false → (splitFrom unit (0x200D ∷ t)) .0
+    ≡ linksAt (0x200D ∷ t))
 
 -- ---- spans
 
@@ -173,17 +174,18 @@ pub data Spells (text : List ℕ) : List ScanItem → List Item → Type 0 where
   no-spans : Spells text [] []
   span-and :
       {s : ScanItem} {ss : List ScanItem} {x : Item} {xs : List Item}
-      → take (s .end - s .start) (drop (s .start) text) ≡ encodeAll (x .chars) → s .kind ≡ x .kind → s .«tags_complete» ≡ tagsComplete (x .kind) (x .chars) → Spells text ss xs
+      → take (s .end - s .start) (drop (s .start) text) ≡ encodeAll (x .chars) → s .kind ≡ x .kind → s .«tags_complete»
+      ≡ tagsComplete (x .kind) (x .chars) → Spells text ss xs
       → Spells text (s ∷ ss) (x ∷ xs)
 
-unfoldable pub SpansSpellItems : Type 0
-SpansSpellItems = (text : List ℕ) → Spells text (scan text) (items (chars text))
+unfoldable pub SpansAreItems : Type 0
+SpansAreItems = (text : List ℕ) → Spells text (scan text) (items (chars text))
 
--- From an item's end the scan of the same text gives the items behind it.
+-- From an item's end the scan of the same text gives the items after it.
 unfoldable pub SpansAfresh : Type 0
 SpansAfresh =
-    (text : List ℕ) (before behind : List ScanItem) (x : ScanItem)
-    → scan text ≡ before ++ x ∷ behind → scanFrom text (x .end) ≡ behind
+    (text : List ℕ) (before after : List ScanItem) (x : ScanItem)
+    → scan text ≡ before ++ x ∷ after → scanFrom text (x .end) ≡ after
 
 -- ---- the cursor
 
@@ -194,8 +196,8 @@ CursorAtStart = (text : List ℕ) → scanAt text 0 ≡ firstOf (scan text)
 -- At an item's end it answers the next item, or the end.
 unfoldable pub CursorAtItemEnd : Type 0
 CursorAtItemEnd =
-    (text : List ℕ) (before behind : List ScanItem) (x : ScanItem)
-    → scan text ≡ before ++ x ∷ behind → scanAt text (x .end) ≡ firstOf behind
+    (text : List ℕ) (before after : List ScanItem) (x : ScanItem)
+    → scan text ≡ before ++ x ∷ after → scanAt text (x .end) ≡ firstOf after
 
 -- Past the end of the text it answers the end.
 unfoldable pub CursorPastEnd : Type 0
@@ -235,7 +237,8 @@ StructureIsDerived = (t : List ℕ) (x : Item) → List·Memᴰ x (items t) → 
 
 -- The tags of each tag modification are those in the structure.
 unfoldable pub TagsAreInStructure : Type 0
-TagsAreInStructure = (t : List ℕ) (x : Item) → List·Memᴰ x (items t) → Structured (x .kind) → tagModifications (x .chars) ≡ tagsOf (structure (x .chars))
+TagsAreInStructure = (t : List ℕ) (x : Item) → List·Memᴰ x (items t) → Structured (x .kind) → tagModifications (x .chars)
+    ≡ tagsOf (structure (x .chars))
 
 -- "each item carries whether its tags are complete, which they are when every tag modification in it has E007F as its last tag"
 unfoldable pub TagsCompleteMeans : Type 0

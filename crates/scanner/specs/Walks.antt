@@ -63,7 +63,8 @@ module _ (text : List ℕ) where
     pub data ModificationsWalk : ℕ → List EmojiModification → Type 0 where
       modifications-end : {at : ℕ} → at ≡ end → modificationRead at (chars (drop at text)) ≡ NoModification → ModificationsWalk at []
       modification-and :
-          {at : ℕ} {m : EmojiModification} {ms : List EmojiModification} → modificationRead at (chars (drop at text)) ≡ modificationFrom at m → TagsWalk at m
+          {at : ℕ} {m : EmojiModification} {ms : List EmojiModification} → modificationRead at (chars (drop at text))
+          ≡ modificationFrom at m → TagsWalk at m
           → ModificationsWalk (at + size width (flattenModification m)) ms → ModificationsWalk at (m ∷ ms)
 
   -- A unit, and its modifications from its stem's end on.
@@ -79,11 +80,12 @@ module _ (text : List ℕ) where
           {at : ℕ} {l : ZwjLink} {ls : List ZwjLink} → partRead text end at ≡ LeftOverLink (linkFrom at l)
           → LinksWalk (at + size width (flattenLink l)) ls → LinksWalk at (l ∷ ls)
 
-    -- Further units, each behind its link, and the links left over.
+    -- Further units, each after its link, and the links left over.
     pub data JoinsWalk : ℕ → List ZwjJoinedEmoji → List ZwjLink → Type 0 where
       no-more-units : {at : ℕ} {ls : List ZwjLink} → LinksWalk at ls → JoinsWalk at [] ls
       unit-and :
-          {at : ℕ} {j : ZwjJoinedEmoji} {js : List ZwjJoinedEmoji} {ls : List ZwjLink} → partRead text end at ≡ JoiningLink (linkFrom at (j .link))
+          {at : ℕ} {j : ZwjJoinedEmoji} {js : List ZwjJoinedEmoji} {ls : List ZwjLink} → partRead text end at
+          ≡ JoiningLink (linkFrom at (j .link))
           → UnitWalk (at + size width (flattenLink (j .link))) (j .emoji)
           → JoinsWalk (at + size width (flattenLink (j .link) ++ flattenUnit (j .emoji))) js ls → JoinsWalk at (j ∷ js) ls
 

@@ -34,7 +34,7 @@ pub struct Classified {
     pub index: VariationSequenceIndex,
 }
 
-// The character at an offset, its class and the offset behind it; or that none begins there.
+// The character at an offset, its class and the offset after it; or that none begins there.
 pub enum Peeked {
     Char {
         value: u32,

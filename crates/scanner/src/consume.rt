@@ -86,7 +86,7 @@ pub fn run_end(text: &[u8], at: usize, kind: RunKind) -> usize
 }
 
 // The tag modification at an offset, which is complete where it has no tag. The outer loop goes by groups, the inner by tags and
-// selectors: a tag behind selectors begins the next group, and the label is left at the first character that is neither.
+// selectors: a tag after selectors begins the next group, and the label is left at the first character that is neither.
 pub fn consume_emoji_tag_runs(text: &[u8], at: usize) -> TagModification
     ensures end { λ r. ⌜ r .end ≡ at + size width (tagModificationAt (chars (drop at (now (text .entry))))) ⌝ }
     ensures complete { λ r. ⌜ r .complete ≡ allComplete (tagModifications (tagModificationAt (chars (drop at (now (text .entry)))))) ⌝ }

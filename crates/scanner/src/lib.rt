@@ -4,8 +4,8 @@
 pub mod char_class;
 pub mod consume;
 pub mod parts;
-pub mod place;
 pub mod selectors;
+pub mod state;
 pub mod text_check;
 
 ghost use mathlib.Core.Path.{_≡_};
@@ -18,8 +18,8 @@ ghost use Rattle.scanner.specs.Tags.{tagsComplete};
 use char_class::Peeked;
 use char_class::peek;
 use consume::consume_emoji_tag_runs;
-use place::Next;
-use place::Place;
+use state::Next;
+use state::State;
 
 // What an item is.
 pub enum ScanKind {
@@ -92,12 +92,12 @@ fn both(a: bool, b: bool) -> bool
 }
 
 // The rest of an item that has a character at the place, from an offset on. A tag modification is read in one go.
-fn item_rest(text: &[u8], from: usize, first: Place) -> ItemRest
+fn item_rest(text: &[u8], from: usize, first: State) -> ItemRest
     ensures end { λ r. ⌜ r .end ≡ from + size width (restAt (now (text .entry)) from first) ⌝ }
     ensures tags { λ r. ⌜ r .«tags_complete» ≡ tagsComplete (kindOf first) (restAt (now (text .entry)) from first) ⌝ }
 {
     let mut at = from;
-    let mut place = first;
+    let mut state = first;
     let mut tags_complete = true;
     loop {
         match peek(text, at) {
@@ -106,9 +106,9 @@ fn item_rest(text: &[u8], from: usize, first: Place) -> ItemRest
                 class,
                 end,
             } => {
-                match place::step(place, class) {
+                match state::transition(state, class) {
                     Next::On(next) => {
-                        place = next;
+                        state = next;
                     }
                     Next::Stop => {
                         return ItemRest {
@@ -117,7 +117,7 @@ fn item_rest(text: &[u8], from: usize, first: Place) -> ItemRest
                         };
                     }
                 }
-                if place::begins_tags(place, class) {
+                if state::begins_tags(state, class) {
                     let tags = consume_emoji_tag_runs(text, at);
                     tags_complete = both(tags_complete, tags.complete);
                     at = tags.end;
@@ -145,9 +145,9 @@ pub fn next_item(text: &[u8], at: usize) -> ScanStep
             class,
             end: from,
         } => {
-            let first = place::begin(class);
+            let first = state::start_state(class);
             let ItemRest { end, tags_complete } = item_rest(text, from, first);
-            let kind = place::kind_of(first);
+            let kind = state::kind_of(first);
             ScanStep::Item(ScanItem {
                 start: at,
                 end,

@@ -1,6 +1,6 @@
 // The parts of an item as values: the types and the consume functions of scanner.rs of the crate evfmt; document 01, "Item".
 // What is a `Vec` there is a span here, and a cursor that starts afresh at it: `consume_emoji_modification` over a unit's
-// modifications, `consume_emoji_tag_run` over a tag modification, `consume_sequence_part` over the links behind a unit.
+// modifications, `consume_emoji_tag_run` over a tag modification, `consume_sequence_part` over the links after a unit.
 // Each function equals a definition of specs/Parts.antt for every slice and offset; walked over an item, they give its structure
 // (specs/Walks.antt, StructureIsWalked).
 ghost use mathlib.Core.Path.{_≡_};
@@ -18,7 +18,7 @@ use crate::consume::run_end;
 use crate::selectors::PresentationSelectors;
 use crate::selectors::consume_presentation_selectors;
 
-// One or more tags, up to tags_end, and the selectors behind them.
+// One or more tags, up to tags_end, and the selectors after them.
 pub enum EmojiTagRun {
     Run {
         tags_end: usize,
@@ -64,13 +64,13 @@ pub struct EmojiLike {
     pub end: usize,
 }
 
-// A link, by the selectors behind 200D.
+// A link, by the selectors after 200D.
 pub enum ZwjLink {
     Link { selectors: PresentationSelectors },
     NoLink,
 }
 
-// What stands behind a unit of an item, or in an item of links: a link with a unit where its selectors end, a link left over,
+// What stands after a unit of an item, or in an item of links: a link with a unit where its selectors end, a link left over,
 // or nothing more.
 pub enum SequencePart {
     JoiningLink(PresentationSelectors),
@@ -143,7 +143,7 @@ pub fn consume_emoji_modification(text: &[u8], at: usize) -> EmojiModification
     }
 }
 
-// The stem of a first regional indicator, from the offset behind that on: a flag, if a second follows.
+// The stem of a first regional indicator, from the offset after that on: a flag, if a second follows.
 pub fn consume_regional_indicator_stem(text: &[u8], at: usize, first_ri: u32) -> EmojiStem
     ensures { λ r. ⌜ r ≡ riStemRead «first_ri» at (chars (drop at (now (text .entry)))) ⌝ }
 {
@@ -228,7 +228,7 @@ pub fn consume_emoji_like(text: &[u8], at: usize) -> EmojiLike
     }
 }
 
-// The part at an offset of an item that ends at item_end: a link there joins no unit behind the item.
+// The part at an offset of an item that ends at item_end: a link there joins no unit after the item.
 pub fn consume_sequence_part(text: &[u8], at: usize, item_end: usize) -> SequencePart
     ensures { λ r. ⌜ r ≡ partRead (now (text .entry)) «item_end» at ⌝ }
 {

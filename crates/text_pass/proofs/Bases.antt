@@ -1,4 +1,4 @@
--- What becomes of a base with a variation entry and the selectors behind it, and of a selector without such a base.
+-- What becomes of a base with a variation entry and the selectors after it, and of a selector without such a base.
 use mathlib.Core.Path.{_≡_, refl, ap, ap₂, sym, _∙_}
 use mathlib.Core.Bool.{Bool, true, false, _&&_, not, true≢false}
 use mathlib.Core.List.{List, [], _∷_, _++_, append-assoc, map}
@@ -20,13 +20,13 @@ use Rattle.unicode.specs.declared.presentation.Presentation.{Presentation}
 use Rattle.unicode.specs.declared.presentation.Presentation.the-variants.{Emoji, Text}
 use Rattle.unicode.proofs.Claims.{no-index-no-entry, variation-entries-are-emoji}
 use Rattle.policy.specs.declared.Policy.{Policy}
-use Rattle.scanner.specs.Runs.{behindSelectors, selectorsAt}
+use Rattle.scanner.specs.Runs.{afterSelectors, selectorsAt}
 use Rattle.scanner.specs.Spans.{size, width}
 use Rattle.scanner.specs.declared.char_class.Class.{Class}
 use Rattle.scanner.proofs.Bytes.{size-chars, take-chars}
 use Rattle.scanner.proofs.Classes.{emoji-no-selector}
 use Rattle.scanner.proofs.Rescan.{size-append}
-use Rattle.scanner.proofs.Runs.{run-behind}
+use Rattle.scanner.proofs.Runs.{run-after}
 use Rattle.scanner.proofs.SelectorChars.{other-value}
 use Rattle.analysis.specs.Analysis.{chosen, countCells, following, render}
 use Rattle.analysis.specs.CellView.{classInFront, formatCells, totalCells}
@@ -35,9 +35,19 @@ use Rattle.analysis.specs.Counts.{_⊕_, empty, total, unsanctioned}
 use Rattle.analysis.specs.Rules.{firstAsked, outcome, runWith}
 use Rattle.analysis.specs.declared.singleton.Outcome.{Outcome}
 use Rattle.analysis.proofs.Cells.{split-selector, split-whole}
-use Rattle.analysis.proofs.CellsAt.{behind-at, selectors-end, selectors-room, split-behind}
+use Rattle.analysis.proofs.CellsAt.{after-at, selectors-end, selectors-room, split-after}
 use Rattle.analysis.proofs.RuleLaws.{keeps, settles}
-use Rattle.text_pass.specs.Changes.{BaseChange, ChangeAt, Changes, SameRules, Stays, formattedFrom, outcomeFrom, selectorNumber, totalFrom}
+use Rattle.text_pass.specs.Changes.{
+  BaseChange,
+  ChangeAt,
+  IsNextChange,
+  SameRules,
+  UnchangedBetween,
+  formattedFrom,
+  outcomeFrom,
+  selectorNumber,
+  totalFrom,
+}
 use Rattle.text_pass.specs.declared.Change.{Change}
 use Rattle.text_pass.proofs.PlainText.{StaysAlone}
 use Rattle.analysis.proofs.Rules.{has-entry}
@@ -76,11 +86,13 @@ few-are NoSelector = omega arith
 few-are (Selector q) = omega arith
 
 -- Nothing is counted exactly where the selector that stays is all there was.
-pub no-change : (p : Policy) (c : ℕ) (k : Class) (s : List Presentation) (a : FromSelector) → runWith a 1 ≡ chosen (outcome p c k s .slot) []
+pub no-change : (p : Policy) (c : ℕ) (k : Class) (s : List Presentation) (a : FromSelector) → runWith a 1
+    ≡ chosen (outcome p c k s .slot) []
     → (eqb (selectorNumber (firstAsked s)) (selectorNumber a) && leb (3 * length s) 3) ≡ eqb (total (outcome p c k s .counts)) 0
 no-change p c k s a h = same-test _ _ quiet loud
   where
-    quiet : (eqb (selectorNumber (firstAsked s)) (selectorNumber a) && leb (3 * length s) 3) ≡ true → eqb (total (outcome p c k s .counts)) 0 ≡ true
+    quiet : (eqb (selectorNumber (firstAsked s)) (selectorNumber a) && leb (3 * length s) 3) ≡ true
+        → eqb (total (outcome p c k s .counts)) 0 ≡ true
     quiet t =
         let b = both-true (eqb (selectorNumber (firstAsked s)) (selectorNumber a)) (leb (3 * length s) 3) t in
         let f : firstAsked s ≡ a = number-tells (firstAsked s) a (eqb-true _ _ (b .0)) in
@@ -89,39 +101,43 @@ no-change p c k s a h = same-test _ _ quiet loud
         let z : outcome p c k s .counts ≡ empty = ap (λ (x : List Presentation). outcome p c k x .counts) (sym e) ∙ settles p c k s [] in
         eq-eqb _ 0 (ap total z)
 
-    loud : eqb (total (outcome p c k s .counts)) 0 ≡ true → (eqb (selectorNumber (firstAsked s)) (selectorNumber a) && leb (3 * length s) 3) ≡ true
+    loud : eqb (total (outcome p c k s .counts)) 0 ≡ true → (eqb (selectorNumber (firstAsked s)) (selectorNumber a) && leb (3 * length s) 3)
+        ≡ true
     loud t =
         let e : runWith a 1 ≡ s = h ∙ keeps p c k s (eqb-true _ 0 t) in
         let f : firstAsked s ≡ a = ap firstAsked (sym e) ∙ first-is a in
         and-both _ _ (eq-eqb _ _ (ap selectorNumber f)) (le-leb (3 * length s) 3 (omega (arith, ap length e, few-are a)))
 
--- ---- the selectors behind a base
+-- ---- the selectors after a base
 
 module _ (text : List ℕ) (at : ℕ) where
   abbrev End : ℕ
   End = at + 3 * length (leading (chars (drop at text)))
 
-  -- Behind them nothing leads, and the cells are the same.
-  behind-cells : chars (drop End text) ≡ behindSelectors (chars (drop at text))
-  behind-cells = behind-at text at
+  -- After them nothing leads, and the cells are the same.
+  after-cells : chars (drop End text) ≡ afterSelectors (chars (drop at text))
+  after-cells = after-at text at
 
   pub selectors-formatted : (p : Policy) → formattedFrom p text at ≡ formattedFrom p text End
   unfolding formatCells
   selectors-formatted p =
-      sym (ap (λ (t : List ℕ). encodeAll (formatCells p t)) behind-cells ∙ ap (λ (a : List Presentation × List Cell). encodeAll (render p (a .1) [])) (split-behind (chars (drop at text))))
+      sym (ap (λ (t : List ℕ). encodeAll (formatCells p t)) after-cells
+      ∙ ap (λ (a : List Presentation × List Cell). encodeAll (render p (a .1) [])) (split-after (chars (drop at text))))
 
   pub selectors-total : (p : Policy) → totalFrom p text at ≡ length (leading (chars (drop at text))) + totalFrom p text End
   unfolding totalCells
   selectors-total p =
-      let e = ap (λ (t : List ℕ). total (totalCells p t)) behind-cells ∙ ap (λ (a : List Presentation × List Cell). total (unsanctioned (length (a .0)) ⊕ countCells p (a .1))) (split-behind (chars (drop at text))) in
+      let e = ap (λ (t : List ℕ). total (totalCells p t)) after-cells
+      ∙ ap (λ (a : List Presentation × List Cell). total (unsanctioned (length (a .0)) ⊕ countCells p (a .1)))
+      (split-after (chars (drop at text))) in
       omega (arith, e)
 
   pub selectors-valid : validUpTo (drop at text) ≡ 3 * length (leading (chars (drop at text))) + validUpTo (drop End text)
   selectors-valid =
       let t = chars (drop at text) in
-      let a = size-append width (selectorsAt t) (behindSelectors t) in
-      let b = ap (size width) (run-behind isSelector t) in
-      omega (arith, a, b, selectors-end text at, ap (size width) behind-cells, size-chars (drop at text), size-chars (drop End text))
+      let a = size-append width (selectorsAt t) (afterSelectors t) in
+      let b = ap (size width) (run-after isSelector t) in
+      omega (arith, a, b, selectors-end text at, ap (size width) after-cells, size-chars (drop at text), size-chars (drop End text))
 
   three-each : (s : List Presentation) → length (encodeAll (map asSelector s)) ≡ 3 * length s
   unfolding encodeAll encode asSelector
@@ -134,31 +150,36 @@ module _ (text : List ℕ) (at : ℕ) where
   selectors-bytes =
       let t = chars (drop at text) in
       let n : End - at ≡ length (encodeAll (map asSelector (leading t))) = omega (arith, three-each (leading t)) in
-      ap (λ (n : ℕ). take n (drop at text)) n ∙ take-chars (drop at text) (map asSelector (leading t)) (unsplit (cells t)) (sym (split-whole t))
+      ap (λ (n : ℕ). take n (drop at text)) n ∙ take-chars (drop at text) (map asSelector (leading t)) (unsplit (cells t))
+      (sym (split-whole t))
 
 -- ---- a base as the code reads it
 
 pub base-read : (p : Policy) (text : List ℕ) (base at : ℕ) (first : FromSelector) (end : ℕ) (k : Class) (a : FromSelector) (m : Bool)
-    → first ≡ firstAsked (leading (chars (drop at text))) → end ≡ at + 3 * length (leading (chars (drop at text))) → SameRules k (classInFront (chars (drop end text)))
-    → ((n : ℕ) → runWith a 1 ≡ chosen (outcome p base k (runWith first n) .slot) []) → m ≡ not (eqb (selectorNumber first) (selectorNumber a) && leb (end - at) 3)
-    → BaseChange p text base at (record { kept = at; selector = a; end = end; more = m })
+    → first ≡ firstAsked (leading (chars (drop at text))) → end ≡ at + 3 * length (leading (chars (drop at text)))
+    → SameRules k (classInFront (chars (drop end text)))
+    → ((n : ℕ) → runWith a 1 ≡ chosen (outcome p base k (runWith first n) .slot) []) → m
+    ≡ not (eqb (selectorNumber first) (selectorNumber a) && leb (end - at) 3)
+    → BaseChange p text base at (record { start = at; selector = a; end = end; present = m })
 base-read p text base at first end k a m f e h s q =
     let t = chars (drop at text) in
     let o = outcome-read p text base at first end k f e h in
-    let u : runWith a 1 ≡ chosen (outcomeFrom p text base at .slot) [] = s (length (leading t)) ∙ ap (λ (x : Outcome). chosen (x .slot) []) o in
+    let u : runWith a 1 ≡ chosen (outcomeFrom p text base at .slot) [] = s (length (leading t))
+    ∙ ap (λ (x : Outcome). chosen (x .slot) []) o in
     let w : end - at ≡ 3 * length (leading t) = omega arith in
     record {
       kept-is = refl;
       end-is = e;
       selector-is = u;
-      more-is =
+      present-is =
           q ∙ ap₂ (λ (x : FromSelector) (n : ℕ). not (eqb (selectorNumber x) (selectorNumber a) && leb n 3)) f w
           ∙ ap not (no-change p base (following (cells t)) (leading t) a u);
     }
 
 -- ---- the change at a base
 
-module _ (p : Policy) {text : List ℕ} {at v w : ℕ} (h : Step text at v w) (e : isSelector v ≡ false) (c : Change) (b : BaseChange p text v (at + w) c) where
+module _ (p : Policy) {text : List ℕ} {at v w : ℕ} (h : Step text at v w) (e : isSelector v ≡ false) (c : Change)
+    (b : BaseChange p text v (at + w) c) where
   base-total : totalFrom p text at ≡ total (outcomeFrom p text v (at + w) .counts) + totalFrom p text (c .end)
   base-total = omega (arith, step-total p h e, selectors-total text (at + w) p, ap (totalFrom p text) (b .end-is))
 
@@ -167,10 +188,12 @@ module _ (p : Policy) {text : List ℕ} {at v w : ℕ} (h : Step text at v w) (e
       let x = b .end-is in
       omega (arith, h .validUpTo-on, selectors-valid text (at + w), ap (λ (n : ℕ). validUpTo (drop n text)) (b .end-is))
 
-  base-formatted : formattedFrom p text at ≡ encode v ++ (encodeAll (map asSelector (chosen (outcomeFrom p text v (at + w) .slot) [])) ++ formattedFrom p text (c .end))
+  base-formatted : formattedFrom p text at ≡ encode v
+      ++ (encodeAll (map asSelector (chosen (outcomeFrom p text v (at + w) .slot) [])) ++ formattedFrom p text (c .end))
   base-formatted =
       step-formatted p h e
-      ∙ ap (λ (l : List ℕ). encode v ++ (encodeAll (map asSelector (chosen (outcomeFrom p text v (at + w) .slot) [])) ++ l)) (selectors-formatted text (at + w) p ∙ ap (formattedFrom p text) (sym (b .end-is)))
+      ∙ ap (λ (l : List ℕ). encode v ++ (encodeAll (map asSelector (chosen (outcomeFrom p text v (at + w) .slot) [])) ++ l))
+      (selectors-formatted text (at + w) p ∙ ap (formattedFrom p text) (sym (b .end-is)))
 
   base-inside : c .end ≤ length text
   base-inside = omega (arith, b .end-is, selectors-room text (at + w) (h .room))
@@ -178,39 +201,43 @@ module _ (p : Policy) {text : List ℕ} {at v w : ℕ} (h : Step text at v w) (e
   pub change-at-base : ChangeAt p text at c
   change-at-base = (changed, stays)
     where
-      counted : c .more ≡ true → 1 ≤ total (outcomeFrom p text v (at + w) .counts)
+      counted : c .present ≡ true → 1 ≤ total (outcomeFrom p text v (at + w) .counts)
       counted m = go (total (outcomeFrom p text v (at + w) .counts)) refl
         where
           go : (n : ℕ) → total (outcomeFrom p text v (at + w) .counts) ≡ n → 1 ≤ n
-          go zero z = absurd (true≢false (sym m ∙ b .more-is ∙ ap not (eq-eqb _ 0 z)))
+          go zero z = absurd (true≢false (sym m ∙ b .present-is ∙ ap not (eq-eqb _ 0 z)))
           go (suc n) z = omega arith
 
-      changed : c .more ≡ true → Changes p text at c
+      changed : c .present ≡ true → IsNextChange p text at c
       changed m = record {
         on = omega (arith, b .kept-is);
-        behind = omega (arith, b .kept-is, b .end-is);
+        after = omega (arith, b .kept-is, b .end-is);
         moves = omega (arith, b .end-is, h .some);
         inside = λ _. base-inside;
         formatted =
             base-formatted
-            ∙ ap₂ (λ (x y : List ℕ). x ++ (y ++ formattedFrom p text (c .end))) (sym (ap (λ (n : ℕ). take (n - at) (drop at text)) (b .kept-is) ∙ step-bytes h)) (ap (λ (s : List Presentation). encodeAll (map asSelector s)) (sym (b .selector-is)));
+            ∙ ap₂ (λ (x y : List ℕ). x ++ (y ++ formattedFrom p text (c .end)))
+            (sym (ap (λ (n : ℕ). take (n - at) (drop at text)) (b .kept-is) ∙ step-bytes h))
+            (ap (λ (s : List Presentation). encodeAll (map asSelector s)) (sym (b .selector-is)));
         counted = omega (arith, base-total, counted m);
         valid = base-valid;
       }
 
-      stays : c .more ≡ false → Stays p text at (c .end) × (at < c .end)
+      stays : c .present ≡ false → UnchangedBetween p text at (c .end) × (at < c .end)
       stays m =
           let t = chars (drop (at + w) text) in
-          let z : total (outcomeFrom p text v (at + w) .counts) ≡ 0 = eqb-true _ 0 (not-false _ (sym (b .more-is) ∙ m)) in
+          let z : total (outcomeFrom p text v (at + w) .counts) ≡ 0 = eqb-true _ 0 (not-false _ (sym (b .present-is) ∙ m)) in
           let s : chosen (outcomeFrom p text v (at + w) .slot) [] ≡ leading t = keeps p v (following (cells t)) (leading t) z in
           let a : take (c .end - at) (drop at text) ≡ encode v ++ encodeAll (map asSelector (leading t)) =
           between text at (at + w) (c .end) (omega arith) (omega (arith, b .end-is))
-          ∙ ap₂ (λ (x y : List ℕ). x ++ y) (step-bytes h) (ap (λ (n : ℕ). take (n - (at + w)) (drop (at + w) text)) (b .end-is) ∙ selectors-bytes text (at + w)) in (
+          ∙ ap₂ (λ (x y : List ℕ). x ++ y) (step-bytes h)
+          (ap (λ (n : ℕ). take (n - (at + w)) (drop (at + w) text)) (b .end-is) ∙ selectors-bytes text (at + w)) in (
             record {
               on = omega (arith, b .end-is);
               inside = λ _. base-inside;
               formatted =
-                  base-formatted ∙ ap (λ (x : List Presentation). encode v ++ (encodeAll (map asSelector x) ++ formattedFrom p text (c .end))) s
+                  base-formatted ∙ ap (λ (x : List Presentation). encode v
+                  ++ (encodeAll (map asSelector x) ++ formattedFrom p text (c .end))) s
                   ∙ sym (append-assoc (encode v) (encodeAll (map asSelector (leading t))) (formattedFrom p text (c .end)))
                   ∙ ap (λ (x : List ℕ). x ++ formattedFrom p text (c .end)) (sym a);
               counted = omega (arith, base-total, z);
@@ -221,22 +248,25 @@ module _ (p : Policy) {text : List ℕ} {at v w : ℕ} (h : Step text at v w) (e
 
 -- ---- a selector
 
--- It goes, and the selectors behind it go with it.
-pub change-at-selector : (p : Policy) {text : List ℕ} {at w : ℕ} (q : Presentation) → Step text at (asSelector q) w → (end : ℕ) → end ≡ End text (at + w)
-    → ChangeAt p text at (record { kept = at; selector = NoSelector; end = end; more = true })
+-- It goes, and the selectors after it go with it.
+pub change-at-selector : (p : Policy) {text : List ℕ} {at w : ℕ} (q : Presentation) → Step text at (asSelector q) w → (end : ℕ) → end
+    ≡ End text (at + w)
+    → ChangeAt p text at (record { start = at; selector = NoSelector; end = end; present = true })
 unfolding formatCells totalCells runWith encodeAll
 change-at-selector p {text} {at} {w} q h end e =
     let s = split-selector q (chars (drop (at + w) text)) in
     let z : at - at ≡ 0 = omega arith in
     let n : totalFrom p text at ≡ suc (totalFrom p text (at + w)) =
-    ap (λ (l : List ℕ). total (totalCells p l)) (h .chars-on) ∙ ap (λ (a : List Presentation × List Cell). total (unsanctioned (length (a .0)) ⊕ countCells p (a .1))) s ∙ omega arith in (
+    ap (λ (l : List ℕ). total (totalCells p l)) (h .chars-on)
+    ∙ ap (λ (a : List Presentation × List Cell). total (unsanctioned (length (a .0)) ⊕ countCells p (a .1))) s ∙ omega arith in (
       λ _. record {
         on = omega arith;
-        behind = omega arith;
+        after = omega arith;
         moves = omega (arith, h .some);
         inside = λ _. omega (arith, selectors-room text (at + w) (h .room));
         formatted =
-            ap (λ (l : List ℕ). encodeAll (formatCells p l)) (h .chars-on) ∙ ap (λ (a : List Presentation × List Cell). encodeAll (render p (a .1) [])) s
+            ap (λ (l : List ℕ). encodeAll (formatCells p l)) (h .chars-on)
+            ∙ ap (λ (a : List Presentation × List Cell). encodeAll (render p (a .1) [])) s
             ∙ selectors-formatted text (at + w) p ∙ ap (formattedFrom p text) (sym e)
             ∙ ap (λ (n : ℕ). take n (drop at text) ++ formattedFrom p text end) (sym z);
         counted = omega (arith, n, selectors-total text (at + w) p, ap (totalFrom p text) e);

@@ -1,4 +1,4 @@
--- What stays of the selectors behind a base is what the rules leave, by the first selector and the class of what follows them.
+-- What stays of the selectors after a base is what the rules leave, by the first selector and the class of what follows them.
 use mathlib.Core.Path.{_≡_, refl, ap, sym, _∙_, subst}
 use mathlib.Core.Bool.{Bool, cond}
 use mathlib.Core.List.{List, [], _∷_}
@@ -19,7 +19,16 @@ use Rattle.policy.specs.declared.SingletonRule.{SingletonRule}
 use Rattle.policy.proofs.ByEntry.{rule-by-entry}
 use Rattle.scanner.specs.Classes.{classOf}
 use Rattle.scanner.specs.declared.char_class.Class.{Class}
-use Rattle.scanner.specs.declared.char_class.Class.the-variants.{Selector as selector, Link as link, Ri as ri, Modifier as modifier, Emoji as emoji, Keycap as keycap, Tag as tag, Other as other}
+use Rattle.scanner.specs.declared.char_class.Class.the-variants.{
+  Selector as selector,
+  Link as link,
+  Ri as ri,
+  Modifier as modifier,
+  Emoji as emoji,
+  Keycap as keycap,
+  Tag as tag,
+  Other as other,
+}
 use Rattle.scanner.proofs.Arms.{class-arm}
 use Rattle.scanner.proofs.char_class.Class.{the-type as the-class}
 use Rattle.analysis.specs.Analysis.{chosen, following}
@@ -37,30 +46,40 @@ use Rattle.text_pass.proofs.RuleClasses.{rules-before, same-outcome}
 -- ---- the rule that holds
 
 module _ (p : Policy) (c i : ℕ) (e : variationSequenceIndex c ≡ At i) (a r : FromSelector) where
-  by-rule : (k : Class) (n : ℕ) (o : Outcome) → outcome p c k (runWith a n) ≡ o → runWith r 1 ≡ chosen (o .slot) [] → runWith r 1 ≡ chosen (outcome p c k (runWith a n) .slot) []
+  by-rule : (k : Class) (n : ℕ) (o : Outcome) → outcome p c k (runWith a n) ≡ o → runWith r 1 ≡ chosen (o .slot) [] → runWith r 1
+      ≡ chosen (outcome p c k (runWith a n) .slot) []
   by-rule k n o f h = h ∙ ap (λ (x : Outcome). chosen (x .slot) []) (sym f)
 
-  pub before-modifier-kept : (k : Class) → k ≡ modifier → ((b : Bool) (n : ℕ) → runWith r 1 ≡ chosen (rule23 b (runWith a n) .slot) []) → (n : ℕ) → runWith r 1 ≡ chosen (outcome p c k (runWith a n) .slot) []
+  pub before-modifier-kept : (k : Class) → k ≡ modifier → ((b : Bool) (n : ℕ) → runWith r 1 ≡ chosen (rule23 b (runWith a n) .slot) [])
+      → (n : ℕ) → runWith r 1 ≡ chosen (outcome p c k (runWith a n) .slot) []
   before-modifier-kept k f h n =
-      by-rule k n (rule23 (isEmojiModifierBase c) (runWith a n)) (ap (λ (x : Class). outcome p c x (runWith a n)) f ∙ outcome-entry p c modifier (runWith a n) (has-entry c i e))
+      by-rule k n (rule23 (isEmojiModifierBase c) (runWith a n))
+      (ap (λ (x : Class). outcome p c x (runWith a n)) f ∙ outcome-entry p c modifier (runWith a n) (has-entry c i e))
       (h (isEmojiModifierBase c) n)
 
-  pub before-tags-kept : (k : Class) (d : Bool) → k ≡ tag → d ≡ isEmojiDefault c → ((s : List Presentation) → runWith r 1 ≡ chosen (cond d (rule4 s) (rule5 s) .slot) []) → (n : ℕ) → runWith r 1 ≡ chosen (outcome p c k (runWith a n) .slot) []
+  pub before-tags-kept : (k : Class) (d : Bool) → k ≡ tag → d ≡ isEmojiDefault c
+      → ((s : List Presentation) → runWith r 1 ≡ chosen (cond d (rule4 s) (rule5 s) .slot) []) → (n : ℕ) → runWith r 1
+      ≡ chosen (outcome p c k (runWith a n) .slot) []
   before-tags-kept k d f g h n =
-      by-rule k n (cond (isEmojiDefault c) (rule4 (runWith a n)) (rule5 (runWith a n))) (ap (λ (x : Class). outcome p c x (runWith a n)) f ∙ outcome-entry p c tag (runWith a n) (has-entry c i e))
+      by-rule k n (cond (isEmojiDefault c) (rule4 (runWith a n)) (rule5 (runWith a n)))
+      (ap (λ (x : Class). outcome p c x (runWith a n)) f ∙ outcome-entry p c tag (runWith a n) (has-entry c i e))
       (h (runWith a n) ∙ ap (λ (x : Bool). chosen (cond x (rule4 (runWith a n)) (rule5 (runWith a n)) .slot) []) g)
 
-  policy-kept : (k : Class) (b : Bool) → ((n : ℕ) → outcome p c k (runWith a n) ≡ rule6 (singletonRule p c b) (runWith a n)) → (s : SingletonRule) → s ≡ entryRule p i b → ((n : ℕ) → runWith r 1 ≡ chosen (rule6 s (runWith a n) .slot) [])
+  policy-kept : (k : Class) (b : Bool) → ((n : ℕ) → outcome p c k (runWith a n) ≡ rule6 (singletonRule p c b) (runWith a n))
+      → (s : SingletonRule) → s ≡ entryRule p i b → ((n : ℕ) → runWith r 1 ≡ chosen (rule6 s (runWith a n) .slot) [])
       → (n : ℕ) → runWith r 1 ≡ chosen (outcome p c k (runWith a n) .slot) []
   policy-kept k b o s g h n =
       by-rule k n (rule6 (singletonRule p c b) (runWith a n)) (o n)
       (h n ∙ ap (λ (x : SingletonRule). chosen (rule6 x (runWith a n) .slot) []) (g ∙ sym (rule-by-entry p c i b e)))
 
-  pub before-other-kept : (k : Class) (b : Bool) (s : SingletonRule) → OneOf (0 ∷ 1 ∷ 2 ∷ 4 ∷ 5 ∷ 7 ∷ []) (tagOf the-class k) → b ≡ byKeycap k → s ≡ entryRule p i b
-      → ((n : ℕ) → runWith r 1 ≡ chosen (rule6 s (runWith a n) .slot) []) → (n : ℕ) → runWith r 1 ≡ chosen (outcome p c k (runWith a n) .slot) []
+  pub before-other-kept : (k : Class) (b : Bool) (s : SingletonRule) → OneOf (0 ∷ 1 ∷ 2 ∷ 4 ∷ 5 ∷ 7 ∷ []) (tagOf the-class k) → b
+      ≡ byKeycap k → s ≡ entryRule p i b
+      → ((n : ℕ) → runWith r 1 ≡ chosen (rule6 s (runWith a n) .slot) []) → (n : ℕ) → runWith r 1
+      ≡ chosen (outcome p c k (runWith a n) .slot) []
   unfolding byKeycap
   before-other-kept k b s o d =
-      policy-kept k b (λ n. class-arm (0 ∷ 1 ∷ 2 ∷ 4 ∷ 5 ∷ 7 ∷ []) (λ (x : Class). outcome p c x (runWith a n) ≡ rule6 (singletonRule p c (byKeycap x)) (runWith a n)) (
+      policy-kept k b (λ n. class-arm (0 ∷ 1 ∷ 2 ∷ 4 ∷ 5 ∷ 7 ∷ [])
+      (λ (x : Class). outcome p c x (runWith a n) ≡ rule6 (singletonRule p c (byKeycap x)) (runWith a n)) (
         outcome-entry p c selector (runWith a n) (has-entry c i e),
         outcome-entry p c link (runWith a n) (has-entry c i e),
         outcome-entry p c ri (runWith a n) (has-entry c i e),
@@ -80,10 +99,12 @@ same-back : {i j : Class} → SameRules i j → SameRules j i
 same-back a = record { modifier = sym (a .modifier); tags = sym (a .tags); keycap = sym (a .keycap) }
 
 -- The packed number of the character at an offset is 0 where none stands, and 0 is to the rules as any other character.
-pub class-in-front : (text : List ℕ) (at n : ℕ) (k : Class) → n ≡ packed (readChar (drop at text)) → SameRules k (classOf (n / 8)) → SameRules k (classInFront (chars (drop at text)))
+pub class-in-front : (text : List ℕ) (at n : ℕ) (k : Class) → n ≡ packed (readChar (drop at text)) → SameRules k (classOf (n / 8))
+    → SameRules k (classInFront (chars (drop at text)))
 unfolding classInFront
 class-in-front text at zero k e h =
-    subst (λ (t : List ℕ). SameRules k (classInFront t)) (sym (packed-stop text at zero e refl .chars-none)) (same-then h (same-back (rules-before 0 (omega arith))))
+    subst (λ (t : List ℕ). SameRules k (classInFront t)) (sym (packed-stop text at zero e refl .chars-none))
+    (same-then h (same-back (rules-before 0 (omega arith))))
 class-in-front text at (suc n) k e h =
     let s = packed-step text at (suc n) e (λ z. omega arith) in
     subst (λ (t : List ℕ). SameRules k (classInFront t)) (sym (s .chars-on)) h
@@ -102,10 +123,13 @@ module _ (p : Policy) (text : List ℕ) (base at : ℕ) where
   pub follows : (end : ℕ) → end ≡ at + 3 * length (leading T) → classInFront (chars (drop end text)) ≡ following (cells T)
   follows end e =
       let s = split-at text at e in
-      front-class (chars (drop end text)) (ap (λ (a : List Presentation × List Cell). a .0) s) ∙ ap (λ (a : List Presentation × List Cell). following (a .1)) s
+      front-class (chars (drop end text)) (ap (λ (a : List Presentation × List Cell). a .0) s)
+      ∙ ap (λ (a : List Presentation × List Cell). following (a .1)) s
 
-  pub outcome-read : (first : FromSelector) (end : ℕ) (k : Class) → first ≡ firstAsked (leading T) → end ≡ at + 3 * length (leading T) → SameRules k (classInFront (chars (drop end text)))
+  pub outcome-read : (first : FromSelector) (end : ℕ) (k : Class) → first ≡ firstAsked (leading T) → end ≡ at + 3 * length (leading T)
+      → SameRules k (classInFront (chars (drop end text)))
       → outcome p base k (runWith first (length (leading T))) ≡ outcomeFrom p text base at
   outcome-read first end k f e h =
       same-outcome p base (runWith first (length (leading T))) (subst (SameRules k) (follows end e) h)
-      ∙ ap (λ (x : FromSelector). outcome p base (following (cells T)) (runWith x (length (leading T)))) f ∙ sym (by-numbers p base (following (cells T)) (leading T))
+      ∙ ap (λ (x : FromSelector). outcome p base (following (cells T)) (runWith x (length (leading T)))) f
+      ∙ sym (by-numbers p base (following (cells T)) (leading T))

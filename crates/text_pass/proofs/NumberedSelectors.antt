@@ -11,7 +11,7 @@ use Rattle.unicode.specs.declared.presentation.Presentation.the-variants.{Emoji
 use Rattle.policy.specs.declared.SingletonRule.the-variants.{BareToEmoji, BareToText, EmojiToBare, TextToBare}
 use Rattle.analysis.specs.Rules.{byFirst, isBareSide, rule2, rule3, rule4, rule5, rule6, runWith, textFirst, withoutSelector}
 use Rattle.analysis.proofs.Rules.{rule23}
-use Rattle.text_pass.specs.Changes.{Leaves, selectorNumber, selectorOf}
+use Rattle.text_pass.specs.Changes.{LeavesSelector, selectorNumber, selectorOf}
 
 pub number-selector : (n : ℕ) → n ≤ 2 → selectorNumber (selectorOf n) ≡ n
 unfolding selectorNumber selectorOf
@@ -28,25 +28,29 @@ selector-third (suc (suc n)) a b = refl
 
 -- ---- rule 6
 
-pub text-to-bare : (f : FromSelector) (n : ℕ) → Leaves (rule6 TextToBare (runWith f n) .slot) (0x20 / 2 ^ (2 * selectorNumber f) % 4)
+pub text-to-bare : (f : FromSelector) (n : ℕ)
+    → LeavesSelector (rule6 TextToBare (runWith f n) .slot) (0x20 / 2 ^ (2 * selectorNumber f) % 4)
 unfolding rule6 withoutSelector isBareSide runWith selectorNumber selectorOf
 text-to-bare NoSelector n = record { few = omega arith; left = refl }
 text-to-bare (Selector Text) n = record { few = omega arith; left = refl }
 text-to-bare (Selector Emoji) n = record { few = omega arith; left = refl }
 
-pub emoji-to-bare : (f : FromSelector) (n : ℕ) → Leaves (rule6 EmojiToBare (runWith f n) .slot) (0x04 / 2 ^ (2 * selectorNumber f) % 4)
+pub emoji-to-bare : (f : FromSelector) (n : ℕ)
+    → LeavesSelector (rule6 EmojiToBare (runWith f n) .slot) (0x04 / 2 ^ (2 * selectorNumber f) % 4)
 unfolding rule6 withoutSelector isBareSide runWith selectorNumber selectorOf
 emoji-to-bare NoSelector n = record { few = omega arith; left = refl }
 emoji-to-bare (Selector Text) n = record { few = omega arith; left = refl }
 emoji-to-bare (Selector Emoji) n = record { few = omega arith; left = refl }
 
-pub bare-to-text : (f : FromSelector) (n : ℕ) → Leaves (rule6 BareToText (runWith f n) .slot) (0x25 / 2 ^ (2 * selectorNumber f) % 4)
+pub bare-to-text : (f : FromSelector) (n : ℕ)
+    → LeavesSelector (rule6 BareToText (runWith f n) .slot) (0x25 / 2 ^ (2 * selectorNumber f) % 4)
 unfolding rule6 withoutSelector isBareSide runWith selectorNumber selectorOf
 bare-to-text NoSelector n = record { few = omega arith; left = refl }
 bare-to-text (Selector Text) n = record { few = omega arith; left = refl }
 bare-to-text (Selector Emoji) n = record { few = omega arith; left = refl }
 
-pub bare-to-emoji : (f : FromSelector) (n : ℕ) → Leaves (rule6 BareToEmoji (runWith f n) .slot) (0x26 / 2 ^ (2 * selectorNumber f) % 4)
+pub bare-to-emoji : (f : FromSelector) (n : ℕ)
+    → LeavesSelector (rule6 BareToEmoji (runWith f n) .slot) (0x26 / 2 ^ (2 * selectorNumber f) % 4)
 unfolding rule6 withoutSelector isBareSide runWith selectorNumber selectorOf
 bare-to-emoji NoSelector n = record { few = omega arith; left = refl }
 bare-to-emoji (Selector Text) n = record { few = omega arith; left = refl }
@@ -54,23 +58,23 @@ bare-to-emoji (Selector Emoji) n = record { few = omega arith; left = refl }
 
 -- ---- rules 2 to 5
 
-pub modifier-text : (f : FromSelector) → selectorNumber f ≡ 1 → (b : Bool) (n : ℕ) → Leaves (rule23 b (runWith f n) .slot) 1
+pub modifier-text : (f : FromSelector) → selectorNumber f ≡ 1 → (b : Bool) (n : ℕ) → LeavesSelector (rule23 b (runWith f n) .slot) 1
 unfolding rule2 rule3 byFirst textFirst runWith selectorNumber selectorOf
 modifier-text NoSelector e b n = absurd (omega (arith, e))
 modifier-text (Selector Text) e b n = record { few = omega arith; left = refl }
 modifier-text (Selector Emoji) e b n = absurd (omega (arith, e))
 
-pub modifier-other : (f : FromSelector) → (selectorNumber f ≡ 1 → ⊥) → (b : Bool) (n : ℕ) → Leaves (rule23 b (runWith f n) .slot) 0
+pub modifier-other : (f : FromSelector) → (selectorNumber f ≡ 1 → ⊥) → (b : Bool) (n : ℕ) → LeavesSelector (rule23 b (runWith f n) .slot) 0
 unfolding rule2 rule3 byFirst textFirst runWith selectorNumber selectorOf
 modifier-other NoSelector e b n = record { few = omega arith; left = refl }
 modifier-other (Selector Text) e b n = absurd (e refl)
 modifier-other (Selector Emoji) e b n = record { few = omega arith; left = refl }
 
-pub tags-bare : (s : List Presentation) → Leaves (rule4 s .slot) 0
+pub tags-bare : (s : List Presentation) → LeavesSelector (rule4 s .slot) 0
 unfolding rule4 byFirst runWith selectorOf
 tags-bare s = record { few = omega arith; left = refl }
 
-pub tags-emoji : (s : List Presentation) → Leaves (rule5 s .slot) 2
+pub tags-emoji : (s : List Presentation) → LeavesSelector (rule5 s .slot) 2
 unfolding rule5 byFirst runWith selectorOf
 tags-emoji [] = record { few = omega arith; left = refl }
 tags-emoji (q ∷ s) = record { few = omega arith; left = refl }

@@ -1,4 +1,4 @@
--- Where no finding begins, where one does, and how many are passed: by the items from an offset on and the totals before and behind an item.
+-- Where no finding begins, where one does, and how many are passed: by the items from an offset on and the totals before and after an item.
 use mathlib.Core.Path.{_≡_, refl, ap, sym, _∙_, subst}
 use mathlib.Core.Bool.{Bool, true, false, cond, not}
 use mathlib.Core.List.{List, _∷_}
@@ -12,11 +12,11 @@ use Rattle.policy.specs.PolicyBytes.{asciiKeysBare, policyOf}
 use Rattle.policy.specs.declared.Policy.{Policy}
 use Rattle.policy.proofs.ByEntry.{ascii-rule-bare}
 use Rattle.scanner.specs.Classes.{classOf}
-use Rattle.scanner.specs.Items.{Item, begin, cut, items, join, kindOf}
+use Rattle.scanner.specs.Items.{Item, startState, splitFrom, items, join, kindOf}
 use Rattle.scanner.specs.Spans.{Found, found, size, width}
 use Rattle.scanner.specs.declared.char_class.Class.the-variants.{Other as other}
-use Rattle.scanner.specs.declared.place.Place.{Place}
-use Rattle.scanner.specs.declared.place.Place.the-variants.{Plain as plain}
+use Rattle.scanner.specs.declared.state.State.{State}
+use Rattle.scanner.specs.declared.state.State.the-variants.{Plain as plain}
 use Rattle.scanner.proofs.Bytes.{size-chars}
 use Rattle.scanner.proofs.Rescan.{found-items, found-none, found-skip, size-append}
 use Rattle.scanner.proofs.ItemAt.{ItemAt, item-at}
@@ -28,7 +28,16 @@ use Rattle.analysis.specs.declared.types.NonCanonicality.{NonCanonicality}
 use Rattle.analysis.proofs.Counts.{plus-cancel}
 use Rattle.analysis.proofs.Items.{passthrough-no-finding}
 use Rattle.text_pass.specs.Changes.{AsciiBare, totalFrom}
-use Rattle.text_pass.specs.Findings.{Counted, Finds, Left, Passes, PassesOver, Skips, all-left, one-less}
+use Rattle.text_pass.specs.Findings.{
+  Counted,
+  Finds,
+  SkipsFindings,
+  NoFindingBetween,
+  FindingsBetween,
+  PlainBetween,
+  none-skipped,
+  one-skipped,
+}
 use Rattle.analysis.proofs.CellsOfItems.{total-first}
 use Rattle.text_pass.proofs.PlainText.{other-plain, stays-plain}
 use Rattle.text_pass.proofs.Staying.{stays-here, stays-on}
@@ -36,10 +45,10 @@ use Rattle.text_pass.proofs.Staying.{stays-here, stays-on}
 -- ---- stretches without a finding
 
 module _ {p : Policy} {text : List ℕ} where
-  pub passes-here : (i : ℕ) → Passes p text i i
+  pub passes-here : (i : ℕ) → NoFindingBetween p text i i
   passes-here i = record { on = omega arith; inside = λ h. h; same = refl; valid = omega arith }
 
-  pub passes-on : {i j k : ℕ} → Passes p text i j → Passes p text j k → Passes p text i k
+  pub passes-on : {i j k : ℕ} → NoFindingBetween p text i j → NoFindingBetween p text j k → NoFindingBetween p text i k
   passes-on a b =
       let l = a .on in
       let m = b .on in
@@ -49,24 +58,28 @@ module _ {p : Policy} {text : List ℕ} where
 
 -- ---- stretches with findings that start before a limit
 
-left-on : {before m n : ℕ} {fs gs hs : List Found} → Left before fs m gs → Left before gs n hs → Left before fs (m + n) hs
-left-on {before} {n = n} {fs} {hs = hs} all-left b = let z : n ≡ 0 + n = omega arith in subst (λ (k : ℕ). Left before fs k hs) z b
-left-on {before} {n = n} {fs} {hs = hs} (one-less {n = m} h a) b = let z : suc (m + n) ≡ suc m + n = omega arith in subst (λ (k : ℕ). Left before fs k hs) z (one-less h (left-on a b))
+left-on : {before m n : ℕ} {fs gs hs : List Found} → SkipsFindings before fs m gs → SkipsFindings before gs n hs
+    → SkipsFindings before fs (m + n) hs
+left-on {before} {n = n} {fs} {hs = hs} none-skipped b = let z : n
+    ≡ 0 + n = omega arith in subst (λ (k : ℕ). SkipsFindings before fs k hs) z b
+left-on {before} {n = n} {fs} {hs = hs} (one-skipped {n = m} h a) b = let z : suc (m + n)
+    ≡ suc m + n = omega arith in subst (λ (k : ℕ). SkipsFindings before fs k hs) z (one-skipped h (left-on a b))
 
 -- The findings that are passed are counted.
-pub left-length : {before n : ℕ} {fs gs : List Found} → Left before fs n gs → length fs ≡ n + length gs
-left-length all-left = omega arith
-left-length (one-less h a) = let e = left-length a in omega arith
+pub left-length : {before n : ℕ} {fs gs : List Found} → SkipsFindings before fs n gs → length fs ≡ n + length gs
+left-length none-skipped = omega arith
+left-length (one-skipped h a) = let e = left-length a in omega arith
 
-none-passed : {n : ℕ} {fs gs : List Found} → Left 0 fs n gs → fs ≡ gs
-none-passed all-left = refl
-none-passed (one-less h a) = absurd (omega arith)
+none-passed : {n : ℕ} {fs gs : List Found} → SkipsFindings 0 fs n gs → fs ≡ gs
+none-passed none-skipped = refl
+none-passed (one-skipped h a) = absurd (omega arith)
 
 module _ {p : Policy} {text : List ℕ} {before : ℕ} where
-  pub over-here : (i : ℕ) → PassesOver p text before i i 0
-  over-here i = record { on = omega arith; inside = λ h. h; few = omega arith; left = all-left; valid = omega arith }
+  pub over-here : (i : ℕ) → FindingsBetween p text before i i 0
+  over-here i = record { on = omega arith; inside = λ h. h; few = omega arith; left = none-skipped; valid = omega arith }
 
-  pub over-on : {i j k m n : ℕ} → PassesOver p text before i j m → PassesOver p text before j k n → PassesOver p text before i k (m + n)
+  pub over-on : {i j k m n : ℕ} → FindingsBetween p text before i j m → FindingsBetween p text before j k n
+      → FindingsBetween p text before i k (m + n)
   over-on a b =
       let l = a .on in
       let m = b .on in
@@ -74,10 +87,17 @@ module _ {p : Policy} {text : List ℕ} {before : ℕ} where
       let w = b .valid in
       let f = a .few in
       let g = b .few in
-      record { on = omega arith; inside = λ h. b .inside (a .inside h); few = omega arith; left = left-on (a .left) (b .left); valid = omega arith }
+      record {
+        on = omega arith;
+        inside = λ h. b .inside (a .inside h);
+        few = omega arith;
+        left = left-on (a .left) (b .left);
+        valid =
+            omega arith;
+      }
 
-  -- A stretch without a finding behind it.
-  pub over-passes : {i j k n : ℕ} → PassesOver p text before i j n → Passes p text j k → PassesOver p text before i k n
+  -- A stretch without a finding after it.
+  pub over-passes : {i j k n : ℕ} → FindingsBetween p text before i j n → NoFindingBetween p text j k → FindingsBetween p text before i k n
   over-passes {i} {n = n} a b =
       let l = a .on in
       let m = b .on in
@@ -88,31 +108,42 @@ module _ {p : Policy} {text : List ℕ} {before : ℕ} where
         on = omega arith;
         inside = λ h. b .inside (a .inside h);
         few = omega arith;
-        left = subst (λ (l : List Found). Left before (findingsFrom p text i) n l) (b .same) (a .left);
+        left = subst (λ (l : List Found). SkipsFindings before (findingsFrom p text i) n l) (b .same) (a .left);
         valid = omega arith;
       }
 
 -- Nothing starts before the first offset, so that no finding is passed.
-pub over-none : {p : Policy} {text : List ℕ} {i j n : ℕ} → PassesOver p text 0 i j n → Passes p text i j
+pub over-none : {p : Policy} {text : List ℕ} {i j n : ℕ} → FindingsBetween p text 0 i j n → NoFindingBetween p text i j
 over-none a = record { on = a .on; inside = a .inside; same = none-passed (a .left); valid = a .valid }
 
--- ---- an item, by the totals before and behind it
+-- ---- an item, by the totals before and after it
 
-module _ (p : Policy) (text : List ℕ) (at end : ℕ) {x : Item} {xs : List Item} (e : items (chars (drop at text)) ≡ x ∷ xs) (f : end ≡ at + size width (x .chars)) where
+module _ (p : Policy) (text : List ℕ) (at end : ℕ) {x : Item} {xs : List Item} (e : items (chars (drop at text)) ≡ x ∷ xs)
+    (f : end ≡ at + size width (x .chars)) where
   h : ItemAt text at x xs
   h = item-at text at e
 
   pub item-counts : totalCells p (chars (drop at text)) ≡ nonCanonicality p x ⊕ totalCells p (chars (drop end text))
   item-counts =
       total-first p (chars (drop at text)) x xs e
-      ∙ ap (λ (t : List ℕ). nonCanonicality p x ⊕ totalCells p t) (sym (h .text-behind) ∙ ap (λ (n : ℕ). chars (drop n text)) (sym f))
+      ∙ ap (λ (t : List ℕ). nonCanonicality p x ⊕ totalCells p t) (sym (h .text-after) ∙ ap (λ (n : ℕ). chars (drop n text)) (sym f))
 
   pub item-valid : validUpTo (drop at text) ≡ (end - at) + validUpTo (drop end text)
   item-valid =
-      omega (arith, f, size-chars (drop at text), size-chars (drop (at + size width (x .chars)) text), ap (size width) (h .bytes), ap (size width) (h .text-behind), size-append width (x .chars) (join xs), ap (λ (n : ℕ). validUpTo (drop n text)) f)
+      omega (
+        arith,
+        f,
+        size-chars (drop at text),
+        size-chars (drop (at + size width (x .chars)) text),
+        ap (size width) (h .bytes),
+        ap
+            (size width) (h .text-after),
+        size-append width (x .chars) (join xs),
+        ap (λ (n : ℕ). validUpTo (drop n text)) f,
+      )
 
-  pub quiet-item : totalFrom p text at ≡ totalFrom p text end → Passes p text at end
-  quiet-item q =
+  pub uncounted-item : totalFrom p text at ≡ totalFrom p text end → NoFindingBetween p text at end
+  uncounted-item q =
       let z : total (nonCanonicality p x) ≡ 0 = omega (arith, ap total item-counts) in
       let n : isFinding p x ≡ false = ap not (eq-eqb _ 0 z) in
       let s = h .some in
@@ -122,18 +153,19 @@ module _ (p : Policy) (text : List ℕ) (at end : ℕ) {x : Item} {xs : List Ite
         inside = λ _. omega arith;
         same =
             ap (found (isFinding p) width at) e ∙ found-none (isFinding p) width at x xs n
-            ∙ ap (found (isFinding p) width (at + size width (x .chars))) (sym (h .behind))
+            ∙ ap (found (isFinding p) width (at + size width (x .chars))) (sym (h .after))
             ∙ ap (findingsFrom p text) (sym f);
         valid = item-valid;
       }
 
-  pub loud-item : (m : NonCanonicality) → 1 ≤ total m → totalCells p (chars (drop at text)) ≡ m ⊕ totalCells p (chars (drop end text)) → Counted p text at end m
-  loud-item m l q =
+  pub counted-item : (m : NonCanonicality) → 1 ≤ total m → totalCells p (chars (drop at text)) ≡ m ⊕ totalCells p (chars (drop end text))
+      → Counted p text at end m
+  counted-item m l q =
       let c : m ≡ nonCanonicality p x = plus-cancel m (nonCanonicality p x) (totalCells p (chars (drop end text))) (sym q ∙ item-counts) in
       record {
         finds = record {
           item = x;
-          behind = xs;
+          after = xs;
           items-are = e;
           end-is = f;
           is-finding = ap not (ne-eqb (total (nonCanonicality p x)) 0 (λ z. omega (arith, ap total c)));
@@ -144,26 +176,27 @@ module _ (p : Policy) (text : List ℕ) (at end : ℕ) {x : Item} {xs : List Ite
 -- ---- an item that is a finding
 
 module _ {p : Policy} {text : List ℕ} {start end : ℕ} (f : Finds p text start end) where
-  place : ItemAt text start (f .item) (f .behind)
-  place = item-at text start (f .items-are)
+  state : ItemAt text start (f .item) (f .after)
+  state = item-at text start (f .items-are)
 
   pub finds-here : findingsFrom p text start ≡ record { start = start; item = f .item } ∷ findingsFrom p text end
   unfolding found
   finds-here =
       let n = start + size width (f .item .chars) in
-      let l = found (isFinding p) width n (f .behind) in
+      let l = found (isFinding p) width n (f .after) in
       ap (found (isFinding p) width start) (f .items-are)
       ∙ ap (λ (b : Bool). cond b (record { start = start; item = f .item } ∷ l) l) (f .is-finding)
-      ∙ ap (λ (k : List Found). record { start = start; item = f .item } ∷ k) (ap (found (isFinding p) width n) (sym (place .behind)) ∙ ap (findingsFrom p text) (sym (f .end-is)))
+      ∙ ap (λ (k : List Found). record { start = start; item = f .item } ∷ k)
+      (ap (found (isFinding p) width n) (sym (state .after)) ∙ ap (findingsFrom p text) (sym (f .end-is)))
 
   pub finds-some : start < end
-  finds-some = let e = f .end-is in let s = place .some in omega arith
+  finds-some = let e = f .end-is in let s = state .some in omega arith
 
   pub finds-room : end ≤ length text
-  finds-room = let e = f .end-is in let r = place .room in omega arith
+  finds-room = let e = f .end-is in let r = state .room in omega arith
 
   -- It is passed where it starts before the limit.
-  pub over-finding : {before : ℕ} → start < before → PassesOver p text before start end 1
+  pub over-finding : {before : ℕ} → start < before → FindingsBetween p text before start end 1
   over-finding {before} l =
       let s = finds-some in
       let r = finds-room in
@@ -171,7 +204,7 @@ module _ {p : Policy} {text : List ℕ} {start end : ℕ} (f : Finds p text star
         on = omega arith;
         inside = λ _. r;
         few = omega arith;
-        left = subst (λ (k : List Found). Left before k 1 (findingsFrom p text end)) (sym finds-here) (one-less l all-left);
+        left = subst (λ (k : List Found). SkipsFindings before k 1 (findingsFrom p text end)) (sym finds-here) (one-skipped l none-skipped);
         valid = item-valid p text start end (f .items-are) (f .end-is);
       }
 
@@ -181,21 +214,22 @@ pub step-width : {text : List ℕ} {at v w : ℕ} → Step text at v w → width
 step-width {text} {at} {v} {w} s =
     omega (arith, size-chars (drop at text), size-chars (drop (at + w) text), ap (size width) (s .chars-on), s .validUpTo-on)
 
--- No finding begins in passthrough, and behind a character of it the same findings follow.
-pub passes-plain : (p : Policy) {text : List ℕ} {at v w : ℕ} → Step text at v w → begin (classOf v) ≡ plain → Passes p text at (at + w)
+-- No finding begins in passthrough, and after a character of it the same findings follow.
+pub passes-plain : (p : Policy) {text : List ℕ} {at v w : ℕ} → Step text at v w → startState (classOf v)
+    ≡ plain → NoFindingBetween p text at (at + w)
 unfolding items kindOf
 passes-plain p {text} {at} {v} {w} s b =
     let t = chars (drop (at + w) text) in
-    let x : Item = record { kind = kindOf (begin (classOf v)); chars = v ∷ (cut (begin (classOf v)) t) .0 } in
-    let n : at + size width (v ∷ (cut plain t) .0) ≡ at + w + size width ((cut plain t) .0) = omega (arith, step-width s) in
+    let x : Item = record { kind = kindOf (startState (classOf v)); chars = v ∷ (splitFrom (startState (classOf v)) t) .0 } in
+    let n : at + size width (v ∷ (splitFrom plain t) .0) ≡ at + w + size width ((splitFrom plain t) .0) = omega (arith, step-width s) in
     record {
       on = omega arith;
       inside = λ _. s .room;
       same =
           ap (λ (l : List ℕ). found (isFinding p) width at (items l)) (s .chars-on)
-          ∙ found-skip (isFinding p) width (passthrough-no-finding p) at x ((cut (begin (classOf v)) t) .1) (ap kindOf b)
-          ∙ ap (λ (q : Place). found (isFinding p) width (at + size width (v ∷ (cut q t) .0)) ((cut q t) .1)) b
-          ∙ ap (λ (m : ℕ). found (isFinding p) width m ((cut plain t) .1)) n
+          ∙ found-skip (isFinding p) width (passthrough-no-finding p) at x ((splitFrom (startState (classOf v)) t) .1) (ap kindOf b)
+          ∙ ap (λ (q : State). found (isFinding p) width (at + size width (v ∷ (splitFrom q t) .0)) ((splitFrom q t) .1)) b
+          ∙ ap (λ (m : ℕ). found (isFinding p) width m ((splitFrom plain t) .1)) n
           ∙ sym (found-items (isFinding p) width (passthrough-no-finding p) (at + w) t);
       valid = omega (arith, s .validUpTo-on);
     }
@@ -203,21 +237,23 @@ passes-plain p {text} {at} {v} {w} s b =
 -- ---- plain text: its bytes stay too
 
 module _ {p : Policy} {text : List ℕ} where
-  pub skips-here : (i : ℕ) → Skips p text i i
+  pub skips-here : (i : ℕ) → PlainBetween p text i i
   skips-here i = (stays-here i, passes-here i)
 
-  pub skips-on : {i j k : ℕ} → Skips p text i j → Skips p text j k → Skips p text i k
+  pub skips-on : {i j k : ℕ} → PlainBetween p text i j → PlainBetween p text j k → PlainBetween p text i k
   skips-on a b = (stays-on (a .0) (b .0), passes-on (a .1) (b .1))
 
-pub skips-other : (p : Policy) {text : List ℕ} {at v w : ℕ} → Step text at v w → classOf v ≡ other → Skips p text at (at + w)
-unfolding begin
-skips-other p {v = v} s e = (stays-plain p s (other-plain v e), passes-plain p s (ap begin e))
+pub skips-other : (p : Policy) {text : List ℕ} {at v w : ℕ} → Step text at v w → classOf v ≡ other → PlainBetween p text at (at + w)
+unfolding startState
+skips-other p {v = v} s e = (stays-plain p s (other-plain v e), passes-plain p s (ap startState e))
 
 -- Plain text passed by what the policy's bytes say of the ASCII bases, as the code does.
-pub passed : (policy text : List ℕ) {at to : ℕ} {bare : Bool} → bare ≡ asciiKeysBare policy → ((p : Policy) → (bare ≡ true → AsciiBare p) → Skips p text at to)
-    → Passes (policyOf policy) text at to
+pub passed : (policy text : List ℕ) {at to : ℕ} {bare : Bool} → bare ≡ asciiKeysBare policy
+    → ((p : Policy) → (bare ≡ true → AsciiBare p) → PlainBetween p text at to)
+    → NoFindingBetween (policyOf policy) text at to
 passed policy text e s = s (policyOf policy) (λ t. ascii-rule-bare policy (sym e ∙ t)) .1
 
-pub passes-skip : (policy text : List ℕ) {before from at to n : ℕ} {bare : Bool} → bare ≡ asciiKeysBare policy → PassesOver (policyOf policy) text before from at n
-    → ((p : Policy) → (bare ≡ true → AsciiBare p) → Skips p text at to) → PassesOver (policyOf policy) text before from to n
+pub passes-skip : (policy text : List ℕ) {before from at to n : ℕ} {bare : Bool} → bare ≡ asciiKeysBare policy
+    → FindingsBetween (policyOf policy) text before from at n
+    → ((p : Policy) → (bare ≡ true → AsciiBare p) → PlainBetween p text at to) → FindingsBetween (policyOf policy) text before from to n
 passes-skip policy text e a s = over-passes a (passed policy text e s)

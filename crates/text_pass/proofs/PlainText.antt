@@ -1,4 +1,4 @@
--- Characters that stay whatever stands behind them: which they are by their first bytes, and ASCII.
+-- Characters that stay whatever stands after them: which they are by their first bytes, and ASCII.
 use mathlib.Core.Path.{_≡_, refl, ap, sym, _∙_, subst}
 use mathlib.Core.Logic.{⊎-elim}
 use mathlib.Core.Bool.{Bool, true, false, _&&_, _||_}
@@ -28,10 +28,10 @@ use Rattle.analysis.specs.Analysis.{following}
 use Rattle.analysis.specs.Cells.{cells, leading}
 use Rattle.analysis.specs.Rules.{rule1}
 use Rattle.analysis.proofs.Rules.{outcome-no-entry}
-use Rattle.text_pass.specs.Changes.{Stays, outcomeFrom}
+use Rattle.text_pass.specs.Changes.{UnchangedBetween, outcomeFrom}
 use Rattle.text_pass.proofs.Staying.{stays-char}
 
--- A character that has no variation entry and is no selector: it stays, whatever stands behind it.
+-- A character that has no variation entry and is no selector: it stays, whatever stands after it.
 pub record StaysAlone (c : ℕ) : Type 0 where
   pub no-entry : hasVariationSequence c ≡ false
   pub no-selector : isSelector c ≡ false
@@ -43,12 +43,18 @@ other-if : (c : ℕ) → c < 0xF000 → (c ≡ 0x200D → ⊥) → (c ≡ 0x20E3
 unfolding isSelector isTag
 other-if c high link keycap e =
     class-is (is-other
-    (record { no-selector = simp (ne-eqb c 0xFE0E (λ e. omega arith), ne-eqb c 0xFE0F (λ e. omega arith)); no-link = ne-eqb c 0x200D link; no-emoji = e })
+    (record {
+      no-selector = simp (ne-eqb c 0xFE0E (λ e. omega arith), ne-eqb c 0xFE0F (λ e. omega arith));
+      no-link =
+          ne-eqb c 0x200D link;
+      no-emoji = e;
+    })
     (ne-eqb c 0x20E3 keycap) (simp (lt-leb 0xE0020 c (omega arith))))
 
--- A range of emoji lies among ASCII and Latin-1, from 2000 to 2FFF, in the blocks of 3030 and 3297, or behind EFFF.
+-- A range of emoji lies among ASCII and Latin-1, from 2000 to 2FFF, in the blocks of 3030 and 3297, or after EFFF.
 unfoldable emojiPlace : ℕ → ℕ → Bool
-emojiPlace a e = leb e 0xBF || ((leb 0x2000 a && leb e 0x2FFF) || ((leb 0x3000 a && leb e 0x303F) || ((leb 0x3280 a && leb e 0x32BF) || leb 0xF000 a)))
+emojiPlace a e = leb e 0xBF || ((leb 0x2000 a && leb e 0x2FFF) ||
+    ((leb 0x3000 a && leb e 0x303F) || ((leb 0x3280 a && leb e 0x32BF) || leb 0xF000 a)))
 
 other-by : (c : ℕ) → 0xC0 ≤ c → (0x2000 ≤ c → c ≤ 0x2FFF → ⊥) → (c / 64 ≡ 0xC0 → ⊥) → (c / 64 ≡ 0xCA → ⊥) → c < 0xF000 → classOf c ≡ other
 unfolding isEmoji everyRange emojiRanges emojiPlace
@@ -60,9 +66,11 @@ other-by c low two three four high =
         let i = within-in a e d w in
         ⊎-elim (λ f. omega (arith, leb-true e 0xBF f))
         (λ f. ⊎-elim
-        (λ g. let b = both-true (leb 0x2000 a) (leb e 0x2FFF) g in two (omega (arith, leb-true 0x2000 a (b .0))) (omega (arith, leb-true e 0x2FFF (b .1))))
+        (λ g. let b = both-true (leb 0x2000 a) (leb e 0x2FFF) g in two (omega (arith, leb-true 0x2000 a (b .0)))
+        (omega (arith, leb-true e 0x2FFF (b .1))))
         (λ g. ⊎-elim
-        (λ h. let b = both-true (leb 0x3000 a) (leb e 0x303F) h in three (omega (arith, leb-true 0x3000 a (b .0), leb-true e 0x303F (b .1))))
+        (λ h. let b = both-true (leb 0x3000 a) (leb e 0x303F) h in three
+        (omega (arith, leb-true 0x3000 a (b .0), leb-true e 0x303F (b .1))))
         (λ h. ⊎-elim
         (λ k. let b = both-true (leb 0x3280 a) (leb e 0x32BF) k in four (omega (arith, leb-true 0x3280 a (b .0), leb-true e 0x32BF (b .1))))
         (λ k. omega (arith, leb-true 0xF000 a k))
@@ -92,7 +100,8 @@ ascii-other c ascii hash star digit =
         (λ f. ⊎-elim
         (λ g. let b = both-true (eqb a 0x2A) (eqb e 0x2A) g in star (omega (arith, eqb-true a 0x2A (b .0), eqb-true e 0x2A (b .1))))
         (λ g. ⊎-elim
-        (λ h. let b = both-true (leb 0x30 a) (leb e 0x39) h in digit (omega (arith, leb-true 0x30 a (b .0))) (omega (arith, leb-true e 0x39 (b .1))))
+        (λ h. let b = both-true (leb 0x30 a) (leb e 0x39) h in digit (omega (arith, leb-true 0x30 a (b .0)))
+        (omega (arith, leb-true e 0x39 (b .1))))
         (λ h. omega (arith, leb-true 0x80 a h))
         (either-true (leb 0x30 a && leb e 0x39) (leb 0x80 a) g))
         (either-true (eqb a 0x2A && eqb e 0x2A) _ f))
@@ -117,16 +126,19 @@ other-plain c e = class-plain c e (λ z. let n : _≡_ {A = ℕ} 0 1 = cc in ome
 
 -- A character whose first byte is from C3 to EE, not E2, and if it is E3, its second is neither 80 nor 8A.
 pub plain-lead : {text : List ℕ} {at v w : ℕ} → Step text at v w → (a : ℕ) → a ≡ getD (drop at text) 0 0
-    → 0xC3 ≤ a → a ≤ 0xEE → (a ≡ 0xE2 → ⊥) → (a ≡ 0xE3 → (getD (drop at text) 1 0 ≡ 0x80 → ⊥) × (getD (drop at text) 1 0 ≡ 0x8A → ⊥)) → classOf v ≡ other
+    → 0xC3 ≤ a → a ≤ 0xEE → (a ≡ 0xE2 → ⊥) → (a ≡ 0xE3 → (getD (drop at text) 1 0 ≡ 0x80 → ⊥) × (getD (drop at text) 1 0 ≡ 0x8A → ⊥))
+    → classOf v ≡ other
 plain-lead {text} {at} {v} {w} h a e low high two three =
     ⊎-elim (λ l. absurd (let b = first (v ∷ []) (encode-1 v l) in omega arith))
     (λ l. ⊎-elim
-    (λ m. let b = first ((0xC0 + v / 64) ∷ _ ∷ []) (encode-2 v (omega arith) m) in other-by v (omega arith) (λ i j. omega arith) (λ i. omega arith) (λ i. omega arith) (omega arith))
+    (λ m. let b = first ((0xC0 + v / 64) ∷ _ ∷ []) (encode-2 v (omega arith) m) in other-by v (omega arith) (λ i j. omega arith)
+    (λ i. omega arith) (λ i. omega arith) (omega arith))
     (λ m. ⊎-elim
     (λ n.
     let b = first ((0xE0 + v / 4096) ∷ _ ∷ _ ∷ []) (encode-3 v (omega arith) n) in
     let d = second ((0xE0 + v / 4096) ∷ _ ∷ _ ∷ []) (encode-3 v (omega arith) n) in
-    other-by v (omega arith) (λ i j. two (omega arith)) (λ i. three (omega arith) .0 (omega arith)) (λ i. three (omega arith) .1 (omega arith)) (omega arith))
+    other-by v (omega arith) (λ i j. two (omega arith)) (λ i. three (omega arith) .0 (omega arith))
+    (λ i. three (omega arith) .1 (omega arith)) (omega arith))
     (λ n. absurd (let b = first ((0xF0 + v / 262144) ∷ _ ∷ _ ∷ _ ∷ []) (encode-4 v (omega arith)) in omega arith))
     (le-or-lt v 0xFFFF))
     (le-or-lt v 0x7FF))
@@ -140,7 +152,7 @@ plain-lead {text} {at} {v} {w} h a e low high two three =
 
 -- ---- such characters stay
 
-pub stays-plain : (p : Policy) {text : List ℕ} {at v w : ℕ} → Step text at v w → StaysAlone v → Stays p text at (at + w)
+pub stays-plain : (p : Policy) {text : List ℕ} {at v w : ℕ} → Step text at v w → StaysAlone v → UnchangedBetween p text at (at + w)
 unfolding rule1
 stays-plain p {text} {at} {v} {w} h c =
     let t = chars (drop (at + w) text) in
@@ -155,7 +167,7 @@ pub record PlainAt (text : List ℕ) (at w : ℕ) : Type 0 where
   pub read : Step text at value w
   pub plain : StaysAlone value
 
-pub stays-at : (p : Policy) {text : List ℕ} {at w : ℕ} → PlainAt text at w → Stays p text at (at + w)
+pub stays-at : (p : Policy) {text : List ℕ} {at w : ℕ} → PlainAt text at w → UnchangedBetween p text at (at + w)
 stays-at p h = stays-plain p (h .read) (h .plain)
 
 module _ (text : List ℕ) (at n : ℕ) (e : n ≡ packed (readChar (drop at text))) where

@@ -1,4 +1,4 @@
--- What a character behind a base is to the rules: a modifier, a tag, 20E3, or any other.
+-- What a character after a base is to the rules: a modifier, a tag, 20E3, or any other.
 use mathlib.Core.Path.{_≡_, refl, sym, _∙_, subst}
 use mathlib.Core.Bool.{Bool, true, false, cond, _&&_, not, true≢false}
 use mathlib.Core.List.{List}
@@ -16,7 +16,19 @@ use Rattle.policy.specs.declared.Policy.{Policy}
 use Rattle.scanner.specs.Classes.{classOf}
 use Rattle.scanner.specs.declared.char_class.Class.{Class}
 use Rattle.scanner.specs.declared.char_class.Class.the-variants.{Other as other}
-use Rattle.scanner.proofs.Classes.{HasClass, class-is, hasClass, is-emoji, is-keycap, is-link, is-modifier, is-other, is-ri, is-selector, is-tag}
+use Rattle.scanner.proofs.Classes.{
+  HasClass,
+  class-is,
+  hasClass,
+  is-emoji,
+  is-keycap,
+  is-link,
+  is-modifier,
+  is-other,
+  is-ri,
+  is-selector,
+  is-tag,
+}
 use Rattle.analysis.specs.Rules.{byKeycap, byModifier, byTags, outcome, rule1, rule2, rule3, rule4, rule5, rule6, textFirst}
 use Rattle.text_pass.specs.Changes.{SameRules}
 
@@ -55,4 +67,7 @@ rules-before c h = rules-other c (ne-eqb c 0x20E3 (λ e. omega arith)) (no-modif
 pub same-outcome : (p : Policy) (c : ℕ) (s : List Presentation) {j k : Class} → SameRules j k → outcome p c j s ≡ outcome p c k s
 unfolding outcome
 same-outcome p c s h =
-    λ i. cond (not (hasVariationSequence c)) (rule1 s) (cond (h .modifier i && textFirst s) (rule2 s) (cond (h .modifier i) (rule3 (isEmojiModifierBase c) s) (cond (h .tags i && isEmojiDefault c) (rule4 s) (cond (h .tags i) (rule5 s) (rule6 (singletonRule p c (h .keycap i)) s)))))
+    λ i. cond (not (hasVariationSequence c)) (rule1 s)
+    (cond (h .modifier i && textFirst s) (rule2 s)
+    (cond (h .modifier i) (rule3 (isEmojiModifierBase c) s)
+    (cond (h .tags i && isEmojiDefault c) (rule4 s) (cond (h .tags i) (rule5 s) (rule6 (singletonRule p c (h .keycap i)) s)))))

@@ -1,4 +1,4 @@
--- Bytes that stay: none stay trivially, two stretches make one, and a change behind bytes that stay is the next change.
+-- Bytes that stay: none stay trivially, two stretches make one, and a change after bytes that stay is the next change.
 use mathlib.Core.Path.{_≡_, refl, ap, sym, _∙_}
 use mathlib.Core.Bool.{false}
 use mathlib.Core.List.{List, [], _∷_, _++_, append-assoc, map}
@@ -19,11 +19,12 @@ use Rattle.analysis.specs.Counts.{_⊕_, total, unsanctioned}
 use Rattle.analysis.specs.Rules.{outcome}
 use Rattle.analysis.proofs.Cells.{split-char}
 use Rattle.analysis.proofs.Replacement.{remaining-none, render-cons, renewed}
-use Rattle.text_pass.specs.Changes.{Changes, Stays, formattedFrom, outcomeFrom, selectorBytes, totalFrom}
+use Rattle.text_pass.specs.Changes.{IsNextChange, UnchangedBetween, formattedFrom, outcomeFrom, selectorBytes, totalFrom}
 use Rattle.text_pass.specs.declared.Change.{Change}
 
 -- The bytes from one place up to another, and from there up to a third.
-pub between : (text : List ℕ) (i j k : ℕ) → i ≤ j → j ≤ k → take (k - i) (drop i text) ≡ take (j - i) (drop i text) ++ take (k - j) (drop j text)
+pub between : (text : List ℕ) (i j k : ℕ) → i ≤ j → j ≤ k → take (k - i) (drop i text) ≡ take (j - i) (drop i text)
+    ++ take (k - j) (drop j text)
 between text i j k h l =
     let a : k - i ≡ (j - i) + (k - j) = omega arith in
     let b : i + (j - i) ≡ j = omega arith in
@@ -31,7 +32,7 @@ between text i j k h l =
     ∙ ap (λ (l : List ℕ). take (j - i) (drop i text) ++ take (k - j) l) (drop-drop (j - i) i text ∙ ap (λ (n : ℕ). drop n text) b)
 
 module _ {p : Policy} {text : List ℕ} where
-  pub stays-here : (i : ℕ) → Stays p text i i
+  pub stays-here : (i : ℕ) → UnchangedBetween p text i i
   stays-here i =
       let z : i - i ≡ 0 = omega arith in
       record {
@@ -42,7 +43,7 @@ module _ {p : Policy} {text : List ℕ} where
         valid = omega arith;
       }
 
-  pub stays-on : {i j k : ℕ} → Stays p text i j → Stays p text j k → Stays p text i k
+  pub stays-on : {i j k : ℕ} → UnchangedBetween p text i j → UnchangedBetween p text j k → UnchangedBetween p text i k
   stays-on {i} {j} {k} a b =
       let l = a .on in
       let m = b .on in
@@ -57,20 +58,22 @@ module _ {p : Policy} {text : List ℕ} where
         valid = let v = a .valid in let w = b .valid in omega arith;
       }
 
-  pub stays-then : {i j : ℕ} {c : Change} → Stays p text i j → Changes p text j c → Changes p text i c
+  pub stays-then : {i j : ℕ} {c : Change} → UnchangedBetween p text i j → IsNextChange p text j c → IsNextChange p text i c
   stays-then {i} {j} {c} a b =
       let l = a .on in
       let m = b .on in
       let n = b .moves in
       record {
         on = omega arith;
-        behind = b .behind;
+        after = b .after;
         moves = omega arith;
         inside = λ h. b .inside (a .inside h);
         formatted =
             a .formatted ∙ ap (λ (t : List ℕ). take (j - i) (drop i text) ++ t) (b .formatted)
-            ∙ sym (append-assoc (take (j - i) (drop i text)) (take (c .kept - j) (drop j text)) (selectorBytes (c .selector) ++ formattedFrom p text (c .end)))
-            ∙ ap (λ (t : List ℕ). t ++ (selectorBytes (c .selector) ++ formattedFrom p text (c .end))) (sym (between text i j (c .kept) l m));
+            ∙ sym (append-assoc (take (j - i) (drop i text)) (take (c .start - j) (drop j text))
+            (selectorBytes (c .selector) ++ formattedFrom p text (c .end)))
+            ∙ ap (λ (t : List ℕ). t ++ (selectorBytes (c .selector) ++ formattedFrom p text (c .end)))
+            (sym (between text i j (c .start) l m));
         counted = let x = a .counted in let y = b .counted in omega arith;
         valid = let v = a .valid in let w = b .valid in omega arith;
       }
@@ -79,14 +82,17 @@ module _ {p : Policy} {text : List ℕ} where
 
 module _ (p : Policy) (v : ℕ) (t : List ℕ) (e : isSelector v ≡ false) where
   -- It is written with what the rules leave of its selectors, ..
-  format-cons : formatCells p (v ∷ t) ≡ v ∷ (map asSelector (chosen (outcome p v (following (cells t)) (leading t) .slot) []) ++ formatCells p t)
+  format-cons : formatCells p (v ∷ t)
+      ≡ v ∷ (map asSelector (chosen (outcome p v (following (cells t)) (leading t) .slot) []) ++ formatCells p t)
   unfolding formatCells renewed
   format-cons =
       let o = outcome p v (following (cells t)) (leading t) .slot in
-      render-cons p v t [] e ∙ ap (λ (ds : List Presentation). v ∷ (map asSelector (chosen o []) ++ render p (cells t) ds)) (remaining-none o)
+      render-cons p v t [] e ∙ ap (λ (ds : List Presentation). v ∷ (map asSelector (chosen o []) ++ render p (cells t) ds))
+      (remaining-none o)
 
   -- .. and what the rules count of them takes the place of their number, which counts where nothing stands before them.
-  total-cons : total (totalCells p (v ∷ t)) + length (leading t) ≡ total (outcome p v (following (cells t)) (leading t) .counts) + total (totalCells p t)
+  total-cons : total (totalCells p (v ∷ t)) + length (leading t) ≡ total (outcome p v (following (cells t)) (leading t) .counts) + total
+      (totalCells p t)
   unfolding totalCells countCells
   total-cons =
       let a = ap (λ (a : List Presentation × List Cell). total (unsanctioned (length (a .0)) ⊕ countCells p (a .1))) (split-char v t e) in
@@ -99,21 +105,25 @@ step-bytes {text} {at} {v} {w} h =
     ap (λ (n : ℕ). take n (drop at text)) n ∙ ap (take w) (sym (h .bytes)) ∙ take-at (encode v) (drop (at + w) text) w (h .width)
 
 module _ (p : Policy) {text : List ℕ} {at v w : ℕ} (h : Step text at v w) (e : isSelector v ≡ false) where
-  pub step-formatted : formattedFrom p text at ≡ encode v ++ (encodeAll (map asSelector (chosen (outcomeFrom p text v (at + w) .slot) [])) ++ formattedFrom p text (at + w))
+  pub step-formatted : formattedFrom p text at ≡ encode v
+      ++ (encodeAll (map asSelector (chosen (outcomeFrom p text v (at + w) .slot) [])) ++ formattedFrom p text (at + w))
   unfolding encodeAll
   step-formatted =
       let t = chars (drop (at + w) text) in
       ap (λ (l : List ℕ). encodeAll (formatCells p l)) (h .chars-on) ∙ ap encodeAll (format-cons p v t e)
-      ∙ ap (λ (l : List ℕ). encode v ++ l) (encodeAll-append (map asSelector (chosen (outcomeFrom p text v (at + w) .slot) [])) (formatCells p t))
+      ∙ ap (λ (l : List ℕ). encode v ++ l)
+      (encodeAll-append (map asSelector (chosen (outcomeFrom p text v (at + w) .slot) [])) (formatCells p t))
 
-  pub step-total : totalFrom p text at + length (leading (chars (drop (at + w) text))) ≡ total (outcomeFrom p text v (at + w) .counts) + totalFrom p text (at + w)
+  pub step-total : totalFrom p text at + length (leading (chars (drop (at + w) text)))
+      ≡ total (outcomeFrom p text v (at + w) .counts) + totalFrom p text (at + w)
   step-total =
       let t = chars (drop (at + w) text) in
       ap (λ (l : List ℕ). total (totalCells p l) + length (leading t)) (h .chars-on) ∙ total-cons p v t e
 
-  -- It stays if the rules leave no selector and count only the selectors behind it.
-  pub stays-char : chosen (outcomeFrom p text v (at + w) .slot) [] ≡ [] → total (outcomeFrom p text v (at + w) .counts) ≡ length (leading (chars (drop (at + w) text)))
-      → Stays p text at (at + w)
+  -- It stays if the rules leave no selector and count only the selectors after it.
+  pub stays-char : chosen (outcomeFrom p text v (at + w) .slot) [] ≡ [] → total (outcomeFrom p text v (at + w) .counts)
+      ≡ length (leading (chars (drop (at + w) text)))
+      → UnchangedBetween p text at (at + w)
   unfolding encodeAll
   stays-char s n = record {
     on = omega arith;

@@ -25,25 +25,33 @@ use Rattle.unicode.specs.declared.presentation.Presentation.{Presentation}
 use Rattle.unicode.proofs.Claims.{no-index-no-entry}
 use Rattle.policy.specs.declared.Policy.{Policy}
 use Rattle.scanner.specs.Classes.{classOf}
-use Rattle.scanner.specs.Items.{Item, begin, cut, items, kindOf, nextOf, step}
-use Rattle.scanner.specs.Runs.{behindSelectors, selectorsAt}
+use Rattle.scanner.specs.Items.{Item, startState, splitFrom, items, kindOf, nextOf, transition}
+use Rattle.scanner.specs.Runs.{afterSelectors, selectorsAt}
 use Rattle.scanner.specs.Spans.{size, width}
 use Rattle.scanner.specs.Theorems.{Structured}
 use Rattle.scanner.specs.declared.char_class.Class.{Class}
 use Rattle.scanner.specs.declared.char_class.Class.the-variants.{Other as other, Selector as selector}
-use Rattle.scanner.specs.declared.place.Next.the-variants as Next
-use Rattle.scanner.specs.declared.place.Place.{Place}
-use Rattle.scanner.specs.declared.place.Place.the-variants.{Plain as plain, Selectors as selectors, Links as links, OneRi as oneRi, Unit as unit, Joined as joined, LeftOver as leftOver}
+use Rattle.scanner.specs.declared.state.Next.the-variants as Next
+use Rattle.scanner.specs.declared.state.State.{State}
+use Rattle.scanner.specs.declared.state.State.the-variants.{
+  Plain as plain,
+  Selectors as selectors,
+  Links as links,
+  OneRi as oneRi,
+  Unit as unit,
+  Joined as joined,
+  LeftOver as leftOver,
+}
 use Rattle.scanner.proofs.Classes.{class-selector, selector-class}
 use Rattle.scanner.proofs.Cursor.{next-on, next-stop}
 use Rattle.scanner.proofs.Bytes.{width-some}
 use Rattle.scanner.proofs.ItemRuns.{item-selectors, walk-passes}
-use Rattle.scanner.proofs.Places.{inner, inner-selector, inner-step, kind-emoji, kind-links, kind-selector}
+use Rattle.scanner.proofs.States.{inner, inner-selector, inner-step, kind-emoji, kind-links, kind-selector}
 use Rattle.scanner.proofs.Rescan.{size-append}
-use Rattle.scanner.proofs.Runs.{Stops, at-char, at-end, behind-stops, run-behind, run-passes}
+use Rattle.scanner.proofs.Runs.{Stops, at-char, at-end, after-stops, run-after, run-passes}
 use Rattle.scanner.proofs.Tiling.{cut-none, cut-some}
 use Rattle.scanner.proofs.Walk.{inner-no-selector, walk-cut}
-use Rattle.scanner.proofs.place.Place.{the-type as the-place}
+use Rattle.scanner.proofs.state.State.{the-type as the-place}
 use Rattle.analysis.specs.Analysis.{chosen, following}
 use Rattle.analysis.specs.CellView.{classInFront, totalCells}
 use Rattle.analysis.specs.Cells.{cells, leading}
@@ -51,18 +59,18 @@ use Rattle.analysis.specs.Counts.{_⊕_, cappedSum, empty, most, total, unsanct
 use Rattle.analysis.specs.Rules.{firstAsked, outcome, rule1, runWith}
 use Rattle.analysis.specs.declared.singleton.Outcome.{Outcome}
 use Rattle.analysis.specs.declared.types.NonCanonicality.{NonCanonicality}
-use Rattle.analysis.proofs.CellsAt.{behind-at, selectors-end, selectors-room, split-at}
+use Rattle.analysis.proofs.CellsAt.{after-at, selectors-end, selectors-room, split-at}
 use Rattle.analysis.proofs.Counts.{empty-plus, plus-assoc, plus-empty, total-empty}
 use Rattle.analysis.proofs.Measuring.{few, total-char, total-leading}
 use Rattle.analysis.proofs.NumberRules.{by-numbers}
 use Rattle.analysis.proofs.Rules.{outcome-no-entry}
 use Rattle.analysis.proofs.Sums.{whole-sum}
 use Rattle.text_pass.specs.Changes.{SameRules, outcomeFrom, selectorNumber}
-use Rattle.text_pass.specs.Findings.{Counted, FindsBehind, PassesOver, ReadsCell}
+use Rattle.text_pass.specs.Findings.{Counted, FindsFrom, FindingsBetween, ReadsCell}
 use Rattle.text_pass.specs.declared.findings.CellEnd.{CellEnd}
 use Rattle.text_pass.proofs.Bases.{no-change}
 use Rattle.text_pass.proofs.Kept.{class-in-front, follows}
-use Rattle.text_pass.proofs.Passing.{loud-item, over-finding, over-on, over-passes, quiet-item, step-width}
+use Rattle.text_pass.proofs.Passing.{counted-item, over-finding, over-on, over-passes, uncounted-item, step-width}
 use Rattle.text_pass.proofs.PlainText.{ascii-other}
 use Rattle.text_pass.proofs.RuleClasses.{same-outcome}
 
@@ -73,9 +81,12 @@ pub entry-changes : (p : Policy) (c : ℕ) (k : Class) (s : List Presentation) (
     → m ≡ not (eqb (selectorNumber first) (selectorNumber a) && leb bytes 3) → m ≡ not (eqb (total (outcome p c k s .counts)) 0)
 entry-changes p c k s first a bytes m f b h q =
     q ∙ ap₂ (λ (x : FromSelector) (n : ℕ). not (eqb (selectorNumber x) (selectorNumber a) && leb n 3)) f b
-    ∙ ap not (no-change p c k s a (h (length s) ∙ ap (λ (x : Outcome). chosen (x .slot) []) (ap (λ (x : FromSelector). outcome p c k (runWith x (length s))) f ∙ sym (by-numbers p c k s))))
+    ∙ ap not (no-change p c k s a (h (length s)
+    ∙ ap (λ (x : Outcome). chosen (x .slot) [])
+    (ap (λ (x : FromSelector). outcome p c k (runWith x (length s))) f ∙ sym (by-numbers p c k s))))
 
-pub no-entry-changes : (p : Policy) (c : ℕ) (k : Class) (s : List Presentation) (bytes : ℕ) → variationSequenceIndex c ≡ NoEntry → bytes ≡ 3 * length s
+pub no-entry-changes : (p : Policy) (c : ℕ) (k : Class) (s : List Presentation) (bytes : ℕ) → variationSequenceIndex c ≡ NoEntry → bytes
+    ≡ 3 * length s
     → not (eqb bytes 0) ≡ not (eqb (total (outcome p c k s .counts)) 0)
 unfolding NoIndexNoEntry rule1
 no-entry-changes p c k s bytes e b =
@@ -86,14 +97,17 @@ no-entry-changes p c k s bytes e b =
     (le-or-lt 1 (length s)))
 
 -- The cell as the code reads it.
-pub read-end : (p : Policy) (text : List ℕ) (base at : ℕ) (first : FromSelector) (end n : ℕ) (k : Class) (i : VariationSequenceIndex) (m : Bool)
-    → first ≡ firstAsked (leading (chars (drop at text))) → end ≡ at + 3 * length (leading (chars (drop at text))) → n ≡ packed (readChar (drop end text))
+pub read-end : (p : Policy) (text : List ℕ) (base at : ℕ) (first : FromSelector) (end n : ℕ) (k : Class) (i : VariationSequenceIndex)
+    (m : Bool)
+    → first ≡ firstAsked (leading (chars (drop at text))) → end ≡ at + 3 * length (leading (chars (drop at text))) → n
+    ≡ packed (readChar (drop end text))
     → k ≡ classOf (n / 8) → i ≡ variationSequenceIndex (n / 8)
     → ((s : List Presentation) → first ≡ firstAsked s → end - at ≡ 3 * length s → m ≡ not (eqb (total (outcome p base k s .counts)) 0))
     → ReadsCell p text base at (record { end = end; first = first; changes = m; packed = n; class = k; index = i })
 read-end p text base at first end n k i m f e d c j h =
     let t = chars (drop at text) in
-    let r : SameRules k (classInFront (chars (drop end text))) = class-in-front text end n k d (subst (SameRules k) c (record { modifier = refl; tags = refl; keycap = refl })) in
+    let r : SameRules k (classInFront (chars (drop end text))) = class-in-front text end n k d
+    (subst (SameRules k) c (record { modifier = refl; tags = refl; keycap = refl })) in
     let o = same-outcome p base (leading t) (subst (SameRules k) (follows p text base at end e) r) in
     record {
       end-is = e;
@@ -115,8 +129,8 @@ as-changed true e f = f
 as-changed false e f = f ∙ sym e
 
 -- The arm for every place but that in passthrough.
-pub not-plain : (q : Place) → OneOf (1 ∷ 2 ∷ 3 ∷ 4 ∷ 5 ∷ 6 ∷ []) (tagOf the-place q) → q ≡ plain → ⊥
-not-plain q o e = miss (1 ∷ 2 ∷ 3 ∷ 4 ∷ 5 ∷ 6 ∷ []) 0 tt (subst (λ (r : Place). OneOf (1 ∷ 2 ∷ 3 ∷ 4 ∷ 5 ∷ 6 ∷ []) (tagOf the-place r)) e o)
+pub not-plain : (q : State) → OneOf (1 ∷ 2 ∷ 3 ∷ 4 ∷ 5 ∷ 6 ∷ []) (tagOf the-place q) → q ≡ plain → ⊥
+not-plain q o e = miss (1 ∷ 2 ∷ 3 ∷ 4 ∷ 5 ∷ 6 ∷ []) 0 tt (subst (λ (r : State). OneOf (1 ∷ 2 ∷ 3 ∷ 4 ∷ 5 ∷ 6 ∷ []) (tagOf the-place r)) e o)
 
 -- ---- the loop: the item that is gone through, and what is counted of it so far
 
@@ -124,10 +138,11 @@ not-plain q o e = miss (1 ∷ 2 ∷ 3 ∷ 4 ∷ 5 ∷ 6 ∷ []) 0 tt (subst (λ 
 abbrev pub Keeps : ℕ → ℕ → NonCanonicality → NonCanonicality → Type 0
 Keeps before start sum counts = (before ≤ start → counts ≡ sum) × (start < before → counts ≡ empty)
 
-pub record Walking (p : Policy) (text : List ℕ) (before from start base : ℕ) (index : VariationSequenceIndex) (at : ℕ) (place : Place) (changed : Bool) (n : ℕ) (counts : NonCanonicality) : Type 0 where
-  pub passed : PassesOver p text before from start n
+pub record Walking (p : Policy) (text : List ℕ) (before from start base : ℕ) (index : VariationSequenceIndex) (at : ℕ) (state : State)
+    (changed : Bool) (n : ℕ) (counts : NonCanonicality) : Type 0 where
+  pub passed : FindingsBetween p text before from start n
   pub entry : variationSequenceIndex base ≡ index
-  pub inside : inner place ≡ true
+  pub inside : inner state ≡ true
   -- Its last character that is no selector, and where it stands.
   pub pos : ℕ
   pub wide : ℕ
@@ -137,19 +152,21 @@ pub record Walking (p : Policy) (text : List ℕ) (before from start base : ℕ)
   pub on : start ≤ pos
   -- The item ends where it ends from here on.
   pub item : Item
-  pub behind : List Item
-  pub items-are : items (chars (drop start text)) ≡ item ∷ behind
-  pub end-same : start + size width (item .chars) ≡ at + size width ((cut place (chars (drop at text))) .0)
+  pub after : List Item
+  pub items-are : items (chars (drop start text)) ≡ item ∷ after
+  pub end-same : start + size width (item .chars) ≡ at + size width ((splitFrom state (chars (drop at text))) .0)
   pub sum : NonCanonicality
   pub counted : totalCells p (chars (drop start text)) ≡ sum ⊕ totalCells p (chars (drop pos text))
   -- There are no more counts than bytes.
   pub few-counts : total sum + start ≤ pos
   pub changed-is : changed ≡ not (eqb (total sum) 0)
-  pub kept : Keeps before start sum counts
+  pub start : Keeps before start sum counts
 
-pub walking-begin : (p : Policy) (text : List ℕ) (before from : ℕ) {start v w n : ℕ} {counts : NonCanonicality} (index : VariationSequenceIndex)
-    → PassesOver p text before from start n → counts ≡ empty → Step text start v w
-    → variationSequenceIndex v ≡ index → inner (begin (classOf v)) ≡ true → Walking p text before from start v index (start + w) (begin (classOf v)) false n counts
+pub walking-begin : (p : Policy) (text : List ℕ) (before from : ℕ) {start v w n : ℕ} {counts : NonCanonicality}
+    (index : VariationSequenceIndex)
+    → FindingsBetween p text before from start n → counts ≡ empty → Step text start v w
+    → variationSequenceIndex v ≡ index → inner (startState (classOf v)) ≡ true
+    → Walking p text before from start v index (start + w) (startState (classOf v)) false n counts
 unfolding items
 walking-begin p text before from {start} {v} {w} index a z h e i = record {
   passed = a;
@@ -161,20 +178,24 @@ walking-begin p text before from {start} {v} {w} index a z h e i = record {
   at-is = refl;
   clean = inner-no-selector v i;
   on = omega arith;
-  item = record { kind = kindOf (begin (classOf v)); chars = v ∷ (cut (begin (classOf v)) (chars (drop (start + w) text))) .0 };
-  behind = (cut (begin (classOf v)) (chars (drop (start + w) text))) .1;
+  item = record {
+    kind = kindOf (startState (classOf v));
+    chars =
+        v ∷ (splitFrom (startState (classOf v)) (chars (drop (start + w) text))) .0;
+  };
+  after = (splitFrom (startState (classOf v)) (chars (drop (start + w) text))) .1;
   items-are = ap items (h .chars-on);
   end-same = omega (arith, step-width h);
   sum = empty;
   counted = sym (empty-plus (totalCells p (chars (drop start text))));
   few-counts = omega arith;
   changed-is = refl;
-  kept = (λ _. z, λ _. z);
+  start = (λ _. z, λ _. z);
 }
 
 -- Inside links and units an item ends before any other character.
-inner-other : (q : Place) → inner q ≡ true → step q other ≡ none
-unfolding step
+inner-other : (q : State) → inner q ≡ true → transition q other ≡ none
+unfolding transition
 inner-other plain e = absurd (true≢false (sym e))
 inner-other selectors e = absurd (true≢false (sym e))
 inner-other links e = refl
@@ -183,18 +204,18 @@ inner-other unit e = refl
 inner-other joined e = refl
 inner-other leftOver e = refl
 
-pub structured-inner : (k : Class) → Structured (kindOf (begin k)) → inner (begin k) ≡ true
+pub structured-inner : (k : Class) → Structured (kindOf (startState k)) → inner (startState k) ≡ true
 structured-inner k h = ⊎-elim (kind-links k) (kind-emoji k) h
 
-begins-selectors : (k : Class) → begin k ≡ selectors → k ≡ selector
+begins-selectors : (k : Class) → startState k ≡ selectors → k ≡ selector
 unfolding kindOf
 begins-selectors k e = kind-selector k (ap kindOf e)
 
 -- A class that begins neither passthrough nor a run of selectors begins links or a unit.
-begins-inner : (k : Class) → (k ≡ selector → ⊥) → (begin k ≡ plain → ⊥) → inner (begin k) ≡ true
-begins-inner k s q = go (begin k) refl
+begins-inner : (k : Class) → (k ≡ selector → ⊥) → (startState k ≡ plain → ⊥) → inner (startState k) ≡ true
+begins-inner k s q = go (startState k) refl
   where
-    go : (b : Place) → begin k ≡ b → inner b ≡ true
+    go : (b : State) → startState k ≡ b → inner b ≡ true
     go plain e = absurd (q e)
     go selectors e = absurd (s (begins-selectors k e))
     go links e = refl
@@ -203,8 +224,9 @@ begins-inner k s q = go (begin k) refl
     go joined e = refl
     go leftOver e = refl
 
-module _ {p : Policy} {text : List ℕ} {before from start base : ℕ} {index : VariationSequenceIndex} {at : ℕ} {place : Place} {changed : Bool} {n : ℕ} {counts : NonCanonicality}
-    (l : Walking p text before from start base index at place changed n counts) {cell : CellEnd} (c : ReadsCell p text base at cell) where
+module _ {p : Policy} {text : List ℕ} {before from start base : ℕ} {index : VariationSequenceIndex} {at : ℕ} {state : State}
+    {changed : Bool} {n : ℕ} {counts : NonCanonicality}
+    (l : Walking p text before from start base index at state changed n counts) {cell : CellEnd} (c : ReadsCell p text base at cell) where
   abbrev T : List ℕ
   T = chars (drop at text)
 
@@ -217,18 +239,27 @@ module _ {p : Policy} {text : List ℕ} {before from start base : ℕ} {index : 
   abbrev Sum : NonCanonicality
   Sum = l .sum ⊕ gain
 
-  text-behind : U ≡ behindSelectors T
-  text-behind = ap (λ (n : ℕ). chars (drop n text)) (c .end-is) ∙ behind-at text at
+  text-after : U ≡ afterSelectors T
+  text-after = ap (λ (n : ℕ). chars (drop n text)) (c .end-is) ∙ after-at text at
 
   -- The selectors belong to the item.
-  cut-selectors : (cut place T) .0 ≡ selectorsAt T ++ (cut place U) .0
+  cut-selectors : (splitFrom state T) .0 ≡ selectorsAt T ++ (splitFrom state U) .0
   cut-selectors =
-      let w = walk-passes place isSelector (λ x e. ap (step place) (class-selector x e) ∙ inner-selector place (l .inside)) (run-passes isSelector T) in
-      ap (λ (t : List ℕ). (cut place t) .0) (sym (run-behind isSelector T)) ∙ ap (λ (a : List ℕ × List Item). a .0) (walk-cut w (behindSelectors T))
-      ∙ ap (λ (t : List ℕ). selectorsAt T ++ (cut place t) .0) (sym text-behind)
+      let w = walk-passes state isSelector (λ x e. ap (transition state) (class-selector x e) ∙ inner-selector state (l .inside))
+      (run-passes isSelector T) in
+      ap (λ (t : List ℕ). (splitFrom state t) .0) (sym (run-after isSelector T))
+      ∙ ap (λ (a : List ℕ × List Item). a .0) (walk-cut w (afterSelectors T))
+      ∙ ap (λ (t : List ℕ). selectorsAt T ++ (splitFrom state t) .0) (sym text-after)
 
-  end-on : start + size width (l .item .chars) ≡ cell .end + size width ((cut place U) .0)
-  end-on = omega (arith, l .end-same, ap (size width) cut-selectors, size-append width (selectorsAt T) ((cut place U) .0), selectors-end text at, c .end-is)
+  end-on : start + size width (l .item .chars) ≡ cell .end + size width ((splitFrom state U) .0)
+  end-on = omega (
+    arith,
+    l .end-same,
+    ap (size width) cut-selectors,
+    size-append width (selectorsAt T) ((splitFrom state U) .0),
+    selectors-end text at,
+    c .end-is,
+  )
 
   -- What is counted with this cell.
   total-on : totalCells p (chars (drop start text)) ≡ Sum ⊕ totalCells p U
@@ -249,82 +280,89 @@ module _ {p : Policy} {text : List ℕ} {before from start base : ℕ} {index : 
 
   -- The counts that are kept with this cell.
   pub keeps-on : length text ≤ most → {q : Bool} {k : NonCanonicality} → q ≡ cell .changes && leb before start
-      → k ≡ cond q (cappedSum counts (outcome p base (cell .class) (runWith (cell .first) ((cell .end - at) / 3)) .counts)) counts → Keeps before start Sum k
-  keeps-on room-most {q} {k} e z = (behind-limit (cell .changes) refl, λ h. z ∙ simp (e, lt-leb before start h, and-false) (l .kept .1 h))
+      → k ≡ cond q (cappedSum counts (outcome p base (cell .class) (runWith (cell .first) ((cell .end - at) / 3)) .counts)) counts
+      → Keeps before start Sum k
+  keeps-on room-most {q} {k} e z = (after-limit (cell .changes) refl, λ h. z ∙ simp (e, lt-leb before start h, and-false) (l .start .1 h))
     where
       cell-counts : outcome p base (cell .class) (runWith (cell .first) ((cell .end - at) / 3)) .counts ≡ gain
       cell-counts =
           let i : (cell .end - at) / 3 ≡ length (leading T) = omega (arith, c .end-is) in
           ap (λ (o : Outcome). o .counts)
-          (ap₂ (λ (f : FromSelector) (m : ℕ). outcome p base (cell .class) (runWith f m)) (c .first-is) i ∙ sym (by-numbers p base (cell .class) (leading T)) ∙ c .outcome-is)
+          (ap₂ (λ (f : FromSelector) (m : ℕ). outcome p base (cell .class) (runWith f m)) (c .first-is) i
+          ∙ sym (by-numbers p base (cell .class) (leading T)) ∙ c .outcome-is)
 
-      behind-limit : (x : Bool) → cell .changes ≡ x → before ≤ start → k ≡ Sum
-      behind-limit true t h =
+      after-limit : (x : Bool) → cell .changes ≡ x → before ≤ start → k ≡ Sum
+      after-limit true t h =
           let s = whole-sum (l .sum) gain (omega (arith, few-on, room, room-most)) in
-          z ∙ simp (e, t, le-leb before start h) (ap₂ cappedSum (l .kept .0 h) cell-counts ∙ s)
-      behind-limit false t h =
+          z ∙ simp (e, t, le-leb before start h) (ap₂ cappedSum (l .start .0 h) cell-counts ∙ s)
+      after-limit false t h =
           let g : gain ≡ empty = total-empty gain (eqb-true (total gain) 0 (not-false _ (sym (c .changes-is) ∙ t))) in
-          z ∙ simp (e, t) (l .kept .0 h ∙ sym (plus-empty (l .sum)) ∙ ap (λ (m : NonCanonicality). l .sum ⊕ m) (sym g))
+          z ∙ simp (e, t) (l .start .0 h ∙ sym (plus-empty (l .sum)) ∙ ap (λ (m : NonCanonicality). l .sum ⊕ m) (sym g))
 
   module _ {b : Bool} (d : b ≡ changed || cell .changes) where
     changed-on : b ≡ not (eqb (total Sum) 0)
-    changed-on = d ∙ ap₂ (λ (x y : Bool). x || y) (l .changed-is) (c .changes-is) ∙ go (total (l .sum)) (total gain) ∙ ap (λ (x : ℕ). not (eqb x 0)) both
+    changed-on = d ∙ ap₂ (λ (x y : Bool). x || y) (l .changed-is) (c .changes-is) ∙ go (total (l .sum)) (total gain)
+        ∙ ap (λ (x : ℕ). not (eqb x 0)) both
       where
         both : total (l .sum) + total gain ≡ total Sum
         both = omega arith
 
         go : (m n : ℕ) → (not (eqb m 0) || not (eqb n 0)) ≡ not (eqb (m + n) 0)
         go zero n = let z : n ≡ 0 + n = omega arith in ap (λ (x : ℕ). not (eqb x 0)) z
-        go (suc m) n = ap (λ (x : Bool). not x || not (eqb n 0)) (ne-eqb (suc m) 0 (λ z. omega arith)) ∙ sym (ap not (ne-eqb (suc m + n) 0 (λ z. omega arith)))
+        go (suc m) n = ap (λ (x : Bool). not x || not (eqb n 0)) (ne-eqb (suc m) 0 (λ z. omega arith))
+            ∙ sym (ap not (ne-eqb (suc m + n) 0 (λ z. omega arith)))
 
-    -- ---- the character behind the cell
+    -- ---- the character after the cell
 
     no-char : cell .packed ≡ 0 → U ≡ []
     no-char z = packed-stop text (cell .end) (cell .packed) (c .packed-is) z .chars-none
 
     other-class : cell .packed ≡ 0 → cell .class ≡ other
-    other-class z = c .class-is ∙ ap (λ (n : ℕ). classOf (n / 8)) z ∙ ascii-other 0 (omega arith) (λ e. omega arith) (λ e. omega arith) (λ i j. omega arith)
+    other-class z = c .class-is ∙ ap (λ (n : ℕ). classOf (n / 8)) z ∙ ascii-other 0 (omega arith) (λ e. omega arith) (λ e. omega arith)
+        (λ i j. omega arith)
 
     pub reads-next : 1 ≤ cell .packed → Step text (cell .end) (cell .packed / 8) (cell .packed % 8)
     reads-next h = packed-step text (cell .end) (cell .packed) (c .packed-is) (λ z. omega arith)
 
     clean-next : {v w : ℕ} → Step text (cell .end) v w → isSelector v ≡ false
-    clean-next {v} {w} s = go (behind-stops isSelector T) (sym text-behind ∙ s .chars-on)
+    clean-next {v} {w} s = go (after-stops isSelector T) (sym text-after ∙ s .chars-on)
       where
         go : {t : List ℕ} → Stops isSelector t → t ≡ v ∷ chars (drop (cell .end + w) text) → isSelector v ≡ false
         go at-end e = let z : 0 ≡ suc (length (chars (drop (cell .end + w) text))) = ap length e in absurd (omega arith)
         go (at-char {c = x} n) e = let z : x ≡ v = cc in subst (λ (y : ℕ). isSelector y ≡ false) z n
 
     -- There is one where the item goes on, or links or a unit begin.
-    pub on-char : (q : Place) → nextOf (step place (cell .class)) ≡ Next.On q → 1 ≤ cell .packed
+    pub on-char : (q : State) → nextOf (transition state (cell .class)) ≡ Next.On q → 1 ≤ cell .packed
     on-char q e = ⊎-elim (λ h. h) (λ h. absurd (true≢false (no (omega arith)))) (le-or-lt 1 (cell .packed))
       where
         no : cell .packed ≡ 0 → true ≡ false
-        no z = let m = next-on (step place (cell .class)) q e in let n = ap (step place) (other-class z) ∙ inner-other place (l .inside) in cc
+        no z = let m = next-on (transition state (cell .class)) q e in let n = ap (transition state) (other-class z)
+            ∙ inner-other state (l .inside) in cc
 
-    pub begin-char : (begin (cell .class) ≡ plain → ⊥) → 1 ≤ cell .packed
-    unfolding begin
-    begin-char q = ⊎-elim (λ h. h) (λ h. absurd (q (ap begin (other-class (omega arith))))) (le-or-lt 1 (cell .packed))
+    pub begin-char : (startState (cell .class) ≡ plain → ⊥) → 1 ≤ cell .packed
+    unfolding startState
+    begin-char q = ⊎-elim (λ h. h) (λ h. absurd (q (ap startState (other-class (omega arith))))) (le-or-lt 1 (cell .packed))
 
     -- The item goes on with it.
-    pub walking-on : {k : NonCanonicality} → Keeps before start Sum k → (q : Place) → nextOf (step place (cell .class)) ≡ Next.On q
+    pub walking-on : {k : NonCanonicality} → Keeps before start Sum k → (q : State) → nextOf (transition state (cell .class)) ≡ Next.On q
         → Walking p text before from start (cell .packed / 8) (cell .index) (cell .end + cell .packed % 8) q b n k
     walking-on {k} y q e = go (on-char q e)
       where
-        on : step place (cell .class) ≡ some q
-        on = next-on (step place (cell .class)) q e
+        on : transition state (cell .class) ≡ some q
+        on = next-on (transition state (cell .class)) q e
 
         go : 1 ≤ cell .packed → Walking p text before from start (cell .packed / 8) (cell .index) (cell .end + cell .packed % 8) q b n k
         go h =
             let s = reads-next h in
             let v = cell .packed / 8 in
-            let m : step place (classOf v) ≡ some q = ap (step place) (sym (c .class-is)) ∙ on in
+            let m : transition state (classOf v) ≡ some q = ap (transition state) (sym (c .class-is)) ∙ on in
             let t = chars (drop (cell .end + cell .packed % 8) text) in
-            let f : (cut place U) .0 ≡ v ∷ (cut q t) .0 = ap (λ (x : List ℕ). (cut place x) .0) (s .chars-on) ∙ ap (λ (a : List ℕ × List Item). a .0) (cut-some place q v t m) in
+            let f : (splitFrom state U) .0 ≡ v ∷ (splitFrom q t) .0 = ap (λ (x : List ℕ). (splitFrom state x) .0) (s .chars-on)
+            ∙ ap (λ (a : List ℕ × List Item). a .0) (cut-some state q v t m) in
             record {
               passed = l .passed;
               entry = sym (c .index-is);
-              inside = sym (inner-step place q (classOf v) m) ∙ l .inside;
+              inside = sym (inner-step state q (classOf v) m) ∙ l .inside;
               pos = cell .end;
               wide = cell .packed % 8;
               reads = s;
@@ -332,33 +370,36 @@ module _ {p : Policy} {text : List ℕ} {before from start base : ℕ} {index : 
               clean = clean-next s;
               on = omega (arith, further);
               item = l .item;
-              behind = l .behind;
+              after = l .after;
               items-are = l .items-are;
               end-same = omega (arith, end-on, ap (size width) f, step-width s);
               sum = Sum;
               counted = total-on;
               few-counts = few-on;
               changed-is = changed-on;
-              kept = y;
+              start = y;
             }
 
     -- Or it ends here.
-    module _ (e : nextOf (step place (cell .class)) ≡ Next.Stop) where
-      nothing-left : (cut place U) .0 ≡ []
-      unfolding cut
-      nothing-left = ⊎-elim go (λ h. ap (λ (x : List ℕ). (cut place x) .0) (no-char (omega arith))) (le-or-lt 1 (cell .packed))
+    module _ (e : nextOf (transition state (cell .class)) ≡ Next.Stop) where
+      nothing-left : (splitFrom state U) .0 ≡ []
+      unfolding splitFrom
+      nothing-left = ⊎-elim go (λ h. ap (λ (x : List ℕ). (splitFrom state x) .0) (no-char (omega arith))) (le-or-lt 1 (cell .packed))
         where
-          go : 1 ≤ cell .packed → (cut place U) .0 ≡ []
+          go : 1 ≤ cell .packed → (splitFrom state U) .0 ≡ []
           go h =
               let s = reads-next h in
-              let m : step place (classOf (cell .packed / 8)) ≡ none = ap (step place) (sym (c .class-is)) ∙ next-stop (step place (cell .class)) e in
-              ap (λ (x : List ℕ). (cut place x) .0) (s .chars-on) ∙ ap (λ (a : List ℕ × List Item). a .0) (cut-none place (cell .packed / 8) (chars (drop (cell .end + cell .packed % 8) text)) m)
+              let m : transition state (classOf (cell .packed / 8)) ≡ none = ap (transition state) (sym (c .class-is))
+              ∙ next-stop (transition state (cell .class)) e in
+              ap (λ (x : List ℕ). (splitFrom state x) .0) (s .chars-on)
+              ∙ ap (λ (a : List ℕ × List Item). a .0)
+              (cut-none state (cell .packed / 8) (chars (drop (cell .end + cell .packed % 8) text)) m)
 
       ends-here : cell .end ≡ start + size width (l .item .chars)
       ends-here = omega (arith, end-on, ap (size width) nothing-left)
 
       finds : b ≡ true → Counted p text start (cell .end) Sum
-      finds t = loud-item p text start (cell .end) (l .items-are) ends-here Sum (some-of (total Sum) refl) total-on
+      finds t = counted-item p text start (cell .end) (l .items-are) ends-here Sum (some-of (total Sum) refl) total-on
         where
           some-of : (m : ℕ) → total Sum ≡ m → 1 ≤ m
           some-of zero z = absurd (true≢false (sym t ∙ changed-on ∙ ap not (eq-eqb (total Sum) 0 z)))
@@ -366,48 +407,55 @@ module _ {p : Policy} {text : List ℕ} {before from start base : ℕ} {index : 
 
       -- It is the finding that is looked for ..
       pub walking-finds : {k : NonCanonicality} → Keeps before start Sum k → {q : Bool} → q ≡ b && leb before start → q ≡ true
-          → FindsBehind p text before (record { start = start; end = cell .end; counts = k; more = true; passed = n })
+          → FindsFrom p text before (record { start = start; end = cell .end; counts = k; present = true; passed = n })
       walking-finds {k} y e t =
           let h = both-true b (leb before start) (sym e ∙ t) in
           let m = leb-true before start (h .1) in
           (m, subst (λ (x : NonCanonicality). Counted p text start (cell .end) x) (sym (y .0 m)) (finds (h .0)))
 
       -- .. or it is passed, and no count is kept.
-      pub walking-passes : {q : Bool} {m : ℕ} → q ≡ b && leb before start → q ≡ false → m ≡ cond b 1 0 → PassesOver p text before from (cell .end) (n + m)
+      pub walking-passes : {q : Bool} {m : ℕ} → q ≡ b && leb before start → q ≡ false → m ≡ cond b 1 0
+          → FindingsBetween p text before from (cell .end) (n + m)
       walking-passes {q} {m} e f z = go b refl (sym e ∙ f) z
         where
-          go : (a : Bool) → b ≡ a → (a && leb before start) ≡ false → m ≡ cond a 1 0 → PassesOver p text before from (cell .end) (n + m)
+          go : (a : Bool) → b ≡ a → (a && leb before start) ≡ false → m ≡ cond a 1 0
+              → FindingsBetween p text before from (cell .end) (n + m)
           go true t h y = rw y (over-on (l .passed) (over-finding (finds t .finds) (leb-false before start h)))
           go false t h y =
               let s : total Sum ≡ 0 = eqb-true (total Sum) 0 (not-false _ (sym changed-on ∙ t)) in
               let k : n ≡ n + m = omega (arith, y) in
-              subst (λ (i : ℕ). PassesOver p text before from (cell .end) i) k
-              (over-passes (l .passed) (quiet-item p text start (cell .end) (l .items-are) ends-here (omega (arith, ap total total-on))))
+              subst (λ (i : ℕ). FindingsBetween p text before from (cell .end) i) k
+              (over-passes (l .passed) (uncounted-item p text start (cell .end) (l .items-are) ends-here
+              (omega (arith, ap total total-on))))
 
       pub none-kept : {k : NonCanonicality} → Keeps before start Sum k → {q : Bool} → q ≡ b && leb before start → q ≡ false → k ≡ empty
-      none-kept {k} y e f = ⊎-elim (λ h. behind-limit h b refl) (y .1) (le-or-lt before start)
+      none-kept {k} y e f = ⊎-elim (λ h. after-limit h b refl) (y .1) (le-or-lt before start)
         where
-          behind-limit : before ≤ start → (a : Bool) → b ≡ a → k ≡ empty
-          behind-limit h true t = absurd (true≢false (sym (and-both b (leb before start) t (le-leb before start h)) ∙ sym e ∙ f))
-          behind-limit h false t = y .0 h ∙ total-empty Sum (eqb-true (total Sum) 0 (not-false _ (sym changed-on ∙ t)))
+          after-limit : before ≤ start → (a : Bool) → b ≡ a → k ≡ empty
+          after-limit h true t = absurd (true≢false (sym (and-both b (leb before start) t (le-leb before start h)) ∙ sym e ∙ f))
+          after-limit h false t = y .0 h ∙ total-empty Sum (eqb-true (total Sum) 0 (not-false _ (sym changed-on ∙ t)))
 
       -- And another item of links or units begins.
-      pub walking-again : {m : ℕ} {k : NonCanonicality} → PassesOver p text before from (cell .end) m → k ≡ empty → (begin (cell .class) ≡ plain → ⊥)
-          → Walking p text before from (cell .end) (cell .packed / 8) (cell .index) (cell .end + cell .packed % 8) (begin (cell .class)) false m k
+      pub walking-again : {m : ℕ} {k : NonCanonicality} → FindingsBetween p text before from (cell .end) m → k ≡ empty
+          → (startState (cell .class) ≡ plain → ⊥)
+          → Walking p text before from (cell .end) (cell .packed / 8) (cell .index) (cell .end + cell .packed % 8)
+          (startState (cell .class)) false m k
       walking-again {m} {k} a y q = go (begin-char q)
         where
-          go : 1 ≤ cell .packed → Walking p text before from (cell .end) (cell .packed / 8) (cell .index) (cell .end + cell .packed % 8) (begin (cell .class)) false m k
+          go : 1 ≤ cell .packed → Walking p text before from (cell .end) (cell .packed / 8) (cell .index) (cell .end + cell .packed % 8)
+              (startState (cell .class)) false m k
           go h =
               let s = reads-next h in
               let j = c .class-is in
-              let i : inner (begin (classOf (cell .packed / 8))) ≡ true =
-              begins-inner (classOf (cell .packed / 8)) (λ z. true≢false (sym (selector-class (cell .packed / 8) z) ∙ clean-next s)) (λ z. q (ap begin j ∙ z)) in
+              let i : inner (startState (classOf (cell .packed / 8))) ≡ true =
+              begins-inner (classOf (cell .packed / 8)) (λ z. true≢false (sym (selector-class (cell .packed / 8) z) ∙ clean-next s))
+              (λ z. q (ap startState j ∙ z)) in
               rw j (walking-begin p text before from (cell .index) a y s (sym (c .index-is)) i)
 
 -- ---- where the walk begins
 
 -- The arm for the places of links and units.
-pub structured-place : (q : Place) → OneOf (2 ∷ 3 ∷ 4 ∷ 5 ∷ 6 ∷ []) (tagOf the-place q) → Structured (kindOf q)
+pub structured-place : (q : State) → OneOf (2 ∷ 3 ∷ 4 ∷ 5 ∷ 6 ∷ []) (tagOf the-place q) → Structured (kindOf q)
 unfolding kindOf
 structured-place plain o = absurd (miss (2 ∷ 3 ∷ 4 ∷ 5 ∷ 6 ∷ []) 0 tt o)
 structured-place selectors o = absurd (miss (2 ∷ 3 ∷ 4 ∷ 5 ∷ 6 ∷ []) 1 tt o)
@@ -418,18 +466,23 @@ structured-place joined o = inr refl
 structured-place leftOver o = inr refl
 
 -- A run of selectors that begins an item is a finding, and all of them are unsanctioned.
-pub selectors-find : (p : Policy) {text : List ℕ} {at v w : ℕ} → Step text at v w → begin (classOf v) ≡ selectors → {counts : NonCanonicality} (end n : ℕ)
+pub selectors-find : (p : Policy) {text : List ℕ} {at v w : ℕ} → Step text at v w → startState (classOf v) ≡ selectors
+    → {counts : NonCanonicality} (end n : ℕ)
     → end ≡ at + 3 * length (leading (chars (drop at text))) → n ≡ (end - at) / 3 → counts ≡ unsanctioned n → Counted p text at end counts
 unfolding items
 selectors-find p {text} {at} {v} {w} s b end n e i d =
     let t = chars (drop (at + w) text) in
     let u = chars (drop at text) in
     let k = begins-selectors (classOf v) b in
-    let f : items u ≡ record { kind = kindOf (begin (classOf v)); chars = v ∷ (cut (begin (classOf v)) t) .0 } ∷ (cut (begin (classOf v)) t) .1 = ap items (s .chars-on) in
-    let r : v ∷ (cut (begin (classOf v)) t) .0 ≡ selectorsAt u = item-selectors v t (selector-class v k) ∙ ap selectorsAt (sym (s .chars-on)) in
-    let z : end ≡ at + size width (v ∷ (cut (begin (classOf v)) t) .0) = omega (arith, ap (size width) r, selectors-end text at) in
+    let f : items u ≡ record { kind = kindOf (startState (classOf v)); chars = v ∷ (splitFrom (startState (classOf v)) t) .0 }
+    ∷ (splitFrom (startState (classOf v)) t) .1 = ap items (s .chars-on) in
+    let r : v ∷ (splitFrom (startState (classOf v)) t) .0 ≡ selectorsAt u = item-selectors v t (selector-class v k)
+    ∙ ap selectorsAt (sym (s .chars-on)) in
+    let z : end ≡ at + size width (v ∷ (splitFrom (startState (classOf v)) t) .0) =
+    omega (arith, ap (size width) r, selectors-end text at) in
     let m = width-some v in
     let o : n ≡ length (leading u) = omega arith in
     let y = d ∙ ap unsanctioned o in
     subst (λ (x : NonCanonicality). Counted p text at end x) (sym y)
-    (loud-item p text at end f z (unsanctioned (length (leading u))) (omega arith) (total-leading p u (chars (drop end text)) (split-at text at e)))
+    (counted-item p text at end f z (unsanctioned (length (leading u))) (omega arith)
+    (total-leading p u (chars (drop end text)) (split-at text at e)))

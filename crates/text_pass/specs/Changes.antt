@@ -40,7 +40,7 @@ module _ (p : Policy) (text : List ℕ) where
   totalFrom at = total (totalCells p (chars (drop at text)))
 
   -- The bytes from an offset up to another stay as they are, and nothing is counted of them.
-  pub record Stays (from to : ℕ) : Type 0 where
+  pub record UnchangedBetween (from to : ℕ) : Type 0 where
     pub on : from ≤ to
     pub inside : from ≤ length text → to ≤ length text
     pub formatted : formattedFrom from ≡ take (to - from) (drop from text) ++ formattedFrom to
@@ -48,29 +48,29 @@ module _ (p : Policy) (text : List ℕ) where
     pub valid : validUpTo (drop from text) ≡ (to - from) + validUpTo (drop to text)
 
   -- From an offset on the bytes stay up to `kept`; from there up to `end` formatting has the selector, or nothing, and that is a change.
-  pub record Changes (from : ℕ) (c : Change) : Type 0 where
-    pub on : from ≤ c .kept
-    pub behind : c .kept ≤ c .end
+  pub record IsNextChange (from : ℕ) (c : Change) : Type 0 where
+    pub on : from ≤ c .start
+    pub after : c .start ≤ c .end
     pub moves : from < c .end
     pub inside : from ≤ length text → c .end ≤ length text
-    pub formatted : formattedFrom from ≡ take (c .kept - from) (drop from text) ++ (selectorBytes (c .selector) ++ formattedFrom (c .end))
+    pub formatted : formattedFrom from ≡ take (c .start - from) (drop from text) ++ (selectorBytes (c .selector) ++ formattedFrom (c .end))
     pub counted : totalFrom (c .end) < totalFrom from
     pub valid : validUpTo (drop from text) ≡ (c .end - from) + validUpTo (drop (c .end) text)
 
   -- From an offset on all bytes stay, up to the end or the first place where no character begins.
-  pub record Unchanged (from : ℕ) (c : Change) : Type 0 where
-    pub stays : Stays from (c .end)
+  pub record NoChangeFrom (from : ℕ) (c : Change) : Type 0 where
+    pub stays : UnchangedBetween from (c .end)
     pub ends : chars (drop (c .end) text) ≡ []
-    pub all-kept : c .kept ≡ c .end
+    pub all-kept : c .start ≡ c .end
     pub no-selector : c .selector ≡ NoSelector
 
   -- A change at an offset, or bytes that stay from there on.
   abbrev pub ChangeAt : ℕ → Change → Type 0
-  ChangeAt at c = (c .more ≡ true → Changes at c) × (c .more ≡ false → Stays at (c .end) × (at < c .end))
+  ChangeAt at c = (c .present ≡ true → IsNextChange at c) × (c .present ≡ false → UnchangedBetween at (c .end) × (at < c .end))
 
   -- The next change, or that there is none.
   abbrev pub NextChange : ℕ → Change → Type 0
-  NextChange from c = (c .more ≡ true → Changes from c) × (c .more ≡ false → Unchanged from c)
+  NextChange from c = (c .present ≡ true → IsNextChange from c) × (c .present ≡ false → NoChangeFrom from c)
 
 -- ---- plain text
 
@@ -100,8 +100,8 @@ selectorOf zero = NoSelector
 selectorOf (suc zero) = Selector Text
 selectorOf (suc (suc n)) = Selector Emoji
 
--- The number of what a rule leaves of the selectors behind a base (document 01, "Replacement and text"), by the rule's slot.
-pub record Leaves (s : Slot) (r : ℕ) : Type 0 where
+-- The number of what a rule leaves of the selectors after a base (document 01, "Replacement and text"), by the rule's slot.
+pub record LeavesSelector (s : Slot) (r : ℕ) : Type 0 where
   pub few : r ≤ 2
   pub left : runWith (selectorOf r) 1 ≡ chosen s []
 
@@ -111,7 +111,7 @@ outcomeFrom p text base at = outcome p base (following (cells (chars (drop at te
 
 -- What becomes of them: all are taken together, the selector that the rules leave stays, and it is a change if something is counted.
 pub record BaseChange (p : Policy) (text : List ℕ) (base at : ℕ) (c : Change) : Type 0 where
-  pub kept-is : c .kept ≡ at
+  pub kept-is : c .start ≡ at
   pub end-is : c .end ≡ at + 3 * length (leading (chars (drop at text)))
   pub selector-is : runWith (c .selector) 1 ≡ chosen (outcomeFrom p text base at .slot) []
-  pub more-is : c .more ≡ not (eqb (total (outcomeFrom p text base at .counts)) 0)
+  pub present-is : c .present ≡ not (eqb (total (outcomeFrom p text base at .counts)) 0)

@@ -18,36 +18,37 @@ use Rattle.analysis.specs.Counts.{empty, total}
 use Rattle.analysis.specs.Findings.{findingsFrom}
 use Rattle.analysis.specs.Rules.{firstAsked, outcome}
 use Rattle.analysis.specs.declared.types.NonCanonicality.{NonCanonicality}
-use Rattle.text_pass.specs.Changes.{Stays, outcomeFrom}
+use Rattle.text_pass.specs.Changes.{UnchangedBetween, outcomeFrom}
 use Rattle.text_pass.specs.declared.findings.CellEnd.{CellEnd}
 use Rattle.text_pass.specs.declared.findings.FindingSpan.{FindingSpan}
 
 -- From findings to what is left of them when so many at the front are passed, each of which starts before a limit.
-pub data Left (before : ℕ) : List Found → ℕ → List Found → Type 0 where
-  all-left : {fs : List Found} → Left before fs 0 fs
-  one-less : {f : Found} {fs gs : List Found} {n : ℕ} → f .start < before → Left before fs n gs → Left before (f ∷ fs) (suc n) gs
+pub data SkipsFindings (before : ℕ) : List Found → ℕ → List Found → Type 0 where
+  none-skipped : {fs : List Found} → SkipsFindings before fs 0 fs
+  one-skipped : {f : Found} {fs gs : List Found} {n : ℕ} → f .start < before → SkipsFindings before fs n gs
+      → SkipsFindings before (f ∷ fs) (suc n) gs
 
 module _ (p : Policy) (text : List ℕ) where
   -- The findings from an offset on are those from another on, and all bytes between them are characters.
-  pub record Passes (from to : ℕ) : Type 0 where
+  pub record NoFindingBetween (from to : ℕ) : Type 0 where
     pub on : from ≤ to
     pub inside : from ≤ length text → to ≤ length text
     pub same : findingsFrom p text from ≡ findingsFrom p text to
     pub valid : validUpTo (drop from text) ≡ (to - from) + validUpTo (drop to text)
 
   -- The same, where so many findings, each of which starts before a limit, lie between the two offsets.
-  pub record PassesOver (before from to n : ℕ) : Type 0 where
+  pub record FindingsBetween (before from to n : ℕ) : Type 0 where
     pub on : from ≤ to
     pub inside : from ≤ length text → to ≤ length text
     pub few : n ≤ to - from
-    pub left : Left before (findingsFrom p text from) n (findingsFrom p text to)
+    pub left : SkipsFindings before (findingsFrom p text from) n (findingsFrom p text to)
     pub valid : validUpTo (drop from text) ≡ (to - from) + validUpTo (drop to text)
 
   -- The item at an offset is a finding, and ends at another.
   pub record Finds (start end : ℕ) : Type 0 where
     pub item : Item
-    pub behind : List Item
-    pub items-are : items (chars (drop start text)) ≡ item ∷ behind
+    pub after : List Item
+    pub items-are : items (chars (drop start text)) ≡ item ∷ after
     pub end-is : end ≡ start + size width (item .chars)
     pub is-finding : isFinding p item ≡ true
 
@@ -57,27 +58,27 @@ module _ (p : Policy) (text : List ℕ) where
     pub counts-are : counts ≡ nonCanonicality p (finds .item)
 
   -- Plain text: the bytes from an offset up to another stay as they are, and no finding begins in them.
-  abbrev pub Skips : ℕ → ℕ → Type 0
-  Skips from to = Stays p text from to × Passes from to
+  abbrev pub PlainBetween : ℕ → ℕ → Type 0
+  PlainBetween from to = UnchangedBetween p text from to × NoFindingBetween from to
 
   -- The first finding that does not start before a limit, with its counts ..
-  abbrev pub FindsBehind : ℕ → FindingSpan → Type 0
-  FindsBehind before r = (before ≤ r .start) × Counted (r .start) (r .end) (r .counts)
+  abbrev pub FindsFrom : ℕ → FindingSpan → Type 0
+  FindsFrom before r = (before ≤ r .start) × Counted (r .start) (r .end) (r .counts)
 
   -- .. or that there is none up to the end or the first place where no character begins; and how many are passed.
   abbrev pub NextFinding : ℕ → ℕ → FindingSpan → Type 0
   NextFinding before from r =
-      PassesOver before from (r .start) (r .passed)
-      × (r .more ≡ true → FindsBehind before r)
-      × (r .more ≡ false → (chars (drop (r .start) text) ≡ []) × (r .end ≡ r .start) × (r .counts ≡ empty))
+      FindingsBetween before from (r .start) (r .passed)
+      × (r .present ≡ true → FindsFrom before r)
+      × (r .present ≡ false → (chars (drop (r .start) text) ≡ []) × (r .end ≡ r .start) × (r .counts ≡ empty))
 
   -- The same, or an offset further on before which there is none.
   abbrev pub WalkedFrom : ℕ → ℕ → FindingSpan → Type 0
   WalkedFrom before from r =
-      PassesOver before from (r .start) (r .passed) × (r .more ≡ true → FindsBehind before r) × (r .more ≡ false → from < r .start)
+      FindingsBetween before from (r .start) (r .passed) × (r .present ≡ true → FindsFrom before r) × (r .present ≡ false → from < r .start)
 
 -- What is read of a cell whose selectors begin at an offset: their end and the first of them, whether the rules count something, and what
--- stands behind them, which is to the rules as what follows the cell.
+-- stands after them, which is to the rules as what follows the cell.
 pub record ReadsCell (p : Policy) (text : List ℕ) (base at : ℕ) (c : CellEnd) : Type 0 where
   pub end-is : c .end ≡ at + 3 * length (leading (chars (drop at text)))
   pub first-is : c .first ≡ firstAsked (leading (chars (drop at text)))

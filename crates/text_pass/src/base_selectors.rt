@@ -1,4 +1,4 @@
-// What becomes of the selectors behind a base that has a variation entry (document 01, "Counts and finding", rules 2 to 6): the
+// What becomes of the selectors after a base that has a variation entry (document 01, "Counts and finding", rules 2 to 6): the
 // selector that stays, and whether that is a change. `base_change` meets `BaseChange` of specs/Changes.antt.
 ghost use mathlib.Core.Path.{_≡_};
 ghost use mathlib.Core.Bool.{Bool, _&&_, cond, not};
@@ -19,7 +19,7 @@ ghost use Rattle.scanner.specs.Spans.{size, width};
 ghost use Rattle.analysis.specs.Analysis.{chosen};
 ghost use Rattle.analysis.specs.CellView.{classInFront};
 ghost use Rattle.analysis.specs.Rules.{outcome, rule2, rule3, rule4, rule5, rule6, runWith, textFirst};
-ghost use Rattle.text_pass.specs.Changes.{BaseChange, Leaves, SameRules, selectorNumber, selectorOf};
+ghost use Rattle.text_pass.specs.Changes.{BaseChange, LeavesSelector, SameRules, selectorNumber, selectorOf};
 use crate::Change;
 use analysis::singleton::is_keycap;
 use policy::SingletonRule;
@@ -31,7 +31,7 @@ use unicode::COMBINING_ENCLOSING_KEYCAP;
 use unicode::presentation::FromSelector;
 use unicode::presentation::Presentation;
 
-// What a character behind a base is to the rules: a modifier, a tag, the keycap, or any other.
+// What a character after a base is to the rules: a modifier, a tag, the keycap, or any other.
 fn rule_class(ch: u32) -> Class
     ensures { λ r. ⌜ SameRules r (classOf ch) ⌝ }
 {
@@ -59,7 +59,7 @@ fn rule_class_at(text: &[u8], at: usize) -> Class
 
 // What rule 6 leaves, by the numbers of selectors in two bits each, lowest first: of none, of a first FE0E, and of a first FE0F.
 fn kept_word(rule: SingletonRule) -> u32
-    ensures { λ r. ⌜ ((f : FirstSelector) (n : ℕ) → Leaves (rule6 rule (runWith f n) .slot) (r / 2 ^ (2 * selectorNumber f) % 4)) ⌝ }
+    ensures { λ r. ⌜ ((f : FirstSelector) (n : ℕ) → LeavesSelector (rule6 rule (runWith f n) .slot) (r / 2 ^ (2 * selectorNumber f) % 4)) ⌝ }
 {
     match rule {
         SingletonRule::TextToBare => 0x20,
@@ -72,14 +72,15 @@ fn kept_word(rule: SingletonRule) -> u32
 // Rule 6: the number of what stays, by what the policy says of the base and the number of the first selector.
 fn by_policy(rule: SingletonRule, first: u32) -> u32
     requires { ⌜ first ≤ 2 ⌝ }
-    ensures { λ r. ⌜ ((f : FirstSelector) → first ≡ selectorNumber f → (n : ℕ) → Leaves (rule6 rule (runWith f n) .slot) r) ⌝ }
+    ensures { λ r. ⌜ ((f : FirstSelector) → first ≡ selectorNumber f → (n : ℕ) → LeavesSelector (rule6 rule (runWith f n) .slot) r) ⌝ }
 {
     (kept_word(rule) >> (2 * first)) % 4
 }
 
 // Rules 2 and 3: the number of what stays of the selectors before a modifier.
 fn before_modifier(first: u32) -> u32
-    ensures { λ r. ⌜ ((f : FirstSelector) → first ≡ selectorNumber f → (b : Bool) (n : ℕ) → Leaves (cond (textFirst (runWith f n)) (rule2 (runWith f n)) (rule3 b (runWith f n)) .slot) r) ⌝ }
+    ensures { λ r. ⌜ ((f : FirstSelector) → first ≡ selectorNumber f → (b : Bool) (n : ℕ)
+        → LeavesSelector (cond (textFirst (runWith f n)) (rule2 (runWith f n)) (rule3 b (runWith f n)) .slot) r) ⌝ }
 {
     if first == 1 {
         return 1;
@@ -89,7 +90,7 @@ fn before_modifier(first: u32) -> u32
 
 // Rules 4 and 5: the number of what stays of the selectors before tags.
 fn before_tags(is_emoji_default: bool) -> u32
-    ensures { λ r. ⌜ ((s : List Selected) → Leaves (cond «is_emoji_default» (rule4 s) (rule5 s) .slot) r) ⌝ }
+    ensures { λ r. ⌜ ((s : List Selected) → LeavesSelector (cond «is_emoji_default» (rule4 s) (rule5 s) .slot) r) ⌝ }
 {
     if is_emoji_default {
         return 0;
@@ -97,11 +98,12 @@ fn before_tags(is_emoji_default: bool) -> u32
     2
 }
 
-// The number of what stays of the selectors behind a base, by the class of what follows them and the number of the first of them.
+// The number of what stays of the selectors after a base, by the class of what follows them and the number of the first of them.
 pub(crate) fn kept_number(policy: &[u8], base: u32, index: usize, next: Class, first: u32) -> u32
     requires { ⌜ (variationSequenceIndex base ≡ At index) × (first ≤ 2) ⌝ }
     ensures few { λ r. ⌜ r ≤ 2 ⌝ }
-    ensures kept { λ r. ⌜ ((f : FirstSelector) → first ≡ selectorNumber f → (n : ℕ) → runWith (selectorOf r) 1 ≡ chosen (outcome (policyOf (now (policy .entry))) base next (runWith f n) .slot) []) ⌝ }
+    ensures start { λ r. ⌜ ((f : FirstSelector) → first ≡ selectorNumber f → (n : ℕ) → runWith (selectorOf r) 1
+        ≡ chosen (outcome (policyOf (now (policy .entry))) base next (runWith f n) .slot) []) ⌝ }
 {
     match next {
         Class::Modifier => before_modifier(first),
@@ -140,10 +142,10 @@ fn selector_of(number: u32) -> FromSelector
 }
 
 // Whether selectors of so many bytes, of which the first is known by its number, are other ones than the selector that stays.
-pub(crate) fn is_change(first: u32, bytes: usize, kept: u32) -> bool
-    ensures { λ r. ⌜ r ≡ not (eqb first kept && leb bytes 3) ⌝ }
+pub(crate) fn is_change(first: u32, bytes: usize, start: u32) -> bool
+    ensures { λ r. ⌜ r ≡ not (eqb first start && leb bytes 3) ⌝ }
 {
-    if first != kept {
+    if first != start {
         return true;
     }
     if SELECTOR_BYTES < bytes {
@@ -153,7 +155,7 @@ pub(crate) fn is_change(first: u32, bytes: usize, kept: u32) -> bool
 }
 
 // The end of the selectors from an offset on, of which the first, or that there is none, is known.
-pub(crate) fn selectors_behind(text: &[u8], at: usize, first: FromSelector) -> usize
+pub(crate) fn selectors_after(text: &[u8], at: usize, first: FromSelector) -> usize
     requires { ⌜ first ≡ firstSelector (chars (drop at (now text))) ⌝ }
     ensures { λ r. ⌜ r ≡ at + size width (selectorsAt (chars (drop at (now (text .entry))))) ⌝ }
 {
@@ -163,22 +165,22 @@ pub(crate) fn selectors_behind(text: &[u8], at: usize, first: FromSelector) -> u
     }
 }
 
-// What becomes of the selectors from an offset on, which stand behind a base with a variation entry.
+// What becomes of the selectors from an offset on, which stand after a base with a variation entry.
 pub(crate) fn base_change(text: &[u8], policy: &[u8], base: u32, index: usize, at: usize) -> Change
     requires { ⌜ variationSequenceIndex base ≡ At index ⌝ }
     ensures { λ r. ⌜ BaseChange (policyOf (now (policy .entry))) (now (text .entry)) base at r ⌝ }
 {
     let selector = selector_at(text, at);
     let first = number_of(selector);
-    let end = selectors_behind(text, at, selector);
+    let end = selectors_after(text, at, selector);
     let next = rule_class_at(text, end);
-    let kept = kept_number(policy, base, index, next, first);
-    let more = is_change(first, end - at, kept);
-    let stays = selector_of(kept);
+    let start = kept_number(policy, base, index, next, first);
+    let present = is_change(first, end - at, start);
+    let stays = selector_of(start);
     Change {
-        kept: at,
+        start: at,
         selector: stays,
         end,
-        more,
+        present,
     }
 }

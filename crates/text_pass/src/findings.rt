@@ -1,6 +1,7 @@
 // The next finding of a text from an offset on: the items are gone through cell by cell, each character is read once, and of each cell
 // it is asked whether something is counted of it, and what only of a finding that is looked for (document 01, "Item", "Counts and
-// finding"; analysis.rs of the crate evfmt counts every item instead). `next_finding` meets `NextFinding` of specs/Findings.antt for every text, policy, limit and offset.
+// finding"; analysis.rs of the crate evfmt counts every item instead). `next_finding` meets `NextFinding` of specs/Findings.antt for every
+// text, policy, limit and offset.
 ghost use mathlib.Core.Path.{_≡_};
 ghost use mathlib.Core.Bool.{true, _&&_, cond, not};
 ghost use mathlib.Core.List.{List};
@@ -14,16 +15,16 @@ ghost use Rattle.unicode.specs.declared.presentation.Presentation.{Presentation
 ghost use Rattle.policy.specs.PolicyBytes.{policyOf};
 ghost use Rattle.policy.specs.declared.Policy.{Policy};
 ghost use Rattle.scanner.specs.Classes.{classOf};
-ghost use Rattle.scanner.specs.Items.{begin, kindOf};
+ghost use Rattle.scanner.specs.Items.{startState, kindOf};
 ghost use Rattle.scanner.specs.Theorems.{Structured};
 ghost use Rattle.analysis.specs.Counts.{cappedSum, total};
 ghost use Rattle.analysis.specs.Rules.{firstAsked, outcome, runWith};
 ghost use Rattle.text_pass.specs.Changes.{AsciiBare};
-ghost use Rattle.text_pass.specs.Findings.{NextFinding, ReadsCell, Skips, WalkedFrom};
+ghost use Rattle.text_pass.specs.Findings.{NextFinding, ReadsCell, PlainBetween, WalkedFrom};
 use crate::base_selectors::is_change;
 use crate::base_selectors::kept_number;
 use crate::base_selectors::number_of;
-use crate::base_selectors::selectors_behind;
+use crate::base_selectors::selectors_after;
 use crate::plain::skip_ascii;
 use crate::plain::skip_letters;
 use analysis::singleton::analyze_by_policy_bytes;
@@ -31,11 +32,11 @@ use analysis::types::NonCanonicality;
 use scanner::char_class::Class;
 use scanner::char_class::Classified;
 use scanner::char_class::classify;
-use scanner::place::Next;
-use scanner::place::Place;
 use scanner::selectors::SELECTOR_BYTES;
 use scanner::selectors::selector_at;
 use scanner::selectors::selectors_end;
+use scanner::state::Next;
+use scanner::state::State;
 use unicode::VariationSequenceIndex;
 use unicode::presentation::FromSelector;
 
@@ -45,11 +46,11 @@ pub struct FindingSpan {
     pub start: usize,
     pub end: usize,
     pub counts: NonCanonicality,
-    pub more: bool,
+    pub present: bool,
     pub passed: usize,
 }
 
-// A cell behind its character: where its selectors end, the first of them, whether something is counted of it, and what stands behind
+// A cell after its character: where its selectors end, the first of them, whether something is counted of it, and what stands after
 // it: a character's packed number, or 0, its class and its place among the variation entries.
 struct CellEnd {
     end: usize,
@@ -70,7 +71,8 @@ fn cell_changes(
     bytes: usize,
 ) -> bool
     requires { ⌜ variationSequenceIndex base ≡ index ⌝ }
-    ensures { λ r. ⌜ ((s : List PresentationValue) → first ≡ firstAsked s → bytes ≡ 3 * length s → r ≡ not (eqb (total (outcome (policyOf (now (policy .entry))) base next s .counts)) 0)) ⌝ }
+    ensures { λ r. ⌜ ((s : List PresentationValue) → first ≡ firstAsked s → bytes ≡ 3 * length s → r
+        ≡ not (eqb (total (outcome (policyOf (now (policy .entry))) base next s .counts)) 0)) ⌝ }
 {
     match index {
         VariationSequenceIndex::At(i) => {
@@ -81,7 +83,7 @@ fn cell_changes(
     }
 }
 
-// Reads the cell whose character is the base and whose selectors begin at the offset, and what stands behind it.
+// Reads the cell whose character is the base and whose selectors begin at the offset, and what stands after it.
 fn read_cell(
     text: &[u8],
     policy: &[u8],
@@ -93,7 +95,7 @@ fn read_cell(
     ensures { λ r. ⌜ ReadsCell (policyOf (now (policy .entry))) (now (text .entry)) base at r ⌝ }
 {
     let first = selector_at(text, at);
-    let end = selectors_behind(text, at, first);
+    let end = selectors_after(text, at, first);
     let packed = utf8::decode(text, end);
     let Classified { class, index: next } = classify(packed / 8);
     let changes = cell_changes(policy, base, index, class, first, end - at);
@@ -127,7 +129,8 @@ fn add_cell(
     first: FromSelector,
     bytes: usize,
 ) -> NonCanonicality
-    ensures { λ r. ⌜ r ≡ cond wanted (cappedSum counts (outcome (policyOf (now (policy .entry))) base next (runWith first (bytes / 3)) .counts)) counts ⌝ }
+    ensures { λ r. ⌜ r ≡ cond wanted
+        (cappedSum counts (outcome (policyOf (now (policy .entry))) base next (runWith first (bytes / 3)) .counts)) counts ⌝ }
 {
     if !wanted {
         return counts;
@@ -156,16 +159,17 @@ fn walk_items(
     ch: u32,
     width: usize,
     first_index: VariationSequenceIndex,
-    first: Place,
+    first: State,
 ) -> FindingSpan
-    requires { ⌜ (readChar (drop from (now text)) ≡ Char ch width) × (variationSequenceIndex ch ≡ «first_index») × (first ≡ begin (classOf ch)) × Structured (kindOf first) ⌝ }
+    requires { ⌜ (readChar (drop from (now text)) ≡ Char ch width) × (variationSequenceIndex ch ≡ «first_index»)
+        × (first ≡ startState (classOf ch)) × Structured (kindOf first) ⌝ }
     ensures { λ r. ⌜ WalkedFrom (policyOf (now (policy .entry))) (now (text .entry)) before from r ⌝ }
 {
     let mut start = from;
     let mut base = ch;
     let mut index = first_index;
     let mut at = from + width;
-    let mut place = first;
+    let mut state = first;
     let mut changed = false;
     let mut passed = 0;
     let mut counts = NonCanonicality::empty();
@@ -179,9 +183,9 @@ fn walk_items(
         if cell.changes {
             changed = true;
         }
-        match scanner::place::step(place, class) {
+        match scanner::state::transition(state, class) {
             Next::On(next) => {
-                place = next;
+                state = next;
             }
             Next::Stop => {
                 if is_wanted(changed, before, start) {
@@ -189,18 +193,18 @@ fn walk_items(
                         start,
                         end,
                         counts,
-                        more: true,
+                        present: true,
                         passed,
                     };
                 }
                 passed += findings_of(changed);
-                place = scanner::place::begin(class);
-                if let Place::Plain = place {
+                state = scanner::state::start_state(class);
+                if let State::Plain = state {
                     return FindingSpan {
                         start: end,
                         end,
                         counts,
-                        more: false,
+                        present: false,
                         passed,
                     };
                 }
@@ -216,7 +220,7 @@ fn walk_items(
 
 // Past ASCII where a character of it stands and the policy keeps the ASCII bases bare.
 fn skip_bare_ascii(text: &[u8], bare: bool, from: usize) -> usize
-    ensures { λ r. ⌜ ((p : Policy) → (bare ≡ true → AsciiBare p) → Skips p (now (text .entry)) from r) ⌝ }
+    ensures { λ r. ⌜ ((p : Policy) → (bare ≡ true → AsciiBare p) → PlainBetween p (now (text .entry)) from r) ⌝ }
 {
     if !bare {
         return from;
@@ -245,26 +249,26 @@ pub fn next_finding(text: &[u8], policy: &[u8], before: usize, from: usize) -> F
                 start: at,
                 end: at,
                 counts: NonCanonicality::empty(),
-                more: false,
+                present: false,
                 passed,
             };
         }
         let ch = packed / 8;
         let width = (packed % 8) as usize;
         let Classified { class, index } = classify(ch);
-        let place = scanner::place::begin(class);
-        match place {
-            Place::Plain => {
+        let state = scanner::state::start_state(class);
+        match state {
+            State::Plain => {
                 at = skip_letters(text, at + width);
             }
-            Place::Selectors => {
+            State::Selectors => {
                 let end = selectors_end(text, at);
                 if before <= at {
                     return FindingSpan {
                         start: at,
                         end,
                         counts: NonCanonicality::unsanctioned((end - at) / SELECTOR_BYTES),
-                        more: true,
+                        present: true,
                         passed,
                     };
                 }
@@ -276,16 +280,16 @@ pub fn next_finding(text: &[u8], policy: &[u8], before: usize, from: usize) -> F
                     start,
                     end,
                     counts,
-                    more,
+                    present,
                     passed: walked,
-                } = walk_items(text, policy, before, at, ch, width, index, place);
+                } = walk_items(text, policy, before, at, ch, width, index, state);
                 passed += walked;
-                if more {
+                if present {
                     return FindingSpan {
                         start,
                         end,
                         counts,
-                        more,
+                        present,
                         passed,
                     };
                 }

@@ -22,14 +22,14 @@ use unicode::presentation::Presentation;
 // Up to `kept` all bytes stay. There the selector, if it is one, takes the place of the bytes up to `end`. Without a change more, both
 // are the end of the well-formed text.
 pub struct Change {
-    pub kept: usize,
+    pub start: usize,
     pub selector: FromSelector,
     pub end: usize,
-    pub more: bool,
+    pub present: bool,
 }
 
-// What becomes of the character at an offset, of so many bytes, and of the selectors behind it: a selector goes with all behind it, a
-// base with a variation entry takes the selectors behind it with it, any other character stays, and more links or tags behind it.
+// What becomes of the character at an offset, of so many bytes, and of the selectors after it: a selector goes with all after it, a
+// base with a variation entry takes the selectors after it with it, any other character stays, and more links or tags after it.
 fn change_at(text: &[u8], policy: &[u8], at: usize, ch: u32, width: usize) -> Change
     requires { ⌜ readChar (drop at (now text)) ≡ Char ch width ⌝ }
     ensures { λ r. ⌜ ChangeAt (policyOf (now (policy .entry))) (now (text .entry)) at r ⌝ }
@@ -39,18 +39,18 @@ fn change_at(text: &[u8], policy: &[u8], at: usize, ch: u32, width: usize) -> Ch
         VariationSequenceIndex::At(index) => base_change(text, policy, ch, index, next),
         VariationSequenceIndex::NoEntry => match Presentation::from_selector(ch) {
             FromSelector::Selector(_) => Change {
-                kept: at,
+                start: at,
                 selector: FromSelector::NoSelector,
                 end: selectors_end(text, next),
-                more: true,
+                present: true,
             },
             FromSelector::NoSelector => {
                 let end = skip_alike(text, next, ch);
                 Change {
-                    kept: end,
+                    start: end,
                     selector: FromSelector::NoSelector,
                     end,
-                    more: false,
+                    present: false,
                 }
             }
         },
@@ -68,15 +68,15 @@ pub fn next_change(text: &[u8], policy: &[u8], from: usize) -> Change
         let packed = utf8::decode(text, at);
         if packed == 0 {
             return Change {
-                kept: at,
+                start: at,
                 selector: FromSelector::NoSelector,
                 end: at,
-                more: false,
+                present: false,
             };
         }
         let width = (packed % 8) as usize;
         let change = change_at(text, policy, at, packed / 8, width);
-        if change.more {
+        if change.present {
             return change;
         }
         at = change.end;

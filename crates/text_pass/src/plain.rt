@@ -1,5 +1,6 @@
 // Plain text, which stays as it is, has no finding, and is passed over without looking at each character's tables: characters by
-// their first byte, and ASCII in runs where the policy keeps the ASCII bases bare. Nothing here tests what is well-formed: `utf8::char_len` does.
+// their first byte, and ASCII in runs where the policy keeps the ASCII bases bare. Nothing here tests what is well-formed: `utf8::char_len`
+// does.
 ghost use mathlib.Core.Path.{_≡_};
 ghost use mathlib.Core.Bool.{true, false};
 ghost use Prim.Native.Nat.{ℕ, _<_, _≤_};
@@ -9,12 +10,12 @@ ghost use Rattle.utf8.specs.declared.ReadChar.the-variants.{Char};
 ghost use Rattle.policy.specs.declared.Policy.{Policy};
 ghost use Rattle.scanner.specs.Classes.{classOf};
 ghost use Rattle.scanner.specs.declared.char_class.Class.the-variants.{Other as other};
-ghost use Rattle.text_pass.specs.Changes.{AsciiBare, Stays};
-ghost use Rattle.text_pass.specs.Findings.{Skips};
+ghost use Rattle.text_pass.specs.Changes.{AsciiBare, UnchangedBetween};
+ghost use Rattle.text_pass.specs.Findings.{PlainBetween};
 use unicode::ZWJ;
 
 // Whether the character at an offset is plain by its first byte: one of two bytes from C0 on, or one of three bytes that lies
-// neither among 2000 to 2FFF, nor in the blocks of 3030 and 3297, nor behind EFFF.
+// neither among 2000 to 2FFF, nor in the blocks of 3030 and 3297, nor after EFFF.
 fn is_plain_at(text: &[u8], at: usize) -> bool
     requires { ⌜ at < length (now text) ⌝ }
     ensures { λ r. ⌜ (r ≡ true → (v w : ℕ) → readChar (drop at (now (text .entry))) ≡ Char v w → classOf v ≡ other) ⌝ }
@@ -41,7 +42,7 @@ fn is_plain_at(text: &[u8], at: usize) -> bool
 
 // Past the characters that are plain by their first bytes.
 pub(crate) fn skip_letters(text: &[u8], from: usize) -> usize
-    ensures { λ r. ⌜ ((p : Policy) → Skips p (now (text .entry)) from r) ⌝ }
+    ensures { λ r. ⌜ ((p : Policy) → PlainBetween p (now (text .entry)) from r) ⌝ }
 {
     let mut at = from;
     while at < text.len() {
@@ -79,8 +80,8 @@ fn is_ascii_base(ch: u8) -> bool
 // Past the ASCII characters from one on: a base that stands last before another character is left.
 pub(crate) fn skip_ascii(text: &[u8], from: usize) -> usize
     requires { ⌜ (from < length (now text)) × (getD (now text) from 0 ≤ 0x7F) ⌝ }
-    ensures place { λ r. ⌜ (from ≤ r) × (r ≤ length (now (text .entry))) ⌝ }
-    ensures skips { λ r. ⌜ ((p : Policy) → AsciiBare p → Skips p (now (text .entry)) from r) ⌝ }
+    ensures state { λ r. ⌜ (from ≤ r) × (r ≤ length (now (text .entry))) ⌝ }
+    ensures skips { λ r. ⌜ ((p : Policy) → AsciiBare p → PlainBetween p (now (text .entry)) from r) ⌝ }
 {
     let end = utf8::ascii::ascii_end(text, from + 1);
     if end == text.len() {
@@ -94,7 +95,7 @@ pub(crate) fn skip_ascii(text: &[u8], from: usize) -> usize
 
 // Past plain text; ASCII in runs only where the policy keeps the ASCII bases bare.
 pub(crate) fn skip_plain(text: &[u8], bare: bool, from: usize) -> usize
-    ensures { λ r. ⌜ ((p : Policy) → (bare ≡ true → AsciiBare p) → Stays p (now (text .entry)) from r) ⌝ }
+    ensures { λ r. ⌜ ((p : Policy) → (bare ≡ true → AsciiBare p) → UnchangedBetween p (now (text .entry)) from r) ⌝ }
 {
     let mut at = skip_letters(text, from);
     while at < text.len() {
@@ -115,7 +116,7 @@ pub(crate) fn skip_plain(text: &[u8], bare: bool, from: usize) -> usize
 
 // Past links.
 fn skip_links(text: &[u8], from: usize) -> usize
-    ensures { λ r. ⌜ ((p : Policy) → Stays p (now (text .entry)) from r) ⌝ }
+    ensures { λ r. ⌜ ((p : Policy) → UnchangedBetween p (now (text .entry)) from r) ⌝ }
 {
     let mut at = from;
     while utf8::decode(text, at) / 8 == ZWJ {
@@ -126,7 +127,7 @@ fn skip_links(text: &[u8], from: usize) -> usize
 
 // Past tags.
 fn skip_tags(text: &[u8], from: usize) -> usize
-    ensures { λ r. ⌜ ((p : Policy) → Stays p (now (text .entry)) from r) ⌝ }
+    ensures { λ r. ⌜ ((p : Policy) → UnchangedBetween p (now (text .entry)) from r) ⌝ }
 {
     let mut at = from;
     while unicode::is_tag(utf8::decode(text, at) / 8) {
@@ -135,10 +136,10 @@ fn skip_tags(text: &[u8], from: usize) -> usize
     at
 }
 
-// Past the links behind a link, or the tags behind a tag: formatting leaves them, though they are part of an item. Each has as many
+// Past the links after a link, or the tags after a tag: formatting leaves them, though they are part of an item. Each has as many
 // bytes as the one before it, so that no step waits for what the last one read.
 pub(crate) fn skip_alike(text: &[u8], from: usize, ch: u32) -> usize
-    ensures { λ r. ⌜ ((p : Policy) → Stays p (now (text .entry)) from r) ⌝ }
+    ensures { λ r. ⌜ ((p : Policy) → UnchangedBetween p (now (text .entry)) from r) ⌝ }
 {
     if ch == ZWJ {
         return skip_links(text, from);

@@ -8,20 +8,20 @@ use lib.Seq.{take-length}
 use Rattle.scanner.specs.Spans.{scan}
 use Rattle.scanner.specs.Theorems.{SpansCover}
 use Rattle.scanner.proofs.Claims.{spans-cover}
-use Rattle.text_scanner.specs.Scanner.{HandsOutItems, MadeHandsOut, RawSpells, RawsJoin}
-use Rattle.text_scanner.proofs.HandingOut.{hands-out, join-raw, made-hands-out, raw-spells}
+use Rattle.text_scanner.specs.Scanner.{NextGivesItems, ScanGivesItems, RawIsItemBytes, RawsJoin}
+use Rattle.text_scanner.proofs.HandingOut.{hands-out, join-raw, scan-gives-items, raw-is-item-bytes}
 
-pub hands-out-items : HandsOutItems
-unfolding HandsOutItems
-hands-out-items = hands-out
+pub next-gives-items : NextGivesItems
+unfolding NextGivesItems
+next-gives-items = hands-out
 
-pub made-scanner-hands-out : MadeHandsOut
-unfolding MadeHandsOut
-made-scanner-hands-out = made-hands-out
+pub made-scanner-hands-out : ScanGivesItems
+unfolding ScanGivesItems
+made-scanner-hands-out = scan-gives-items
 
-pub raw-spells-item : RawSpells
-unfolding RawSpells
-raw-spells-item = raw-spells
+pub raw-spells-item : RawIsItemBytes
+unfolding RawIsItemBytes
+raw-spells-item = raw-is-item-bytes
 
 pub raws-join : RawsJoin
 unfolding RawsJoin SpansCover

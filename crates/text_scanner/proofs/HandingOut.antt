@@ -13,24 +13,36 @@ use Rattle.utf8.proofs.Folds.{chars-end}
 use Rattle.utf8.proofs.Fronts.{readChar-nil}
 use Rattle.utf8.proofs.Texts.{validUpTo-le}
 use Rattle.scanner.specs.Items.{Item, items}
-use Rattle.text_scanner.specs.Scanner.{behind, itemOf, itemsOf, joinRaw, leftAfter, nthItem, offsetAfter, part, rawOf, startOf, verdictOf}
+use Rattle.text_scanner.specs.Scanner.{
+  offsetAfterStep,
+  itemOf,
+  itemsOf,
+  joinRaw,
+  leftAfter,
+  nthItem,
+  offsetAfter,
+  part,
+  rawOf,
+  startOf,
+  verdictOf,
+}
 use Rattle.scanner.specs.Spans.{firstOf, scan, scanAt, scanFrom, spans}
 use Rattle.scanner.specs.Theorems.{Spells, Tiles}
 use Rattle.scanner.specs.declared.ScanItem.{ScanItem}
 use Rattle.scanner.specs.declared.ScanStep.{ScanStep}
 use Rattle.scanner.specs.declared.ScanStep.the-variants as Step
-use Rattle.scanner.proofs.Spans.{scan-behind, scan-spells, scan-tiles, spells-first}
+use Rattle.scanner.proofs.Spans.{scan-after, scan-spells, scan-tiles, spells-first}
 
 -- ---- call after call
 
--- Behind its answer a scanner has the items behind the first.
-after-one : (text : List ℕ) (at : ℕ) → scanFrom text (behind (scanAt text at) at) ≡ drop 1 (scanFrom text at)
+-- After its answer a scanner has the items after the first.
+after-one : (text : List ℕ) (at : ℕ) → scanFrom text (offsetAfterStep (scanAt text at) at) ≡ drop 1 (scanFrom text at)
 unfolding scanAt firstOf
 after-one text at = go (scanFrom text at) refl
   where
-    go : (xs : List ScanItem) → scanFrom text at ≡ xs → scanFrom text (behind (firstOf xs) at) ≡ drop 1 xs
+    go : (xs : List ScanItem) → scanFrom text at ≡ xs → scanFrom text (offsetAfterStep (firstOf xs) at) ≡ drop 1 xs
     go [] e = e
-    go (x ∷ xs) e = scan-behind text at [] x xs e
+    go (x ∷ xs) e = scan-after text at [] x xs e
 
 drop-more : (n : ℕ) (xs : List ScanItem) → drop n (drop 1 xs) ≡ drop (suc n) xs
 drop-more n [] = drop-nil n
@@ -40,7 +52,7 @@ pub after-calls : (text : List ℕ) (at n : ℕ) → scanFrom text (offsetAfter 
 unfolding offsetAfter
 after-calls text at zero = refl
 after-calls text at (suc n) =
-    after-calls text (behind (scanAt text at) at) n ∙ ap (drop n) (after-one text at) ∙ drop-more n (scanFrom text at)
+    after-calls text (offsetAfterStep (scanAt text at) at) n ∙ ap (drop n) (after-one text at) ∙ drop-more n (scanFrom text at)
 
 pub hands-out : (text : List ℕ) (at n : ℕ) → scanAt text (offsetAfter text at n) ≡ firstOf (drop n (scanFrom text at))
 unfolding scanAt
@@ -52,17 +64,20 @@ hands-out text at n = ap firstOf (after-calls text at n)
 at-end : (text : List ℕ) (at n : ℕ) → scanAt text at ≡ Step.End → offsetAfter text at n ≡ at
 unfolding offsetAfter
 at-end text at zero e = refl
-at-end text at (suc n) e = ap (λ (s : ScanStep). offsetAfter text (behind s at) n) e ∙ at-end text at n e
+at-end text at (suc n) e = ap (λ (s : ScanStep). offsetAfter text (offsetAfterStep s at) n) e ∙ at-end text at n e
 
 -- One call, and as many as are then left, come to where all of them come to.
-pub one-call : (text : List ℕ) (at n : ℕ) → 0 < n → offsetAfter text (behind (scanAt text at) at) (leftAfter (scanAt text at) n) ≡ offsetAfter text at n
+pub one-call : (text : List ℕ) (at n : ℕ) → 0 < n → offsetAfter text (offsetAfterStep (scanAt text at) at) (leftAfter (scanAt text at) n)
+    ≡ offsetAfter text at n
 unfolding offsetAfter
 one-call text at zero l = absurd (omega arith)
 one-call text at (suc n) l = go (scanAt text at) refl
   where
-    go : (s : ScanStep) → scanAt text at ≡ s → offsetAfter text (behind s at) (leftAfter s (suc n)) ≡ offsetAfter text (behind (scanAt text at) at) n
-    go (Step.Item x) e = let d : suc n - 1 ≡ n = omega arith in ap (offsetAfter text (x .end)) d ∙ ap (λ (t : ScanStep). offsetAfter text (behind t at) n) (sym e)
-    go Step.End e = sym (at-end text at n e) ∙ ap (λ (t : ScanStep). offsetAfter text (behind t at) n) (sym e)
+    go : (s : ScanStep) → scanAt text at ≡ s → offsetAfter text (offsetAfterStep s at) (leftAfter s (suc n))
+        ≡ offsetAfter text (offsetAfterStep (scanAt text at) at) n
+    go (Step.Item x) e = let d : suc n - 1 ≡ n = omega arith in ap (offsetAfter text (x .end)) d
+        ∙ ap (λ (t : ScanStep). offsetAfter text (offsetAfterStep t at) n) (sym e)
+    go Step.End e = sym (at-end text at n e) ∙ ap (λ (t : ScanStep). offsetAfter text (offsetAfterStep t at) n) (sym e)
 
 pub no-call : (text : List ℕ) (at : ℕ) {n : ℕ} → n ≡ 0 → offsetAfter text at n ≡ at
 unfolding offsetAfter
@@ -74,22 +89,23 @@ fewer-left Step.End n l = l
 
 -- ---- the scanner that is made
 
--- Behind the end of a text there is no item.
-none-behind : (text : List ℕ) → scanFrom text (length text) ≡ []
+-- After the end of a text there is no item.
+none-after : (text : List ℕ) → scanFrom text (length text) ≡ []
 unfolding scanFrom spans items
-none-behind text = ap (λ (t : List ℕ). spans (length text) (items t)) (ap chars (drop-length text) ∙ chars-end [] readChar-nil)
+none-after text = ap (λ (t : List ℕ). spans (length text) (items t)) (ap chars (drop-length text) ∙ chars-end [] readChar-nil)
 
-pub made-hands-out : (text : List ℕ) → scanFrom text (startOf (verdictOf text) text) ≡ itemsOf (verdictOf text) text
+pub scan-gives-items : (text : List ℕ) → scanFrom text (startOf (verdictOf text) text) ≡ itemsOf (verdictOf text) text
 unfolding scan
-made-hands-out text = go (verdictOf text)
+scan-gives-items text = go (verdictOf text)
   where
     go : (v : Check) → scanFrom text (startOf v text) ≡ itemsOf v text
     go Passed = refl
-    go (Refused r) = none-behind text
+    go (Refused r) = none-after text
 
 -- After n calls the scanner that is made answers the n-th item.
 pub nth-answer : (text : List ℕ) (n : ℕ) → scanAt text (offsetAfter text (startOf (verdictOf text) text) n) ≡ nthItem text n .step
-nth-answer text n = hands-out text (startOf (verdictOf text) text) n ∙ ap (λ (xs : List ScanItem). firstOf (drop n xs)) (made-hands-out text)
+nth-answer text n = hands-out text (startOf (verdictOf text) text) n
+    ∙ ap (λ (xs : List ScanItem). firstOf (drop n xs)) (scan-gives-items text)
 
 -- ---- the bytes of an item
 
@@ -106,27 +122,31 @@ tiles-le [] e = omega arith
 tiles-le (x ∷ xs) t = let l = tiles-le xs (t .2) in omega (arith, t .0, t .1)
 
 -- The item that a scanner hands out lies in the text.
-within : (text : List ℕ) (at : ℕ) (x : ScanItem) (xs : List ScanItem) → scanFrom text at ≡ x ∷ xs → (x .start ≤ x .end) × (x .end ≤ length text)
+within : (text : List ℕ) (at : ℕ) (x : ScanItem) (xs : List ScanItem) → scanFrom text at ≡ x ∷ xs → (x .start ≤ x .end)
+    × (x .end ≤ length text)
 within text at x xs e =
-    let t : Tiles at (x ∷ xs) (at + validUpTo (drop at text)) = subst (λ (ys : List ScanItem). Tiles at ys (at + validUpTo (drop at text))) e (scan-tiles text at) in
+    let t : Tiles at (x ∷ xs) (at + validUpTo (drop at text)) = subst (λ (ys : List ScanItem). Tiles at ys (at + validUpTo (drop at text)))
+    e (scan-tiles text at) in
     let l = tiles-le xs (t .2) in
     (omega (arith, t .1), omega (arith, t .0, t .1, validUpTo-le (drop at text), length-drop at text))
 
-pub raw-spells : (text : List ℕ) (at : ℕ) (x : ScanItem) (i : Item) (is : List Item)
+pub raw-is-item-bytes : (text : List ℕ) (at : ℕ) (x : ScanItem) (i : Item) (is : List Item)
     → scanAt text at ≡ Step.Item x → items (chars (drop at text)) ≡ i ∷ is → part text (x .start) (x .end) ≡ encodeAll (i .chars)
 unfolding scanAt firstOf
-raw-spells text at x i is e f = go (scanFrom text at) refl e
+raw-is-item-bytes text at x i is e f = go (scanFrom text at) refl e
   where
     go : (xs : List ScanItem) → scanFrom text at ≡ xs → firstOf xs ≡ Step.Item x → part text (x .start) (x .end) ≡ encodeAll (i .chars)
     go [] p q = cc
     go (y ∷ ys) p q =
         let g : y ≡ x = cc in
         let w = within text at y ys p in
-        let s : Spells text (y ∷ ys) (i ∷ is) = subst (λ (zs : List ScanItem). Spells text zs (i ∷ is)) p (subst (Spells text (scanFrom text at)) f (scan-spells text at)) in
+        let s : Spells text (y ∷ ys) (i ∷ is) = subst (λ (zs : List ScanItem). Spells text zs (i ∷ is)) p
+        (subst (Spells text (scanFrom text at)) f (scan-spells text at)) in
         ap (λ (z : ScanItem). part text (z .start) (z .end)) (sym g) ∙ part-is text (y .start) (y .end) (w .0) (w .1) ∙ spells-first s
 
 -- The bytes of spans that go from one place to another, joined, are the bytes between them.
-pub join-raw : (text : List ℕ) (a : ℕ) (xs : List ScanItem) (b : ℕ) → Tiles a xs b → b ≤ length text → joinRaw text xs ≡ take (b - a) (drop a text)
+pub join-raw : (text : List ℕ) (a : ℕ) (xs : List ScanItem) (b : ℕ) → Tiles a xs b → b ≤ length text → joinRaw text xs
+    ≡ take (b - a) (drop a text)
 join-raw text a [] b e m = let z : 0 ≡ b - a = omega arith in ap (λ (n : ℕ). take n (drop a text)) z
 join-raw text a (x ∷ xs) b t m =
     let l = tiles-le xs (t .2) in

@@ -48,18 +48,18 @@ scanned text =
 
 -- ---- the next item
 
--- The offset behind an answer: the item's end; at the end it stays.
-abbrev pub behind : ScanStep → ℕ → ℕ
-behind (Step.Item x) at = x .end
-behind Step.End at = at
+-- The offset after an answer: the item's end; at the end it stays.
+abbrev pub offsetAfterStep : ScanStep → ℕ → ℕ
+offsetAfterStep (Step.Item x) at = x .end
+offsetAfterStep Step.End at = at
 
 -- A scanner of the same text at another offset.
 abbrev pub atOffset : Scanner → ℕ → Scanner
 atOffset s at = record { text = s .text; offset = at }
 
--- What a cursor at an offset answers, and the offset behind that.
+-- What a cursor at an offset answers, and the offset after that.
 abbrev pub advanced : List ℕ → ℕ → Advanced
-advanced text at = record { step = scanAt text at; offset = behind (scanAt text at) at }
+advanced text at = record { step = scanAt text at; offset = offsetAfterStep (scanAt text at) at }
 
 -- ---- the bytes of an item
 
@@ -82,7 +82,7 @@ itemOf Step.End = record { start = 0; end = 0; kind = Passthrough; «tags_comple
 -- The offset after so many calls from an offset on.
 unfoldable pub offsetAfter : List ℕ → ℕ → ℕ → ℕ
 offsetAfter text at zero = at
-offsetAfter text at (suc n) = offsetAfter text (behind (scanAt text at) at) n
+offsetAfter text at (suc n) = offsetAfter text (offsetAfterStep (scanAt text at) at) n
 
 -- A scanner after so many calls.
 abbrev pub skipped : Scanner → ℕ → Scanner
@@ -106,16 +106,16 @@ nthItem text n = record { verdict = verdictOf text; step = firstOf (drop n (item
 
 -- Call after call a scanner answers the items of its text from its offset on;
 -- "After the last item it says "end" on each further call."
-unfoldable pub HandsOutItems : Type 0
-HandsOutItems = (text : List ℕ) (at n : ℕ) → scanAt text (offsetAfter text at n) ≡ firstOf (drop n (scanFrom text at))
+unfoldable pub NextGivesItems : Type 0
+NextGivesItems = (text : List ℕ) (at n : ℕ) → scanAt text (offsetAfter text at n) ≡ firstOf (drop n (scanFrom text at))
 
 -- The scanner that is made of a text hands out its items, or none where the text is turned back.
-unfoldable pub MadeHandsOut : Type 0
-MadeHandsOut = (text : List ℕ) → scanFrom text (startOf (verdictOf text) text) ≡ itemsOf (verdictOf text) text
+unfoldable pub ScanGivesItems : Type 0
+ScanGivesItems = (text : List ℕ) → scanFrom text (startOf (verdictOf text) text) ≡ itemsOf (verdictOf text) text
 
 -- The bytes of an item that a scanner hands out are the encoding of its characters.
-unfoldable pub RawSpells : Type 0
-RawSpells =
+unfoldable pub RawIsItemBytes : Type 0
+RawIsItemBytes =
     (text : List ℕ) (at : ℕ) (x : ScanItem) (i : Item) (is : List Item)
     → scanAt text at ≡ Step.Item x → items (chars (drop at text)) ≡ i ∷ is
     → part text (x .start) (x .end) ≡ encodeAll (i .chars)

@@ -7,7 +7,7 @@
 ghost use mathlib.Core.Path.{_≡_};
 ghost use Rattle.base.specs.Answers.{Answers, checkRow};
 ghost use Rattle.scanner.specs.Spans.{scanAt};
-ghost use Rattle.text_scanner.specs.Scanner.{advanced, atOffset, behind, itemOf, leftAfter, nthItem};
+ghost use Rattle.text_scanner.specs.Scanner.{advanced, atOffset, offsetAfterStep, itemOf, leftAfter, nthItem};
 ghost use Rattle.text_scanner.specs.Scanner.{opened, part, rawOf, scanned, skipped, verdictOf};
 use base::Check;
 use scanner::ScanItem;
@@ -34,7 +34,7 @@ pub struct Opened {
     pub offset: usize,
 }
 
-// The answer of a cursor, and the offset behind it.
+// The answer of a cursor, and the offset after it.
 pub struct Advanced {
     pub step: ScanStep,
     pub offset: usize,
@@ -60,7 +60,7 @@ fn open_text(text: &[u8]) -> Opened
     }
 }
 
-// The item at an offset, and the offset behind it; at the end the offset stays.
+// The item at an offset, and the offset after it; at the end the offset stays.
 fn advance(text: &[u8], at: usize) -> Advanced
     ensures { λ r. ⌜ r ≡ advanced (now (text .entry)) at ⌝ }
 {
@@ -104,7 +104,7 @@ pub fn scan<'a>(text: &'a [u8]) -> Scanned<'a>
 // The next item; after the last, the end on each call.
 pub fn next<'s, 'a>(s: &'s mut Scanner<'a>) -> ScanStep
     ensures { λ r. ⌜ (r ≡ scanAt (now (now (s .entry) .text)) (now (s .entry) .offset))
-        × (now (s .exit) ≡ atOffset (now (s .entry)) (behind r (now (s .entry) .offset))) ⌝ }
+        × (now (s .exit) ≡ atOffset (now (s .entry)) (offsetAfterStep r (now (s .entry) .offset))) ⌝ }
 {
     let at = s.offset;
     let moved = advance(s.text, at);

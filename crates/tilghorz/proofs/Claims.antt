@@ -5,14 +5,14 @@ use Rattle.analysis.specs.Decisions.{mendRow}
 use Rattle.base.specs.Answers.{listRow, writeRow}
 use Rattle.formatter.specs.Format.{formatRow}
 use Rattle.unicode.specs.Rows.{entryRow}
-use Rattle.tilghorz.specs.Theorems.{WordsTellAnswers}
+use Rattle.tilghorz.specs.Theorems.{WordsDetermineAnswers}
 use Rattle.tilghorz.proofs.SmallAnswers.{default-small, entry-small, format-small, items-small, list-small, mend-small}
 use Rattle.base.proofs.Rows.{list-rows, write-rows}
 use Rattle.tilghorz.proofs.Telling.{entry-rows, format-rows, mend-rows, tell}
 
-pub words-tell-answers : WordsTellAnswers
-unfolding WordsTellAnswers
-words-tell-answers = (
+pub words-determine-answers : WordsDetermineAnswers
+unfolding WordsDetermineAnswers
+words-determine-answers = (
   tell formatRow _ (λ c. omega (arith, format-small (c .0) (c .1) (c .2))) format-rows,
   tell listRow _ (λ c. omega (arith, list-small (c .0) (c .1) (c .2))) list-rows,
   tell mendRow _ (λ c. omega (arith, mend-small (c .0) (c .1) (c .2 .offset) (c .2 .decisions) (c .2 .out))) mend-rows,

@@ -77,7 +77,8 @@ found-item test o n (y ∷ ys) x e = go (test y) (found-item test o (n + size wi
     there true h e = let z : y ≡ x = cc in List·Memᴰ·head (sym z)
     there false h e = List·Memᴰ·tail (h e)
 
-    go : (t : Bool) → (findingAt o F ≡ some x → List·Memᴰ x ys) → findingAt o (cond t (record { start = n; item = y } ∷ F) F) ≡ some x → List·Memᴰ x (y ∷ ys)
+    go : (t : Bool) → (findingAt o F ≡ some x → List·Memᴰ x ys) → findingAt o (cond t (record { start = n; item = y } ∷ F) F) ≡ some x
+        → List·Memᴰ x (y ∷ ys)
     go true h e = there (eqb n o) h e
     go false h e = List·Memᴰ·tail (h e)
 
@@ -86,7 +87,8 @@ pub within-all : (x : Item) (xs : List Item) → List·Memᴰ x xs → size widt
 within-all x [] h = absurd (List·Memᴰ·not-nil h)
 within-all x (y ∷ ys) h = go (List·Memᴰ·cases-cons h) (within-all x ys)
   where
-    go : (x ≡ y) ⊎ List·Memᴰ x ys → (List·Memᴰ x ys → size width (x .chars) ≤ size width (join ys)) → size width (x .chars) ≤ size width (y .chars ++ join ys)
+    go : (x ≡ y) ⊎ List·Memᴰ x ys → (List·Memᴰ x ys → size width (x .chars) ≤ size width (join ys))
+        → size width (x .chars) ≤ size width (y .chars ++ join ys)
     go (inl e) ih = omega (arith, ap (λ (x : Item). size width (x .chars)) e, size-append width (y .chars) (join ys))
     go (inr h) ih = omega (arith, ih h, size-append width (y .chars) (join ys))
 

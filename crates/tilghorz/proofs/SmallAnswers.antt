@@ -11,7 +11,7 @@ use borrow.Author.Tests.{eqb-true, leb-true}
 use Rattle.base.specs.Tables.{fillTable, rowsBytes}
 use Rattle.base.proofs.Numbers.{length-bytesOf}
 use Rattle.base.specs.Output.{answerOf}
-use Rattle.base.specs.Refusals.{After, RefusalRow, kept, orElse, refusalRow, textLimit, written}
+use Rattle.base.specs.Refusals.{After, RefusalRow, unwritten, orElse, refusalRow, textLimit, written}
 use Rattle.base.specs.declared.Refusal.{Refusal}
 use Rattle.base.specs.declared.Refusal.the-variants.{NotWellFormed, OutputTooShort, TableTooShort, TextTooLong, WrongNumberOfDecisions}
 use Rattle.base.specs.declared.WriteAnswer.the-variants as Write
@@ -64,8 +64,9 @@ most = 6 * textLimit
 
 -- A refusal if there is one, or what comes next.
 tested : {R A : Type 0} (row : R → RefusalRow) (refused : Refusal → R) → ((r : Refusal) → row (refused r) ≡ refusalRow r)
-    → (o : Option Refusal) (out : List A) (next : After R A) → ((r : Refusal) → o ≡ some r → refusalRow r .value ≤ most) → (o ≡ none → row (next .answer) .value ≤ most)
-    → row (orElse o (λ (r : Refusal). kept (refused r) out) next .answer) .value ≤ most
+    → (o : Option Refusal) (out : List A) (next : After R A) → ((r : Refusal) → o ≡ some r → refusalRow r .value ≤ most)
+    → (o ≡ none → row (next .answer) .value ≤ most)
+    → row (orElse o (λ (r : Refusal). unwritten (refused r) out) next .answer) .value ≤ most
 tested row refused same (some r) out next h k = omega (arith, h r refl, ap (λ (w : RefusalRow). w .value) (same r))
 tested row refused same none out next h k = k refl
 
@@ -83,7 +84,8 @@ tests-small fault s text a b f p r e = go a b f p e
     go true false f p e = is fault (cc) s
     go false b f p e = is TextTooLong (cc) (omega arith)
 
-tests-short : (text : List ℕ) (a f : Bool) → leb (length text) textLimit ≡ a → byTests a true f TextTooLong text ≡ none → length text ≤ textLimit
+tests-short : (text : List ℕ) (a f : Bool) → leb (length text) textLimit ≡ a → byTests a true f TextTooLong text ≡ none
+    → length text ≤ textLimit
 tests-short text true f p e = leb-true (length text) textLimit p
 tests-short text false f p e = let z : _≡_ {A = ℕ} 0 1 = cc in absurd (omega arith)
 
@@ -105,18 +107,21 @@ format-small text policy out =
     F : List ℕ
     F = formatted text policy
 
-    go : (same fits : Bool) → length F ≤ 4 * length text → length text ≤ textLimit → formatRow (formatTests same fits F out .answer) .value ≤ most
+    go : (same fits : Bool) → length F ≤ 4 * length text → length text ≤ textLimit
+        → formatRow (formatTests same fits F out .answer) .value ≤ most
     go true fits h k = omega arith
     go false true h k = omega arith
     go false false h k = omega arith
 
 -- Rows in a table, of which there are no more than bytes of the text.
-table-small : {A : Type 0} (numbers : A → List ℕ) (k : ℕ) (rows : List A) (table text : List ℕ) → length rows ≤ length text → length text ≤ textLimit
+table-small : {A : Type 0} (numbers : A → List ℕ) (k : ℕ) (rows : List A) (table text : List ℕ) → length rows ≤ length text
+    → length text ≤ textLimit
     → listRow (fillTable numbers k rows table .answer) .value ≤ most
 unfolding fillTable listRow
 table-small numbers k rows table text f h = go (leb (length rows) (length table / k))
   where
-    go : (b : Bool) → listRow (cond b (written (Listing.Listed (length rows)) (rowsBytes numbers rows) table) (kept (Listing.Refused (TableTooShort (length rows))) table) .answer) .value ≤ most
+    go : (b : Bool) → listRow (cond b (written (Listing.Listed (length rows)) (rowsBytes numbers rows) table)
+        (unwritten (Listing.Refused (TableTooShort (length rows))) table) .answer) .value ≤ most
     go true = omega arith
     go false = omega arith
 
@@ -126,21 +131,25 @@ list-small text policy table =
     let p = policyOf policy in
     let f = few-found (isFinding p) 0 (items (chars text)) in
     tested listRow Listing.Refused (λ r. refl) (intakeRefusal text policy) table _ (intake-small text policy)
-    (λ e. table-small rowNumbers rowBytes (map (findingRow p) (findings text policy)) table text (omega (arith, length-map (findings text policy) (findingRow p), f, few-items text)) (passed-accepted text policy e .short))
+    (λ e. table-small rowNumbers rowBytes (map (findingRow p) (findings text policy)) table text
+    (omega (arith, length-map (findings text policy) (findingRow p), f, few-items text)) (passed-accepted text policy e .short))
 
 pub items-small : (text table : List ℕ) → listRow (listItems text table .answer) .value ≤ most
 unfolding listItems listRow
 items-small text table =
     let a = leb (length text) textLimit in
     let f = eqb (validUpTo text) (length text) in
-    tested listRow Listing.Refused (λ r. refl) (textRefusal text) table _ (λ r e. tests-small TextTooLong (omega arith) text a true f refl r (sym (text-is text refl refl) ∙ e))
-    (λ e. table-small itemNumbers itemBytes (scan text) table text (few-spans text) (tests-short text a f refl (sym (text-is text refl refl) ∙ e)))
+    tested listRow Listing.Refused (λ r. refl) (textRefusal text) table _
+    (λ r e. tests-small TextTooLong (omega arith) text a true f refl r (sym (text-is text refl refl) ∙ e))
+    (λ e. table-small itemNumbers itemBytes (scan text) table text (few-spans text)
+    (tests-short text a f refl (sym (text-is text refl refl) ∙ e)))
 
 module _ (text policy : List ℕ) (offset : ℕ) (decisions out : List ℕ) where
   abbrev P : Policy
   P = policyOf policy
 
-  decisions-small : (x : Item) (r : Refusal) → wanted P x ≤ textLimit → decisionsRefusal (wanted P x) decisions ≡ some r → refusalRow r .value ≤ most
+  decisions-small : (x : Item) (r : Refusal) → wanted P x ≤ textLimit → decisionsRefusal (wanted P x) decisions ≡ some r
+      → refusalRow r .value ≤ most
   unfolding decisionsRefusal
   decisions-small x r h e = go (eqb (length decisions) (wanted P x)) refl e
     where
@@ -150,17 +159,33 @@ module _ (text policy : List ℕ) (offset : ℕ) (decisions out : List ℕ) wher
           let i = some-bad 0 decisions r e in
           let v = ap (λ (r : Refusal). refusalRow r .value) (i .index) in
           omega (arith, v, eqb-true (length decisions) (wanted P x) f, ap length (i .whole), length-append (i .before) (i .bad ∷ i .after))
-      go false f e = let z : WrongNumberOfDecisions (wanted P x) ≡ r = cc in subst (λ (r : Refusal). refusalRow r .value ≤ most) z (omega arith)
+      go false f e = let z : WrongNumberOfDecisions (wanted P x) ≡ r = cc in subst (λ (r : Refusal). refusalRow r .value ≤ most) z
+          (omega arith)
 
   -- The text with the replacement of a finding.
-  exchanged-small : (a : Accepted policy text) (x : Item) → List·Memᴰ x (items (chars text)) → length (exchanged text P offset (map meaning decisions) (some x)) ≤ most
+  exchanged-small : (a : Accepted policy text) (x : Item) → List·Memᴰ x (items (chars text))
+      → length (exchanged text P offset (map meaning decisions) (some x)) ≤ most
   exchanged-small a x m =
       let r = replacement P x (map meaning decisions) in
       let b = drop (offset + length (encodeAll (x .chars))) text in
       let l = within-all x (items (chars text)) m in
       let s = ap (size width) (tiling (chars text)) in
       let f = four-times P x (map meaning decisions) (item-derives (chars text) x m) in
-      omega (arith, a .short, l, s, size-chars text, validUpTo-le text, f, size-width r, length-append (take offset text ++ encodeAll r) b, length-append (take offset text) (encodeAll r), length-take offset text, length-drop (offset + length (encodeAll (x .chars))) text)
+      omega (
+        arith,
+        a .short,
+        l,
+        s,
+        size-chars text,
+        validUpTo-le text,
+        f,
+        size-width r,
+        length-append (take offset text ++ encodeAll r) b,
+        length-append (take offset text) (encodeAll r),
+        length-take offset text,
+        length-drop (offset + length (encodeAll (x .chars)))
+            text,
+      )
 
   pub mend-small : mendRow (mend text policy offset decisions out .answer) .value ≤ most
   unfolding mend mendRow findings judge
@@ -184,7 +209,8 @@ module _ (text policy : List ℕ) (offset : ℕ) (decisions out : List ℕ) wher
           E = exchanged text P offset (map meaning decisions) (some x)
 
           room : (b : Bool) → length E ≤ most
-              → mendRow (cond b (written (Mend.Mended (length E)) E out) (kept (Mend.Refused (OutputTooShort (length E))) out) .answer) .value ≤ most
+              → mendRow (cond b (written (Mend.Mended (length E)) E out)
+              (unwritten (Mend.Refused (OutputTooShort (length E))) out) .answer) .value ≤ most
           room true h = omega arith
           room false h = omega arith
 

@@ -24,8 +24,8 @@ pub record Tell {I A : Type 0} (row : A → RefusalRow) (answer : I → A) : Typ
   pub value : (i : I) → word (row (answer i)) % 2 ^ 56 ≡ row (answer i) .value
 
 -- So it is with every function: formatting, listing, mending, listing items, the default policy, an entry.
-unfoldable pub WordsTellAnswers : Type 0
-WordsTellAnswers =
+unfoldable pub WordsDetermineAnswers : Type 0
+WordsDetermineAnswers =
     Tell formatRow (λ (c : List ℕ × List ℕ × List ℕ). format (c .0) (c .1) (c .2) .answer)
     × Tell listRow (λ (c : List ℕ × List ℕ × List ℕ). listBytes (c .0) (c .1) (c .2) .answer)
     × Tell mendRow (λ (c : List ℕ × List ℕ × Call). mendCall (c .0) (c .1) (c .2) .answer)

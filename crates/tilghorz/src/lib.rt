@@ -50,8 +50,10 @@ pub extern "C" fn tilghorz_mend(
     decisions: &[u8],
     out: &mut [u8],
 ) -> u64
-    ensures word { λ r. ⌜ r ≡ word (mendRow (mend (now (text .entry)) (now (policy .entry)) offset (now (decisions .entry)) (now (out .entry)) .answer)) ⌝ }
-    ensures bytes { λ _. ⌜ now (out .exit) ≡ mend (now (text .entry)) (now (policy .entry)) offset (now (decisions .entry)) (now (out .entry)) .buffer ⌝ }
+    ensures word { λ r. ⌜ r ≡ word (mendRow
+        (mend (now (text .entry)) (now (policy .entry)) offset (now (decisions .entry)) (now (out .entry)) .answer)) ⌝ }
+    ensures bytes { λ _. ⌜ now (out .exit) ≡ mend (now (text .entry)) (now (policy .entry)) offset (now (decisions .entry))
+        (now (out .entry)) .buffer ⌝ }
 {
     mend_word(mending::mend(text, policy, offset as usize, decisions, out))
 }

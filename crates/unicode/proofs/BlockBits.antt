@@ -118,7 +118,7 @@ isAt-place j w = go (one j w)
     go true = refl
     go false = refl
 
--- number j of the n, where it stands nowhere behind them
+-- number j of the n, where it stands nowhere after them
 inside : (j n a w c : ℕ) (xs : List ℕ) → c ≡ a + j → j < n → indexOf c xs ≡ Index.NoEntry
     → indexOf c (onesFrom a n w ++ xs) ≡ placeInWord j w
 unfolding onesFrom keep indexOf plus
@@ -157,22 +157,22 @@ module _ (word : Block → ℕ) (c : ℕ) where
       outside c 64 (64 * r .key) (word (r .block)) (onesOf word rs)
       (⊎-elim inr (λ h. ⊎-elim (λ l. absurd (n (omega arith))) inl (le-or-lt (64 * r .key) c)) (le-or-lt (64 * r .key + 64) c))
 
-  -- blocks behind that of c do not have it
-  not-behind : (n : ℕ) (rs : List BlockRow) → ascendFrom n rs ≡ true → c / 64 < n → indexOf c (onesOf word rs) ≡ Index.NoEntry
+  -- blocks after that of c do not have it
+  not-after : (n : ℕ) (rs : List BlockRow) → ascendFrom n rs ≡ true → c / 64 < n → indexOf c (onesOf word rs) ≡ Index.NoEntry
   unfolding ascendFrom onesOf indexOf plus
-  not-behind n [] t h = refl
-  not-behind n (r ∷ rs) t h =
+  not-after n [] t h = refl
+  not-after n (r ∷ rs) t h =
       let s = both-true (leb n (r .key)) (ascendFrom (suc (r .key)) rs) t in
       let l = leb-true n (r .key) (s .0) in
       other-block r rs (λ e. omega arith) ∙ ap (plus (length (onesFrom (64 * r .key) 64 (word (r .block)))))
-      (not-behind (suc (r .key)) rs (s .1) (omega arith))
+      (not-after (suc (r .key)) rs (s .1) (omega arith))
 
   own-block : (r : BlockRow) (rs : List BlockRow) → ascendFrom (suc (r .key)) rs ≡ true → r .key ≡ c / 64
       → indexOf c (onesOf word (r ∷ rs)) ≡ placeInWord (c % 64) (word (r .block))
   unfolding onesOf
   own-block r rs t e =
       inside (c % 64) 64 (64 * r .key) (word (r .block)) c (onesOf word rs) (omega arith) (omega arith)
-      (not-behind (suc (r .key)) rs t (omega arith))
+      (not-after (suc (r .key)) rs t (omega arith))
 
   -- a number is among the ones where its bit is one in the word of its block
   pub found-in-block : (n : ℕ) (rs : List BlockRow) → ascendFrom n rs ≡ true → word noBlock ≡ 0

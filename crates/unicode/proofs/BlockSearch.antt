@@ -62,7 +62,8 @@ search-stops n [] rs t k h = none-from n rs t k h
 search-stops n (q ∷ qs) rs t k h = ap (cond (eqb (q .key) k) (q .block)) (search-stops n qs rs t k h)
 
 -- between blocks before n and blocks from m on
-pub search-within : (n m : ℕ) (qs rs ss : List BlockRow) → allBefore n qs ≡ true → ascendFrom m ss ≡ true → (k : ℕ) → n ≤ k → k < m → blockIn k (qs ++ (rs ++ ss)) ≡ blockIn k rs
+pub search-within : (n m : ℕ) (qs rs ss : List BlockRow) → allBefore n qs ≡ true → ascendFrom m ss ≡ true → (k : ℕ) → n ≤ k → k < m
+    → blockIn k (qs ++ (rs ++ ss)) ≡ blockIn k rs
 search-within n m qs rs ss t u k l h = search-past n qs (rs ++ ss) t k l ∙ search-stops m rs ss u k h
 
 -- numbers from n on are the same if they are when n is taken from both
@@ -75,10 +76,12 @@ eqb-less n a b l h =
     (λ e. eq-eqb (a - n) (b - n) (ap (λ (j : ℕ). j - n) (eqb-true a b e)))
 
 -- where blocks from m on are moved by n, block k stands at k - n
-pub search-moved : (n m : ℕ) (rs : List BlockRow) → n ≤ m → ascendFrom m rs ≡ true → (k : ℕ) → n ≤ k → blockIn (k - n) (moved n rs) ≡ blockIn k rs
+pub search-moved : (n m : ℕ) (rs : List BlockRow) → n ≤ m → ascendFrom m rs ≡ true → (k : ℕ) → n ≤ k → blockIn (k - n) (moved n rs)
+    ≡ blockIn k rs
 unfolding ascendFrom blockIn moved
 search-moved n m [] l t k h = refl
 search-moved n m (r ∷ rs) l t k h =
     let s = both-true (leb m (r .key)) (ascendFrom (suc (r .key)) rs) t in
     let g = leb-true m (r .key) (s .0) in
-    rw (eqb-less n (r .key) k (omega arith) h) (ap (cond (eqb (r .key) k) (r .block)) (search-moved n (suc (r .key)) rs (omega arith) (s .1) k h))
+    rw (eqb-less n (r .key) k (omega arith) h)
+    (ap (cond (eqb (r .key) k) (r .block)) (search-moved n (suc (r .key)) rs (omega arith) (s .1) k h))

@@ -101,7 +101,8 @@ no-tag-is-emoji c t = lies-out 0xE0020 0xE007F c t emojiRanges refl
 pub no-regional-indicator-is-entry : NoRegionalIndicatorIsEntry
 unfolding NoRegionalIndicatorIsEntry isRi hasVariationSequence inRanges every riRanges variationEntries
 no-regional-indicator-is-entry c r =
-    fails (hasVariationSequence c) (λ e. true≢false (sym r ∙ not-true (isRi c) (every-member (λ x. not (isRi x)) variationEntries refl c e)))
+    fails (hasVariationSequence c) (λ e. true≢false
+    (sym r ∙ not-true (isRi c) (every-member (λ x. not (isRi x)) variationEntries refl c e)))
 
 pub no-modifier-is-entry : NoModifierIsEntry
 unfolding NoModifierIsEntry isEmojiModifier hasVariationSequence member every emojiModifiers variationEntries

@@ -88,7 +88,7 @@ module _ (rs : List ℕ) (t : rangesApart rs ≡ true) (c j k : ℕ) (h : j ≤ 
       ⊎-elim (λ (q : k ≤ j). let e : j ≡ k = omega arith in rw e p)
       (λ (q : j < k). omega (arith, ranges-lt 0 rs t j k q l, range-ordered 0 rs t k l)) (le-or-lt k j)
 
-  -- with a range that starts after c, the ones behind it do
+  -- with a range that starts after c, the ones after it do
   pub starts-after : c < first rs j → c < first rs k
   unfolding rangesApart
   starts-after p =
@@ -102,8 +102,10 @@ in-no-range c [] h = refl
 in-no-range c (a ∷ []) h = refl
 in-no-range c (a ∷ e ∷ rs) h =
     let rest : inRanges c rs ≡ false =
-    in-no-range c rs (λ k l. ⊎-elim (λ p. inl (omega (arith, first-suc a e rs k))) (λ p. inr (omega (arith, last-suc a e rs k))) (h (suc k) (omega arith))) in
-    ⊎-elim (λ (p : c < a). simp (lt-leb a c p, rest)) (λ (p : last (a ∷ e ∷ rs) 0 < c). simp (lt-leb c e (omega (arith, last-zero a e rs)), rest, and-false))
+    in-no-range c rs (λ k l. ⊎-elim (λ p. inl (omega (arith, first-suc a e rs k))) (λ p. inr (omega (arith, last-suc a e rs k)))
+    (h (suc k) (omega arith))) in
+    ⊎-elim (λ (p : c < a). simp (lt-leb a c p, rest))
+    (λ (p : last (a ∷ e ∷ rs) 0 < c). simp (lt-leb c e (omega (arith, last-zero a e rs)), rest, and-false))
     (h zero (omega arith))
 
 -- c lies in range k

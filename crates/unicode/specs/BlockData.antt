@@ -89,7 +89,7 @@ middleFirst = 0x9F
 abbrev pub pictographFirst : ℕ
 pictographFirst = 0x7C0
 
--- the symbols, and behind their places the pictographs, as one `match` has them
+-- the symbols, and after their places the pictographs, as one `match` has them
 abbrev pub symbolPlaces : ℕ
 symbolPlaces = middleFirst - symbolFirst
 

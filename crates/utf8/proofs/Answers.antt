@@ -32,5 +32,6 @@ module _ (v : ℕ) (o : List ℕ) (at : ℕ) where
       (answers (simp (e, l, p)), simp (e, l))
 
 -- What a caller that knows of the room goes by.
-pub afterWriteChar-sets : (v : ℕ) (o : List ℕ) (at : ℕ) → isScalar v ≡ true → at + length (encode v) ≤ length o → afterWriteChar v o at ≡ sets o at (encode v)
+pub afterWriteChar-sets : (v : ℕ) (o : List ℕ) (at : ℕ) → isScalar v ≡ true → at + length (encode v) ≤ length o → afterWriteChar v o at
+    ≡ sets o at (encode v)
 afterWriteChar-sets v o at e h = sym (written v o at (length (encode v)) refl e h .1)

@@ -17,18 +17,19 @@ use Rattle.utf8.proofs.Places.{Step, step}
 -- ---- a run and how it goes on
 
 pub run-none : (s : List ℕ) (from : ℕ) → AsciiRun s from from
-run-none s from = record { from-le = omega arith; inside = λ h. h; behind = λ h. refl; ascii = λ k l h. absurd (omega arith) }
+run-none s from = record { from-le = omega arith; inside = λ h. h; after = λ h. refl; ascii = λ k l h. absurd (omega arith) }
 
 pub up-to-one : (s : List ℕ) (at : ℕ) → AllUpTo (getD s at 0) s at 1
 up-to-one s at = record {
   each = λ k l h. let e : k ≡ at = omega arith in omega (arith, ap (λ (n : ℕ). getD s n 0) e);
 }
 
-pub run-on : {s : List ℕ} {from at : ℕ} (top n : ℕ) → AsciiRun s from at → AllUpTo top s at n → top ≤ 0x7F → at + n ≤ length s → AsciiRun s from (at + n)
+pub run-on : {s : List ℕ} {from at : ℕ} (top n : ℕ) → AsciiRun s from at → AllUpTo top s at n → top ≤ 0x7F → at + n ≤ length s
+    → AsciiRun s from (at + n)
 run-on {s} {from} {at} top n r u t h = record {
   from-le = let l = r .from-le in omega arith;
   inside = λ l. h;
-  behind = λ b. let l = r .from-le in omega arith;
+  after = λ b. let l = r .from-le in omega arith;
   ascii = λ k l j. ⊎-elim (λ b. omega (arith, u .each k b j)) (λ b. r .ascii k l b) (le-or-lt at k);
 }
 
@@ -73,7 +74,7 @@ run-longest s from =
     record {
       from-le = omega arith;
       inside = λ h. omega (arith, f .room);
-      behind = λ h. omega (arith, f .room);
+      after = λ h. omega (arith, f .room);
       ascii = λ k l h.
           let e : from + (k - from) ≡ k = omega arith in
           omega (arith, f .ascii (k - from) (omega arith), getD-drop from s (k - from) 0, ap (λ (n : ℕ). getD s n 0) e);
@@ -107,7 +108,7 @@ at-longest {s} {from} {end} r stop = ⊎-elim within-bytes past (le-or-lt from (
         omega (arith, not-before, not-after)
 
     past : length s < from → end ≡ last
-    past h = omega (arith, r .behind (omega arith), q .behind (omega arith))
+    past h = omega (arith, r .after (omega arith), q .after (omega arith))
 
 -- ---- an ASCII byte is a character of one byte
 
@@ -128,7 +129,8 @@ module _ {s : List ℕ} {from end : ℕ} (run : AsciiRun s from end) (h : from �
       subst P e (on (from + n) (step s (from + n) (getD s (from + n) 0) 1 (readChar-ascii-at s (from + n) i a)) (up-to n (omega arith)))
 
   pub through-run : P end
-  through-run = let e : from + (end - from) ≡ end = omega (arith, run .from-le) in subst P e (up-to (end - from) (omega (arith, run .from-le)))
+  through-run = let e : from + (end - from)
+      ≡ end = omega (arith, run .from-le) in subst P e (up-to (end - from) (omega (arith, run .from-le)))
 
 -- The longest well-formed beginning goes on through a run.
 pub validUpTo-past : {s : List ℕ} {from end total : ℕ} → AsciiRun s from end → from ≤ length s

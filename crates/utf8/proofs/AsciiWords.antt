@@ -77,7 +77,7 @@ module _ (s : List ℕ) (at : ℕ) {w : ℕ} (e : w ≡ number (take 8 (drop at 
       ∙ sym (bit-of-bytes 8 (i * 8 + 7) (drop at s) bytes (omega arith)) ∙ ap (one (i * 8 + 7)) (sym e)
       ∙ sym (and-bit (i * 8 + 7) w 0x8080808080808080 (high-bit 8 i h))
 
-  -- behind the first p of the word's bytes stand n ASCII bytes
+  -- after the first p of the word's bytes stand n ASCII bytes
   pub low-bytes : (p n : ℕ) → p + n ≤ 8 → n ≤ trailingZeros 64 (high w / 2 ^ (8 * p)) / 8
       → AllUpTo 0x7F s (at + p) n
   low-bytes p n h t = record {

@@ -1,6 +1,19 @@
 -- The statements of specs/Theorems, each proved under its own name.
 use mathlib.Core.Path.{refl, ap, _∙_}
-use Rattle.utf8.specs.Rfc3629.{utf8-1, utf8-2, utf8-3, utf8-4, readFour, readChar, foldStep, foldChars, chars, validUpTo, encode, encodeAll}
+use Rattle.utf8.specs.Rfc3629.{
+  utf8-1,
+  utf8-2,
+  utf8-3,
+  utf8-4,
+  readFour,
+  readChar,
+  foldStep,
+  foldChars,
+  chars,
+  validUpTo,
+  encode,
+  encodeAll,
+}
 use Rattle.utf8.specs.Theorems.{
   AsciiEndIsLongest,
   CharsAreScalar,

@@ -10,7 +10,19 @@ use borrow.Author.Tests.{le-leb}
 use Rattle.utf8.specs.Rfc3629.{utf8-tail, utf8-1, utf8-2, utf8-3, utf8-4, utf8-char, value-4, readChar, isScalar, encode}
 use Rattle.utf8.specs.declared.ReadChar.the-variants.{Char}
 use Rattle.base.proofs.Tests.{and-both, le-or-lt, within-true}
-use Rattle.utf8.proofs.FirstBytes.{not-1, not-2-above, not-3-above, two-C2-DF, three-E0, three-E1-EC, three-ED, three-EE-EF, four-F0, four-F1-F3, four-F4}
+use Rattle.utf8.proofs.FirstBytes.{
+  not-1,
+  not-2-above,
+  not-3-above,
+  two-C2-DF,
+  three-E0,
+  three-E1-EC,
+  three-ED,
+  three-EE-EF,
+  four-F0,
+  four-F1-F3,
+  four-F4,
+}
 use Rattle.utf8.proofs.Fronts.{readFour-1, readFour-2, readFour-3, readFour-4}
 use Rattle.utf8.proofs.Scalars.{isScalar-bounds}
 use Rattle.utf8.proofs.Encoding.{encode-1, encode-2, encode-3, encode-4}
@@ -56,7 +68,8 @@ module _ (v : ℕ) where
   bytes-3 : 0x800 ≤ v → v ≤ 0xFFFF → (v ≤ 0xD7FF) ⊎ (0xE000 ≤ v) → utf8-3 first₃ last₂ last ≡ true
   bytes-3 l h (inr k) = three-EE-EF first₃ last₂ last (omega arith) (omega arith) ∙ and-both _ _ tail-last₂ tail-last
   bytes-3 l h (inl k) =
-      ⊎-elim (λ p. three-E0 first₃ last₂ last (omega arith) ∙ and-both _ _ (within-true 0xA0 0xBF last₂ (omega arith) (omega arith)) tail-last)
+      ⊎-elim (λ p. three-E0 first₃ last₂ last (omega arith)
+      ∙ and-both _ _ (within-true 0xA0 0xBF last₂ (omega arith) (omega arith)) tail-last)
       (λ q. ⊎-elim (λ p. three-E1-EC first₃ last₂ last (omega arith) (omega arith) ∙ and-both _ _ tail-last₂ tail-last)
       (λ p. three-ED first₃ last₂ last (omega arith) ∙ and-both _ _ (within-true 0x80 0x9F last₂ (omega arith) (omega arith)) tail-last)
       (le-or-lt v 0xCFFF)) (le-or-lt v 0xFFF)
@@ -64,7 +77,8 @@ module _ (v : ℕ) where
   bytes-4 : 0x10000 ≤ v → v ≤ 0x10FFFF → utf8-4 first₄ last₃ last₂ last ≡ true
   bytes-4 l h =
       let tails = and-both _ _ tail-last₂ tail-last in
-      ⊎-elim (λ p. four-F0 first₄ last₃ last₂ last (omega arith) ∙ and-both _ _ (within-true 0x90 0xBF last₃ (omega arith) (omega arith)) tails)
+      ⊎-elim (λ p. four-F0 first₄ last₃ last₂ last (omega arith)
+      ∙ and-both _ _ (within-true 0x90 0xBF last₃ (omega arith) (omega arith)) tails)
       (λ q. ⊎-elim (λ p. four-F1-F3 first₄ last₃ last₂ last (omega arith) (omega arith) ∙ and-both _ _ tail-last₃ tails)
       (λ p. four-F4 first₄ last₃ last₂ last (omega arith) ∙ and-both _ _ (within-true 0x80 0x8F last₃ (omega arith) (omega arith)) tails)
       (le-or-lt v 0xFFFFF)) (le-or-lt v 0x3FFFF)
@@ -106,9 +120,12 @@ module _ (v : ℕ) where
       by-length e
       (λ h. rw (encode-1 v h) (readFour-1 v (getD s 0 0) (getD s 1 0) (getD s 2 0) (bytes-1 h)))
       (λ l h. rw (encode-2 v l h)
-      (readFour-2 first₂ last (getD s 0 0) (getD s 1 0) (not-1 first₂ (omega arith)) (bytes-2 l h) ∙ ap (λ (x : ℕ). Char x 2) (omega arith)))
+      (readFour-2 first₂ last (getD s 0 0) (getD s 1 0) (not-1 first₂ (omega arith)) (bytes-2 l h)
+      ∙ ap (λ (x : ℕ). Char x 2) (omega arith)))
       (λ l h t. rw (encode-3 v l h)
-      (readFour-3 first₃ last₂ last (getD s 0 0) (not-1 first₃ (omega arith)) (not-2-above first₃ last₂ (omega arith)) t ∙ ap (λ (x : ℕ). Char x 3) (omega arith)))
+      (readFour-3 first₃ last₂ last (getD s 0 0) (not-1 first₃ (omega arith)) (not-2-above first₃ last₂ (omega arith)) t
+      ∙ ap (λ (x : ℕ). Char x 3) (omega arith)))
       (λ l h. rw (encode-4 v l)
-      (readFour-4 first₄ last₃ last₂ last (not-1 first₄ (omega arith)) (not-2-above first₄ last₃ (omega arith)) (not-3-above first₄ last₃ last₂ (omega arith)) (bytes-4 l h)
+      (readFour-4 first₄ last₃ last₂ last (not-1 first₄ (omega arith)) (not-2-above first₄ last₃ (omega arith))
+      (not-3-above first₄ last₃ last₂ (omega arith)) (bytes-4 l h)
       ∙ ap (λ (x : ℕ). Char x 4) value-4-digits))

@@ -59,7 +59,8 @@ encode-value-2 a b p q = encode-2 (value-2 a b) (omega arith) (omega arith) ∙ 
 pub encode-value-3 : (a b c : ℕ) → In 0xE0 0xEF a → Tail b → Tail c → 0x800 ≤ value-3 a b c → encode (value-3 a b c) ≡ a ∷ b ∷ c ∷ []
 encode-value-3 a b c p q r l = encode-3 (value-3 a b c) l (omega arith) ∙ same-3 (omega arith) (omega arith) (omega arith)
 
-pub encode-value-4 : (a b c d : ℕ) → In 0xF0 0xF4 a → Tail b → Tail c → Tail d → 0x10000 ≤ value-4 a b c d → encode (value-4 a b c d) ≡ a ∷ b ∷ c ∷ d ∷ []
+pub encode-value-4 : (a b c d : ℕ) → In 0xF0 0xF4 a → Tail b → Tail c → Tail d → 0x10000 ≤ value-4 a b c d → encode (value-4 a b c d)
+    ≡ a ∷ b ∷ c ∷ d ∷ []
 encode-value-4 a b c d p q r s l = encode-4 (value-4 a b c d) l ∙ same-4 (omega arith) (omega arith) (omega arith) (omega arith)
 
 -- s begins with the character v: v is a scalar value, and its w bytes are its encoding.
@@ -90,7 +91,8 @@ first-3 [] h k l = absurd (omega arith)
 first-3 (b ∷ s) h k l = ap (λ (l : List ℕ). b ∷ l) (first-2 s k l)
 
 module _ (a : ℕ) (s : List ℕ) where
-  begins : (v : ℕ) (bs : List ℕ) → encode v ≡ bs → isScalar v ≡ true → 1 ≤ length bs → length bs ≤ 4 → bs ++ drop (length bs) (a ∷ s) ≡ a ∷ s
+  begins : (v : ℕ) (bs : List ℕ) → encode v ≡ bs → isScalar v ≡ true → 1 ≤ length bs → length bs ≤ 4 → bs ++ drop (length bs) (a ∷ s)
+      ≡ a ∷ s
       → BeginsWith (a ∷ s) v (length bs)
   begins v bs e p l h f = record {
     is-scalar = p;
@@ -109,14 +111,17 @@ module _ (a : ℕ) (s : List ℕ) where
   abbrev d : ℕ
   d = getD s 2 0
 
-  begins-3 : In 0xE0 0xEF a → Tail b → Tail c → 0x800 ≤ value-3 a b c → isScalar (value-3 a b c) ≡ true → BeginsWith (a ∷ s) (value-3 a b c) 3
+  begins-3 : In 0xE0 0xEF a → Tail b → Tail c → 0x800 ≤ value-3 a b c → isScalar (value-3 a b c) ≡ true
+      → BeginsWith (a ∷ s) (value-3 a b c) 3
   begins-3 p q r l m =
       begins (value-3 a b c) (a ∷ b ∷ c ∷ []) (encode-value-3 a b c p q r l) m (omega arith) (omega arith)
       (ap (λ (x : List ℕ). a ∷ x) (first-2 s (omega arith) (omega arith)))
 
-  begins-4 : In 0xF0 0xF4 a → Tail b → Tail c → Tail d → 0x10000 ≤ value-4 a b c d → value-4 a b c d ≤ 0x10FFFF → BeginsWith (a ∷ s) (value-4 a b c d) 4
+  begins-4 : In 0xF0 0xF4 a → Tail b → Tail c → Tail d → 0x10000 ≤ value-4 a b c d → value-4 a b c d ≤ 0x10FFFF
+      → BeginsWith (a ∷ s) (value-4 a b c d) 4
   begins-4 p q r t l h =
-      begins (value-4 a b c d) (a ∷ b ∷ c ∷ d ∷ []) (encode-value-4 a b c d p q r t l) (isScalar-high _ (omega arith) h) (omega arith) (omega arith)
+      begins (value-4 a b c d) (a ∷ b ∷ c ∷ d ∷ []) (encode-value-4 a b c d p q r t l) (isScalar-high _ (omega arith) h) (omega arith)
+      (omega arith)
       (ap (λ (x : List ℕ). a ∷ x) (first-3 s (omega arith) (omega arith) (omega arith)))
 
   -- What the row says: the bytes that it asks for are there, and are the encoding of the value.

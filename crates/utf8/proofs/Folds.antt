@@ -31,7 +31,8 @@ module _ {A : Type 0} (stop : A) (more : ℕ → ℕ → A → A) where
   foldChars-end [] e = refl
   foldChars-end (a ∷ s) e = ap (λ (r : ReadChar). foldStep stop more r (λ w. foldChars stop more (w - 1) s)) e
 
-  pub foldChars-char : (s : List ℕ) (v w : ℕ) → readChar s ≡ Char v w → foldChars stop more 0 s ≡ more v w (foldChars stop more 0 (drop w s))
+  pub foldChars-char : (s : List ℕ) (v w : ℕ) → readChar s ≡ Char v w → foldChars stop more 0 s
+      ≡ more v w (foldChars stop more 0 (drop w s))
   unfolding foldChars foldStep
   foldChars-char [] v w e = let z : _≡_ {A = ℕ} 0 1 = cc readChar-nil in absurd (omega arith)
   foldChars-char (a ∷ s) v w e =

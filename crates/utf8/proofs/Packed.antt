@@ -35,7 +35,7 @@ stop-len s at w e h = go (readChar (drop at s)) refl e
     go IllFormed p q = stop-ill-formed s at p
     go End p q = stop-end s at p
 
--- The character of w bytes at a place, and how the text goes on behind it.
+-- The character of w bytes at a place, and how the text goes on after it.
 pub record StepLen (s : List ℕ) (at w : ℕ) : Type 0 where
   pub value : ℕ
   pub on : Step s at value w

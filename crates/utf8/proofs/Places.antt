@@ -11,7 +11,7 @@ use Rattle.utf8.specs.declared.ReadChar.the-variants.{Char, IllFormed, E
 use Rattle.utf8.proofs.Encoding.{char-begins, end-empty}
 use Rattle.utf8.proofs.Folds.{chars-ill-formed, chars-end, chars-char, validUpTo-ill-formed, validUpTo-end, validUpTo-char}
 
--- At the place `at` of s stands the character v of w bytes, and the text goes on behind it.
+-- At the place `at` of s stands the character v of w bytes, and the text goes on after it.
 pub record Step (s : List ℕ) (at v w : ℕ) : Type 0 where
   pub some : 1 ≤ w
   pub few : w ≤ 4
@@ -30,7 +30,8 @@ step s at v w e =
     record {
       some = f .some;
       few = f .few;
-      room = let o = f .some in let m = f .width in omega (arith, length-drop at s, ap length (f .bytes), length-append (encode v) (drop w t));
+      room = let o = f .some in let m = f .width in omega
+          (arith, length-drop at s, ap length (f .bytes), length-append (encode v) (drop w t));
       is-scalar = f .is-scalar;
       width = f .width;
       bytes = ap (λ (l : List ℕ). encode v ++ l) (sym d) ∙ f .bytes;

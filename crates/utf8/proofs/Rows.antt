@@ -9,7 +9,7 @@ use Rattle.utf8.specs.declared.ReadChar.{ReadChar}
 use Rattle.utf8.specs.declared.ReadChar.the-variants.{Char, IllFormed}
 use Rattle.base.proofs.Tests.{both-true, either-true, In, within-in}
 
--- A byte that may stand behind the second.
+-- A byte that may stand after the second.
 abbrev pub Tail : ℕ → Type 0
 Tail b = In 0x80 0xBF b
 
@@ -37,7 +37,8 @@ bytes-3 al ah bl bh a b c e =
     let q = bytes-2 bl bh 0x80 0xBF b c (p .1) in
     (within-in al ah a (p .0), q .0, q .1)
 
-bytes-4 : (al ah bl bh a b c d : ℕ) → (within al ah a && (within bl bh b && (utf8-tail c && utf8-tail d))) ≡ true → In al ah a × In bl bh b × Tail c × Tail d
+bytes-4 : (al ah bl bh a b c d : ℕ) → (within al ah a && (within bl bh b && (utf8-tail c && utf8-tail d))) ≡ true → In al ah a × In bl bh b
+    × Tail c × Tail d
 bytes-4 al ah bl bh a b c d e =
     let p = both-true (within al ah a) (within bl bh b && (utf8-tail c && utf8-tail d)) e in
     let q = bytes-3 bl bh 0x80 0xBF b c d (p .1) in
@@ -73,18 +74,21 @@ module _ (a b c d : ℕ) where
   row-from-4 true e = utf8-4-row e
   row-from-4 false e = none
 
-  row-from-3 : (t : Bool) → utf8-3 a b c ≡ t → Row a b c d (cond t (Char (value-3 a b c) 3) (cond (utf8-4 a b c d) (Char (value-4 a b c d) 4) IllFormed))
+  row-from-3 : (t : Bool) → utf8-3 a b c ≡ t
+      → Row a b c d (cond t (Char (value-3 a b c) 3) (cond (utf8-4 a b c d) (Char (value-4 a b c d) 4) IllFormed))
   row-from-3 true e = utf8-3-row e
   row-from-3 false e = row-from-4 (utf8-4 a b c d) refl
 
   row-from-2 : (t : Bool) → utf8-2 a b ≡ t
-      → Row a b c d (cond t (Char (value-2 a b) 2) (cond (utf8-3 a b c) (Char (value-3 a b c) 3) (cond (utf8-4 a b c d) (Char (value-4 a b c d) 4) IllFormed)))
+      → Row a b c d (cond t (Char (value-2 a b) 2)
+      (cond (utf8-3 a b c) (Char (value-3 a b c) 3) (cond (utf8-4 a b c d) (Char (value-4 a b c d) 4) IllFormed)))
   row-from-2 true e = utf8-2-row e
   row-from-2 false e = row-from-3 (utf8-3 a b c) refl
 
   row-from-1 : (t : Bool) → utf8-1 a ≡ t
       → Row a b c d
-      (cond t (Char a 1) (cond (utf8-2 a b) (Char (value-2 a b) 2) (cond (utf8-3 a b c) (Char (value-3 a b c) 3) (cond (utf8-4 a b c d) (Char (value-4 a b c d) 4) IllFormed))))
+      (cond t (Char a 1) (cond (utf8-2 a b) (Char (value-2 a b) 2)
+      (cond (utf8-3 a b c) (Char (value-3 a b c) 3) (cond (utf8-4 a b c d) (Char (value-4 a b c d) 4) IllFormed))))
   row-from-1 true e = utf8-1-row e
   row-from-1 false e = row-from-2 (utf8-2 a b) refl
 

@@ -1,4 +1,4 @@
--- Texts as a whole: their characters, the encoding of these, their longest well-formed beginning, and texts one behind the other.
+-- Texts as a whole: their characters, the encoding of these, their longest well-formed beginning, and texts one after the other.
 -- A text s is well-formed where validUpTo s ≡ length s (Grammar shows that this is the RFC's grammar).
 use mathlib.Core.Path.{_≡_, refl, sym, ap, ap₂, _∙_}
 use mathlib.Core.Logic.{_↔_}
@@ -15,17 +15,31 @@ use Rattle.base.proofs.Tests.{both-true}
 use Rattle.utf8.proofs.Encoding.{char-begins}
 use Rattle.utf8.proofs.Fronts.{readChar-nil}
 use Rattle.utf8.proofs.Decoding.{readChar-encode}
-use Rattle.utf8.proofs.Folds.{chars-ill-formed, chars-end, chars-char, validUpTo-ill-formed, validUpTo-end, validUpTo-char, Reading, read-end, read-ill-formed, read-more, reading}
+use Rattle.utf8.proofs.Folds.{
+  chars-ill-formed,
+  chars-end,
+  chars-char,
+  validUpTo-ill-formed,
+  validUpTo-end,
+  validUpTo-char,
+  Reading,
+  read-end,
+  read-ill-formed,
+  read-more,
+  reading,
+}
 
 -- ---- a text that begins with an encoding
 
 pub chars-encode : (v : ℕ) (s : List ℕ) → isScalar v ≡ true → chars (encode v ++ s) ≡ v ∷ chars s
 chars-encode v s e =
-    chars-char (encode v ++ s) v (length (encode v)) (readChar-encode v s e) ∙ ap (λ (t : List ℕ). v ∷ chars t) (drop-append-seam (encode v) s)
+    chars-char (encode v ++ s) v (length (encode v)) (readChar-encode v s e)
+    ∙ ap (λ (t : List ℕ). v ∷ chars t) (drop-append-seam (encode v) s)
 
 pub validUpTo-encode : (v : ℕ) (s : List ℕ) → isScalar v ≡ true → validUpTo (encode v ++ s) ≡ length (encode v) + validUpTo s
 validUpTo-encode v s e =
-    validUpTo-char (encode v ++ s) v (length (encode v)) (readChar-encode v s e) ∙ ap (λ (t : List ℕ). length (encode v) + validUpTo t) (drop-append-seam (encode v) s)
+    validUpTo-char (encode v ++ s) v (length (encode v)) (readChar-encode v s e)
+    ∙ ap (λ (t : List ℕ). length (encode v) + validUpTo t) (drop-append-seam (encode v) s)
 
 pub chars-encodeAll : (vs s : List ℕ) → allScalar vs ≡ true → chars (encodeAll vs ++ s) ≡ vs ++ chars s
 unfolding encodeAll allScalar
@@ -47,7 +61,8 @@ validUpTo-encodeAll (v ∷ vs) s e =
 
 pub chars-encodeAll-alone : (vs : List ℕ) → allScalar vs ≡ true → chars (encodeAll vs) ≡ vs
 chars-encodeAll-alone vs e =
-    ap chars (sym (append-nil (encodeAll vs))) ∙ chars-encodeAll vs [] e ∙ ap (λ (r : List ℕ). vs ++ r) (chars-end [] readChar-nil) ∙ append-nil vs
+    ap chars (sym (append-nil (encodeAll vs))) ∙ chars-encodeAll vs [] e ∙ ap (λ (r : List ℕ). vs ++ r) (chars-end [] readChar-nil)
+    ∙ append-nil vs
 
 -- ---- the characters are scalar values, and their encoding is the longest well-formed beginning
 
@@ -98,7 +113,8 @@ validUpTo-le s =
 
 pub encodeAll-chars-take : (s : List ℕ) → encodeAll (chars s) ≡ take (validUpTo s) s
 encodeAll-chars-take s =
-    sym (take-at (encodeAll (chars s)) (drop (validUpTo s) s) (validUpTo s) (length-encodeAll-chars s)) ∙ ap (take (validUpTo s)) (encodeAll-chars-rest s)
+    sym (take-at (encodeAll (chars s)) (drop (validUpTo s) s) (validUpTo s) (length-encodeAll-chars s))
+    ∙ ap (take (validUpTo s)) (encodeAll-chars-rest s)
 
 -- A well-formed text is the encoding of its characters.
 pub encodeAll-chars : (s : List ℕ) → validUpTo s ≡ length s → encodeAll (chars s) ≡ s
@@ -109,7 +125,8 @@ encodeAll-chars s e = encodeAll-chars-take s ∙ ap (λ (n : ℕ). take n s) e �
 pub validUpTo-append : (s t : List ℕ) → validUpTo s ≡ length s → validUpTo (s ++ t) ≡ length s + validUpTo t
 validUpTo-append s t e =
     let p = encodeAll-chars s e in
-    ap (λ (l : List ℕ). validUpTo (l ++ t)) (sym p) ∙ validUpTo-encodeAll (chars s) t (chars-allScalar s) ∙ ap (λ (l : List ℕ). length l + validUpTo t) p
+    ap (λ (l : List ℕ). validUpTo (l ++ t)) (sym p) ∙ validUpTo-encodeAll (chars s) t (chars-allScalar s)
+    ∙ ap (λ (l : List ℕ). length l + validUpTo t) p
 
 -- ---- an encoding is well-formed, and no well-formed beginning is longer than validUpTo
 
@@ -126,16 +143,18 @@ none-longer-whole s n h e =
     let q = validUpTo-append (take n s) (drop n s) e in
     omega (arith, length-take n s)
 
--- ---- the encoding of values one behind the other
+-- ---- the encoding of values one after the other
 
 pub encodeAll-append : (us vs : List ℕ) → encodeAll (us ++ vs) ≡ encodeAll us ++ encodeAll vs
 unfolding encodeAll
 encodeAll-append [] vs = refl
-encodeAll-append (u ∷ us) vs = ap (λ (l : List ℕ). encode u ++ l) (encodeAll-append us vs) ∙ sym (append-assoc (encode u) (encodeAll us) (encodeAll vs))
+encodeAll-append (u ∷ us) vs = ap (λ (l : List ℕ). encode u ++ l) (encodeAll-append us vs)
+    ∙ sym (append-assoc (encode u) (encodeAll us) (encodeAll vs))
 
 -- ---- the table of section 4 and the encoding of section 3 agree
 
-pub readChar-iff : (s : List ℕ) (v w : ℕ) → (readChar s ≡ Char v w) ↔ ((isScalar v ≡ true) × (length (encode v) ≡ w) × (encode v ++ drop w s ≡ s))
+pub readChar-iff : (s : List ℕ) (v w : ℕ) → (readChar s ≡ Char v w)
+    ↔ ((isScalar v ≡ true) × (length (encode v) ≡ w) × (encode v ++ drop w s ≡ s))
 readChar-iff s v w = (
   λ e. let f = char-begins s v w e in (f .is-scalar, f .width, f .bytes),
   λ p. ap readChar (sym (p .2)) ∙ readChar-encode v (drop w s) (p .0) ∙ ap (λ (n : ℕ). Char v n) (p .1),

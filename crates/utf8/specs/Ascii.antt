@@ -24,7 +24,7 @@ pub record AllUpTo (top : ℕ) (s : List ℕ) (from n : ℕ) : Type 0 where
 pub record AsciiRun (s : List ℕ) (from end : ℕ) : Type 0 where
   pub from-le : from ≤ end
   pub inside : from ≤ length s → end ≤ length s
-  pub behind : length s ≤ from → end ≡ from
+  pub after : length s ≤ from → end ≡ from
   pub ascii : (k : ℕ) → from ≤ k → k < end → getD s k 0 ≤ 0x7F
 
 -- The run cannot go on: no byte is left, or the byte there is above 7F.

@@ -90,9 +90,9 @@ packed IllFormed = 0
 packed End = 0
 
 -- A value made of the characters from the front on, until the end or the first place where none begins (document 01, "Item").
--- `more` takes a character's value, its width, and what is made of the bytes behind it; `stop` is made where no character begins.
+-- `more` takes a character's value, its width, and what is made of the bytes after it; `stop` is made where no character begins.
 module _ {A : Type 0} (stop : A) (more : ℕ → ℕ → A → A) where
-  -- What is made where `readChar` gave this answer; `rest w` is what is made of the bytes behind the first w.
+  -- What is made where `readChar` gave this answer; `rest w` is what is made of the bytes after the first w.
   unfoldable pub foldStep : ReadChar → (ℕ → A) → A
   foldStep (Char v w) rest = more v w (rest w)
   foldStep IllFormed rest = stop

@@ -1,4 +1,5 @@
--- What is claimed of UTF-8 as set out in Rfc3629. Each statement is proved in proofs/Claims, under the same name in lower case with hyphens.
+-- What is claimed of UTF-8 as set out in Rfc3629. Each statement is proved in proofs/Claims, under the same name in lower case with
+-- hyphens.
 use mathlib.Core.Path.{_≡_}
 use mathlib.Core.Logic.{_↔_}
 use mathlib.Core.Bool.{true}
@@ -59,7 +60,8 @@ Rfc3629Examples =
     ∷ (0xEF ∷ 0xBB ∷ 0xBF ∷ 0xF0 ∷ 0xA3 ∷ 0x8E ∷ 0xB4 ∷ [])
     ∷ [])
     ≡ ((0x41 ∷ 0x2262 ∷ 0x391 ∷ 0x2E ∷ []) ∷ (0x65E5 ∷ 0x672C ∷ 0x8A9E ∷ []) ∷ (0xFEFF ∷ 0x233B4 ∷ []) ∷ []))
-    × (encodeAll (0x41 ∷ 0x2262 ∷ 0xFEFF ∷ 0x233B4 ∷ []) ≡ (0x41 ∷ 0xE2 ∷ 0x89 ∷ 0xA2 ∷ 0xEF ∷ 0xBB ∷ 0xBF ∷ 0xF0 ∷ 0xA3 ∷ 0x8E ∷ 0xB4 ∷ []))
+    × (encodeAll (0x41 ∷ 0x2262 ∷ 0xFEFF ∷ 0x233B4 ∷ [])
+    ≡ (0x41 ∷ 0xE2 ∷ 0x89 ∷ 0xA2 ∷ 0xEF ∷ 0xBB ∷ 0xBF ∷ 0xF0 ∷ 0xA3 ∷ 0x8E ∷ 0xB4 ∷ []))
     -- too long forms of 0 and 2F, a surrogate pair, 110000, a tail alone, a cut character, no byte
     × (map readChar
     ((0xC0 ∷ 0x80 ∷ [])
@@ -83,6 +85,7 @@ Rfc3629Examples =
     ∷ (0xF0 ∷ 0x90 ∷ 0x80 ∷ 0x80 ∷ [])
     ∷ (0xF4 ∷ 0x8F ∷ 0xBF ∷ 0xBF ∷ [])
     ∷ [])
-    ≡ (Char 0x7F 1 ∷ Char 0x80 2 ∷ Char 0x7FF 2 ∷ Char 0x800 3 ∷ Char 0xD7FF 3 ∷ Char 0xE000 3 ∷ Char 0xFFFF 3 ∷ Char 0x10000 4 ∷ Char 0x10FFFF 4 ∷ []))
+    ≡ (Char 0x7F 1 ∷ Char 0x80 2 ∷ Char 0x7FF 2 ∷ Char 0x800 3 ∷ Char 0xD7FF 3 ∷ Char 0xE000 3 ∷ Char 0xFFFF 3 ∷ Char 0x10000 4 ∷ Char
+    0x10FFFF 4 ∷ []))
     -- E2 82 AC E2 82: three bytes are well-formed
     × (validUpTo (0xE2 ∷ 0x82 ∷ 0xAC ∷ 0xE2 ∷ 0x82 ∷ []) ≡ 3)

@@ -158,7 +158,7 @@ pub fn read_char(s: &[u8], at: usize) -> ReadChar
     ReadChar::Char { value, width }
 }
 
-// The length of the longest well-formed beginning. Behind an ASCII character, ASCII is passed in words.
+// The length of the longest well-formed beginning. After an ASCII character, ASCII is passed in words.
 pub fn valid_up_to(s: &[u8]) -> usize
     ensures { λ r. ⌜ r ≡ validUpTo (now (s .entry)) ⌝ }
 {
@@ -207,7 +207,7 @@ pub fn char_width(ch: u32) -> usize
     4
 }
 
-// A byte, and behind it the tail with the lowest six bits of a number.
+// A byte, and after it the tail with the lowest six bits of a number.
 fn put_pair(first: u32, ch: u32, out: &mut [u8], at: usize)
     requires { ⌜ (first ≤ 0xFF) × (at + 2 ≤ length (now out)) ⌝ }
     ensures { λ _. ⌜ now (out .exit) ≡ sets (now (out .entry)) at (first ∷ (0x80 + ch % 64) ∷ []) ⌝ }
@@ -241,7 +241,8 @@ fn put_3(ch: u32, out: &mut [u8], at: usize)
 
 fn put_4(ch: u32, out: &mut [u8], at: usize)
     requires { ⌜ (ch ≤ 0x10FFFF) × (at + 4 ≤ length (now out)) ⌝ }
-    ensures { λ _. ⌜ now (out .exit) ≡ sets (now (out .entry)) at ((0xF0 + ch / 262144) ∷ (0x80 + ch / 4096 % 64) ∷ (0x80 + ch / 64 % 64) ∷ (0x80 + ch % 64) ∷ []) ⌝ }
+    ensures { λ _. ⌜ now (out .exit)
+        ≡ sets (now (out .entry)) at ((0xF0 + ch / 262144) ∷ (0x80 + ch / 4096 % 64) ∷ (0x80 + ch / 64 % 64) ∷ (0x80 + ch % 64) ∷ []) ⌝ }
 {
     put_pair(0xF0 + ch / 262144, ch / 4096, out, at);
     put_pair(0x80 + ch / 64 % 64, ch, out, at + 2);

@@ -32,7 +32,7 @@ const ALL_EMOJI: [u8; 8] = *b"\x01\x01\x01\x01\x01\x01\x01\x01";
 
 const BY_TURNS: [u8; 8] = *b"\x01\x00\x01\x00\x01\x00\x01\x00";
 
-// A count behind its letter, or nothing where it is 0.
+// A count after its letter, or nothing where it is 0.
 fn count(line: &[u8], place: Place, letter: u8, n: usize) -> Place {
     if n == 0 {
         return place;
@@ -56,7 +56,7 @@ fn last_counts(line: &[u8], place: Place, counts: NonCanonicality) -> Place {
     count(line, p, b'd', counts.presentation_decisions)
 }
 
-// A replacement behind a sign, which was written at the front of the bytes.
+// A replacement after a sign, which was written at the front of the bytes.
 fn written(line: &[u8], place: Place, sign: u8, answer: MendAnswer, bytes: &[u8]) -> Place {
     let MendAnswer::Mended { len } = answer else {
         return Place::Missing;
@@ -172,7 +172,7 @@ fn replacements(
     decided_by(line, past_emoji, text, at, policy, &BY_TURNS, n)
 }
 
-// A finding, behind a blank.
+// A finding, after a blank.
 fn finding_at(line: &[u8], place: Place, text: &[u8], finding: Finding, policy: Policy) -> Place {
     let start = finding.start;
     let end = finding.end;
@@ -217,16 +217,16 @@ fn findings(line: &[u8], place: Place, text: &[u8], policy: Policy) -> Place {
     while at < text.len() {
         let Read::To {
             place: next,
-            at: behind,
+            at: after,
         } = finding_of(line, past, text, at, policy)
         else {
             return Place::Missing;
         };
-        if behind <= at {
+        if after <= at {
             return Place::Missing;
         }
         past = Place::Past(next);
-        at = behind;
+        at = after;
     }
     past
 }

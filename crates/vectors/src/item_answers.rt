@@ -24,13 +24,13 @@ fn kind_letter(kind: ScanKind) -> u8 {
     }
 }
 
-// A unit and what stands behind it up to the end of an item.
+// A unit and what stands after it up to the end of an item.
 fn emoji_headed(line: &[u8], place: Place, text: &[u8], at: usize, item_end: usize) -> Place {
     match unit(line, place, text, at) {
         Read::To {
             place: next,
-            at: behind,
-        } => parts(line, Place::Past(next), text, behind, item_end),
+            at: after,
+        } => parts(line, Place::Past(next), text, after, item_end),
         Read::Apart => Place::Missing,
     }
 }
@@ -64,7 +64,7 @@ fn tag_report(line: &[u8], place: Place, tags_complete: bool) -> Place {
     mark(line, place, b'!')
 }
 
-// An item, behind a blank.
+// An item, after a blank.
 fn item_at(line: &[u8], place: Place, text: &[u8], item: ScanItem) -> Place {
     let kind = item.kind;
     let past_kind = mark(line, mark(line, place, b' '), kind_letter(kind));
@@ -88,16 +88,16 @@ fn items(line: &[u8], place: Place, text: &[u8]) -> Place {
     while at < text.len() {
         let Read::To {
             place: next,
-            at: behind,
+            at: after,
         } = item_of(line, past, text, at)
         else {
             return Place::Missing;
         };
-        if behind <= at {
+        if after <= at {
             return Place::Missing;
         }
         past = Place::Past(next);
-        at = behind;
+        at = after;
     }
     past
 }

@@ -42,7 +42,7 @@ fn policy_agrees(number: u64, values: &[u64; VALUES], store: &mut [u64; STORE_WO
     crosses(policy, values, 0)
 }
 
-// What becomes of a line `policy` behind so many.
+// What becomes of a line `policy` after so many.
 fn policy_outcome(line: &[u8], number: u64, store: &mut [u64; STORE_WORDS]) -> Outcome {
     if number >= POLICIES as u64 {
         return Outcome::Malformed;
@@ -110,7 +110,7 @@ fn end_outcome(line: &[u8]) -> Outcome {
     }
 }
 
-// What becomes of a line of this kind behind one of the kind `last`, where the last line `text` is
+// What becomes of a line of this kind after one of the kind `last`, where the last line `text` is
 // `subject` and so many lines of each kind came before.
 pub(crate) fn outcome_of(
     subject: &[u8],

@@ -1,5 +1,5 @@
 // The grammar of the files of items, as the comments at their heads have it: which line may stand
-// behind which, and the text that a line has. What items and findings must be is decided in
+// after which, and the text that a line has. What items and findings must be is decided in
 // `item_answers` and `finding_answers`.
 use crate::lines::COMMENT;
 use crate::lines::word_end;
@@ -12,7 +12,7 @@ use crate::parse::digits_at;
 // The keywords; the first stands for comments.
 pub const KEYWORDS: [u8; 23] = *b"# policy text under end";
 
-// The kinds of lines, behind the comments.
+// The kinds of lines, after the comments.
 pub const POLICY: usize = 1;
 
 pub const TEXT: usize = 2;
@@ -24,7 +24,7 @@ pub const END: usize = 4;
 // The room for a text, which must be shorter.
 pub const TEXT_ROOM: usize = 512;
 
-// Whether a line may stand behind one of the kind `last`.
+// Whether a line may stand after one of the kind `last`.
 pub(crate) fn may_follow(last: usize, kind: usize) -> bool {
     match kind {
         COMMENT => last == COMMENT,
@@ -67,7 +67,7 @@ fn text_at(line: &[u8], at: usize, bytes: &mut [u8]) -> TextRead {
     TextRead::NoText
 }
 
-// Puts the text behind the keyword of a line.
+// Puts the text after the keyword of a line.
 pub(crate) fn text_of(line: &[u8], bytes: &mut [u8]) -> TextRead {
     match after_blank(line, word_end(line, 0)) {
         Place::Past(start) => text_at(line, start, bytes),

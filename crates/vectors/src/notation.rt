@@ -1,5 +1,5 @@
 // The pieces that items and findings are written with. Each function takes the place in a line where
-// a piece should stand, and answers where it ends; where something else stands, and behind such a
+// a piece should stand, and answers where it ends; where something else stands, and after such a
 // place, nothing is found.
 use crate::parse::Field;
 use crate::parse::Place;

@@ -1,4 +1,4 @@
-// The fields of a line of a file of stored answers, each behind one blank. What fields a line has is
+// The fields of a line of a file of stored answers, each after one blank. What fields a line has is
 // told by letters, a letter for a field, as in the comments at the head of the file: N, D, B, C and
 // W. Their values are put into an array, in order; a text, T, is compared where it stands.
 ghost use Prim.Native.Nat.{_≤_};
@@ -89,7 +89,7 @@ fn code_point_at(line: &[u8], at: usize) -> Field {
     Field::Value(value, end)
 }
 
-// The field of a letter, behind a blank at `at`.
+// The field of a letter, after a blank at `at`.
 fn field_at(line: &[u8], at: usize, letter: u8) -> Field {
     let Place::Past(start) = after_blank(line, at) else {
         return Field::NoField;

@@ -40,7 +40,7 @@ fn has_entry(i: usize) -> bool {
     }
 }
 
-// The number of entries, with none behind the last, and of words.
+// The number of entries, with none after the last, and of words.
 pub(crate) fn entries_agree(values: &[u64; VALUES]) -> bool {
     if values[0] != VARIATION_ENTRY_COUNT as u64 {
         return false;

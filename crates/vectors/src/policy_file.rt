@@ -85,7 +85,7 @@ fn agrees(kind: usize, line: &[u8], values: &[u64; VALUES], store: &[u64; STORE_
     }
 }
 
-// What becomes of a line of this kind behind one of the kind `last`.
+// What becomes of a line of this kind after one of the kind `last`.
 pub(crate) fn outcome_of(
     line: &[u8],
     last: usize,

@@ -1,4 +1,4 @@
-// The grammar of policy.txt, as the comments at its head have it: which line may stand behind which,
+// The grammar of policy.txt, as the comments at its head have it: which line may stand after which,
 // and which fields a line has. A kind of line is the number of its keyword in `KEYWORDS`, where the
 // keywords stand in the order of the lines. What the answers must be is decided in `policy_answers`.
 use crate::lines::COMMENT;
@@ -19,7 +19,7 @@ use crate::walk::KINDS;
 pub const KEYWORDS: [u8; 139] =
     *b"# entries size default named singleton keycap set complement contains display union intersection symmetric difference equal policy rule end";
 
-// The kinds of lines, behind the comments.
+// The kinds of lines, after the comments.
 pub const ENTRIES: usize = 1;
 
 pub const SIZE: usize = 2;
@@ -60,7 +60,7 @@ pub const END: usize = 18;
 const NAMES: [u8; 127] =
     *b"ASCII TEXT_DEFAULTS EMOJI_DEFAULTS VARIATION_BASES KEYCAP_TEXT_DEFAULTS KEYCAP_EMOJI_DEFAULTS KEYCAP_VARIATION_BASES KEYCAP_RGI";
 
-// Which value of a line `named` is the number of its name: that behind its words and sizes.
+// Which value of a line `named` is the number of its name: that after its words and sizes.
 pub const NAME_VALUE: usize = 14;
 
 // Which value of a line `display` is the place of its text.
@@ -71,7 +71,7 @@ pub const SETS: usize = 25;
 
 pub const POLICIES: usize = 8;
 
-// Whether lines of this kind stand one behind the other.
+// Whether lines of this kind stand one after the other.
 fn repeats(kind: usize) -> bool {
     match kind {
         COMMENT | NAMED | SET | COMPLEMENT | CONTAINS | DISPLAY | RULE => true,
@@ -79,7 +79,7 @@ fn repeats(kind: usize) -> bool {
     }
 }
 
-// Whether a line may stand behind one of the kind `last`.
+// Whether a line may stand after one of the kind `last`.
 fn may_follow(last: usize, kind: usize) -> bool {
     if kind == last {
         return repeats(kind);
@@ -145,7 +145,7 @@ fn has_fields(kind: usize, line: &[u8], at: usize, values: &mut [u64; VALUES]) -
     }
 }
 
-// Whether a line of this kind, behind one of the kind `last`, follows the grammar. Puts its values.
+// Whether a line of this kind, after one of the kind `last`, follows the grammar. Puts its values.
 pub(crate) fn is_well_formed(
     line: &[u8],
     last: usize,

@@ -1,5 +1,5 @@
 // The sets and policies that the lines of policy.txt speak of by their numbers: the words of the
-// sets and, behind them, of the policies.
+// sets and, after them, of the policies.
 ghost use Prim.Native.Nat.{_≤_};
 use crate::policy_format::POLICIES;
 use crate::policy_format::SETS;

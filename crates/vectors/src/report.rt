@@ -64,7 +64,7 @@ fn count_of(counts: &[u64], kind: usize) -> u64 {
     0
 }
 
-// Each kind of line behind the comments and before the end.
+// Each kind of line after the comments and before the end.
 pub(crate) fn say_kinds(name: &[u8], keywords: &[u8], end: usize, seen: &[u64], differ: &[u64]) {
     let mut kind = 1;
     while kind < end {

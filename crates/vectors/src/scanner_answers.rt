@@ -1,5 +1,5 @@
 // The scanner that borrows the text against the cursor: item by item they must answer the same, with the same bytes,
-// and behind the last item the scanner says end on each call. A text that is cut inside a character is turned back.
+// and after the last item the scanner says end on each call. A text that is cut inside a character is turned back.
 use crate::lines::is_word;
 use base::Check;
 use scanner::ScanItem;

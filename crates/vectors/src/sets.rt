@@ -10,7 +10,7 @@ pub const KEY_SET_WORDS: usize = 2 * CHARSET_WORDS;
 
 pub const POLICY_WORDS: usize = 2 * KEY_SET_WORDS;
 
-// The word i behind the place at, or 0 where there is none.
+// The word i after the place at, or 0 where there is none.
 pub(crate) fn word(words: &[u64], at: usize, i: usize) -> u64 {
     if words.len() <= at {
         return 0;

@@ -18,7 +18,7 @@ use scanner::parts::consume_emoji_modification;
 use scanner::parts::consume_emoji_tag_run;
 use scanner::parts::consume_sequence_part;
 
-// The tags of the text from an offset up to another, behind their letter.
+// The tags of the text from an offset up to another, after their letter.
 fn tags(line: &[u8], place: Place, text: &[u8], at: usize, end: usize) -> Place {
     if end < at {
         return Place::Missing;
@@ -50,16 +50,16 @@ fn tag_runs(line: &[u8], place: Place, text: &[u8], from: usize, end: usize) -> 
     while at < end {
         let Read::To {
             place: next,
-            at: behind,
+            at: after,
         } = tag_run(line, past, text, at)
         else {
             return Place::Missing;
         };
-        if behind <= at {
+        if after <= at {
             return Place::Missing;
         }
         past = Place::Past(next);
-        at = behind;
+        at = after;
     }
     past
 }
@@ -90,16 +90,16 @@ fn modifications(line: &[u8], place: Place, text: &[u8], from: usize, end: usize
     while at < end {
         let Read::To {
             place: next,
-            at: behind,
+            at: after,
         } = modification(line, past, text, at)
         else {
             return Place::Missing;
         };
-        if behind <= at {
+        if after <= at {
             return Place::Missing;
         }
         past = Place::Past(next);
-        at = behind;
+        at = after;
     }
     past
 }
@@ -162,16 +162,16 @@ pub(crate) fn parts(line: &[u8], place: Place, text: &[u8], from: usize, item_en
     while at < item_end {
         let Read::To {
             place: next,
-            at: behind,
+            at: after,
         } = part(line, past, text, at, item_end)
         else {
             return Place::Missing;
         };
-        if behind <= at {
+        if after <= at {
             return Place::Missing;
         }
         past = Place::Past(next);
-        at = behind;
+        at = after;
     }
     past
 }

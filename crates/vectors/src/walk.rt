@@ -28,7 +28,7 @@ pub enum Outcome {
 pub const KINDS: usize = 19;
 
 // The lines that were walked: the kind of the last, or `KINDS` where it does not follow its format;
-// where the line stands that the lines behind it are about; how many lines of each kind there are;
+// where the line stands that the lines after it are about; how many lines of each kind there are;
 // and how many of them differ.
 pub struct Walked {
     pub last: usize,
@@ -62,7 +62,7 @@ fn line_of(text: &[u8], at: usize) -> &[u8] {
     lines::line_at(text, at)
 }
 
-// What becomes of the line at a place, which is of this kind, behind the lines that were walked.
+// What becomes of the line at a place, which is of this kind, after the lines that were walked.
 fn outcome_of(
     form: Form,
     text: &[u8],
@@ -86,7 +86,7 @@ fn outcome_of(
     }
 }
 
-// Whether lines of this kind are what lines behind them are about.
+// Whether lines of this kind are what lines after them are about.
 fn is_subject(form: Form, kind: usize) -> bool {
     match form {
         Form::Policy => false,

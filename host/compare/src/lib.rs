@@ -1,4 +1,4 @@
-//! The linked library behind safe functions, for the programs of this package.
+//! The linked library after safe functions, for the programs of this package.
 
 #![warn(missing_docs)]
 

@@ -14,7 +14,7 @@ pub const VARIABLE: &str = "EVFMT_SRC";
 const BESIDE_THE_REPOSITORY: &str = "../shared/docs/src";
 
 /// The nine files below `evfmt/src/`, each with its number of lines in INDEX.md. INDEX.md counts what stands
-/// behind the last line feed as a line too, although nothing does.
+/// after the last line feed as a line too, although nothing does.
 pub const FILES: [(&str, usize); 9] = [
     ("scanner.rs", 790),
     ("analysis.rs", 595),

@@ -18,9 +18,9 @@ const REGIONAL_INDICATORS: Range = ('\u{1F1E6}', '\u{1F1FF}');
 const END_MARK: &str = "#EOF";
 /// What stands before the version in each file.
 const VERSION_MARK: &str = "# Used with Emoji Version ";
-/// What stands before the number of code points of a property, behind its lines.
+/// What stands before the number of code points of a property, after its lines.
 const PROPERTY_TOTAL_MARK: &str = "# Total elements: ";
-/// What stands before the number of bases, behind the variation sequences.
+/// What stands before the number of bases, after the variation sequences.
 const BASES_TOTAL_MARK: &str = "#Total sequences: ";
 
 /// A first and a last code point.

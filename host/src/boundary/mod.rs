@@ -9,7 +9,7 @@
 //! | [`cases`] | makes the cases: sizes, lengths of policies and decisions, and drawn ones |
 //! | [`command`] | the command line of the program `boundary` |
 //!
-//! An input that is read past its end gives another answer where the bytes behind it count. Where it stands at the end
+//! An input that is read past its end gives another answer where the bytes after it count. Where it stands at the end
 //! of its allocation, or fills it, valgrind tells a byte that is read or written outside.
 
 pub mod case;

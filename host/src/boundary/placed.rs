@@ -15,13 +15,13 @@ const AROUND: [&[u8]; 8] = [
     b"\x00\x01\x00\x02",
 ];
 
-/// Where an input stands: so many bytes behind the start of its allocation, and before such bytes. With none of both it
+/// Where an input stands: so many bytes after the start of its allocation, and before such bytes. With none of both it
 /// fills its allocation.
 #[derive(Debug, Clone, Copy, PartialEq, Eq, Default)]
 pub struct Spot {
     /// The bytes before it. An allocation starts at a multiple of 8, so they are its alignment.
     pub before: usize,
-    /// The number of what stands behind it, in the list of this module.
+    /// The number of what stands after it, in the list of this module.
     behind: usize,
 }
 
@@ -29,7 +29,7 @@ impl Spot {
     /// The whole of an allocation.
     pub const EXACT: Self = Self::at_the_end(0);
 
-    /// At the end of an allocation, behind so many bytes.
+    /// At the end of an allocation, after so many bytes.
     #[must_use]
     pub const fn at_the_end(before: usize) -> Self {
         Self { before, behind: 0 }
@@ -45,7 +45,7 @@ impl Spot {
         Self { before, behind }
     }
 
-    /// The number of bytes behind it.
+    /// The number of bytes after it.
     #[must_use]
     pub const fn after(self) -> usize {
         AROUND[self.behind].len()

@@ -13,7 +13,7 @@ pub enum Fault {
     TagReport,
     /// The first count of the first finding is off by one.
     InventedCount,
-    /// The byte behind the result is changed.
+    /// The byte after the result is changed.
     ByteBehind,
     /// A refusal writes a byte.
     RefusalWrites,
@@ -41,7 +41,7 @@ pub enum Fault {
     LimitTooHigh,
     /// The default policy has one bit more or less.
     DefaultPolicy,
-    /// There is an entry behind the last one.
+    /// There is an entry after the last one.
     FurtherEntry,
     /// Every text is refused.
     RefusesAll,

@@ -126,7 +126,7 @@ impl<'a> Faulty<'a> {
         answer
     }
 
-    /// Changes the byte behind the result, if that is the fault.
+    /// Changes the byte after the result, if that is the fault.
     fn spoil_behind(&self, answer: Answer, place: usize, out: &mut [u8]) {
         if self.fault == Fault::ByteBehind && answer.number == Answer::DONE {
             flip(out, answer.value as usize * place);

@@ -79,8 +79,8 @@ fn range(first: &str, last: &str) -> Vec<String> {
     }
 }
 
-/// A text as it is, without its selectors, with the other one of each, with a selector behind each character that is
-/// none, and behind a text of its own kind, with and without a link between them.
+/// A text as it is, without its selectors, with the other one of each, with a selector after each character that is
+/// none, and after a text of its own kind, with and without a link between them.
 #[must_use]
 pub fn forms(text: &str, before: &str) -> Vec<String> {
     let bare: String = text.chars().filter(|of| !is_selector(*of)).collect();

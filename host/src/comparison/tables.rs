@@ -6,7 +6,7 @@ use crate::reference::calls::Draft;
 use crate::reference::characters;
 use crate::reference::policy::default_policy;
 
-/// Compares the default policy in rooms of several lengths, and every entry, with indices behind the last one.
+/// Compares the default policy in rooms of several lengths, and every entry, with indices after the last one.
 pub fn check(calls: &dyn Calls) -> Result<(), Difference> {
     let draft = Draft::bytes(default_policy().to_vec());
     for room in [0, draft.wanted() - 1, draft.wanted(), draft.wanted() + 9] {

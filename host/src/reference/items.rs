@@ -54,7 +54,7 @@ pub struct Part {
 pub struct Item {
     /// The offset of its first byte.
     pub start: usize,
-    /// The offset behind its last byte.
+    /// The offset after its last byte.
     pub end: usize,
     /// What it is.
     pub kind: Kind,

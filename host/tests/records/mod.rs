@@ -1,6 +1,6 @@
 //! What the tests of the parts share.
 
-/// The lines behind the head: the keyword and the fields of each.
+/// The lines after the head: the keyword and the fields of each.
 pub fn records(text: &str) -> Vec<(&str, Vec<&str>)> {
     text.lines()
         .skip_while(|line| line.starts_with('#'))

@@ -92,7 +92,7 @@ fn help(words: &[OsString]) -> Result<Command, String> {
     Ok(Command::Help(topic))
 }
 
-/// Reads the words behind a command's name.
+/// Reads the words after a command's name.
 fn command(topic: Topic, words: Words) -> Result<Command, String> {
     match topic {
         Topic::All => Ok(Command::Help(topic)),
@@ -201,7 +201,7 @@ fn offset(text: &str) -> Result<usize, String> {
         .map_err(|_| format!("--at {text}: not an offset in bytes"))
 }
 
-/// The decisions behind `--decide`: one, and all further words that are decisions.
+/// The decisions after `--decide`: one, and all further words that are decisions.
 fn decide(words: &mut Words, decisions: &mut Vec<Presentation>) -> Result<(), String> {
     let decision = |word: &str| match word {
         "text" => Some(Presentation::Text),

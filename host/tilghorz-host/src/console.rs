@@ -81,7 +81,7 @@ impl Console {
         Ok(())
     }
 
-    /// Writes a line to standard error behind all that standard output has got.
+    /// Writes a line to standard error after all that standard output has got.
     pub fn say_last(&mut self, line: &dyn Display) -> io::Result<()> {
         self.out.flush()?;
         self.say(line);

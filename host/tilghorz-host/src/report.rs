@@ -133,7 +133,7 @@ fn write_lines(found: &Result<Found, Refusal>, out: &mut impl Write) -> io::Resu
     }
 }
 
-/// Writes numbers, each behind a blank, and ends the line.
+/// Writes numbers, each after a blank, and ends the line.
 fn write_numbers(numbers: &[usize], out: &mut impl Write) -> io::Result<()> {
     numbers
         .iter()

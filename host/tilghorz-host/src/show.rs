@@ -19,7 +19,7 @@ pub struct Show {
     pub names: Vec<Source>,
 }
 
-/// What stands before and behind the parts of a line: colours, or nothing.
+/// What stands before and after the parts of a line: colours, or nothing.
 struct Style {
     /// Before a line's number.
     faint: &'static str,
@@ -27,7 +27,7 @@ struct Style {
     code_point: &'static str,
     /// Before the marks of findings.
     mark: &'static str,
-    /// Behind each.
+    /// After each.
     plain: &'static str,
 }
 

@@ -27,7 +27,7 @@ pub struct Words {
 }
 
 impl Words {
-    /// The words behind a command's name.
+    /// The words after a command's name.
     pub fn new(words: Vec<OsString>) -> Self {
         Self {
             words: words.into_iter(),

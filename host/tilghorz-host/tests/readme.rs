@@ -1,4 +1,4 @@
-//! The examples of README.md: each line behind `$ ` is run as it stands, and must write what stands below it. Those that call
+//! The examples of README.md: each line after `$ ` is run as it stands, and must write what stands below it. Those that call
 //! `./tilghorz` are run by tools/program_runs.py, which has the programs at hand.
 
 mod support;

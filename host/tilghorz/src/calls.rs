@@ -53,7 +53,7 @@ pub fn format<'a>(text: &'a [u8], policy: &Policy) -> Result<Cow<'a, [u8]>, Refu
     })
 }
 
-/// Formats into the caller's buffer. Four times the text's length is always enough room. What is behind the formatted
+/// Formats into the caller's buffer. Four times the text's length is always enough room. What is after the formatted
 /// text stays as it was.
 ///
 /// # Errors
@@ -111,7 +111,7 @@ pub fn mend(
 }
 
 /// Mends into the caller's buffer, with decisions as bytes, 0 text and 1 emoji, and gives the length of the mended
-/// text. What is behind it stays as it was.
+/// text. What is after it stays as it was.
 ///
 /// # Errors
 /// Refusals 1, 3, 4, 5, 6 and 8; the buffer is then as it was.

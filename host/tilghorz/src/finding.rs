@@ -10,7 +10,7 @@ use crate::table::{self, Row, Table, sealed::Read};
 pub struct Finding {
     /// The offset of its first byte.
     pub start: usize,
-    /// The offset behind its last byte.
+    /// The offset after its last byte.
     pub end: usize,
     /// What was found.
     pub counts: Counts,

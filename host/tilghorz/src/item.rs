@@ -8,7 +8,7 @@ use crate::table::{self, Row, sealed::Read};
 pub struct Item {
     /// The offset of its first byte.
     pub start: usize,
-    /// The offset behind its last byte.
+    /// The offset after its last byte.
     pub end: usize,
     /// What it is.
     pub kind: ItemKind,

@@ -1,6 +1,6 @@
 //! Formats the emoji selectors FE0E and FE0F of a text under a policy, and touches nothing else.
 //!
-//! The work is done by a proved library behind C functions; this crate is the way to it from Rust. A text is bytes:
+//! The work is done by a proved library after C functions; this crate is the way to it from Rust. A text is bytes:
 //! that they are well-formed UTF-8 is tested by the library, which says where they are not. Every function gives its
 //! result or a [`Refusal`], for all texts, policies, offsets, decisions and buffers.
 //!

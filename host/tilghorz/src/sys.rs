@@ -1,4 +1,4 @@
-//! The C functions as they cross, behind safe functions on slices. All that is unsafe in this package is here.
+//! The C functions as they cross, after safe functions on slices. All that is unsafe in this package is here.
 //!
 //! What makes each call sound: a slice passes as its own pointer and length, so the library may read all of it and,
 //! if it is borrowed mutably, write all of it; a mutable slice overlaps no other; no pointer of a slice is null. The

@@ -21,7 +21,8 @@ abbrev μ-loop : tie.MeasureT-loop
 μ-loop out₀ start bytes last i₀ out i = length bytes - i
 
 -- a word that is read from bytes and put
-word-put : (bytes o o′ : List ℕ) (at i w : ℕ) → allBytes bytes ≡ true → i + 8 ≤ length bytes → w ≡ number (take 8 (drop i bytes)) → o′ ≡ sets o at (wordBytes w)
+word-put : (bytes o o′ : List ℕ) (at i w : ℕ) → allBytes bytes ≡ true → i + 8 ≤ length bytes → w ≡ number (take 8 (drop i bytes)) → o′
+    ≡ sets o at (wordBytes w)
     → o′ ≡ sets o at (take 8 (drop i bytes))
 word-put bytes o o′ at i w t h r p = p ∙ ap (sets o at) (ap wordBytes r ∙ word-read bytes i t h)
 
@@ -29,7 +30,13 @@ put-word-requires : tie.Need-put-word-requires Inv-loop μ-loop
 put-word-requires c κs =
     let s = c .before .before .before .before .before .before .before in
     let l = c .before .before .before .loop in
-    omega (arith, s .pre, l .inv .0, ap length (l .inv .1) ∙ length-sets (s .args .out .now) (s .args .start) (take (l .i) (s .args .bytes .now)))
+    omega (
+      arith,
+      s .pre,
+      l .inv .0,
+      ap length (l .inv .1)
+          ∙ length-sets (s .args .out .now) (s .args .start) (take (l .i) (s .args .bytes .now)),
+    )
 
 loop-again : tie.Need-loop-again Inv-loop μ-loop
 loop-again c =
@@ -37,21 +44,33 @@ loop-again c =
     let x = s .args in
     let l = c .before .before .before .before .before .before .loop in
     let b = x .bytes .now in
-    let t = bytes-all b (λ j. omega (arith, c .before .before .before .before .before .before .before .before .shared-slice-known .given j)) in
-    let p = word-put b (l .out) _ (x .start + l .i) (l .i) _ t (omega arith) (c .before .before .before .read-word .ensures) (c .before .before .put-word .ensures) in
-    (omega arith, p ∙ ap (λ (o : List ℕ). sets o (x .start + l .i) (take 8 (drop (l .i) b))) (l .inv .1) ∙ sets-more (x .out .now) (x .start) b (l .i) 8 (l .inv .0))
+    let t = bytes-all b (λ j. omega
+    (arith, c .before .before .before .before .before .before .before .before .shared-slice-known .given j)) in
+    let p = word-put b (l .out) _ (x .start + l .i) (l .i) _ t (omega arith) (c .before .before .before .read-word .ensures)
+    (c .before .before .put-word .ensures) in (
+      omega arith,
+      p ∙ ap (λ (o : List ℕ). sets o (x .start + l .i) (take 8 (drop (l .i) b))) (l .inv .1)
+          ∙ sets-more (x .out .now) (x .start) b (l .i) 8 (l .inv .0),
+    )
 
 put-word-requires-2 : tie.Need-put-word-requires-2 Inv-loop μ-loop
 put-word-requires-2 c κs =
     let s = c .before .before .before .before .before .before .before in
     let l = c .before .before .before .loop in
-    omega (arith, s .pre, l .inv .0, ap length (l .inv .1) ∙ length-sets (s .args .out .now) (s .args .start) (take (l .i) (s .args .bytes .now)))
+    omega (
+      arith,
+      s .pre,
+      l .inv .0,
+      ap length (l .inv .1)
+          ∙ length-sets (s .args .out .now) (s .args .start) (take (l .i) (s .args .bytes .now)),
+    )
 
 same-length-2 : tie.Need-same-length-2 Inv-loop μ-loop
 same-length-2 c =
     let x = c .before .before .before .before .before .before .before .before .before .before .args in
     let l = c .before .before .before .before .before .before .loop in
-    ap length (c .before .before .put-word2 .ensures) ∙ simp length-sets (ap length (l .inv .1) ∙ length-sets (x .out .now) (x .start) (take (l .i) (x .bytes .now)))
+    ap length (c .before .before .put-word2 .ensures)
+    ∙ simp length-sets (ap length (l .inv .1) ∙ length-sets (x .out .now) (x .start) (take (l .i) (x .bytes .now)))
 
 returns-2 : tie.Need-returns-2 Inv-loop μ-loop
 returns-2 c =
@@ -60,10 +79,13 @@ returns-2 c =
     let l = c .before .before .before .before .before .before .loop in
     let b = x .bytes .now in
     let last = length b - 8 in
-    let t = bytes-all b (λ j. omega (arith, c .before .before .before .before .before .before .before .before .shared-slice-known .given j)) in
-    let p = word-put b (l .out) _ (x .start + last) last _ t (omega arith) (c .before .before .before .read-word2 .ensures) (c .before .before .put-word2 .ensures) in
+    let t = bytes-all b (λ j. omega
+    (arith, c .before .before .before .before .before .before .before .before .shared-slice-known .given j)) in
+    let p = word-put b (l .out) _ (x .start + last) last _ t (omega arith) (c .before .before .before .read-word2 .ensures)
+    (c .before .before .put-word2 .ensures) in
     p ∙ ap (sets (l .out) (x .start + last)) (take-all 8 (drop last b) (omega (arith, length-drop last b)))
-    ∙ ap (λ (o : List ℕ). sets o (x .start + last) (drop last b)) (l .inv .1) ∙ sets-last (x .out .now) (x .start) b (l .i) last (omega arith) (l .inv .0) (s .pre)
+    ∙ ap (λ (o : List ℕ). sets o (x .start + last) (drop last b)) (l .inv .1)
+    ∙ sets-last (x .out .now) (x .start) b (l .i) last (omega arith) (l .inv .0) (s .pre)
 
 pub put-bytes-spec : {M : Type 1} → statement M
 put-bytes-spec =

@@ -19,7 +19,8 @@ abbrev μ-loop : tie.MeasureT-loop
 next : (xs : List ℕ) (i : ℕ) → i < length xs → drop i xs ≡ getD xs i 0 ∷ drop (i + 1) xs
 next xs i h = rw (add-one, drop-cons xs i 0) refl
 
-has-place : {bytes out₀ out : List ℕ} {start at : ℕ} (i : ℕ) → i < length bytes → Writing bytes start out₀ (drop i bytes) out at → at < length out
+has-place : {bytes out₀ out : List ℕ} {start at : ℕ} (i : ℕ) → i < length bytes → Writing bytes start out₀ (drop i bytes) out at
+    → at < length out
 has-place {bytes} {out₀} {out} {start} i h w = byte-room bytes start out₀ (drop i bytes) w (next bytes i h)
 
 loop-holds : tie.Need-loop-holds Inv-loop μ-loop

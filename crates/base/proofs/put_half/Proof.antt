@@ -1,4 +1,4 @@
--- Four stores, one behind the other: each leaves the buffer as long as it was.
+-- Four stores, one after the other: each leaves the buffer as long as it was.
 use lib.ListN.{length-set}
 use native.Mathlib.Numerals.{unary-clauses}
 use native.Mathlib.Omega.{arith}

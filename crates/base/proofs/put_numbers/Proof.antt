@@ -52,7 +52,8 @@ returns c =
     let l = c .before .loop in
     let x = c .before .before .before .before .args in
     let ws = x .numbers .now in
-    finish (bytesOf ws) (x .start) (x .out .now) (bytesOf (drop (l .i) ws)) (l .inv .1) (ap bytesOf (drop-of-length-le ws {i = l .i} (omega arith))) .bytes
+    finish (bytesOf ws) (x .start) (x .out .now) (bytesOf (drop (l .i) ws)) (l .inv .1)
+    (ap bytesOf (drop-of-length-le ws {i = l .i} (omega arith))) .bytes
 
 add-at : tie.Need-add-at Inv-loop μ-loop
 add-at c =

@@ -12,7 +12,8 @@ use Rattle.base.proofs.put_word.Tie as tie
 returns : tie.Need-returns
 returns c =
     let x = c .before .before .before .before .before .before .before .before .before .args in
-    c .before .before .put-half2 .ensures ∙ ap (λ (o : List ℕ). sets o (x .at + 4) (littleEndian 4 (x .x / 0x100000000))) (c .before .before .before .before .before .before .put-half .ensures)
+    c .before .before .put-half2 .ensures ∙ ap (λ (o : List ℕ). sets o (x .at + 4) (littleEndian 4 (x .x / 0x100000000)))
+    (c .before .before .before .before .before .before .put-half .ensures)
     ∙ sets-word (x .out .now) (x .at) (x .x)
 
 pub put-word-spec : {M : Type 1} → statement M

@@ -26,8 +26,11 @@ returns-2 c =
 returns-3 : tie.Need-returns-3
 returns-3 c =
     let x = c .before .before .before .before .before .before .before .args in
-    let e = le-leb (x .at + 8) (length (x .out .now)) (omega arith) in
-    (sym e, c .before .before .put-word .ensures ∙ ap (λ (t : Bool). cond t (sets (x .out .now) (x .at) (wordBytes (x .x))) (x .out .now)) (sym e))
+    let e = le-leb (x .at + 8) (length (x .out .now)) (omega arith) in (
+      sym e,
+      c .before .before .put-word .ensures ∙ ap (λ (t : Bool). cond t (sets (x .out .now) (x .at) (wordBytes (x .x))) (x .out .now))
+          (sym e),
+    )
 
 pub write-word-spec : {M : Type 1} → statement M
 write-word-spec =

@@ -8,12 +8,22 @@ use Rattle.text_pass.specs.Changes.{formattedFrom}
 use Rattle.formatter.specs.Theorems.{IntakeComesFirst}
 use Rattle.formatting.proofs.ByCells.{format-written}
 use Rattle.formatter.proofs.Outcomes.{all-well-formed, comes-first, not-well-formed}
-use Rattle.formatting.proofs.Surveying.{change-formatted, change-put, change-room, first-counted, first-inside, four-times-at, passed, second-inside, second-valid}
+use Rattle.formatting.proofs.Surveying.{
+  change-formatted,
+  change-put,
+  change-room,
+  first-counted,
+  first-inside,
+  four-times-at,
+  passed,
+  second-inside,
+  second-valid,
+}
 use Rattle.formatting.proofs.format_at_once.Statement.{statement}
 use Rattle.formatting.proofs.format_at_once.Tie as tie
 
-valid-behind-requires : tie.Need-valid-behind-requires
-valid-behind-requires c κs =
+valid-after-requires : tie.Need-valid-after-requires
+valid-after-requires c κs =
     let s = c .before .before .before .before in
     second-inside (policyOf (s .args .policy .now)) (s .args .text .now) (s .pre .2) (c .next-change .ensures)
 
@@ -24,7 +34,9 @@ returns c =
     let t = s .args .text .now in
     let p = s .args .policy .now in
     let f = s .pre .2 in
-    sym (comes-first t p _ (not-well-formed t p (s .pre .0) (s .pre .1) (second-valid (policyOf p) t f (c .before .before .next-change .ensures) (c .before .valid-behind .ensures)) (c .if1 .taken)) .0 (s .args .out .now))
+    sym (comes-first t p _ (not-well-formed t p (s .pre .0) (s .pre .1)
+    (second-valid (policyOf p) t f (c .before .before .next-change .ensures) (c .before .valid-after .ensures)) (c .if1 .taken)) .0
+    (s .args .out .now))
 
 put-change-requires : tie.Need-put-change-requires
 put-change-requires c κs =
@@ -34,7 +46,7 @@ put-change-requires c κs =
     let f = s .pre .2 in
     let h = passed (policyOf p) t (omega arith) f in
     let w = begin (formattedFrom (policyOf p) t 0) 0 (s .args .out .now) (omega (arith, four-times-at (policyOf p) t 0, s .pre .4)) in
-    (omega arith, omega (arith, h .behind, h .inside), change-room (policyOf p) t w h)
+    (omega arith, omega (arith, h .after, h .inside), change-room (policyOf p) t w h)
 
 put-changes-requires : tie.Need-put-changes-requires
 put-changes-requires c κs =
@@ -44,8 +56,12 @@ put-changes-requires c κs =
     let f = s .pre .2 in
     let h = passed (policyOf p) t (omega arith) f in
     let b = begin (formattedFrom (policyOf p) t 0) 0 (s .args .out .now) (omega (arith, four-times-at (policyOf p) t 0, s .pre .4)) in
-    let w = change-put (policyOf p) t b h (c .before .before .before .put-change .ensures) in
-    (first-inside (policyOf p) t f, c .before .before .before .before .before .before .before .next-change .ensures, omega (arith, w .ahead, w .fits, w .same))
+    let w = change-put (policyOf p) t b h (c .before .before .before .put-change .ensures) in (
+      first-inside (policyOf p) t f,
+      c .before .before .before .before .before .before .before .next-change .ensures,
+      omega
+          (arith, w .ahead, w .fits, w .same),
+    )
 
 returns-2 : tie.Need-returns-2
 returns-2 c =
@@ -54,16 +70,19 @@ returns-2 c =
     let p = s .args .policy .now in
     let f = s .pre .2 in
     let h = passed (policyOf p) t (omega arith) f in
-    let w = put-as _ (sym (change-formatted (policyOf p) t h)) (put-then (c .before .before .before .before .before .before .put-change .ensures) (c .before .before .put-changes .ensures)) in
-    let a = all-well-formed t p (s .pre .0) (s .pre .1) (second-valid (policyOf p) t f (c .before .before .before .before .before .before .before .before .before .before .next-change .ensures) (c .before .before .before .before .before .before .before .before .before .valid-behind .ensures)) (c .before .before .before .before .before .before .before .before .if1 .left) in
-    format-written p t a (s .args .out .now) _ _ _ (first-counted (policyOf p) t f (s .pre .3)) (omega (arith, w .ends)) (omega (arith, w .ends, four-times-at (policyOf p) t 0, s .pre .4)) w
+    let w = put-as _ (sym (change-formatted (policyOf p) t h))
+    (put-then (c .before .before .before .before .before .before .put-change .ensures) (c .before .before .put-changes .ensures)) in
+    let a = all-well-formed t p (s .pre .0) (s .pre .1)
+    (second-valid (policyOf p) t f (c .before .before .before .before .before .before .before .before .before .before .next-change .ensures) (c .before .before .before .before .before .before .before .before .before .valid-after .ensures)) (c .before .before .before .before .before .before .before .before .if1 .left) in
+    format-written p t a (s .args .out .now) _ _ _ (first-counted (policyOf p) t f (s .pre .3)) (omega (arith, w .ends))
+    (omega (arith, w .ends, four-times-at (policyOf p) t 0, s .pre .4)) w
 
 pub format-at-once-spec : {M : Type 1} → statement M
 format-at-once-spec =
     tie.close
     (tie.spec
     (λ c κs. search needs)
-    valid-behind-requires
+    valid-after-requires
     returns
     put-change-requires
     put-changes-requires

@@ -18,7 +18,9 @@ unfolding IntakeComesFirst
 returns c =
     let x = c .before .before .before .before .before .args in
     let r = c .before .before .before .before .before .pre in
-    sym (comes-first (x .text .now) (x .policy .now) _ (not-well-formed (x .text .now) (x .policy .now) (r .0) (r .1) (c .before .survey-text .ensures .0) (c .if1 .taken)) .0 (x .out .now))
+    sym (comes-first (x .text .now) (x .policy .now) _
+    (not-well-formed (x .text .now) (x .policy .now) (r .0) (r .1) (c .before .survey-text .ensures .0) (c .if1 .taken)) .0
+    (x .out .now))
 
 returns-2 : tie.Need-returns-2
 returns-2 c =
@@ -31,7 +33,12 @@ returns-2 c =
     format-short p t a (x .out .now) (s .result .len) (first-counted (policyOf p) t (r .2) (r .3)) (s .ensures .1) (c .if2 .taken)
 
 put-changes-requires : tie.Need-put-changes-requires
-put-changes-requires c κs = (omega arith, c .before .before .before .before .before .before .before .pre .2, omega (arith, c .before .before .before .survey-text .ensures .1, c .before .if2 .left))
+put-changes-requires c κs = (
+  omega arith,
+  c .before .before .before .before .before .before .before .pre .2,
+  omega
+      (arith, c .before .before .before .survey-text .ensures .1, c .before .if2 .left),
+)
 
 returns-3 : tie.Need-returns-3
 returns-3 c =
@@ -41,7 +48,8 @@ returns-3 c =
     let p = x .policy .now in
     let s = c .before .before .before .before .before .before .survey-text in
     let a = all-well-formed t p (r .0) (r .1) (s .ensures .0) (c .before .before .before .before .before .if1 .left) in
-    format-written p t a (x .out .now) _ (s .result .len) _ (first-counted (policyOf p) t (r .2) (r .3)) (s .ensures .1) (omega (arith, c .before .before .before .before .if2 .left)) (c .before .before .put-changes .ensures)
+    format-written p t a (x .out .now) _ (s .result .len) _ (first-counted (policyOf p) t (r .2) (r .3)) (s .ensures .1)
+    (omega (arith, c .before .before .before .before .if2 .left)) (c .before .before .put-changes .ensures)
 
 pub format-measured-spec : {M : Type 1} → statement M
 format-measured-spec =

@@ -42,9 +42,11 @@ returns-3 c =
     let t = x .text .now in
     let p = x .policy .now in
     let short : length t ≤ textLimit = omega (arith, c .before .before .before .before .before .before .if1 .left) in
-    let fit = sym (c .before .before .before .before .before .is-policy .ensures) ∙ not-false _ (c .before .before .before .before .if2 .left) in
+    let fit = sym (c .before .before .before .before .before .is-policy .ensures)
+    ∙ not-false _ (c .before .before .before .before .if2 .left) in
     let f = c .before .before .before .next-change .ensures in
-    ends-as (sym (comes-first t p _ (not-well-formed t p short fit (first-end (policyOf p) t f (not-true _ (c .before .if3 .taken))) (c .if4 .taken)) .0 (x .out .now)))
+    ends-as (sym (comes-first t p _
+    (not-well-formed t p short fit (first-end (policyOf p) t f (not-true _ (c .before .if3 .taken))) (c .if4 .taken)) .0 (x .out .now)))
 
 returns-4 : tie.Need-returns-4
 returns-4 c =
@@ -52,10 +54,12 @@ returns-4 c =
     let t = x .text .now in
     let p = x .policy .now in
     let short : length t ≤ textLimit = omega (arith, c .before .before .before .before .before .before .if1 .left) in
-    let fit = sym (c .before .before .before .before .before .is-policy .ensures) ∙ not-false _ (c .before .before .before .before .if2 .left) in
+    let fit = sym (c .before .before .before .before .before .is-policy .ensures)
+    ∙ not-false _ (c .before .before .before .before .if2 .left) in
     let f = c .before .before .before .next-change .ensures in
     let m = not-true _ (c .before .if3 .taken) in
-    ends-as (format-unchanged p t (all-well-formed t p short fit (first-end (policyOf p) t f m) (c .if4 .left)) (x .out .now) (first-none (policyOf p) t f m))
+    ends-as (format-unchanged p t (all-well-formed t p short fit (first-end (policyOf p) t f m) (c .if4 .left)) (x .out .now)
+    (first-none (policyOf p) t f m))
 
 format-measured-requires : tie.Need-format-measured-requires
 format-measured-requires c κs =
@@ -63,7 +67,8 @@ format-measured-requires c κs =
     let t = x .text .now in
     let p = x .policy .now in
     let short : length t ≤ textLimit = omega (arith, c .before .before .before .before .before .before .before .if1 .left) in
-    let fit = sym (c .before .before .before .before .before .before .is-policy .ensures) ∙ not-false _ (c .before .before .before .before .before .if2 .left) in
+    let fit = sym (c .before .before .before .before .before .before .is-policy .ensures)
+    ∙ not-false _ (c .before .before .before .before .before .if2 .left) in
     let f = c .before .before .before .before .next-change .ensures in
     (short, fit, f, not-false _ (c .before .before .if3 .left))
 
@@ -76,7 +81,8 @@ format-at-once-requires c κs =
     let t = x .text .now in
     let p = x .policy .now in
     let short : length t ≤ textLimit = omega (arith, c .before .before .before .before .before .before .before .if1 .left) in
-    let fit = sym (c .before .before .before .before .before .before .is-policy .ensures) ∙ not-false _ (c .before .before .before .before .before .if2 .left) in
+    let fit = sym (c .before .before .before .before .before .before .is-policy .ensures)
+    ∙ not-false _ (c .before .before .before .before .before .if2 .left) in
     let f = c .before .before .before .before .next-change .ensures in
     (short, fit, f, not-false _ (c .before .before .if3 .left), omega (arith, c .before .if5 .left))
 

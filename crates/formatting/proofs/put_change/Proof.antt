@@ -13,7 +13,8 @@ put-selector-requires : tie.Need-put-selector-requires
 put-selector-requires c κs =
     let s = c .before .before .before .before .before .before .before in
     let w = c .before .before .before .put-part .ensures in
-    let l = length-take-le (s .args .change .kept - s .args .from) (drop (s .args .from) (s .args .text .now)) (omega (arith, length-drop (s .args .from) (s .args .text .now), s .pre)) in
+    let l = length-take-le (s .args .change .start - s .args .from) (drop (s .args .from) (s .args .text .now))
+    (omega (arith, length-drop (s .args .from) (s .args .text .now), s .pre)) in
     omega (arith, s .pre, w .ends, l, simp length-sets at (ap length (w .bytes)))
 
 returns : tie.Need-returns

@@ -32,7 +32,7 @@ put-change-requires c κs =
     let t = x .text .now in
     let l = c .before .loop in
     let h = passed p t (l .inv .0) (l .inv .2) in
-    (h .on, omega (arith, h .behind, h .inside), change-room p t (l .inv .1) h)
+    (h .on, omega (arith, h .after, h .inside), change-room p t (l .inv .1) h)
 
 returns : tie.Need-returns Inv-loop μ-loop
 returns c =
@@ -41,7 +41,8 @@ returns c =
     let t = x .text .now in
     let l = c .before .before .before .before .before .before .loop in
     let h = passed p t (l .inv .0) (l .inv .2) in
-    finish _ _ _ _ (change-put p t (l .inv .1) h (c .before .before .before .before .put-change .ensures)) (none-left p t (l .change .end) (l .inv .2 .1 (not-true _ (c .if1 .taken)) .ends))
+    finish _ _ _ _ (change-put p t (l .inv .1) h (c .before .before .before .before .put-change .ensures))
+    (none-left p t (l .change .end) (l .inv .2 .1 (not-true _ (c .if1 .taken)) .ends))
 
 loop-less : tie.Need-loop-less Inv-loop μ-loop
 loop-less c =

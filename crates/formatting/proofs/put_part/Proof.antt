@@ -15,8 +15,10 @@ returns c =
     let x = c .before .before .before .before .before .before .before .args in
     let q = c .before .before .before .before .before .before .before .pre in
     let t = take (x .to - x .from) (drop (x .from) (x .text .now)) in
-    let n : length t ≡ x .to - x .from = length-take-le (x .to - x .from) (drop (x .from) (x .text .now)) (omega (arith, length-drop (x .from) (x .text .now), q)) in
-    let w = bytes-put (x .out .now) (c .before .before .write-bytes .last .0) (x .at) t (omega (arith, n, q)) (c .before .before .write-bytes .ensures .1) in
+    let n : length t ≡ x .to - x .from = length-take-le (x .to - x .from) (drop (x .from) (x .text .now))
+    (omega (arith, length-drop (x .from) (x .text .now), q)) in
+    let w = bytes-put (x .out .now) (c .before .before .write-bytes .last .0) (x .at) t (omega (arith, n, q))
+    (c .before .before .write-bytes .ensures .1) in
     subst (λ (r : ℕ). PutAt (x .out .now) (x .at) t (c .before .before .write-bytes .last .0) (x .at + r)) n w
 
 pub put-part-spec : {M : Type 1} → statement M

@@ -7,7 +7,16 @@ use borrow.Author.Tests.{not-false, not-true}
 use lib.ListN.{length}
 use Rattle.policy.specs.PolicyBytes.{policyOf}
 use Rattle.text_pass.specs.Changes.{NextChange}
-use Rattle.formatting.proofs.Surveying.{Surveying, passed, passed-less, survey-begin, survey-fits, survey-length, survey-on, survey-valid}
+use Rattle.formatting.proofs.Surveying.{
+  Surveying,
+  passed,
+  passed-less,
+  survey-begin,
+  survey-fits,
+  survey-length,
+  survey-on,
+  survey-valid,
+}
 use Rattle.formatting.proofs.survey_text.Statement.{statement}
 use Rattle.formatting.proofs.survey_text.Tie as tie
 
@@ -32,14 +41,22 @@ add-len c =
     let x = c .before .before .before .before .before .args in
     let p = policyOf (x .policy .now) in
     let l = c .before .before .loop in
-    omega (arith, survey-fits p (x .text .now) (l .inv .0) (l .inv .1) (c .selector-len .ensures), c .before .before .before .before .before .pre .0)
+    omega (
+      arith,
+      survey-fits p (x .text .now) (l .inv .0) (l .inv .1) (c .selector-len .ensures),
+      c .before .before .before .before .before .pre .0,
+    )
 
 add-len-2 : tie.Need-add-len-2 Inv-loop μ-loop
 add-len-2 c =
     let x = c .before .before .before .before .before .args in
     let p = policyOf (x .policy .now) in
     let l = c .before .before .loop in
-    omega (arith, survey-fits p (x .text .now) (l .inv .0) (l .inv .1) (c .selector-len .ensures), c .before .before .before .before .before .pre .0)
+    omega (
+      arith,
+      survey-fits p (x .text .now) (l .inv .0) (l .inv .1) (c .selector-len .ensures),
+      c .before .before .before .before .before .pre .0,
+    )
 
 returns : tie.Need-returns Inv-loop μ-loop
 returns c =

@@ -8,8 +8,8 @@ use borrow.Author.Tests.{not-false, not-true}
 use lib.ListN.{drop, length-drop}
 use Rattle.utf8.proofs.Texts.{validUpTo-le}
 use Rattle.formatter.proofs.Passing.{rest-valid}
-use Rattle.formatting.proofs.valid_behind.Statement.{statement}
-use Rattle.formatting.proofs.valid_behind.Tie as tie
+use Rattle.formatting.proofs.valid_after.Statement.{statement}
+use Rattle.formatting.proofs.valid_after.Tie as tie
 
 returns : tie.Need-returns
 returns c = (λ m. absurd (true≢false (sym m ∙ not-true _ (c .if1 .taken))), λ _. refl)
@@ -24,11 +24,14 @@ add-result c =
 returns-2 : tie.Need-returns-2
 returns-2 c =
     let s = c .before .before .before .before .before in
-    let e = s .args .change .end in
-    (λ _. ap (λ (n : ℕ). e + n) (rest-valid (s .args .text .now) e (c .valid-up-to .ensures)), λ m. absurd (true≢false (sym (not-false _ (c .before .before .if1 .left)) ∙ m)))
+    let e = s .args .change .end in (
+      λ _. ap (λ (n : ℕ). e + n) (rest-valid (s .args .text .now) e (c .valid-up-to .ensures)),
+      λ m. absurd
+          (true≢false (sym (not-false _ (c .before .before .if1 .left)) ∙ m)),
+    )
 
-pub valid-behind-spec : {M : Type 1} → statement M
-valid-behind-spec =
+pub valid-after-spec : {M : Type 1} → statement M
+valid-after-spec =
     tie.close
     (tie.spec
     returns

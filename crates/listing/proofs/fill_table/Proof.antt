@@ -42,8 +42,10 @@ returns-3 c =
     let x = c .before .before .before .before .before .before .before .before .before .args in
     let p = policyOf (x .policy .now) in
     let t = x .text .now in
-    let n = c .before .before .before .before .before .before .before .before .before .pre ∙ sym (length-map (findingsFrom p t 0) (findingRow p)) in
-    rows-written rowNumbers rowBytes length-row (omega arith) (rowsFrom p t 0) (x .table .now) n (omega arith) (c .before .before .put-findings .ensures)
+    let n = c .before .before .before .before .before .before .before .before .before .pre
+    ∙ sym (length-map (findingsFrom p t 0) (findingRow p)) in
+    rows-written rowNumbers rowBytes length-row (omega arith) (rowsFrom p t 0) (x .table .now) n (omega arith)
+    (c .before .before .put-findings .ensures)
 
 pub fill-table-spec : {M : Type 1} → statement M
 fill-table-spec = tie.close (tie.spec returns returns-2 put-findings-requires (λ c. search needs) returns-3)

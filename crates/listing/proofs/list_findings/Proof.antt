@@ -44,7 +44,8 @@ returns-3 c =
     let short : length t ≤ textLimit = omega (arith, c .before .before .before .before .if1 .left) in
     let fit = sym (c .before .before .before .is-policy .ensures) ∙ not-false _ (c .before .before .if2 .left) in
     let n = c .before .count-findings in
-    ends-as (sym (comes-first t p (NotWellFormed (n .result .«valid_up_to»)) (not-well-formed t p short fit (n .ensures .1) (c .if3 .taken)) .2 (x .table .now)))
+    ends-as (sym (comes-first t p (NotWellFormed (n .result .«valid_up_to»))
+    (not-well-formed t p short fit (n .ensures .1) (c .if3 .taken)) .2 (x .table .now)))
 
 returns-4 : tie.Need-returns-4
 unfolding findings
@@ -53,9 +54,12 @@ returns-4 c =
     let t = x .text .now in
     let p = x .policy .now in
     let short : length t ≤ textLimit = omega (arith, c .before .before .before .before .before .before .before .before .if1 .left) in
-    let fit = sym (c .before .before .before .before .before .before .before .is-policy .ensures) ∙ not-false _ (c .before .before .before .before .before .before .if2 .left) in
+    let fit = sym (c .before .before .before .before .before .before .before .is-policy .ensures)
+    ∙ not-false _ (c .before .before .before .before .before .before .if2 .left) in
     let n = c .before .before .before .before .before .count-findings .ensures in
-    ends-as (c .before .before .fill-table .ensures ∙ list-passed t p (x .table .now) (pass-intake p t (all-well-formed t p short fit (n .1) (c .before .before .before .before .if3 .left))))
+    ends-as (c .before .before .fill-table .ensures
+    ∙ list-passed t p (x .table .now)
+    (pass-intake p t (all-well-formed t p short fit (n .1) (c .before .before .before .before .if3 .left))))
 
 pub list-findings-spec : {M : Type 1} → statement M
 list-findings-spec =

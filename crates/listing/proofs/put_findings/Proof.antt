@@ -24,15 +24,19 @@ use Rattle.listing.proofs.put_findings.Tie as tie
 abbrev Inv-loop : tie.InvT-loop
 Inv-loop text policy table₀ at₀ to₀ table at to =
     (at ≤ length text)
-    × Writing (rowsBytes rowNumbers (rowsFrom (policyOf policy) text 0)) 0 table₀ (rowsBytes rowNumbers (rowsFrom (policyOf policy) text at)) table to
+    × Writing (rowsBytes rowNumbers (rowsFrom (policyOf policy) text 0)) 0 table₀
+    (rowsBytes rowNumbers (rowsFrom (policyOf policy) text at)) table to
 
 abbrev μ-loop : tie.MeasureT-loop
 μ-loop text policy table₀ at₀ to₀ table at to = length text - at
 
 loop-holds : tie.Need-loop-holds Inv-loop μ-loop
 loop-holds c =
-    let x = c .before .before .before .args in
-    (omega arith, begin (rowsBytes rowNumbers (rowsFrom (policyOf (x .policy .now)) (x .text .now) 0)) 0 (x .table .now) (omega (arith, c .before .before .before .pre)))
+    let x = c .before .before .before .args in (
+      omega arith,
+      begin (rowsBytes rowNumbers (rowsFrom (policyOf (x .policy .now)) (x .text .now) 0)) 0 (x .table .now)
+          (omega (arith, c .before .before .before .pre)),
+    )
 
 same-length : tie.Need-same-length Inv-loop μ-loop
 same-length c = c .before .before .before .loop .inv .1 .same
@@ -46,7 +50,9 @@ returns c =
     let l = c .before .before .before .loop in
     let n = c .before .before .next-finding in
     finish (rowsBytes rowNumbers (rowsFrom p t 0)) 0 (x .table .now) (rowsBytes rowNumbers (rowsFrom p t (l .at))) (l .inv .1)
-    (ap (λ (l : List Found). rowsBytes rowNumbers (map (findingRow p) l)) (over-none (n .ensures .0) .same ∙ none-found p t (n .result .start) (n .ensures .2 (not-true (n .result .more) (c .if1 .taken)) .0)))
+    (ap (λ (l : List Found). rowsBytes rowNumbers (map (findingRow p) l))
+    (over-none (n .ensures .0) .same
+    ∙ none-found p t (n .result .start) (n .ensures .2 (not-true (n .result .present) (c .if1 .taken)) .0)))
 
 put-row-requires : tie.Need-put-row-requires Inv-loop μ-loop
 unfolding rowsBytes
@@ -56,16 +62,18 @@ put-row-requires c κs =
     let t = x .text .now in
     let l = c .before .before .before .before .loop in
     let n = c .before .before .before .next-finding in
-    let s = next-row (over-none (n .ensures .0)) (finds-row (n .ensures .1 (not-false (n .result .more) (c .before .if1 .left)) .1)) in
+    let s = next-row (over-none (n .ensures .0)) (finds-row (n .ensures .1 (not-false (n .result .present) (c .before .if1 .left)) .1)) in
     let f : Finding = record { start = n .result .start; end = n .result .end; counts = n .result .counts } in
     let r =
-    room (rowsBytes rowNumbers (rowsFrom p t 0)) 0 (x .table .now) (rowsBytes rowNumbers (rowsFrom p t (l .at))) (bytesOf (rowNumbers f)) (rowsBytes rowNumbers (rowsFrom p t (n .result .end))) (l .inv .1) (ap (rowsBytes rowNumbers) s) in
+    room (rowsBytes rowNumbers (rowsFrom p t 0)) 0 (x .table .now) (rowsBytes rowNumbers (rowsFrom p t (l .at))) (bytesOf (rowNumbers f))
+    (rowsBytes rowNumbers (rowsFrom p t (n .result .end))) (l .inv .1) (ap (rowsBytes rowNumbers) s) in
     omega (arith, r, length-row f)
 
 loop-less : tie.Need-loop-less Inv-loop μ-loop
 loop-less c =
     let n = c .before .before .before .before .before .before .next-finding in
-    let h = next-ahead (over-none (n .ensures .0)) (n .ensures .1 (not-false (n .result .more) (c .before .before .before .before .if1 .left)) .1 .finds) in
+    let h = next-ahead (over-none (n .ensures .0))
+    (n .ensures .1 (not-false (n .result .present) (c .before .before .before .before .if1 .left)) .1 .finds) in
     omega (arith, h .some, h .room)
 
 loop-again : tie.Need-loop-again Inv-loop μ-loop
@@ -76,11 +84,12 @@ loop-again c =
     let t = x .text .now in
     let l = c .before .before .before .before .before .before .before .loop in
     let n = c .before .before .before .before .before .before .next-finding in
-    let f = n .ensures .1 (not-false (n .result .more) (c .before .before .before .before .if1 .left)) .1 in
+    let f = n .ensures .1 (not-false (n .result .present) (c .before .before .before .before .if1 .left)) .1 in
     let s = next-row (over-none (n .ensures .0)) (finds-row f) in
     let h = next-ahead (over-none (n .ensures .0)) (f .finds) in (
       h .room,
-      put (rowsBytes rowNumbers (rowsFrom p t 0)) 0 (x .table .now) (rowsBytes rowNumbers (rowsFrom p t (l .at))) (rowsBytes rowNumbers (rowsFrom p t (n .result .end))) (l .inv .1) (c .before .before .put-row .ensures)
+      put (rowsBytes rowNumbers (rowsFrom p t 0)) 0 (x .table .now) (rowsBytes rowNumbers (rowsFrom p t (l .at)))
+          (rowsBytes rowNumbers (rowsFrom p t (n .result .end))) (l .inv .1) (c .before .before .put-row .ensures)
           (ap (rowsBytes rowNumbers) s),
     )
 

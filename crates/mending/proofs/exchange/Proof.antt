@@ -13,12 +13,22 @@ use Rattle.mending.proofs.exchange.Tie as tie
 add-stop : tie.Need-add-stop
 add-stop c =
     let x = c .before .before .before .args in
-    omega (arith, c .before .before .before .pre, cells-few (x .policy) (x .text .now) (x .start) (x .end) (map meaning (x .decisions .now)))
+    omega (
+      arith,
+      c .before .before .before .pre,
+      cells-few (x .policy) (x .text .now) (x .start) (x .end)
+          (map meaning (x .decisions .now)),
+    )
 
 add-wanted : tie.Need-add-wanted
 add-wanted c =
     let x = c .before .before .before .args in
-    omega (arith, c .before .before .before .pre, cells-few (x .policy) (x .text .now) (x .start) (x .end) (map meaning (x .decisions .now)))
+    omega (
+      arith,
+      c .before .before .before .pre,
+      cells-few (x .policy) (x .text .now) (x .start) (x .end)
+          (map meaning (x .decisions .now)),
+    )
 
 returns : tie.Need-returns
 returns c =
@@ -30,14 +40,16 @@ returns-2 : tie.Need-returns-2
 returns-2 c =
     let x = c .before .before .before .before .before .before .before .before .before .args in
     let h = c .before .before .before .before .before .before .before .before .before .pre in
-    exchange-nothing (x .policy) (x .text .now) (x .start) (x .decisions .now) (h .0) (h .1) (h .2) (h .3) (x .out .now) (c .if2 .taken) (omega arith) (c .before .before .before .put-around .ensures)
+    exchange-nothing (x .policy) (x .text .now) (x .start) (x .decisions .now) (h .0) (h .1) (h .2) (h .3) (x .out .now) (c .if2 .taken)
+    (omega arith) (c .before .before .before .put-around .ensures)
 
 returns-3 : tie.Need-returns-3
 returns-3 c =
     let x = c .before .before .before .before .before .before .before .before .before .before .before .before .before .before .args in
     let h = c .before .before .before .before .before .before .before .before .before .before .before .before .before .before .pre in
     let k : x .start + x .len - x .start ≡ x .len = omega arith in
-    exchange-written (x .policy) (x .text .now) (x .start) (x .decisions .now) (h .0) (h .1) (h .2) (h .3) (x .out .now) (omega arith) k (c .before .before .before .before .before .before .before .before .put-around .ensures)
+    exchange-written (x .policy) (x .text .now) (x .start) (x .decisions .now) (h .0) (h .1) (h .2) (h .3) (x .out .now) (omega arith) k
+    (c .before .before .before .before .before .before .before .before .put-around .ensures)
     (whole (c .before .before .write-cells .ensures))
 
 pub exchange-spec : {M : Type 1} → statement M

@@ -1,4 +1,5 @@
--- `mending::finding_starting` meets its contract: the next finding that does not start before the offset is the one that starts there, or none
+-- `mending::finding_starting` meets its contract: the next finding that does not start before the offset is the one that starts there, or
+-- none
 -- does. Up to where the search came the text is well-formed.
 use mathlib.Core.Path.{ap}
 use Prim.Native.Nat.{ℕ}
@@ -17,20 +18,33 @@ returns : tie.Need-returns
 returns c =
     let x = c .before .before .before .before .before .args in
     let n = c .before .before .next-finding in
-    let m = not-true (n .result .more) (c .if1 .taken) in
+    let m = not-true (n .result .present) (c .if1 .taken) in
     let e = n .ensures .2 m .1 in (
       none-further (x .offset) (n .ensures) m,
-      (omega (arith, e, n .ensures .0 .inside (omega arith)), omega (arith, e, next-valid (x .offset) (n .ensures), ap (λ (k : ℕ). validUpTo (drop k (x .text .now))) e)),
+      (
+        omega (arith, e, n .ensures .0 .inside (omega arith)),
+        omega
+            (arith, e, next-valid (x .offset) (n .ensures), ap (λ (k : ℕ). validUpTo (drop k (x .text .now))) e),
+      ),
     )
 
 returns-2 : tie.Need-returns-2
 returns-2 c =
     let x = c .before .before .before .before .before .args in
     let n = c .before .before .next-finding in
-    let m = not-false (n .result .more) (c .if1 .left) in
+    let m = not-false (n .result .present) (c .if1 .left) in
     let f = n .ensures .1 m .1 .finds in (
       none-before (x .offset) (n .ensures) m,
-      (finds-room f, omega (arith, next-valid (x .offset) (n .ensures), item-valid (policyOf (x .policy .now)) (x .text .now) (n .result .start) (n .result .end) (f .items-are) (f .end-is), finds-some f)),
+      (
+        finds-room f,
+        omega (
+          arith,
+          next-valid (x .offset) (n .ensures),
+          item-valid (policyOf (x .policy .now)) (x .text .now)
+              (n .result .start) (n .result .end) (f .items-are) (f .end-is),
+          finds-some f,
+        ),
+      ),
     )
 
 pub finding-starting-spec : {M : Type 1} → statement M

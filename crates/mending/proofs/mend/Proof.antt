@@ -22,7 +22,8 @@ unfolding IntakeComesFirst
 returns c =
     let x = c .before .before .before .before .before .args in
     let t = x .text .now in
-    ends-as (sym (comes-first t (x .policy .now) TextTooLong (too-long t (x .policy .now) (c .if1 .taken)) .3 (x .offset) (x .decisions .now) (x .out .now)))
+    ends-as (sym (comes-first t (x .policy .now) TextTooLong (too-long t (x .policy .now) (c .if1 .taken)) .3 (x .offset)
+    (x .decisions .now) (x .out .now)))
 
 returns-2 : tie.Need-returns-2
 unfolding IntakeComesFirst
@@ -38,7 +39,13 @@ add-valid-up-to : tie.Need-add-valid-up-to
 add-valid-up-to c =
     let x = c .before .before .before .before .before .before .before .before .before .before .args in
     let f = c .before .before .finding-starting in
-    omega (arith, f .ensures .1, rest-valid (x .text .now) (f .result .end) (c .valid-up-to .ensures), validUpTo-le (x .text .now), c .before .before .before .before .before .if1 .left)
+    omega (
+      arith,
+      f .ensures .1,
+      rest-valid (x .text .now) (f .result .end) (c .valid-up-to .ensures),
+      validUpTo-le (x .text .now),
+      c .before .before .before .before .before .if1 .left,
+    )
 
 returns-3 : tie.Need-returns-3
 unfolding IntakeComesFirst
@@ -47,7 +54,8 @@ returns-3 c =
     let t = x .text .now in
     let p = x .policy .now in
     let short : length t ≤ textLimit = omega (arith, c .before .before .before .before .before .before .if1 .left) in
-    let fit = sym (c .before .before .before .before .before .is-policy .ensures) ∙ not-false _ (c .before .before .before .before .if2 .left) in
+    let fit = sym (c .before .before .before .before .before .is-policy .ensures)
+    ∙ not-false _ (c .before .before .before .before .if2 .left) in
     let f = c .before .before .before .finding-starting in
     let v = ap (λ (n : ℕ). f .result .end + n) (rest-valid t (f .result .end) (c .before .valid-up-to .ensures)) ∙ f .ensures .1 .1 in
     ends-as (sym (comes-first t p _ (not-well-formed t p short fit v (c .if3 .taken)) .3 (x .offset) (x .decisions .now) (x .out .now)))
@@ -58,11 +66,14 @@ returns-4 c =
     let t = x .text .now in
     let p = x .policy .now in
     let short : length t ≤ textLimit = omega (arith, c .before .before .before .before .before .before .before .if1 .left) in
-    let fit = sym (c .before .before .before .before .before .before .is-policy .ensures) ∙ not-false _ (c .before .before .before .before .before .if2 .left) in
+    let fit = sym (c .before .before .before .before .before .before .is-policy .ensures)
+    ∙ not-false _ (c .before .before .before .before .before .if2 .left) in
     let f = c .before .before .before .before .finding-starting in
-    let v = ap (λ (n : ℕ). f .result .end + n) (rest-valid t (f .result .end) (c .before .before .valid-up-to .ensures)) ∙ f .ensures .1 .1 in
+    let v = ap (λ (n : ℕ). f .result .end + n) (rest-valid t (f .result .end) (c .before .before .valid-up-to .ensures))
+    ∙ f .ensures .1 .1 in
     let a = all-well-formed t p short fit v (c .before .if3 .left) in
-    ends-as (mend-nothing p t a (x .offset) (x .decisions .now) (f .ensures .0 .1 (not-true (f .result .more) (c .if4 .taken))) (x .out .now))
+    ends-as (mend-nothing p t a (x .offset) (x .decisions .now) (f .ensures .0 .1 (not-true (f .result .present) (c .if4 .taken)))
+    (x .out .now))
 
 mend-finding-requires : tie.Need-mend-finding-requires
 mend-finding-requires c κs =
@@ -70,10 +81,15 @@ mend-finding-requires c κs =
     let t = x .text .now in
     let p = x .policy .now in
     let short : length t ≤ textLimit = omega (arith, c .before .before .before .before .before .before .before .before .if1 .left) in
-    let fit = sym (c .before .before .before .before .before .before .before .is-policy .ensures) ∙ not-false _ (c .before .before .before .before .before .before .if2 .left) in
+    let fit = sym (c .before .before .before .before .before .before .before .is-policy .ensures)
+    ∙ not-false _ (c .before .before .before .before .before .before .if2 .left) in
     let f = c .before .before .before .before .before .finding-starting in
-    let v = ap (λ (n : ℕ). f .result .end + n) (rest-valid t (f .result .end) (c .before .before .before .valid-up-to .ensures)) ∙ f .ensures .1 .1 in
-    (all-well-formed t p short fit v (c .before .before .if3 .left), f .ensures .0 .0 (not-false (f .result .more) (c .before .if4 .left)))
+    let v = ap (λ (n : ℕ). f .result .end + n) (rest-valid t (f .result .end) (c .before .before .before .valid-up-to .ensures))
+    ∙ f .ensures .1 .1 in (
+      all-well-formed t p short fit v (c .before .before .if3 .left),
+      f .ensures .0 .0
+          (not-false (f .result .present) (c .before .if4 .left)),
+    )
 
 pub mend-spec : {M : Type 1} → statement M
 mend-spec =

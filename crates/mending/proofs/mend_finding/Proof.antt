@@ -28,8 +28,10 @@ returns c =
     let r = read-policy (x .policy .now) (c .before .before .before .before .before .before .before .before .read-policy .ensures) in
     let m = c .before .before .before .before .before .measure-cells in
     let g = c .before .refusal .given in
-    let d = checked-refused (decisionsRefusal (m .result .counts .«presentation_decisions») (x .decisions .now)) (g .0 .0) (sym (c .before .before .before .check-decisions .ensures .same) ∙ g .1) in
-    mend-tested (x .policy .now) (x .text .now) (s .pre .0) (x .offset) (x .decisions .now) (s .pre .1) r (m .ensures .0) d (x .out .now) refl
+    let d = checked-refused (decisionsRefusal (m .result .counts .«presentation_decisions») (x .decisions .now)) (g .0 .0)
+    (sym (c .before .before .before .check-decisions .ensures .same) ∙ g .1) in
+    mend-tested (x .policy .now) (x .text .now) (s .pre .0) (x .offset) (x .decisions .now) (s .pre .1) r (m .ensures .0) d
+    (x .out .now) refl
 
 exchange-requires : tie.Need-exchange-requires
 exchange-requires c κs =
@@ -37,17 +39,27 @@ exchange-requires c κs =
     let x = s .args in
     let f = s .pre .1 .finds in
     let short = s .pre .0 .short in
-    let raw = part (x .text .now) (x .offset) (x .end) in
-    (omega (arith, finds-some f), finds-room f, short, c .before .before .before .before .before .measure-cells .ensures .1 ∙ measured (c .before .before .before .before .before .before .before .before .read-policy .result .policy) raw (map meaning (x .decisions .now)) (omega (arith, short, part-within (x .text .now) (x .offset) (x .end))))
+    let raw = part (x .text .now) (x .offset) (x .end) in (
+      omega (arith, finds-some f),
+      finds-room f,
+      short,
+      c .before .before .before .before .before .measure-cells .ensures .1
+          ∙ measured (c .before .before .before .before .before .before .before .before .read-policy .result .policy) raw
+          (map meaning (x .decisions .now)) (omega (arith, short, part-within (x .text .now) (x .offset) (x .end))),
+    )
 
 returns-2 : tie.Need-returns-2
 returns-2 c =
     let s = c .before .before .before .before .before .before .before .before .before .before .before .before .before .before .before .before in
     let x = s .args in
-    let r = read-policy (x .policy .now) (c .before .before .before .before .before .before .before .before .before .before .before .read-policy .ensures) in
+    let r = read-policy (x .policy .now)
+    (c .before .before .before .before .before .before .before .before .before .before .before .read-policy .ensures) in
     let m = c .before .before .before .before .before .before .before .before .measure-cells in
-    let d = checked-passed (decisionsRefusal (m .result .counts .«presentation_decisions») (x .decisions .now)) (sym (c .before .before .before .before .before .before .check-decisions .ensures .same) ∙ c .before .before .before .before .enum-told .given .1) in
-    mend-tested (x .policy .now) (x .text .now) (s .pre .0) (x .offset) (x .decisions .now) (s .pre .1) r (m .ensures .0) d (x .out .now) (c .before .before .exchange .ensures)
+    let d = checked-passed (decisionsRefusal (m .result .counts .«presentation_decisions») (x .decisions .now))
+    (sym (c .before .before .before .before .before .before .check-decisions .ensures .same)
+    ∙ c .before .before .before .before .enum-told .given .1) in
+    mend-tested (x .policy .now) (x .text .now) (s .pre .0) (x .offset) (x .decisions .now) (s .pre .1) r (m .ensures .0) d (x .out .now)
+    (c .before .before .exchange .ensures)
 
 pub mend-finding-spec : {M : Type 1} → statement M
 mend-finding-spec =

@@ -19,8 +19,10 @@ returns c =
     let all = c .before .all .ensures in
     let r = c .bitand .ensures in
     record {
-      ordinary-keys = λ i. r .ordinary-keys i ∙ ap (λ (b : Bool). ltb i entryCount && (ordinary s i && b)) (all .ordinary-keys i) ∙ once (ltb i entryCount) (ordinary s i);
-      keycap-keys = λ i. r .keycap-keys i ∙ ap (λ (b : Bool). ltb i entryCount && (keycap s i && b)) (all .keycap-keys i) ∙ once (ltb i entryCount) (keycap s i);
+      ordinary-keys = λ i. r .ordinary-keys i ∙ ap (λ (b : Bool). ltb i entryCount && (ordinary s i && b)) (all .ordinary-keys i)
+          ∙ once (ltb i entryCount) (ordinary s i);
+      keycap-keys = λ i. r .keycap-keys i ∙ ap (λ (b : Bool). ltb i entryCount && (keycap s i && b)) (all .keycap-keys i)
+          ∙ once (ltb i entryCount) (keycap s i);
     }
 
 pub cleared-spec : {M : Type 1} → statement M

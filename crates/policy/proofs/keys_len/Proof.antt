@@ -1,4 +1,4 @@
--- The two sets one behind the other.
+-- The two sets one after the other.
 use native.Mathlib.Omega.{arith}
 use Rattle.base.proofs.Numbers.{length-both}
 use Rattle.policy.specs.PolicyBytes.{keyWords}

@@ -1,4 +1,4 @@
--- The two sets one behind the other.
+-- The two sets one after the other.
 use mathlib.Core.Path.{ap, _∙_}
 use native.Mathlib.Omega.{arith}
 use lib.ListN.{length}
@@ -31,7 +31,8 @@ returns : tie.Need-returns
 unfolding keyWords
 returns c =
     let x = c .before .before .before .before .before .before .before .before .before .before .before .args .set in
-    put-both (x .chars .bits) (x .«keycap_chars» .bits) (c .before .before .before .before .before .before .put-set .ensures) (c .before .before .put-set2 .ensures)
+    put-both (x .chars .bits) (x .«keycap_chars» .bits) (c .before .before .before .before .before .before .put-set .ensures)
+    (c .before .before .put-set2 .ensures)
 
 pub put-keys-spec : {M : Type 1} → statement M
 put-keys-spec = tie.close (tie.spec put-set-requires put-set-requires-2 (λ c. search needs) returns)

@@ -50,7 +50,8 @@ returns c =
     let l = c .before .loop in
     let x = c .before .before .before .before .args in
     let ws = x .set .bits in
-    finish (bytesOf ws) (x .start) (x .out .now) (bytesOf (drop (l .i) ws)) (l .inv .2) (ap bytesOf (drop-of-length-le ws {i = l .i} (omega arith)))
+    finish (bytesOf ws) (x .start) (x .out .now) (bytesOf (drop (l .i) ws)) (l .inv .2)
+    (ap bytesOf (drop-of-length-le ws {i = l .i} (omega arith)))
 
 pub put-set-spec : {M : Type 1} → statement M
 put-set-spec =

@@ -22,7 +22,8 @@ returns c =
     let p = policy-made (a .result) (b .result) (d .result) (e .result) bs (a .ensures) (b .ensures) (d .ensures) (e .ensures) in
     made (c .is-policy .ensures) p
   where
-    made : {t u : Bool} {x y : Policy} → t ≡ u → x ≡ y → _≡_ {A = ReadPolicy} (record { accepted = t; policy = x }) (record { accepted = u; policy = y })
+    made : {t u : Bool} {x y : Policy} → t ≡ u → x ≡ y → _≡_ {A = ReadPolicy} (record { accepted = t; policy = x })
+        (record { accepted = u; policy = y })
     made e f = cc
 
 pub read-policy-spec : {M : Type 1} → statement M

@@ -1,4 +1,4 @@
--- The two key sets one behind the other.
+-- The two key sets one after the other.
 use native.Mathlib.Omega.{arith}
 use Rattle.base.proofs.Numbers.{length-both, put-both}
 use Rattle.base.proofs.Output.{too-short, wrote}
@@ -25,7 +25,8 @@ returns-2 c =
     let l = length-both (keyWords (p .«prefer_bare»)) (keyWords (p .«bare_as_text»)) in
     let h = c .before .before .before .before .before .before .before .before .if1 .left in
     wrote (omega arith) (omega arith)
-    (put-both (keyWords (p .«prefer_bare»)) (keyWords (p .«bare_as_text»)) (c .before .before .before .before .before .before .put-keys .ensures) (c .before .before .put-keys2 .ensures))
+    (put-both (keyWords (p .«prefer_bare»)) (keyWords (p .«bare_as_text»))
+    (c .before .before .before .before .before .before .put-keys .ensures) (c .before .before .put-keys2 .ensures))
 
 pub write-policy-spec : {M : Type 1} → statement M
 write-policy-spec =

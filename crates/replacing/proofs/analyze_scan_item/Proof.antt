@@ -2,7 +2,15 @@
 use mathlib.Core.Path.{sym, _∙_}
 use native.Mathlib.Omega.{arith}
 use borrow.Author.Needs.{needs}
-use Rattle.analysis.proofs.ItemsAt.{analysis-canonical, analysis-end, analysis-finding, analysis-passthrough, item-at, item-within, not-passthrough}
+use Rattle.analysis.proofs.ItemsAt.{
+  analysis-canonical,
+  analysis-end,
+  analysis-finding,
+  analysis-passthrough,
+  item-at,
+  item-within,
+  not-passthrough,
+}
 use Rattle.replacing.proofs.analyze_scan_item.Statement.{statement}
 use Rattle.replacing.proofs.analyze_scan_item.Tie as tie
 
@@ -37,23 +45,27 @@ part-measure-cells-end c =
     let x = c .before .before .before .before .before .before .args in
     let g = c .before .before .item .given in
     let h = item-at (x .text .now) (x .at) (g .0 .0) (sym (c .before .before .before .before .next-item .ensures) ∙ g .1) in
-    omega (arith, h .end-is, item-within (x .text .now) (x .at) (h .item) (h .behind) (h .items-are))
+    omega (arith, h .end-is, item-within (x .text .now) (x .at) (h .item) (h .after) (h .items-are))
 
 returns-3 : tie.Need-returns-3
 returns-3 c =
     let x = c .before .before .before .before .before .before .before .before .before .before .before .args in
     let g = c .before .before .before .before .before .before .before .item .given in
-    let h = item-at (x .text .now) (x .at) (g .0 .0) (sym (c .before .before .before .before .before .before .before .before .before .next-item .ensures) ∙ g .1) in
+    let h = item-at (x .text .now) (x .at) (g .0 .0)
+    (sym (c .before .before .before .before .before .before .before .before .before .next-item .ensures) ∙ g .1) in
     let o = not-passthrough (g .0 .0 .kind) (c .before .before .before .before .before .match2 .keys2) in
-    analysis-canonical (x .policy) (x .text .now) (x .at) h o (c .before .before .before .measure-cells .result .counts) (c .before .before .before .measure-cells .ensures .0) (sym (c .before .is-empty .ensures) ∙ c .if1 .taken)
+    analysis-canonical (x .policy) (x .text .now) (x .at) h o (c .before .before .before .measure-cells .result .counts)
+    (c .before .before .before .measure-cells .ensures .0) (sym (c .before .is-empty .ensures) ∙ c .if1 .taken)
 
 returns-4 : tie.Need-returns-4
 returns-4 c =
     let x = c .before .before .before .before .before .before .before .before .before .before .before .args in
     let g = c .before .before .before .before .before .before .before .item .given in
-    let h = item-at (x .text .now) (x .at) (g .0 .0) (sym (c .before .before .before .before .before .before .before .before .before .next-item .ensures) ∙ g .1) in
+    let h = item-at (x .text .now) (x .at) (g .0 .0)
+    (sym (c .before .before .before .before .before .before .before .before .before .next-item .ensures) ∙ g .1) in
     let o = not-passthrough (g .0 .0 .kind) (c .before .before .before .before .before .match2 .keys2) in
-    analysis-finding (x .policy) (x .text .now) (x .at) h o (c .before .before .before .measure-cells .result .counts) (c .before .before .before .measure-cells .ensures .0) (sym (c .before .is-empty .ensures) ∙ c .if1 .left)
+    analysis-finding (x .policy) (x .text .now) (x .at) h o (c .before .before .before .measure-cells .result .counts)
+    (c .before .before .before .measure-cells .ensures .0) (sym (c .before .is-empty .ensures) ∙ c .if1 .left)
 
 pub analyze-scan-item-spec : {M : Type 1} → statement M
 analyze-scan-item-spec =

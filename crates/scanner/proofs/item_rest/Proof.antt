@@ -1,4 +1,5 @@
--- `scanner::item_rest` meets its contract. The loop's invariant: what is left at `at` and `place` gives the end and the tags of the whole (Cursor, Reading).
+-- `scanner::item_rest` meets its contract. The loop's invariant: what is left at `at` and `place` gives the end and the tags of the whole
+-- (Cursor, Reading).
 -- The measure is the number of bytes left.
 use mathlib.Core.Path.{sym, _∙_}
 use Prim.Native.Nat.{_-_}
@@ -11,10 +12,10 @@ use Rattle.scanner.proofs.item_rest.Statement.{statement}
 use Rattle.scanner.proofs.item_rest.Tie as tie
 
 abbrev Inv-loop : tie.InvT-loop
-Inv-loop text from at₀ place₀ complete₀ at place complete = Reading text from place₀ at place complete
+Inv-loop text from at₀ place₀ complete₀ at state complete = Reading text from place₀ at state complete
 
 abbrev μ-loop : tie.MeasureT-loop
-μ-loop text from at₀ place₀ complete₀ at place complete = length text - at
+μ-loop text from at₀ place₀ complete₀ at state complete = length text - at
 
 loop-holds : tie.Need-loop-holds Inv-loop μ-loop
 loop-holds c = let x = c .before .args in reading-begin (x .text .now) (x .from) (x .first)
@@ -25,7 +26,7 @@ returns c =
     let l = c .before .before .before .before .before .before .before .loop in
     let p = c .before .before .before .before in
     let k = seen (x .text .now) (l .at) (sym (p .before .before .peek .ensures) ∙ p .class .given .1) in
-    reading-done (l .inv) (rest-ends k (l .place) (sym (c .before .before .step .ensures) ∙ c .enum-told .given .1))
+    reading-done (l .inv) (rest-ends k (l .state) (sym (c .before .before .step .ensures) ∙ c .enum-told .given .1))
 
 loop-less : tie.Need-loop-less Inv-loop μ-loop
 loop-less c =
@@ -75,7 +76,8 @@ returns-2 : tie.Need-returns-2 Inv-loop μ-loop
 returns-2 c =
     let x = c .before .before .before .before .before .args in
     let l = c .before .before .before .loop in
-    reading-done (l .inv) (rest-none (l .place) (unseen (x .text .now) (l .at) (sym (c .before .before .peek .ensures) ∙ c .enum-told2 .given .1)))
+    reading-done (l .inv) (rest-none (l .state)
+    (unseen (x .text .now) (l .at) (sym (c .before .before .peek .ensures) ∙ c .enum-told2 .given .1)))
 
 pub item-rest-spec : {M : Type 1} → statement M
 item-rest-spec =

@@ -27,23 +27,34 @@ returns : tie.Need-returns
 returns c =
     let x = c .before .before .before .before .before .before .before .args in
     let s = step (x .text .now) (x .at) (x .ch) (x .width) (c .before .before .before .before .before .before .before .pre) in
-    change-at-base (policyOf (x .policy .now)) s (entry-no-selector (x .ch) _ (sym (c .before .before .before .before .variation-sequence-index-by-block .ensures) ∙ c .before .before .index .given .1)) (c .base-change .result) (c .base-change .ensures)
+    change-at-base (policyOf (x .policy .now)) s
+    (entry-no-selector (x .ch) _ (sym (c .before .before .before .before .variation-sequence-index-by-block .ensures)
+    ∙ c .before .before .index .given .1)) (c .base-change .result) (c .base-change .ensures)
 
 returns-2 : tie.Need-returns-2
 returns-2 c =
     let x = c .before .before .before .before .before .before .before .before .before .args in
-    let s = step (x .text .now) (x .at) (x .ch) (x .width) (c .before .before .before .before .before .before .before .before .before .pre) in
+    let s = step (x .text .now) (x .at) (x .ch) (x .width)
+    (c .before .before .before .before .before .before .before .before .before .pre) in
     let q = c .before .enum-told2 .given .0 .0 in
-    let h = subst (λ (v : ℕ). Step (x .text .now) (x .at) v (x .width)) (selector-value (x .ch) q (sym (c .before .before .before .from-selector .ensures) ∙ c .before .enum-told2 .given .1)) s in
-    change-at-selector (policyOf (x .policy .now)) q h (c .selectors-end .result) (c .selectors-end .ensures ∙ selectors-end (x .text .now) (x .at + x .width))
+    let h = subst (λ (v : ℕ). Step (x .text .now) (x .at) v (x .width))
+    (selector-value (x .ch) q (sym (c .before .before .before .from-selector .ensures) ∙ c .before .enum-told2 .given .1)) s in
+    change-at-selector (policyOf (x .policy .now)) q h (c .selectors-end .result)
+    (c .selectors-end .ensures ∙ selectors-end (x .text .now) (x .at + x .width))
 
 returns-3 : tie.Need-returns-3
 returns-3 c =
     let x = c .before .before .before .before .before .before .before .before .before .args in
-    let s = step (x .text .now) (x .at) (x .ch) (x .width) (c .before .before .before .before .before .before .before .before .before .pre) in
-    let n = plain-char (x .ch) (sym (c .before .before .before .before .before .before .variation-sequence-index-by-block .ensures) ∙ c .before .before .before .before .enum-told .given .1) (sym (c .before .before .before .from-selector .ensures) ∙ c .before .enum-told3 .given .1) in
-    let more = c .skip-alike .ensures (policyOf (x .policy .now)) in
-    (λ f. absurd (true≢false (sym f)), λ _. (stays-on (stays-plain (policyOf (x .policy .now)) s n) more, omega (arith, s .some, more .on)))
+    let s = step (x .text .now) (x .at) (x .ch) (x .width)
+    (c .before .before .before .before .before .before .before .before .before .pre) in
+    let n = plain-char (x .ch) (sym (c .before .before .before .before .before .before .variation-sequence-index-by-block .ensures)
+    ∙ c .before .before .before .before .enum-told .given .1)
+    (sym (c .before .before .before .from-selector .ensures) ∙ c .before .enum-told3 .given .1) in
+    let present = c .skip-alike .ensures (policyOf (x .policy .now)) in (
+      λ f. absurd (true≢false (sym f)),
+      λ _.
+          (stays-on (stays-plain (policyOf (x .policy .now)) s n) present, omega (arith, s .some, present .on)),
+    )
 
 pub change-at-spec : {M : Type 1} → statement M
 change-at-spec =

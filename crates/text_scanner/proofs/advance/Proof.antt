@@ -7,7 +7,8 @@ use Rattle.text_scanner.proofs.advance.Tie as tie
 returns : tie.Need-returns
 returns c =
     let b = c .before .before .before in
-    advance-item (b .before .before .args .text .now) (b .before .before .args .at) (c .before .step .given .0 .0) (b .next-item .ensures) (c .before .step .given .1)
+    advance-item (b .before .before .args .text .now) (b .before .before .args .at) (c .before .step .given .0 .0) (b .next-item .ensures)
+    (c .before .step .given .1)
 
 returns-2 : tie.Need-returns-2
 returns-2 c =

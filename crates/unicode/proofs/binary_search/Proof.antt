@@ -50,7 +50,8 @@ returns-2 c =
     sym
     (index-none (l .before .args .ch) (l .before .args .table .now)
     (λ k h e.
-    ⊎-elim (λ (p : l .loop .lo ≤ k). omega (arith, l .loop .inv .3 k (omega arith) h)) (λ (p : k < l .loop .lo). omega (arith, l .loop .inv .2 k p))
+    ⊎-elim (λ (p : l .loop .lo ≤ k). omega (arith, l .loop .inv .3 k (omega arith) h))
+    (λ (p : k < l .loop .lo). omega (arith, l .loop .inv .2 k p))
     (le-or-lt (l .loop .lo) k)))
 
 pub binary-search-spec : {M : Type 1} → statement M

@@ -7,7 +7,12 @@ use Rattle.unicode.proofs.is_emoji_default_by_block.Tie as tie
 
 returns : tie.Need-returns
 unfolding isEmojiDefault
-returns c = simp (sym (c .before .before .has-variation-sequence-by-block .ensures), c .before .if1 .taken, sym (c .is-emoji-presentation .ensures))
+returns c = simp (
+  sym (c .before .before .has-variation-sequence-by-block .ensures),
+  c .before .if1 .taken,
+  sym
+      (c .is-emoji-presentation .ensures),
+)
 
 returns-2 : tie.Need-returns-2
 unfolding isEmojiDefault

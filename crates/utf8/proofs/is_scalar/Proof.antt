@@ -1,4 +1,4 @@
--- `utf8::is_scalar` meets its contract: a value below, between, above and behind the bounds.
+-- `utf8::is_scalar` meets its contract: a value below, between, above and after the bounds.
 use mathlib.Core.Path.{sym}
 use native.Mathlib.Omega.{arith}
 use Rattle.utf8.proofs.Scalars.{isScalar-low, surrogate-not-scalar, above-not-scalar, isScalar-high}

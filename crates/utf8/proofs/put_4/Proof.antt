@@ -13,7 +13,8 @@ returns c =
     let x = c .before .before .before .before .before .before .before .before .before .args in
     let first = (0xF0 + x .ch / 262144) ∷ (0x80 + x .ch / 4096 % 64) ∷ [] in
     let second = (0x80 + x .ch / 64 % 64) ∷ (0x80 + x .ch % 64) ∷ [] in
-    c .before .before .put-pair2 .ensures ∙ ap (λ (o : List ℕ). sets o (x .at + 2) second) (c .before .before .before .before .before .before .put-pair .ensures)
+    c .before .before .put-pair2 .ensures
+    ∙ ap (λ (o : List ℕ). sets o (x .at + 2) second) (c .before .before .before .before .before .before .put-pair .ensures)
     ∙ sym (sets-append (x .out .now) (x .at) first second)
 
 pub put-4-spec : {M : Type 1} → statement M

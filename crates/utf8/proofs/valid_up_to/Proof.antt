@@ -1,4 +1,5 @@
--- `utf8::valid_up_to` meets its contract. The loop's invariant: `at`, with the longest well-formed beginning from there on, is `validUpTo` of the text.
+-- `utf8::valid_up_to` meets its contract. The loop's invariant: `at`, with the longest well-formed beginning from there on, is `validUpTo`
+-- of the text.
 -- The measure is the number of bytes left.
 use mathlib.Core.Path.{_≡_}
 use Prim.Native.Nat.{_+_, _-_, _%_, _≤_}
@@ -21,28 +22,32 @@ returns : tie.Need-returns Inv-loop μ-loop
 returns c =
     let x = c .before .before in
     let w = c .before .decode in
-    let k = stop-len (x .before .before .args .s .now) (x .loop .at) (w .result % 8) (packed-len _ (w .result) (w .ensures)) (c .if1 .taken) in
+    let k = stop-len (x .before .before .args .s .now) (x .loop .at) (w .result % 8) (packed-len _ (w .result) (w .ensures))
+    (c .if1 .taken) in
     omega arith
 
 add-at : tie.Need-add-at Inv-loop μ-loop
 add-at c =
     let x = c .before .before in
     let w = c .before .decode in
-    let k = step-len (x .before .before .args .s .now) (x .loop .at) (w .result % 8) (packed-len _ (w .result) (w .ensures)) (omega arith) .on in
+    let k = step-len (x .before .before .args .s .now) (x .loop .at) (w .result % 8) (packed-len _ (w .result) (w .ensures))
+    (omega arith) .on in
     omega arith
 
 loop-less : tie.Need-loop-less Inv-loop μ-loop
 loop-less c =
     let x = c .before .before .before .before in
     let w = c .before .before .before .decode in
-    let k = step-len (x .before .before .args .s .now) (x .loop .at) (w .result % 8) (packed-len _ (w .result) (w .ensures)) (omega arith) .on in
+    let k = step-len (x .before .before .args .s .now) (x .loop .at) (w .result % 8) (packed-len _ (w .result) (w .ensures))
+    (omega arith) .on in
     omega (arith, longest-at (c .ascii-end .ensures) .0 .from-le)
 
 loop-again : tie.Need-loop-again Inv-loop μ-loop
 loop-again c =
     let x = c .before .before .before .before in
     let w = c .before .before .before .decode in
-    let k = step-len (x .before .before .args .s .now) (x .loop .at) (w .result % 8) (packed-len _ (w .result) (w .ensures)) (omega arith) .on in
+    let k = step-len (x .before .before .args .s .now) (x .loop .at) (w .result % 8) (packed-len _ (w .result) (w .ensures))
+    (omega arith) .on in
     let a = longest-at (c .ascii-end .ensures) .0 in
     let v = validUpTo-past {total = validUpTo (x .before .before .args .s .now)} a (k .room) (omega arith) in
     omega (arith, a .inside (k .room))
@@ -51,14 +56,16 @@ loop-less-2 : tie.Need-loop-less-2 Inv-loop μ-loop
 loop-less-2 c =
     let x = c .before .before .before in
     let w = c .before .before .decode in
-    let k = step-len (x .before .before .args .s .now) (x .loop .at) (w .result % 8) (packed-len _ (w .result) (w .ensures)) (omega arith) .on in
+    let k = step-len (x .before .before .args .s .now) (x .loop .at) (w .result % 8) (packed-len _ (w .result) (w .ensures))
+    (omega arith) .on in
     omega arith
 
 loop-again-2 : tie.Need-loop-again-2 Inv-loop μ-loop
 loop-again-2 c =
     let x = c .before .before .before in
     let w = c .before .before .decode in
-    let k = step-len (x .before .before .args .s .now) (x .loop .at) (w .result % 8) (packed-len _ (w .result) (w .ensures)) (omega arith) .on in
+    let k = step-len (x .before .before .args .s .now) (x .loop .at) (w .result % 8) (packed-len _ (w .result) (w .ensures))
+    (omega arith) .on in
     omega arith
 
 pub valid-up-to-spec : {M : Type 1} → statement M

@@ -20,7 +20,8 @@ returns-2 c =
     let i = c .before .before .before .is-scalar in
     let w = c .before .char-width in
     let e = w .ensures in
-    too-short (x .ch) (x .out .now) (x .at) (w .result) e (sym (i .ensures) ∙ not-false (i .result) (c .before .before .if1 .left)) (omega arith)
+    too-short (x .ch) (x .out .now) (x .at) (w .result) e (sym (i .ensures) ∙ not-false (i .result) (c .before .before .if1 .left))
+    (omega arith)
 
 returns-3 : tie.Need-returns-3
 returns-3 c =
@@ -28,7 +29,8 @@ returns-3 c =
     let i = c .before .before .before .before .is-scalar in
     let w = c .before .before .char-width in
     let e = w .ensures in
-    too-short (x .ch) (x .out .now) (x .at) (w .result) e (sym (i .ensures) ∙ not-false (i .result) (c .before .before .before .if1 .left)) (omega arith)
+    too-short (x .ch) (x .out .now) (x .at) (w .result) e (sym (i .ensures) ∙ not-false (i .result) (c .before .before .before .if1 .left))
+    (omega arith)
 
 put-char-requires : tie.Need-put-char-requires
 put-char-requires c κs =
@@ -43,7 +45,8 @@ returns-4 c =
     let i = c .before .before .before .before .before .before .before .before .is-scalar in
     let w = c .before .before .before .before .before .before .char-width in
     let e = w .ensures in
-    let a = written (x .ch) (x .out .now) (x .at) (w .result) e (sym (i .ensures) ∙ not-false (i .result) (c .before .before .before .before .before .before .before .if1 .left)) (omega arith) in
+    let a = written (x .ch) (x .out .now) (x .at) (w .result) e
+    (sym (i .ensures) ∙ not-false (i .result) (c .before .before .before .before .before .before .before .if1 .left)) (omega arith) in
     (a .0, c .before .before .put-char .ensures ∙ a .1)
 
 pub write-char-spec : {M : Type 1} → statement M

@@ -9,7 +9,7 @@
 //! valgrind --error-exitcode=1 target/release/boundary --cases 1000              # no byte outside an allocation
 //! ```
 //!
-//! Under valgrind a byte that is read or written before or behind a slice at the edge of its allocation is an error.
+//! Under valgrind a byte that is read or written before or after a slice at the edge of its allocation is an error.
 //! The status is 0 if there is no difference, 1 on a difference, 2 on wrong arguments.
 
 use std::env;

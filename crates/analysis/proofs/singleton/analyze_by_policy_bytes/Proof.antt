@@ -17,7 +17,9 @@ unfolding NoIndexNoEntry
 returns c =
     let x = c .before .before .before .before .before .args in
     let e = sym (c .before .before .before .variation-sequence-index-by-block .ensures) ∙ c .before .enum-told .given .1 in
-    c .without-entry .ensures ∙ sym (outcome-no-entry (policyOf (x .policy .now)) (x .base) (x .next) (runWith (x .first) (x .count)) (no-index-no-entry (x .base) .0 e))
+    c .without-entry .ensures ∙ sym
+    (outcome-no-entry (policyOf (x .policy .now)) (x .base) (x .next) (runWith (x .first) (x .count))
+    (no-index-no-entry (x .base) .0 e))
 
 returns-2 : tie.Need-returns-2
 returns-2 c =
@@ -26,7 +28,8 @@ returns-2 c =
     let i = c .before .before .before .before .index .given in
     let e = sym (c .before .before .before .before .before .before .variation-sequence-index-by-block .ensures) ∙ i .1 in
     c .with-entry .ensures p (has-entry (x .base) (i .0 .0) e)
-    (c .before .rule-at .ensures ∙ ap (λ (b : Bool). entryRule p (i .0 .0) b) (c .before .before .is-keycap .ensures) ∙ sym (rule-by-entry p (x .base) (i .0 .0) (byKeycap (x .next)) e))
+    (c .before .rule-at .ensures ∙ ap (λ (b : Bool). entryRule p (i .0 .0) b) (c .before .before .is-keycap .ensures)
+    ∙ sym (rule-by-entry p (x .base) (i .0 .0) (byKeycap (x .next)) e))
 
 pub analyze-by-policy-bytes-spec : {M : Type 1} → statement M
 analyze-by-policy-bytes-spec =

@@ -12,7 +12,8 @@ returns : tie.Need-returns
 returns c =
     let x = c .before .before .before .args in
     let v = c .before .before .has-variation-sequence-by-block in
-    c .without-entry .ensures ∙ sym (outcome-no-entry (x .policy) (x .base) (x .next) _ (sym (v .ensures) ∙ not-true (v .result) (c .before .if1 .taken)))
+    c .without-entry .ensures ∙ sym
+    (outcome-no-entry (x .policy) (x .base) (x .next) _ (sym (v .ensures) ∙ not-true (v .result) (c .before .if1 .taken)))
 
 returns-2 : tie.Need-returns-2
 returns-2 c =

@@ -16,7 +16,8 @@ returns c = sym (ap byKeycap (c .enum-told .given .1))
 returns-2 : tie.Need-returns-2
 unfolding byKeycap
 returns-2 c =
-    class-arm (0 ∷ 1 ∷ 2 ∷ 3 ∷ 4 ∷ 6 ∷ 7 ∷ []) (λ (k : Class). false ≡ byKeycap k) (refl, refl, refl, refl, refl, tt, refl, refl) (c .before .args .class) (c .match .keys2)
+    class-arm (0 ∷ 1 ∷ 2 ∷ 3 ∷ 4 ∷ 6 ∷ 7 ∷ []) (λ (k : Class). false ≡ byKeycap k) (refl, refl, refl, refl, refl, tt, refl, refl)
+    (c .before .args .class) (c .match .keys2)
 
 pub is-keycap-spec : {M : Type 1} → statement M
 is-keycap-spec = tie.close (tie.spec (λ c. search needs) returns returns-2)

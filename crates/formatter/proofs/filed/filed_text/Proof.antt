@@ -9,7 +9,8 @@ use Rattle.formatter.proofs.filed.filed_text.Statement.{statement}
 use Rattle.formatter.proofs.filed.filed_text.Tie as tie
 
 slice-aggregate-result : tie.Need-slice-aggregate-result
-slice-aggregate-result c = sym (length-take-le (c .before .before .before .args .len) (c .before .before .before .args .buffer .now) (c .before .if2 .taken))
+slice-aggregate-result c = sym (length-take-le (c .before .before .before .args .len) (c .before .before .before .args .buffer .now)
+    (c .before .if2 .taken))
 
 returns : tie.Need-returns
 unfolding filedText

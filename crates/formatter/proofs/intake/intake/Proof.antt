@@ -34,7 +34,8 @@ returns-3 c =
     let x = c .before .before .before .before .before .before .before .args in
     let t = x .text .now in
     let v = c .before .valid-up-to in
-    let p = sym (c .before .before .before .is-policy .ensures) ∙ not-false (c .before .before .before .is-policy .result) (c .before .before .if2 .left) in
+    let p = sym (c .before .before .before .is-policy .ensures)
+    ∙ not-false (c .before .before .before .is-policy .result) (c .before .before .if2 .left) in
     let n = ne-eqb (validUpTo t) (length t) (λ e. omega arith) in
     answers (ap (λ (n : ℕ). Refused (NotWellFormed n)) (v .ensures)
     ∙ sym (ap checked (intake-is t (x .policy .now) (le-leb (length t) 16777216 (omega arith)) p n)))
@@ -44,7 +45,8 @@ returns-4 c =
     let x = c .before .before .before .before .before .before .before .args in
     let t = x .text .now in
     let v = c .before .valid-up-to in
-    let p = sym (c .before .before .before .is-policy .ensures) ∙ not-false (c .before .before .before .is-policy .result) (c .before .before .if2 .left) in
+    let p = sym (c .before .before .before .is-policy .ensures)
+    ∙ not-false (c .before .before .before .is-policy .result) (c .before .before .if2 .left) in
     let n = eq-eqb (validUpTo t) (length t) (omega arith) in
     answers (sym (ap checked (intake-is t (x .policy .now) (le-leb (length t) 16777216 (omega arith)) p n)))
 

@@ -17,28 +17,35 @@ returns c =
     let x = c .before .before .before .before .before .before .args in
     let t = x .text .now in
     let g = c .before .refusal .given in
-    ends-as (items-by t (x .table .now) (checked-refused (textRefusal t) (g .0 .0) (sym (c .before .before .before .check-text .ensures .same) ∙ g .1)))
+    ends-as (items-by t (x .table .now)
+    (checked-refused (textRefusal t) (g .0 .0) (sym (c .before .before .before .check-text .ensures .same) ∙ g .1)))
 
 returns-2 : tie.Need-returns-2
 returns-2 c =
     let x = c .before .before .before .before .before .before .before .args in
     let t = x .text .now in
-    let e = checked-passed (textRefusal t) (sym (c .before .before .before .before .check-text .ensures .same) ∙ c .before .before .enum-told .given .1) in
+    let e = checked-passed (textRefusal t)
+    (sym (c .before .before .before .before .check-text .ensures .same) ∙ c .before .before .enum-told .given .1) in
     let n = c .before .count-items .ensures in
-    ends-as (rows-refused itemNumbers itemBytes length-item (omega arith) (scan t) (x .table .now) n (omega arith) ∙ items-by t (x .table .now) e)
+    ends-as (rows-refused itemNumbers itemBytes length-item (omega arith) (scan t) (x .table .now) n (omega arith)
+    ∙ items-by t (x .table .now) e)
 
 put-items-requires : tie.Need-put-items-requires
 put-items-requires c κs =
     let x = c .before .before .before .before .before .before .before .before .args in
-    rows-room itemNumbers itemBytes length-item (omega arith) (scan (x .text .now)) (x .table .now) (c .before .before .count-items .ensures) (omega arith)
+    rows-room itemNumbers itemBytes length-item (omega arith) (scan (x .text .now)) (x .table .now)
+    (c .before .before .count-items .ensures) (omega arith)
 
 returns-3 : tie.Need-returns-3
 returns-3 c =
     let x = c .before .before .before .before .before .before .before .before .before .before .before .args in
     let t = x .text .now in
-    let e = checked-passed (textRefusal t) (sym (c .before .before .before .before .before .before .before .before .check-text .ensures .same) ∙ c .before .before .before .before .before .before .enum-told .given .1) in
+    let e = checked-passed (textRefusal t)
+    (sym (c .before .before .before .before .before .before .before .before .check-text .ensures .same)
+    ∙ c .before .before .before .before .before .before .enum-told .given .1) in
     let n = c .before .before .before .before .before .count-items .ensures in
-    ends-as (rows-written itemNumbers itemBytes length-item (omega arith) (scan t) (x .table .now) n (omega arith) (c .before .before .put-items .ensures) ∙ items-by t (x .table .now) e)
+    ends-as (rows-written itemNumbers itemBytes length-item (omega arith) (scan t) (x .table .now) n (omega arith)
+    (c .before .before .put-items .ensures) ∙ items-by t (x .table .now) e)
 
 pub list-items-spec : {M : Type 1} → statement M
 list-items-spec =

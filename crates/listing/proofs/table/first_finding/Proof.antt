@@ -33,7 +33,8 @@ loop-less : tie.Need-loop-less Inv-loop μ-loop
 loop-less c =
     let x = c .before .before .before .before .before .before .args in
     let l = c .before .before .before .before .loop in
-    let s = analysis-says (x .policy) (x .text .now) (l .at) (sym (c .before .end .given .1) ∙ c .before .before .before .analyze-scan-item .ensures) in
+    let s = analysis-says (x .policy) (x .text .now) (l .at)
+    (sym (c .before .end .given .1) ∙ c .before .before .before .analyze-scan-item .ensures) in
     omega arith
 
 loop-again : tie.Need-loop-again Inv-loop μ-loop
@@ -41,7 +42,8 @@ loop-again c =
     let x = c .before .before .before .before .before .before .args in
     let l = c .before .before .before .before .loop in
     let p = x .policy in
-    let s = analysis-says p (x .text .now) (l .at) (sym (c .before .end .given .1) ∙ c .before .before .before .analyze-scan-item .ensures) in
+    let s = analysis-says p (x .text .now) (l .at)
+    (sym (c .before .end .given .1) ∙ c .before .before .before .analyze-scan-item .ensures) in
     l .inv ∙ ap (map (findingRow p)) (s .1)
 
 returns-2 : tie.Need-returns-2 Inv-loop μ-loop

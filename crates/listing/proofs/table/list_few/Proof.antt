@@ -18,11 +18,68 @@ use prog.Wp.{Heap, Env, Calls, Loops, WpFn, Tables}
 use ghost.Atoms.{Atoms, sem}
 use contract.Monad.{Fun, fact}
 use contract.Running.{givenOf, tables, tablesOf}
-use types.Kit.{Given, ‵, raw, some, later, runs, atRet, Sq, _⊛_, ⋆, _$_, _∵_, !, qed, by, move, keep, drop, use1, use2, use3, split, join, pick, rewrite, fsplit, fjoin, fpick, fpack, suffices, frame, await, done}
+use types.Kit.{
+  Given,
+  ‵,
+  raw,
+  some,
+  later,
+  runs,
+  atRet,
+  Sq,
+  _⊛_,
+  ⋆,
+  _$_,
+  _∵_,
+  !,
+  qed,
+  by,
+  move,
+  keep,
+  drop,
+  use1,
+  use2,
+  use3,
+  split,
+  join,
+  pick,
+  rewrite,
+  fsplit,
+  fjoin,
+  fpick,
+  fpack,
+  suffices,
+  frame,
+  await,
+  done,
+}
 use types.Tokens.{lft-new, lft-end}
 use types.SemTy.{Arr, cells}
 use types.Share.{arr-parts}
-use types.Run.{look, init, forget, stop, from, load, lit, of-opd, addr, and-then, no-more, assigns, land, returns, enter, alloc1, alloc0, params1, pass1, pass0, free1, free0}
+use types.Run.{
+  look,
+  init,
+  forget,
+  stop,
+  from,
+  load,
+  lit,
+  of-opd,
+  addr,
+  and-then,
+  no-more,
+  assigns,
+  land,
+  returns,
+  enter,
+  alloc1,
+  alloc0,
+  params1,
+  pass1,
+  pass0,
+  free1,
+  free0,
+}
 use types.Part.{agg, rep}
 use sound.WpLaws.{fmOf, WpFn-mono}
 use denote.RattleType.{RattleType, owns}
@@ -116,13 +173,15 @@ module _ {M : Type 1} (𝓤 : URA M) (H : Heap 𝓤) (A : Atoms 𝓤) (mem : Mem
   Few = tripleOf 𝓤 H A few-findings.signature (few-findings.spec 𝓤 H A mem run)
 
 -- What is known of the three at the tables.
-record Known {M : Type 1} (𝓤 : URA M) (H : Heap 𝓤) (A : Atoms 𝓤) (mem : Memory → SProp 𝓤) (run : Routine → Fun 𝓤) (C : Calls 𝓤 H) : Type 1 where
+record Known {M : Type 1} (𝓤 : URA M) (H : Heap 𝓤) (A : Atoms 𝓤) (mem : Memory → SProp 𝓤) (run : Routine → Fun 𝓤)
+    (C : Calls 𝓤 H) : Type 1 where
   pub of-none : Triple 𝓤 (C #no-finding) (NoFinding 𝓤 H A mem run)
   pub of-list : Triple 𝓤 (C #list-into-table) (Listing 𝓤 H A mem run)
   pub of-few : Triple 𝓤 (C #few-findings) (Few 𝓤 H A mem run)
 
 -- The outcome of listing into eight places, handed on.
-outcome : (text policy : List ℕ) {r : ListAnswer} {zs : List Finding} → record { answer = r; buffer = zs } ≡ list text policy (replicate 8 (noFinding 0))
+outcome : (text policy : List ℕ) {r : ListAnswer} {zs : List Finding} → record { answer = r; buffer = zs }
+    ≡ list text policy (replicate 8 (noFinding 0))
     → record { answer = r; findings = zs } ≡ fewFindings text policy
 unfolding fewFindings
 outcome text policy e =
@@ -135,7 +194,8 @@ room8 = (lit< tt, lit< tt)
 
 module _ {M : Type 1} (𝓤 : URA M) (H : Heap 𝓤) (A : Atoms 𝓤) (W : Given 𝓤 H A) where
   -- An array that was written whole is a row of findings, which can be lent as a table.
-  in-cells : (l : ℕ) (xs : List Finding) (v : Val) → ent 𝓤 (sep 𝓤 (sem 𝓤 H A (fat fullShare arrayTy l 0 v)) (sem 𝓤 H A (Eight .own xs (v ∷ [])))) (sem 𝓤 H A (cells (inMemory R) xs l 0))
+  in-cells : (l : ℕ) (xs : List Finding) (v : Val)
+      → ent 𝓤 (sep 𝓤 (sem 𝓤 H A (fat fullShare arrayTy l 0 v)) (sem 𝓤 H A (Eight .own xs (v ∷ [])))) (sem 𝓤 H A (cells (inMemory R) xs l 0))
   unfolding partOf
   in-cells l xs v =
       qed W (‵ (fat fullShare arrayTy l 0 v) ∷ ‵ (Eight .own xs (v ∷ [])) ∷ []) ∵
@@ -145,13 +205,15 @@ module _ {M : Type 1} (𝓤 : URA M) (H : Heap 𝓤) (A : Atoms 𝓤) (W : Given
       fsplit ! $ drop ! $ by ! (whole-in 𝓤 H A W R xs l 0)
 
   -- And back.
-  whole-array : (l : ℕ) (xs : List Finding) → ent 𝓤 (sem 𝓤 H A (Arr (inMemory R) 8 .lies xs l 0)) (sem 𝓤 H A (partAt Eight fullShare xs l 0))
+  whole-array : (l : ℕ) (xs : List Finding)
+      → ent 𝓤 (sem 𝓤 H A (Arr (inMemory R) 8 .lies xs l 0)) (sem 𝓤 H A (partAt Eight fullShare xs l 0))
   whole-array l xs =
       qed W (‵ (Arr (inMemory R) 8 .lies xs l 0) ∷ []) ∵ fsplit ! $ move ! (1 ∷ []) $
       use1 W (‵ (row R fullShare xs l 0)) (whole-out 𝓤 H A W R xs l 0) $ move ! (1 ∷ 0 ∷ []) $ fjoin ! $
       by ! (array-whole 𝓤 H A W R fullShare 8 xs l 0)
 
-module _ {M : Type 1} (𝓤 : URA M) (H : Heap 𝓤) (A : Atoms 𝓤) (W : Given 𝓤 H A) (mem : Memory → SProp 𝓤) (run : Routine → Fun 𝓤) (κ₀ κ₁ : Lft) (q₀ q₁ : Share) (x z : RefT (List ℕ)) where
+module _ {M : Type 1} (𝓤 : URA M) (H : Heap 𝓤) (A : Atoms 𝓤) (W : Given 𝓤 H A) (mem : Memory → SProp 𝓤) (run : Routine → Fun 𝓤)
+    (κ₀ κ₁ : Lft) (q₀ q₁ : Share) (x z : RefT (List ℕ)) where
   abbrev Arg : Type 0
   Arg = RefT (List ℕ) × (RefT (List ℕ) × Unit {0})
 
@@ -182,7 +244,8 @@ module _ {M : Type 1} (𝓤 : URA M) (H : Heap 𝓤) (A : Atoms 𝓤) (W : Given
       → ent 𝓤 (⋆ 𝓤 H A (‵ (F.the-row .own r (v ∷ [])) ∷ (‵ (flft κ₀ q₀) ⊛ ‵ (flft κ₁ q₁) ⊛ ‵ ftrue) ∷ ‵ TO ∷ ‵ PO ∷ [])) (Post v)
   exits r v e =
       qed W (‵ (F.the-row .own r (v ∷ [])) ∷ (‵ (flft κ₀ q₀) ⊛ ‵ (flft κ₁ q₁) ⊛ ‵ ftrue) ∷ ‵ TO ∷ ‵ PO ∷ []) ∵
-      suffices ! _ (ends-at 𝓤 H A few.ended stayed (few.clauses 𝓤 H A mem run) W (((κ₀, (κ₁, tt)), (q₀, (q₁, tt)), tt, a, vals), tt) v r (tt, (tt, tt)) (tt, (tt, tt))) $
+      suffices ! _ (ends-at 𝓤 H A few.ended stayed (few.clauses 𝓤 H A mem run) W (((κ₀, (κ₁, tt)), (q₀, (q₁, tt)), tt, a, vals), tt) v r
+      (tt, (tt, tt)) (tt, (tt, tt))) $
       says ! e $
       move ! (1 ∷ []) $ frame ! $ nothing ! $ move ! (3 ∷ 0 ∷ []) $ fjoin ! $ move ! (2 ∷ 0 ∷ []) $ fjoin ! $ frame ! $
       done !
@@ -194,7 +257,8 @@ module _ {M : Type 1} (𝓤 : URA M) (H : Heap 𝓤) (A : Atoms 𝓤) (W : Given
   asked-none : ent 𝓤 (onEntry 𝓤 H A no-finding.signature tt tt (0, tt) (vint w64 0 ∷ [], tt)) (NoFinding 𝓤 H A mem run .pre to-none)
   asked-none = qed W (‵ ftrue ∷ ‵ (owns (usize ∷ []) (0, tt) (vint w64 0 ∷ [], tt)) ∷ []) ∵ join ! $ frame ! $ done !
 
-  said-none : (r : Finding) → ent 𝓤 (ensured 𝓤 H A no-finding.ended (no-finding.clauses 𝓤 H A mem run) tt (0, tt) tt r) (fact 𝓤 (r ≡ noFinding 0))
+  said-none : (r : Finding) → ent 𝓤 (ensured 𝓤 H A no-finding.ended (no-finding.clauses 𝓤 H A mem run) tt (0, tt) tt r)
+      (fact 𝓤 (r ≡ noFinding 0))
   said-none r = exE 𝓤 _ (λ ws. snd∗ 𝓤 (sem 𝓤 H A (lasts no-finding.ended tt (0, tt) ws)) (fact 𝓤 (r ≡ noFinding 0)))
 
   -- `list_into_table`, on the table of eight places at l under the name γ, for the lifetime α.
@@ -208,9 +272,12 @@ module _ {M : Type 1} (𝓤 : URA M) (H : Heap 𝓤) (A : Atoms 𝓤) (W : Given
     abbrev to-list : Listing 𝓤 H A mem run .Ghost
     to-list = (((κ₀, (κ₁, (α ∷ [], tt))), (q₀, (q₁, (fullShare, tt))), tt, (x, (z, (table, tt))), passed-list), tt)
 
-    asked-list : ent 𝓤 (onEntry 𝓤 H A listing.signature (κ₀, (κ₁, (α ∷ [], tt))) (q₀, (q₁, (fullShare, tt))) (x, (z, (table, tt))) passed-list) (Listing 𝓤 H A mem run .pre to-list)
+    asked-list : ent 𝓤 (onEntry 𝓤 H A listing.signature (κ₀, (κ₁, (α ∷ [], tt))) (q₀, (q₁, (fullShare, tt)))
+        (x, (z, (table, tt))) passed-list) (Listing 𝓤 H A mem run .pre to-list)
     asked-list =
-        qed W ((‵ (flft κ₀ q₀) ⊛ ‵ (flft κ₁ q₁) ⊛ ‵ (flft (α ∷ []) fullShare) ⊛ ‵ ftrue) ∷ ‵ (owns (ShrSlice (named 0) κ₀ u8 ∷ ShrSlice (named 1) κ₁ u8 ∷ MutSlice (named 2) (α ∷ []) R ∷ []) (x, (z, (table, tt))) passed-list) ∷ []) ∵
+        qed W ((‵ (flft κ₀ q₀) ⊛ ‵ (flft κ₁ q₁) ⊛ ‵ (flft (α ∷ []) fullShare) ⊛ ‵ ftrue) ∷ ‵
+        (owns (ShrSlice (named 0) κ₀ u8 ∷ ShrSlice (named 1) κ₁ u8 ∷ MutSlice (named 2) (α ∷ []) R ∷ [])
+        (x, (z, (table, tt))) passed-list) ∷ []) ∵
         join ! $ frame ! $ done !
 
   -- `few_findings`, of an answer and a table of eight places at their machine values.
@@ -223,8 +290,10 @@ module _ {M : Type 1} (𝓤 : URA M) (H : Heap 𝓤) (A : Atoms 𝓤) (W : Given
         qed W (‵ ftrue ∷ ‵ (owns (E.the-row ∷ Eight ∷ []) (r, (zs, tt)) (rv ∷ [], (zv ∷ [], tt))) ∷ []) ∵ join ! $
         frame ! $ done !
 
-    said-few : (d : FewFindings) → ent 𝓤 (ensured 𝓤 H A few-findings.ended (few-findings.clauses 𝓤 H A mem run) tt (r, (zs, tt)) tt d) (fact 𝓤 (d ≡ record { answer = r; findings = zs }))
-    said-few d = exE 𝓤 _ (λ ws. snd∗ 𝓤 (sem 𝓤 H A (lasts few-findings.ended tt (r, (zs, tt)) ws)) (fact 𝓤 (d ≡ record { answer = r; findings = zs })))
+    said-few : (d : FewFindings) → ent 𝓤 (ensured 𝓤 H A few-findings.ended (few-findings.clauses 𝓤 H A mem run) tt (r, (zs, tt)) tt d)
+        (fact 𝓤 (d ≡ record { answer = r; findings = zs }))
+    said-few d = exE 𝓤 _ (λ ws. snd∗ 𝓤 (sem 𝓤 H A (lasts few-findings.ended tt (r, (zs, tt)) ws))
+        (fact 𝓤 (d ≡ record { answer = r; findings = zs })))
 
   module _ (𝓣 : Tables 𝓤 H) (known : Known 𝓤 H A mem run (𝓣 .C)) (l₀ l₁ l₂ l₃ l₄ l₅ l₆ l₇ l₈ : ℕ) where
     abbrev C : Calls 𝓤 H
@@ -234,10 +303,12 @@ module _ {M : Type 1} (𝓤 : URA M) (H : Heap 𝓤) (A : Atoms 𝓤) (W : Given
     Λ = 𝓣 .Λ
 
     abbrev En : Env 𝓤 H
-    En = (F′.mir, l₀) ∷ (textTy, l₁) ∷ (policyTy, l₂) ∷ (arrayTy, l₃) ∷ (E′.mir, l₄) ∷ (T′.mir, l₅) ∷ (refTy, l₆) ∷ (tableTy, l₇) ∷ (arrayTy, l₈) ∷ []
+    En = (F′.mir, l₀) ∷ (textTy, l₁) ∷ (policyTy, l₂) ∷ (arrayTy, l₃) ∷ (E′.mir, l₄) ∷ (T′.mir, l₅) ∷ (refTy, l₆) ∷ (tableTy, l₇)
+        ∷ (arrayTy, l₈) ∷ []
 
     -- the array is the function's own again: it is handed on, and the frame is released
-    hands-on : (r : ListAnswer) (zs : List Finding) (w u : Val) → record { answer = r; buffer = zs } ≡ list (x .now) (z .now) (replicate 8 (noFinding 0))
+    hands-on : (r : ListAnswer) (zs : List Finding) (w u : Val) → record { answer = r; buffer = zs }
+        ≡ list (x .now) (z .now) (replicate 8 (noFinding 0))
         → Sq W (‵ (E.the-row .own r (w ∷ []))
         ∷ ‵ (Arr (inMemory R) 8 .lies zs l₃ 0) ∷ (‵ (flft κ₀ q₀) ⊛ ‵ (flft κ₁ q₁) ⊛ ‵ ftrue) ∷ ‵ TO ∷ ‵ PO
         ∷ ‵ (froom arrayTy l₈ 0) ∷ ‵ (fdies arrayTy l₈) ∷ ‵ (fat fullShare tableTy l₇ 0 (sliceVal (l₃, 0) 8))
@@ -255,12 +326,17 @@ module _ {M : Type 1} (𝓤 : URA M) (H : Heap 𝓤) (A : Atoms 𝓤) (W : Given
         rewrite ! 1 (λ (us : List Val). ‵ (cellAt fullShare (Eight .mir) us l₃ 0)) (told vs is) refl $
         move ! (1 ∷ []) $ use1 W (‵ (fat fullShare arrayTy l₃ 0 zv)) (W .laws .raw-at fullShare arrayTy l₃ 0 zv) $
         -- [_3; what the array owns; the answer's; the tokens; the text's; the policy's; _8; …; _4; …; _3's end; _2; …; _0; …]
-        assigns ! (of-opd ! (load ! (from ! (stop !)) (look ! 0 refl))) (from ! (stop !)) (init ! 6 refl (array-lawful 𝓤 H A W R (LL.lawful T.the-type T′.the-laws 𝓤 H A W) 8 .typed zs _ (subst (Is Eight zs) (told vs is) is) .0)) $
+        assigns ! (of-opd ! (load ! (from ! (stop !)) (look ! 0 refl))) (from ! (stop !))
+        (init ! 6 refl (array-lawful 𝓤 H A W R (LL.lawful T.the-type T′.the-laws 𝓤 H A W) 8 .typed zs _
+        (subst (Is Eight zs) (told vs is) is) .0)) $
         nothing ! $ move ! (2 ∷ 0 ∷ []) $ fjoin ! $ move ! (2 ∷ 0 ∷ []) $ fjoin ! $ nothing ! $
         use2 W (raw (Few 𝓤 H A mem run .pre (to-few r zs w zv))) (asked-few r zs w zv) $
         -- [the callee's pre; _3; the tokens; the text's; the policy's; _8; …; _4; …; _3's end; _2; …; _0; …]
-        calls-at ! (fmOf 𝓤 H (W .laws) 𝓣) (Few 𝓤 H A mem run) (known .of-few) (to-few r zs w zv) (and-then ! (load ! (from ! (stop !)) (look ! 13 refl)) (and-then ! (load ! (from ! (stop !)) (look ! 5 refl)) (no-more !))) (λ v.
-        use1 W (later (some (λ (d : FewFindings). (‵ ftrue ⊛ ‵ (F.the-row .own d (v ∷ []))) ⊛ raw (ensured 𝓤 H A few-findings.ended (few-findings.clauses 𝓤 H A mem run) tt (r, (zs, tt)) tt d)))) (id⊢ 𝓤 _) $
+        calls-at ! (fmOf 𝓤 H (W .laws) 𝓣) (Few 𝓤 H A mem run) (known .of-few) (to-few r zs w zv)
+        (and-then ! (load ! (from ! (stop !)) (look ! 13 refl)) (and-then ! (load ! (from ! (stop !)) (look ! 5 refl)) (no-more !)))
+        (λ v.
+        use1 W (later (some (λ (d : FewFindings). (‵ ftrue ⊛ ‵ (F.the-row .own d (v ∷ []))) ⊛ raw
+        (ensured 𝓤 H A few-findings.ended (few-findings.clauses 𝓤 H A mem run) tt (r, (zs, tt)) tt d)))) (id⊢ 𝓤 _) $
         await ! tt $ pick ! (λ d.
         split ! $ move ! (1 ∷ []) $
         use1 W (raw (fact 𝓤 (d ≡ record { answer = r; findings = zs }))) (said-few r zs w zv d) $
@@ -289,18 +365,23 @@ module _ {M : Type 1} (𝓤 : URA M) (H : Heap 𝓤) (A : Atoms 𝓤) (W : Given
         ∷ ‵ (froom E′.mir l₄ 0) ∷ ‵ (fdies E′.mir l₄)
         ∷ ‵ (froom arrayTy l₃ 0) ∷ ‵ (fdies arrayTy l₃) ∷ ‵ (fat fullShare policyTy l₂ 0 pv) ∷ ‵ (fdies policyTy l₂)
         ∷ ‵ (fat fullShare textTy l₁ 0 tv) ∷ ‵ (fdies textTy l₁) ∷ ‵ (froom F′.mir l₀ 0) ∷ ‵ (fdies F′.mir l₀)
-        ∷ (‵ (flft κ₀ q₀) ⊛ ‵ (flft κ₁ q₁) ⊛ ‵ ftrue) ∷ ‵ (owns (ShrSlice (named 0) κ₀ u8 ∷ ShrSlice (named 1) κ₁ u8 ∷ []) a vals) ∷ []) (runs C Λ En code.Mir.t-2 (atRet En Post))
+        ∷ (‵ (flft κ₀ q₀) ⊛ ‵ (flft κ₁ q₁) ⊛ ‵ ftrue) ∷ ‵ (owns (ShrSlice (named 0) κ₀ u8 ∷ ShrSlice (named 1) κ₁ u8 ∷ []) a vals) ∷ [])
+        (runs C Λ En code.Mir.t-2 (atRet En Post))
     lends r₀ u none =
         peeks ! Eight (Is Eight) (shows 𝓤 H A Eight) (replicate 8 r₀) (arrayVal (replicate 8 u) ∷ []) (λ is.
-        assigns ! (rep ! 8 (load ! (from ! (stop !)) (look ! 8 refl))) (from ! (stop !)) (init ! 12 refl (array-lawful 𝓤 H A W R (LL.lawful T.the-type T′.the-laws 𝓤 H A W) 8 .typed (replicate 8 r₀) _ is .0)) $
+        assigns ! (rep ! 8 (load ! (from ! (stop !)) (look ! 8 refl))) (from ! (stop !))
+        (init ! 12 refl (array-lawful 𝓤 H A W R (LL.lawful T.the-type T′.the-laws 𝓤 H A W) 8 .typed (replicate 8 r₀) _ is .0)) $
         assigns ! (addr ! (from ! (stop !))) (from ! (stop !)) (init ! 6 refl (tt, tt)) $
-        assigns ! (agg ! (and-then ! (load ! (from ! (stop !)) (look ! 6 refl)) (and-then ! (lit ! tt) (no-more !)))) (from ! (stop !)) (init ! 4 refl (tt, (tt, (record { fits = lit< tt }, tt)))) $
+        assigns ! (agg ! (and-then ! (load ! (from ! (stop !)) (look ! 6 refl)) (and-then ! (lit ! tt) (no-more !)))) (from ! (stop !))
+        (init ! 4 refl (tt, (tt, (record { fits = lit< tt }, tt)))) $
         move ! (12 ∷ 0 ∷ []) $
         use2 W (‵ (cells (inMemory R) (replicate 8 r₀) l₃ 0)) (in-cells 𝓤 H A W l₃ (replicate 8 r₀) (arrayVal (replicate 8 u))) $
         lft-new ! tt (λ α. move ! (1 ∷ []) $
-        use1 W (later (some (λ (γ : GName). ‵ (MutSlice (named 2) (α ∷ []) R .own (table r₀ l₃ α γ) (sliceVal (l₃, 0) 8 ∷ [])) ⊛ ‵ (flent (α ∷ []) (Held R 8 l₃ 0 γ))))) (lends-slice 𝓤 H A W R (named 2) (α ∷ []) (replicate 8 r₀) l₃ 0 room8) $
+        use1 W (later (some (λ (γ : GName). ‵ (MutSlice (named 2) (α ∷ []) R .own (table r₀ l₃ α γ) (sliceVal (l₃, 0) 8 ∷ [])) ⊛ ‵
+        (flent (α ∷ []) (Held R 8 l₃ 0 γ))))) (lends-slice 𝓤 H A W R (named 2) (α ∷ []) (replicate 8 r₀) l₃ 0 room8) $
         await ! tt $ pick ! (λ γ. split ! $
-        -- [the table's; the lender's; the lifetime's token; true; _8; …; _4; …; _3's end; _2; …; _0; …; the tokens; what the parameters own]
+        -- [the table's; the lender's; the lifetime's token; true; _8; …; _4; …; _3's end; _2; …; _0; …; the tokens; what the parameters
+        -- own]
         move ! (22 ∷ []) $ fsplit ! $ move ! (1 ∷ []) $ fsplit ! $ move ! (3 ∷ 1 ∷ []) $ fjoin ! $
         move ! (1 ∷ []) $ use1 W (‵ PO ⊛ ‵ PO) (shr-slice-copy 𝓤 H A W (named 1) κ₁ u8 .twice z (pv ∷ [])) $ split ! $
         move ! (0 ∷ 2 ∷ []) $ fjoin ! $
@@ -311,11 +392,19 @@ module _ {M : Type 1} (𝓤 : URA M) (H : Heap 𝓤) (A : Atoms 𝓤) (W : Given
         join ! $ move ! (1 ∷ 0 ∷ []) $ join ! $
         use2 W (raw (Listing 𝓤 H A mem run .pre (to-list r₀ l₃ α γ))) (asked-list r₀ l₃ α γ) $
         -- [the callee's pre; the text's; the policy's; the lender's; true; _8; …; _0; …]
-        calls-at ! (fmOf 𝓤 H (W .laws) 𝓣) (Listing 𝓤 H A mem run) (known .of-list) (to-list r₀ l₃ α γ) (and-then ! (load ! (from ! (stop !)) (look ! 18 refl)) (and-then ! (load ! (from ! (stop !)) (look ! 16 refl)) (and-then ! (load ! (from ! (stop !)) (look ! 7 refl)) (no-more !)))) (λ w.
-        use1 W (later (some (λ (r : ListAnswer). ((‵ (flft κ₀ q₀) ⊛ ‵ (flft κ₁ q₁) ⊛ ‵ (flft (α ∷ []) fullShare) ⊛ ‵ ftrue) ⊛ ‵ (E.the-row .own r (w ∷ []))) ⊛ raw (ensured 𝓤 H A listing.ended (listing.clauses 𝓤 H A mem run) (κ₀, (κ₁, (α ∷ [], tt))) (x, (z, (table r₀ l₃ α γ, tt))) tt r)))) (id⊢ 𝓤 _) $
+        calls-at ! (fmOf 𝓤 H (W .laws) 𝓣) (Listing 𝓤 H A mem run) (known .of-list) (to-list r₀ l₃ α γ)
+        (and-then ! (load ! (from ! (stop !)) (look ! 18 refl))
+        (and-then ! (load ! (from ! (stop !)) (look ! 16 refl)) (and-then ! (load ! (from ! (stop !)) (look ! 7 refl)) (no-more !))))
+        (λ w.
+        use1 W (later (some (λ (r : ListAnswer).
+        ((‵ (flft κ₀ q₀) ⊛ ‵ (flft κ₁ q₁) ⊛ ‵ (flft (α ∷ []) fullShare) ⊛ ‵ ftrue) ⊛ ‵ (E.the-row .own r (w ∷ []))) ⊛ raw
+        (ensured 𝓤 H A listing.ended (listing.clauses 𝓤 H A mem run) (κ₀, (κ₁, (α ∷ [], tt))) (x, (z, (table r₀ l₃ α γ, tt))) tt r))))
+        (id⊢ 𝓤 _) $
         await ! tt $ pick ! (λ r.
         split ! $ move ! (1 ∷ []) $
-        use1 W (some (λ (zs : Unit {0} × (Unit {0} × (List Finding × Unit {0}))). ‵ (lasts listing.ended (κ₀, (κ₁, (α ∷ [], tt))) (x, (z, (table r₀ l₃ α γ, tt))) zs) ⊛ raw (fact 𝓤 (EndsAs listRow (list (x .now) (z .now) (replicate 8 r₀)) r (zs .1 .1 .0))))) (id⊢ 𝓤 _) $
+        use1 W (some (λ (zs : Unit {0} × (Unit {0} × (List Finding × Unit {0}))). ‵
+        (lasts listing.ended (κ₀, (κ₁, (α ∷ [], tt))) (x, (z, (table r₀ l₃ α γ, tt))) zs) ⊛ raw
+        (fact 𝓤 (EndsAs listRow (list (x .now) (z .now) (replicate 8 r₀)) r (zs .1 .1 .0))))) (id⊢ 𝓤 _) $
         pick ! (λ zs.
         split ! $ move ! (1 ∷ []) $
         heard ! (EndsAs listRow (list (x .now) (z .now) (replicate 8 r₀)) r (zs .1 .1 .0)) (λ told. let e = whole told in
@@ -335,9 +424,11 @@ module _ {M : Type 1} (𝓤 : URA M) (H : Heap 𝓤) (A : Atoms 𝓤) (W : Given
   walk : (𝓣 : Tables 𝓤 H) → Known 𝓤 H A mem run (𝓣 .C) → length (x .now) < 2 ^ 64 → length (z .now) < 2 ^ 64
       → ent 𝓤 (onEntry 𝓤 H A few.signature (κ₀, (κ₁, tt)) (q₀, (q₁, tt)) a vals) (WpFn 𝓤 H (𝓣 .C) (𝓣 .Λ) code.function (tv ∷ pv ∷ []) Post)
   walk 𝓣 known gt gp =
-      qed W ((‵ (flft κ₀ q₀) ⊛ ‵ (flft κ₁ q₁) ⊛ ‵ ftrue) ∷ ‵ (owns (ShrSlice (named 0) κ₀ u8 ∷ ShrSlice (named 1) κ₁ u8 ∷ []) a vals) ∷ []) ∵
+      qed W ((‵ (flft κ₀ q₀) ⊛ ‵ (flft κ₁ q₁) ⊛ ‵ ftrue) ∷ ‵ (owns (ShrSlice (named 0) κ₀ u8 ∷ ShrSlice (named 1) κ₁ u8 ∷ []) a vals) ∷ [])
+      ∵
       enter ! (𝓣 .C) (𝓣 .Λ) code.function (tv ∷ pv ∷ []) _ $
-      alloc1 ! (λ l₀. alloc1 ! (λ l₁. alloc1 ! (λ l₂. alloc1 ! (λ l₃. alloc1 ! (λ l₄. alloc1 ! (λ l₅. alloc1 ! (λ l₆. alloc1 ! (λ l₇. alloc1 ! (λ l₈. alloc0 ! $
+      alloc1 ! (λ l₀. alloc1 ! (λ l₁. alloc1 !
+      (λ l₂. alloc1 ! (λ l₃. alloc1 ! (λ l₄. alloc1 ! (λ l₅. alloc1 ! (λ l₆. alloc1 ! (λ l₇. alloc1 ! (λ l₈. alloc0 ! $
       params1 ! $
       pass1 ! (init ! 14 refl (tt, (tt, (record { fits = gt }, tt)))) $
       pass1 ! (init ! 12 refl (tt, (tt, (record { fits = gp }, tt)))) $ pass0 ! $
@@ -345,26 +436,33 @@ module _ {M : Type 1} (𝓤 : URA M) (H : Heap 𝓤) (A : Atoms 𝓤) (W : Given
       nothing ! $ owned ! usize (Is usize) (uint-makes 𝓤 H A W w64) 0 _ (refl, lit< tt) $ fjoin ! $ nothing ! $
       use2 W (raw (NoFinding 𝓤 H A mem run .pre to-none)) asked-none $
       calls-at ! (fmOf 𝓤 H (W .laws) 𝓣) (NoFinding 𝓤 H A mem run) (known .of-none) to-none (and-then ! (lit ! tt) (no-more !)) (λ u.
-      use1 W (later (some (λ (r : Finding). (‵ ftrue ⊛ ‵ (R .own r (u ∷ []))) ⊛ raw (ensured 𝓤 H A no-finding.ended (no-finding.clauses 𝓤 H A mem run) tt (0, tt) tt r)))) (id⊢ 𝓤 _) $
+      use1 W (later (some (λ (r : Finding). (‵ ftrue ⊛ ‵ (R .own r (u ∷ []))) ⊛ raw
+      (ensured 𝓤 H A no-finding.ended (no-finding.clauses 𝓤 H A mem run) tt (0, tt) tt r)))) (id⊢ 𝓤 _) $
       await ! tt $ pick ! (λ r.
       split ! $ move ! (1 ∷ []) $ use1 W (raw (fact 𝓤 (r ≡ noFinding 0))) (said-none r) $
       heard ! (r ≡ noFinding 0) (λ e. split ! $ move ! (1 ∷ []) $
-      peeks ! R (Is R) (shows 𝓤 H A R) r (u ∷ []) (λ is. land ! (from ! (stop !)) (init ! 8 refl (LL.lawful T.the-type T′.the-laws 𝓤 H A W .typed r _ is .0)) $
-      use1 W (‵ (Eight .own (replicate 8 r) (arrayVal (replicate 8 u) ∷ []))) (array-repeat 𝓤 H A W R (LL.copy T.the-type T′.the-copy 𝓤 H A W) 8 r u) $
+      peeks ! R (Is R) (shows 𝓤 H A R) r (u ∷ [])
+      (λ is. land ! (from ! (stop !)) (init ! 8 refl (LL.lawful T.the-type T′.the-laws 𝓤 H A W .typed r _ is .0)) $
+      use1 W (‵ (Eight .own (replicate 8 r) (arrayVal (replicate 8 u) ∷ [])))
+      (array-repeat 𝓤 H A W R (LL.copy T.the-type T′.the-copy 𝓤 H A W) 8 r u) $
       lends 𝓣 known l₀ l₁ l₂ l₃ l₄ l₅ l₆ l₇ l₈ r u e)))))))))))))
 
 module _ {M : Type 1} (𝓤 : URA M) (H : Heap 𝓤) (A : Atoms 𝓤) (W : Given 𝓤 H A) (mem : Memory → SProp 𝓤) (run : Routine → Fun 𝓤) where
-  list-few-walks : (𝓣 : Tables 𝓤 H) → Known 𝓤 H A mem run (𝓣 .C) → Walks 𝓤 H A few.ended stayed (WpFn 𝓤 H (𝓣 .C) (𝓣 .Λ) code.function) (few.clauses 𝓤 H A mem run)
+  list-few-walks : (𝓣 : Tables 𝓤 H) → Known 𝓤 H A mem run (𝓣 .C) → Walks 𝓤 H A few.ended stayed (WpFn 𝓤 H (𝓣 .C) (𝓣 .Λ) code.function)
+      (few.clauses 𝓤 H A mem run)
   list-few-walks 𝓣 known = walked 𝓤 H A few.ended stayed (few.clauses 𝓤 H A mem run) (WpFn 𝓤 H (𝓣 .C) (𝓣 .Λ) code.function)
       (λ κs. (slice-vals, (slice-vals, tt))) (λ κs. (shr-slice-tells (named 0) (κs .0) u8, (shr-slice-tells (named 1) (κs .1 .0) u8, tt)))
       (λ κs qs bounds a g are. via 𝓤 _ (fst∗ 𝓤 _ (emp 𝓤))
       (walk 𝓤 H A W mem run (κs .0) (κs .1 .0) (qs .0) (qs .1 .0) (a .0) (a .1 .0) 𝓣 known (are .0 .0 .1 .0) (are .1 .0 .0 .1 .0)))
 
-list-few-meets : {M : Type 1} (𝓤 : URA M) (H : Heap 𝓤) (A : Atoms 𝓤) → Given 𝓤 H A → (mem : Memory → SProp 𝓤) (run : Routine → Fun 𝓤) (𝓣 : Tables 𝓤 H) → Known 𝓤 H A mem run (𝓣 .C)
+list-few-meets : {M : Type 1} (𝓤 : URA M) (H : Heap 𝓤) (A : Atoms 𝓤) → Given 𝓤 H A
+    → (mem : Memory → SProp 𝓤) (run : Routine → Fun 𝓤) (𝓣 : Tables 𝓤 H) → Known 𝓤 H A mem run (𝓣 .C)
     → Meets 𝓤 H A few.signature (WpFn 𝓤 H (𝓣 .C) (𝓣 .Λ) code.function) (few.spec 𝓤 H A mem run)
 list-few-meets 𝓤 H A W mem run 𝓣 known =
-    walk-meets 𝓤 H A few.ended stayed W (goes-none-slice 𝓤 H A W 2 (0 ∷ []) tt (plain (λ _. u8)) yes, (goes-none-slice 𝓤 H A W 2 (1 ∷ []) tt (plain (λ _. u8)) yes, tt))
-    (few.clauses 𝓤 H A mem run) (WpFn 𝓤 H (𝓣 .C) (𝓣 .Λ) code.function) (WpFn-mono 𝓤 H (W .laws) 𝓣 code.function) (list-few-walks 𝓤 H A W mem run 𝓣 known)
+    walk-meets 𝓤 H A few.ended stayed W
+    (goes-none-slice 𝓤 H A W 2 (0 ∷ []) tt (plain (λ _. u8)) yes, (goes-none-slice 𝓤 H A W 2 (1 ∷ []) tt (plain (λ _. u8)) yes, tt))
+    (few.clauses 𝓤 H A mem run) (WpFn 𝓤 H (𝓣 .C) (𝓣 .Λ) code.function) (WpFn-mono 𝓤 H (W .laws) 𝓣 code.function)
+    (list-few-walks 𝓤 H A W mem run 𝓣 known)
 
 pub list-few-spec : {M : Type 1} → stated.statement M
 unfolding code.routine tablesOf
@@ -373,7 +471,10 @@ list-few-spec 𝓤 H 𝓜 𝓖 𝓡 =
     (tables 𝓤 H 𝓜 𝓡 code.env .C) (tables 𝓤 H 𝓜 𝓡 code.env .Λ) #list-few code.function (code.unfolded 𝓤 H 𝓜 𝓡)
     (list-few-meets 𝓤 H (𝓖 .A) (givenOf 𝓤 H 𝓜 𝓖) (𝓜 .mem) (𝓡 .run) (tablesOf 𝓤 H 𝓜 (tables 𝓤 H 𝓜 𝓡 code.env))
     (record {
-      of-none = cited 𝓤 H (NoFinding 𝓤 H (𝓖 .A) (𝓜 .mem) (𝓡 .run)) 𝓜 𝓡 code.env #no-finding no-finding-def.routine code.calls-listing·table·no-finding (no-finding-thm.met 𝓤 H 𝓜 𝓖 𝓡);
-      of-list = cited 𝓤 H (Listing 𝓤 H (𝓖 .A) (𝓜 .mem) (𝓡 .run)) 𝓜 𝓡 code.env #list-into-table listing-def.routine code.calls-listing·table·list-into-table (listing-thm.met 𝓤 H 𝓜 𝓖 𝓡);
-      of-few = cited 𝓤 H (Few 𝓤 H (𝓖 .A) (𝓜 .mem) (𝓡 .run)) 𝓜 𝓡 code.env #few-findings few-findings-def.routine code.calls-listing·table·few-findings (few-findings-thm.met 𝓤 H 𝓜 𝓖 𝓡);
+      of-none = cited 𝓤 H (NoFinding 𝓤 H (𝓖 .A) (𝓜 .mem) (𝓡 .run)) 𝓜 𝓡 code.env #no-finding no-finding-def.routine
+          code.calls-listing·table·no-finding (no-finding-thm.met 𝓤 H 𝓜 𝓖 𝓡);
+      of-list = cited 𝓤 H (Listing 𝓤 H (𝓖 .A) (𝓜 .mem) (𝓡 .run)) 𝓜 𝓡 code.env #list-into-table listing-def.routine
+          code.calls-listing·table·list-into-table (listing-thm.met 𝓤 H 𝓜 𝓖 𝓡);
+      of-few = cited 𝓤 H (Few 𝓤 H (𝓖 .A) (𝓜 .mem) (𝓡 .run)) 𝓜 𝓡 code.env #few-findings few-findings-def.routine
+          code.calls-listing·table·few-findings (few-findings-thm.met 𝓤 H 𝓜 𝓖 𝓡);
     }))

@@ -1,7 +1,7 @@
 -- `listing::table::list_into_table` meets its contract: a walk of its MIR, by hand, with a loop and two calls of
 -- covered functions. A turn calls `first_finding`, opens the table's borrow, stores the finding at its place, and closes
 -- the borrow. The invariant: the table is owned with the first k findings stored, and the findings from the offset on
--- are those behind them.
+-- are those after them.
 use mathlib.Core.Path.{_≡_, refl, sym, ap, subst, _∙_}
 use mathlib.Core.Logic.{⊎-elim}
 use mathlib.Core.Bool.{Bool}
@@ -27,8 +27,76 @@ use prog.Wp.{Heap, Out, Env, afterSeq, afterBlock, afterTurn, Calls, Loops, Wp, 
 use ghost.Atoms.{Atoms, sem}
 use contract.Monad.{Fun, fact}
 use contract.Running.{givenOf, tables, tablesOf}
-use types.Kit.{Given, Item, ‵, raw, some, later, runs, anyQ, atRet, Sq, _⊛_, ⋆, _$_, _∵_, !, qed, by, move, drop, use1, use2, split, join, pick, rewrite, fsplit, fjoin, suffices, frame, await, done}
-use types.Run.{look, init, store, store-raw, forget, stop, hop, fld, from, load, lit, of-opd, bin, and-then, no-more, assigns, assigns-last, stays, leaves-loop, first, blocks, land, returns, enter, alloc1, alloc0, params1, pass1, pass0, free1, free0, exec, Below, again, loops}
+use types.Kit.{
+  Given,
+  Item,
+  ‵,
+  raw,
+  some,
+  later,
+  runs,
+  anyQ,
+  atRet,
+  Sq,
+  _⊛_,
+  ⋆,
+  _$_,
+  _∵_,
+  !,
+  qed,
+  by,
+  move,
+  drop,
+  use1,
+  use2,
+  split,
+  join,
+  pick,
+  rewrite,
+  fsplit,
+  fjoin,
+  suffices,
+  frame,
+  await,
+  done,
+}
+use types.Run.{
+  look,
+  init,
+  store,
+  store-raw,
+  forget,
+  stop,
+  hop,
+  fld,
+  from,
+  load,
+  lit,
+  of-opd,
+  bin,
+  and-then,
+  no-more,
+  assigns,
+  assigns-last,
+  stays,
+  leaves-loop,
+  first,
+  blocks,
+  land,
+  returns,
+  enter,
+  alloc1,
+  alloc0,
+  params1,
+  pass1,
+  pass0,
+  free1,
+  free0,
+  exec,
+  Below,
+  again,
+  loops,
+}
 use types.Part.{whole, sub, look-in}
 use sound.WpLaws.{fmOf, WpFn-mono}
 use denote.RattleType.{RattleType, owns}
@@ -38,7 +106,20 @@ use denote.Memory.{pointee}
 use denote.Plain.{uint-makes}
 use denote.Builtin.{u8, usize}
 use denote.Ref.{RefT, now}
-use denote.Slice.{sliceTy, sliceVal, MutSlice, ShrSlice, Room, heres, codedHoleys, at-slice, slice-vals, mut-slice-tells, shr-slice-tells, shr-slice-copy}
+use denote.Slice.{
+  sliceTy,
+  sliceVal,
+  MutSlice,
+  ShrSlice,
+  Room,
+  heres,
+  codedHoleys,
+  at-slice,
+  slice-vals,
+  mut-slice-tells,
+  shr-slice-tells,
+  shr-slice-copy,
+}
 use denote.Lend.{Held}
 use denote.Index.{place-is, elem-out, elem-put, opens-slice, closes-slice}
 use denote.Signature.{plain}
@@ -100,7 +181,10 @@ abbrev tableTy : Ty
 tableTy = sliceTy (tyRef (named 2) mut (pointee (R .written)))
 
 abbrev stayed : Stays (listing.ended .signature .params) (listing.ended .kept)
-stayed = (stay-none-slice (0 ∷ []) tt (plain (λ _. u8)) yes, (stay-none-slice (1 ∷ []) tt (plain (λ _. u8)) yes, (stay-slice (2 ∷ []) tt (plain (λ _. R)), tt)))
+stayed = (
+  stay-none-slice (0 ∷ []) tt (plain (λ _. u8)) yes,
+  (stay-none-slice (1 ∷ []) tt (plain (λ _. u8)) yes, (stay-slice (2 ∷ []) tt (plain (λ _. R)), tt)),
+)
 
 -- The contracts that the proof cites.
 module _ {M : Type 1} (𝓤 : URA M) (H : Heap 𝓤) (A : Atoms 𝓤) (mem : Memory → SProp 𝓤) (run : Routine → Fun 𝓤) where
@@ -111,17 +195,19 @@ module _ {M : Type 1} (𝓤 : URA M) (H : Heap 𝓤) (A : Atoms 𝓤) (mem : Mem
   NextFinding = tripleOf 𝓤 H A first-finding.signature (first-finding.spec 𝓤 H A mem run)
 
 -- What is known of the two at the tables.
-record Known {M : Type 1} (𝓤 : URA M) (H : Heap 𝓤) (A : Atoms 𝓤) (mem : Memory → SProp 𝓤) (run : Routine → Fun 𝓤) (C : Calls 𝓤 H) : Type 1 where
+record Known {M : Type 1} (𝓤 : URA M) (H : Heap 𝓤) (A : Atoms 𝓤) (mem : Memory → SProp 𝓤) (run : Routine → Fun 𝓤)
+    (C : Calls 𝓤 H) : Type 1 where
   pub of-plan : Triple 𝓤 (C #plan-listing) (PlanListing 𝓤 H A mem run)
   pub of-next : Triple 𝓤 (C #first-finding) (NextFinding 𝓤 H A mem run)
 
--- Where the loop stands: k findings are stored, and the findings from the offset on are the rows behind those.
+-- Where the loop stands: k findings are stored, and the findings from the offset on are the rows after those.
 record Going (p : Policy) (text : List ℕ) (n k at : ℕ) : Type 0 where
   pub within : k ≤ n
   pub fits : at < 2 ^ 64
   pub here : rowsFrom p text at ≡ dropped k (rowsFrom p text 0)
 
-module _ {M : Type 1} (𝓤 : URA M) (H : Heap 𝓤) (A : Atoms 𝓤) (W : Given 𝓤 H A) (mem : Memory → SProp 𝓤) (run : Routine → Fun 𝓤) (κ₀ κ₁ κ₂ : Lft) (q₀ q₁ q₂ : Share) (x z : RefT (List ℕ)) (b o : ℕ) (γ : GName) (ys : List Finding) (room : Room R (length ys)) where
+module _ {M : Type 1} (𝓤 : URA M) (H : Heap 𝓤) (A : Atoms 𝓤) (W : Given 𝓤 H A) (mem : Memory → SProp 𝓤) (run : Routine → Fun 𝓤)
+    (κ₀ κ₁ κ₂ : Lft) (q₀ q₁ q₂ : Share) (x z : RefT (List ℕ)) (b o : ℕ) (γ : GName) (ys : List Finding) (room : Room R (length ys)) where
   abbrev y : List Finding → RefT (List Finding)
   y l = record { ptr = (b, o); name = γ; now = l }
 
@@ -145,7 +231,8 @@ module _ {M : Type 1} (𝓤 : URA M) (H : Heap 𝓤) (A : Atoms 𝓤) (W : Given
   vals = (tv ∷ [], (pv ∷ [], (s ∷ [], tt)))
 
   abbrev Post : Val → SProp 𝓤
-  Post = walkOf 𝓤 H A listing.ended stayed (listing.clauses 𝓤 H A mem run) .post (((κ₀, (κ₁, (κ₂, tt))), (q₀, (q₁, (q₂, tt))), tt, a, vals), tt)
+  Post = walkOf 𝓤 H A listing.ended stayed (listing.clauses 𝓤 H A mem run) .post
+      (((κ₀, (κ₁, (κ₂, tt))), (q₀, (q₁, (q₂, tt))), tt, a, vals), tt)
 
   -- What the text and the policy own.
   abbrev TO : Fml
@@ -163,14 +250,16 @@ module _ {M : Type 1} (𝓤 : URA M) (H : Heap 𝓤) (A : Atoms 𝓤) (W : Given
       → record { answer = r; buffer = l } ≡ list (x .now) (z .now) ys → ent 𝓤 (⋆ 𝓤 H A (Refs l)) (Post v)
   exits r v l is same e =
       qed W (Refs l) ∵
-      suffices ! _ (ends-at 𝓤 H A listing.ended stayed (listing.clauses 𝓤 H A mem run) W (((κ₀, (κ₁, (κ₂, tt))), (q₀, (q₁, (q₂, tt))), tt, a, vals), tt) v r (tt, (tt, (l, tt))) (tt, (tt, (same, tt)))) $
+      suffices ! _ (ends-at 𝓤 H A listing.ended stayed (listing.clauses 𝓤 H A mem run) W
+      (((κ₀, (κ₁, (κ₂, tt))), (q₀, (q₁, (q₂, tt))), tt, a, vals), tt) v r (tt, (tt, (l, tt))) (tt, (tt, (same, tt)))) $
       says ! (ends-as e) $
       -- [obs; the borrow; 'c's token; 'a's token; the text's; 'b's token; the policy's]
       move ! (5 ∷ []) $ split ! $ move ! (4 ∷ 1 ∷ []) $ join ! $ move ! (1 ∷ 0 ∷ []) $ join ! $ move ! (3 ∷ []) $ split ! $
       move ! (0 ∷ 2 ∷ []) $ join ! $ frame ! $
       -- [true; obs; the borrow; the text's; the policy's]
       move ! (1 ∷ 2 ∷ []) $ fjoin ! $
-      pureI ! (at-slice R (y l) (s ∷ [])) (tt, (tt, tt)) (ap (λ (m : ℕ). sliceVal (b, o) m ∷ []) (sym same), subst (Room R) (sym same) room) $
+      pureI ! (at-slice R (y l) (s ∷ [])) (tt, (tt, tt)) (ap (λ (m : ℕ). sliceVal (b, o) m ∷ []) (sym same), subst (Room R) (sym same) room)
+      $
       fjoin ! $
       fjoin ! $ move ! (2 ∷ 0 ∷ []) $ fjoin ! $ move ! (1 ∷ 0 ∷ []) $ fjoin ! $ frame ! $
       owned ! E.the-row (Is E.the-row) (EL.makes E.the-type E′.the-plain 𝓤 H A) r _ is $ done !
@@ -182,16 +271,22 @@ module _ {M : Type 1} (𝓤 : URA M) (H : Heap 𝓤) (A : Atoms 𝓤) (W : Given
   abbrev to-plan : PlanListing 𝓤 H A mem run .Ghost
   to-plan = (((κ₀, (κ₁, tt)), (q₀, (q₁, tt)), tt, (x, (z, (length ys, tt))), passed-plan), tt)
 
-  asked-plan : ent 𝓤 (onEntry 𝓤 H A plan-listing.signature (κ₀, (κ₁, tt)) (q₀, (q₁, tt)) (x, (z, (length ys, tt))) passed-plan) (PlanListing 𝓤 H A mem run .pre to-plan)
+  asked-plan : ent 𝓤 (onEntry 𝓤 H A plan-listing.signature (κ₀, (κ₁, tt)) (q₀, (q₁, tt)) (x, (z, (length ys, tt))) passed-plan)
+      (PlanListing 𝓤 H A mem run .pre to-plan)
   asked-plan =
-      qed W ((‵ (flft κ₀ q₀) ⊛ ‵ (flft κ₁ q₁) ⊛ ‵ ftrue) ∷ ‵ (owns (ShrSlice (named 0) κ₀ u8 ∷ ShrSlice (named 1) κ₁ u8 ∷ usize ∷ []) (x, (z, (length ys, tt))) passed-plan) ∷ []) ∵
+      qed W ((‵ (flft κ₀ q₀) ⊛ ‵ (flft κ₁ q₁) ⊛ ‵ ftrue) ∷ ‵
+      (owns (ShrSlice (named 0) κ₀ u8 ∷ ShrSlice (named 1) κ₁ u8 ∷ usize ∷ []) (x, (z, (length ys, tt))) passed-plan) ∷ []) ∵
       join ! $ frame ! $ done !
 
-  said-plan : (r : ListingPlan) → ent 𝓤 (ensured 𝓤 H A plan-listing.ended (plan-listing.clauses 𝓤 H A mem run) (κ₀, (κ₁, tt)) (x, (z, (length ys, tt))) tt r) (fact 𝓤 (r ≡ listingPlan (x .now) (z .now) (length ys)))
-  said-plan r = exE 𝓤 _ (λ ws. snd∗ 𝓤 (sem 𝓤 H A (lasts plan-listing.ended (κ₀, (κ₁, tt)) (x, (z, (length ys, tt))) ws)) (fact 𝓤 (r ≡ listingPlan (x .now) (z .now) (length ys))))
+  said-plan : (r : ListingPlan) → ent 𝓤
+      (ensured 𝓤 H A plan-listing.ended (plan-listing.clauses 𝓤 H A mem run) (κ₀, (κ₁, tt)) (x, (z, (length ys, tt))) tt r)
+      (fact 𝓤 (r ≡ listingPlan (x .now) (z .now) (length ys)))
+  said-plan r = exE 𝓤 _ (λ ws. snd∗ 𝓤 (sem 𝓤 H A (lasts plan-listing.ended (κ₀, (κ₁, tt)) (x, (z, (length ys, tt))) ws))
+      (fact 𝓤 (r ≡ listingPlan (x .now) (z .now) (length ys))))
 
   -- The plan that it returned, its machine value, and what the loop needs of it.
-  module _ (plan : ListingPlan) (is-plan : Is S.the-row plan (LL.vals S.the-type S′.the-laws plan)) (set-out : Planned (x .now) (z .now) ys plan) where
+  module _ (plan : ListingPlan) (is-plan : Is S.the-row plan (LL.vals S.the-type S′.the-laws plan))
+      (set-out : Planned (x .now) (z .now) ys plan) where
     abbrev n : ℕ
     n = plan .places
 
@@ -222,13 +317,18 @@ module _ {M : Type 1} (𝓤 : URA M) (H : Heap 𝓤) (A : Atoms 𝓤) (W : Given
     abbrev to-next : ℕ → NextFinding 𝓤 H A mem run .Ghost
     to-next at = (((κ₀, tt), (q₀, tt), tt, (x, (at, (p, tt))), passed-next at), tt)
 
-    asked-next : (at : ℕ) → ent 𝓤 (onEntry 𝓤 H A first-finding.signature (κ₀, tt) (q₀, tt) (x, (at, (p, tt))) (passed-next at)) (NextFinding 𝓤 H A mem run .pre (to-next at))
+    asked-next : (at : ℕ) → ent 𝓤 (onEntry 𝓤 H A first-finding.signature (κ₀, tt) (q₀, tt) (x, (at, (p, tt))) (passed-next at))
+        (NextFinding 𝓤 H A mem run .pre (to-next at))
     asked-next at =
-        qed W ((‵ (flft κ₀ q₀) ⊛ ‵ ftrue) ∷ ‵ (owns (ShrSlice (named 0) κ₀ u8 ∷ usize ∷ P.the-row ∷ []) (x, (at, (p, tt))) (passed-next at)) ∷ []) ∵
+        qed W ((‵ (flft κ₀ q₀) ⊛ ‵ ftrue) ∷ ‵ (owns (ShrSlice (named 0) κ₀ u8 ∷ usize ∷ P.the-row ∷ []) (x, (at, (p, tt))) (passed-next at))
+        ∷ []) ∵
         join ! $ frame ! $ done !
 
-    said-next : (at : ℕ) (r : Finding) → ent 𝓤 (ensured 𝓤 H A first-finding.ended (first-finding.clauses 𝓤 H A mem run) (κ₀, tt) (x, (at, (p, tt))) tt r) (fact 𝓤 (r ≡ firstFinding p (x .now) at))
-    said-next at r = exE 𝓤 _ (λ ws. snd∗ 𝓤 (sem 𝓤 H A (lasts first-finding.ended (κ₀, tt) (x, (at, (p, tt))) ws)) (fact 𝓤 (r ≡ firstFinding p (x .now) at)))
+    said-next : (at : ℕ) (r : Finding)
+        → ent 𝓤 (ensured 𝓤 H A first-finding.ended (first-finding.clauses 𝓤 H A mem run) (κ₀, tt) (x, (at, (p, tt))) tt r)
+        (fact 𝓤 (r ≡ firstFinding p (x .now) at))
+    said-next at r = exE 𝓤 _ (λ ws. snd∗ 𝓤 (sem 𝓤 H A (lasts first-finding.ended (κ₀, tt) (x, (at, (p, tt))) ws))
+        (fact 𝓤 (r ≡ firstFinding p (x .now) at)))
 
     -- The loop's variant: how many are stored, and the offset, by what is left.
     abbrev Turn : Type 0
@@ -255,7 +355,8 @@ module _ {M : Type 1} (𝓤 : URA M) (H : Heap 𝓤) (A : Atoms 𝓤) (W : Given
       Λ = 𝓣 .Λ
 
       abbrev En : Env 𝓤 H
-      En = (E′.mir, l₀) ∷ (textTy, l₁) ∷ (policyTy, l₂) ∷ (tableTy, l₃) ∷ (S′.mir, l₄) ∷ (word, l₅) ∷ (word, l₆) ∷ (T′.mir, l₇) ∷ (word, l₈) ∷ (tyBool, l₉) ∷ (word, l₁₀) ∷ (tyPtr, l₁₁) ∷ []
+      En = (E′.mir, l₀) ∷ (textTy, l₁) ∷ (policyTy, l₂) ∷ (tableTy, l₃) ∷ (S′.mir, l₄) ∷ (word, l₅) ∷ (word, l₆) ∷ (T′.mir, l₇) ∷ (word, l₈)
+          ∷ (tyBool, l₉) ∷ (word, l₁₀) ∷ (tyPtr, l₁₁) ∷ []
 
       -- The invariant: the references, and the locals, _11 first.
       abbrev At : Turn → List (Item 𝓤)
@@ -271,13 +372,16 @@ module _ {M : Type 1} (𝓤 : URA M) (H : Heap 𝓤) (A : Atoms 𝓤) (W : Given
           ∷ ‵ (fdies E′.mir l₀) ∷ []
 
       abbrev Turned : Turn → Out → SProp 𝓤
-      Turned i = afterTurn 𝓤 H (Below 𝓤 H A Nearer At i) (afterBlock 𝓤 H (afterSeq 𝓤 H (Wp 𝓤 H C Λ En code.Mir.t-6 (atReturn 𝓤 H En Post)) (atReturn 𝓤 H En Post)))
+      Turned i = afterTurn 𝓤 H (Below 𝓤 H A Nearer At i)
+          (afterBlock 𝓤 H (afterSeq 𝓤 H (Wp 𝓤 H C Λ En code.Mir.t-6 (atReturn 𝓤 H En Post)) (atReturn 𝓤 H En Post)))
 
       -- a turn that stores one finding
-      more : (i : Turn) → i .0 < n → Sq W (At i) (runs C Λ En code.Mir.turn-1 (anyQ (Turned i)))
+      present : (i : Turn) → i .0 < n → Sq W (At i) (runs C Λ En code.Mir.turn-1 (anyQ (Turned i)))
       unfolding afterTurn
-      more i less =
-          assigns ! (bin ! (load ! (from ! (stop !)) (look ! 17 refl)) (load ! (from ! (fld ! refl (stop !))) (look-in ! 21 (sub ! 0 refl (whole !)))) tt) (from ! (stop !)) (init ! 11 refl (tt, tt)) $
+      present i less =
+          assigns ! (bin ! (load ! (from ! (stop !)) (look ! 17 refl))
+          (load ! (from ! (fld ! refl (stop !))) (look-in ! 21 (sub ! 0 refl (whole !)))) tt) (from ! (stop !))
+          (init ! 11 refl (tt, tt)) $
           rewrite ! 11 (λ (f : Bool). ‵ (fat fullShare tyBool l₉ 0 (vbool f))) (lt-ltb (i .0) n less) refl $
           stays ! (load ! (from ! (stop !)) (look ! 11 refl)) $
           -- what the text owns is had twice, and one copy goes to the callee, with the offset and the policy
@@ -287,8 +391,12 @@ module _ {M : Type 1} (𝓤 : URA M) (H : Heap 𝓤) (A : Atoms 𝓤) (W : Given
           move ! (0 ∷ 2 ∷ []) $ fjoin ! $
           move ! (5 ∷ 0 ∷ []) $ use2 W (raw (NextFinding 𝓤 H A mem run .pre (to-next at))) (asked-next at) $
           -- [the callee's pre; the text's; obs; the borrow; 'c's token; 'b's token; the policy's; _11; …; _0; …]
-          calls-at ! (fmOf 𝓤 H (W .laws) 𝓣) (NextFinding 𝓤 H A mem run) (known .of-next) (to-next at) (and-then ! (load ! (from ! (stop !)) (look ! 27 refl)) (and-then ! (load ! (from ! (stop !)) (look ! 19 refl)) (and-then ! (load ! (from ! (fld ! refl (stop !))) (look-in ! 21 (sub ! 1 refl (whole !)))) (no-more !)))) (λ u.
-          use1 W (later (some (λ (r : Finding). ((‵ (flft κ₀ q₀) ⊛ ‵ ftrue) ⊛ ‵ (R .own r (u ∷ []))) ⊛ raw (ensured 𝓤 H A first-finding.ended (first-finding.clauses 𝓤 H A mem run) (κ₀, tt) (x, (at, (p, tt))) tt r)))) (id⊢ 𝓤 _) $
+          calls-at ! (fmOf 𝓤 H (W .laws) 𝓣) (NextFinding 𝓤 H A mem run) (known .of-next) (to-next at)
+          (and-then ! (load ! (from ! (stop !)) (look ! 27 refl))
+          (and-then ! (load ! (from ! (stop !)) (look ! 19 refl))
+          (and-then ! (load ! (from ! (fld ! refl (stop !))) (look-in ! 21 (sub ! 1 refl (whole !)))) (no-more !)))) (λ u.
+          use1 W (later (some (λ (r : Finding). ((‵ (flft κ₀ q₀) ⊛ ‵ ftrue) ⊛ ‵ (R .own r (u ∷ []))) ⊛ raw
+          (ensured 𝓤 H A first-finding.ended (first-finding.clauses 𝓤 H A mem run) (κ₀, tt) (x, (at, (p, tt))) tt r)))) (id⊢ 𝓤 _) $
           await ! tt $ pick ! (λ r.
           split ! $ move ! (1 ∷ []) $ use1 W (raw (fact 𝓤 (r ≡ firstFinding p (x .now) at))) (said-next at r) $
           heard ! (r ≡ firstFinding p (x .now) at) (λ e. split ! $ move ! (1 ∷ []) $
@@ -298,22 +406,30 @@ module _ {M : Type 1} (𝓤 : URA M) (H : Heap 𝓤) (A : Atoms 𝓤) (W : Given
           rewrite ! 16 (λ (w : Val). ‵ (fat fullShare T′.mir l₇ 0 w)) (ap only (LL.tells T.the-type T′.the-laws r (u ∷ []) is)) refl $
           drop ! $
           -- ['a's token; the text's; obs; the borrow; 'c's token; 'b's token; the policy's; _11; …; _0; …]
-          assigns ! (bin ! (load ! (from ! (stop !)) (look ! 17 refl)) (lit ! tt) (record { fits = scaled (i .0) less })) (from ! (stop !)) (init ! 9 refl (tt, record { fits = scaled (i .0) less })) $
-          assigns ! (bin ! (load ! (from ! (fld ! refl (stop !))) (look-in ! 23 (sub ! 0 refl (whole !)))) (load ! (from ! (stop !)) (look ! 9 refl)) tt) (from ! (stop !)) (init ! 7 refl (tt, tt)) $
+          assigns ! (bin ! (load ! (from ! (stop !)) (look ! 17 refl)) (lit ! tt) (record { fits = scaled (i .0) less })) (from ! (stop !))
+          (init ! 9 refl (tt, record { fits = scaled (i .0) less })) $
+          assigns ! (bin ! (load ! (from ! (fld ! refl (stop !))) (look-in ! 23 (sub ! 0 refl (whole !))))
+          (load ! (from ! (stop !)) (look ! 9 refl)) tt) (from ! (stop !)) (init ! 7 refl (tt, tt)) $
           rewrite ! 7 (λ (m : ℕ). ‵ (fat fullShare tyPtr l₁₁ 0 (vptr b m))) (sym (place-is 80 o (i .0))) refl $
           move ! (2 ∷ 3 ∷ 4 ∷ []) $ opens-slice ! tt R (Z (i .0)) b o $
-          elem-out ! R (Is R) (shows 𝓤 H A R) (LL.vals T.the-type T′.the-laws) (LL.tells T.the-type T′.the-laws) fullShare (Z (i .0)) (i .0) r b o inside (λ _.
-          -- [the place; what it owns; the others; the open borrow; obs; auth; 'a's token; the text's; 'b's token; the policy's; _11; …; _0; …]
-          assigns ! (of-opd ! (load ! (from ! (stop !)) (look ! 18 refl))) (from ! (hop ! (look ! 10 refl) (stop !))) (store-raw ! 0 refl (LL.lawful T.the-type T′.the-laws 𝓤 H A W .typed r _ (found r u is) .0)) $
+          elem-out ! R (Is R) (shows 𝓤 H A R) (LL.vals T.the-type T′.the-laws) (LL.tells T.the-type T′.the-laws) fullShare (Z (i .0))
+          (i .0) r b o inside (λ _.
+          -- [the place; what it owns; the others; the open borrow; obs; auth; 'a's token; the text's; 'b's token; the policy's; _11; …; _0;
+          -- …]
+          assigns ! (of-opd ! (load ! (from ! (stop !)) (look ! 18 refl))) (from ! (hop ! (look ! 10 refl) (stop !)))
+          (store-raw ! 0 refl (LL.lawful T.the-type T′.the-laws 𝓤 H A W .typed r _ (found r u is) .0)) $
           move ! (1 ∷ []) $ drop ! $ owned ! R (Is R) (LL.makes T.the-type T′.the-plain 𝓤 H A) r _ (found r u is) $
           move ! (1 ∷ 0 ∷ []) $ elem-put ! R fullShare (Z (i .0)) (i .0) r (LL.vals T.the-type T′.the-laws r) b o inside $
           closes-slice ! tt R (Z (i .0)) (set (Z (i .0)) (i .0) r) (length-set (Z (i .0)) (i .0) r) b o $
           rewrite ! 0 (λ (l : List Finding). ‵ (fobs γ (codedHoleys R .code (heres R l)))) (turned r e .0) refl $
           rewrite ! 1 (λ (l : List Finding). ‵ (fbor κ₂ (Held R (length l) b o γ))) (turned r e .0) refl $
-          assigns ! (of-opd ! (load ! (from ! (fld ! refl (stop !))) (look-in ! 15 (sub ! 1 refl (whole !))))) (from ! (stop !)) (store ! 19 refl (tt, record { fits = end-fits r u is })) $
-          assigns-last ! (bin ! (load ! (from ! (stop !)) (look ! 17 refl)) (lit ! tt) (record { fits = next-fits })) (from ! (stop !)) (store ! 17 refl (tt, record { fits = next-fits })) $
+          assigns ! (of-opd ! (load ! (from ! (fld ! refl (stop !))) (look-in ! 15 (sub ! 1 refl (whole !))))) (from ! (stop !))
+          (store ! 19 refl (tt, record { fits = end-fits r u is })) $
+          assigns-last ! (bin ! (load ! (from ! (stop !)) (look ! 17 refl)) (lit ! tt) (record { fits = next-fits })) (from ! (stop !))
+          (store ! 17 refl (tt, record { fits = next-fits })) $
           forget ! 7 refl $ forget ! 9 refl $ forget ! 11 refl $ forget ! 15 refl $
-          again ! Nearer At i (i .0 + 1, (r .end, record { within = add-one-le less; fits = end-fits r u is; here = turned r e .1 })) (add-one-dec n (i .0) less))))))
+          again ! Nearer At i (i .0 + 1, (r .end, record { within = add-one-le less; fits = end-fits r u is; here = turned r e .1 }))
+          (add-one-dec n (i .0) less))))))
         where
           at : ℕ
           at = i .1 .0
@@ -330,30 +446,36 @@ module _ {M : Type 1} (𝓤 : URA M) (H : Heap 𝓤) (A : Atoms 𝓤) (W : Given
           end-fits : (r : Finding) (u : Val) → Is R r (u ∷ []) → r .end < 2 ^ 64
           end-fits r u is = LL.owed T.the-type T′.the-laws r _ is .1 .0 .1
 
-          turned : (r : Finding) → r ≡ firstFinding p (x .now) at → (set (Z (i .0)) (i .0) r ≡ Z (i .0 + 1)) × (rowsFrom p (x .now) (r .end) ≡ dropped (i .0 + 1) rows)
-          turned r e = let l : i .0 < n = less in turn p (x .now) rows ys (i .0) at r (i .1 .1 .here) (omega (arith, set-out .held)) (omega (arith, set-out .room)) e
+          turned : (r : Finding) → r ≡ firstFinding p (x .now) at → (set (Z (i .0)) (i .0) r ≡ Z (i .0 + 1))
+              × (rowsFrom p (x .now) (r .end) ≡ dropped (i .0 + 1) rows)
+          turned r e = let l : i .0 < n = less in turn p (x .now) rows ys (i .0) at r (i .1 .1 .here) (omega (arith, set-out .held))
+              (omega (arith, set-out .room)) e
 
       -- the turn that leaves the loop, and the rest of the body
       leaves : (i : Turn) → i .0 ≡ n → Sq W (At i) (runs C Λ En code.Mir.turn-1 (anyQ (Turned i)))
       unfolding afterTurn
       leaves i end =
-          assigns ! (bin ! (load ! (from ! (stop !)) (look ! 17 refl)) (load ! (from ! (fld ! refl (stop !))) (look-in ! 21 (sub ! 0 refl (whole !)))) tt) (from ! (stop !)) (init ! 11 refl (tt, tt)) $
+          assigns ! (bin ! (load ! (from ! (stop !)) (look ! 17 refl))
+          (load ! (from ! (fld ! refl (stop !))) (look-in ! 21 (sub ! 0 refl (whole !)))) tt) (from ! (stop !))
+          (init ! 11 refl (tt, tt)) $
           rewrite ! 11 (λ (f : Bool). ‵ (fat fullShare tyBool l₉ 0 (vbool f))) (le-ltb (i .0) n (omega (arith, end))) refl $
           leaves-loop ! (load ! (from ! (stop !)) (look ! 11 refl)) $ exec ! C Λ En code.Mir.t-6 (atRet En Post) $
-          assigns ! (of-opd ! (load ! (from ! (fld ! refl (stop !))) (look-in ! 21 (sub ! 2 refl (whole !))))) (from ! (stop !)) (init ! 29 refl (EL.lawful E.the-type E′.the-laws 𝓤 H A W tt .typed (plan .answer) _ is-answer .0)) $
+          assigns ! (of-opd ! (load ! (from ! (fld ! refl (stop !))) (look-in ! 21 (sub ! 2 refl (whole !))))) (from ! (stop !))
+          (init ! 29 refl (EL.lawful E.the-type E′.the-laws 𝓤 H A W tt .typed (plan .answer) _ is-answer .0)) $
           returns ! (look ! 29 refl) $ forget ! 11 refl $ forget ! 17 refl $ forget ! 19 refl $ forget ! 21 refl $
           forget ! 23 refl $ forget ! 25 refl $ forget ! 27 refl $ forget ! 29 refl $
           move ! (29 ∷ 30 ∷ []) $ free1 ! $ move ! (27 ∷ 28 ∷ []) $ free1 ! $ move ! (25 ∷ 26 ∷ []) $ free1 ! $
           move ! (23 ∷ 24 ∷ []) $ free1 ! $ move ! (21 ∷ 22 ∷ []) $ free1 ! $ move ! (19 ∷ 20 ∷ []) $ free1 ! $
           move ! (17 ∷ 18 ∷ []) $ free1 ! $ move ! (15 ∷ 16 ∷ []) $ free1 ! $ move ! (13 ∷ 14 ∷ []) $ free1 ! $
           move ! (11 ∷ 12 ∷ []) $ free1 ! $ move ! (9 ∷ 10 ∷ []) $ free1 ! $ move ! (7 ∷ 8 ∷ []) $ free1 ! $ free0 ! $
-          by ! (exits (plan .answer) _ (Z (i .0)) is-answer (same-length (i .0) (i .1 .1 .within)) (ap (λ (k : ℕ). record { answer = plan .answer; buffer = Z k }) end ∙ set-out .listed))
+          by ! (exits (plan .answer) _ (Z (i .0)) is-answer (same-length (i .0) (i .1 .1 .within))
+          (ap (λ (k : ℕ). record { answer = plan .answer; buffer = Z k }) end ∙ set-out .listed))
         where
           is-answer : Is E.the-row (plan .answer) (EL.vals E.the-type E′.the-laws (plan .answer))
           is-answer = LL.owed S.the-type S′.the-laws plan _ is-plan .1 .1 .0
 
       turns : (i : Turn) → Sq W (At i) (runs C Λ En code.Mir.turn-1 (anyQ (Turned i)))
-      turns i = ⊎-elim (λ (e : i .0 ≡ n). leaves i e) (λ (l : i .0 < n). more i l) (eq-or-lt-of-le (i .1 .1 .within))
+      turns i = ⊎-elim (λ (e : i .0 ≡ n). leaves i e) (λ (l : i .0 < n). present i l) (eq-or-lt-of-le (i .1 .1 .within))
 
       -- the plan is made, and the loop begins
       goes : Sq W (‵ (fobs γ (codedHoleys R .code (heres R ys))) ∷ ‵ (fbor κ₂ (Held R (length ys) b o γ))
@@ -378,16 +500,22 @@ module _ {M : Type 1} (𝓤 : URA M) (H : Heap 𝓤) (A : Atoms 𝓤) (W : Given
   spelled plan u is = LL.owes S.the-type S′.the-laws plan (LL.owed S.the-type S′.the-laws plan _ is)
 
   walk : (𝓣 : Tables 𝓤 H) → Known 𝓤 H A mem run (𝓣 .C) → length (x .now) < 2 ^ 64 → length (z .now) < 2 ^ 64
-      → ent 𝓤 (onEntry 𝓤 H A listing.signature (κ₀, (κ₁, (κ₂, tt))) (q₀, (q₁, (q₂, tt))) a vals) (WpFn 𝓤 H (𝓣 .C) (𝓣 .Λ) code.function (tv ∷ pv ∷ s ∷ []) Post)
+      → ent 𝓤 (onEntry 𝓤 H A listing.signature (κ₀, (κ₁, (κ₂, tt))) (q₀, (q₁, (q₂, tt))) a vals)
+      (WpFn 𝓤 H (𝓣 .C) (𝓣 .Λ) code.function (tv ∷ pv ∷ s ∷ []) Post)
   walk 𝓣 known gt gp =
-      qed W ((‵ (flft κ₀ q₀) ⊛ ‵ (flft κ₁ q₁) ⊛ ‵ (flft κ₂ q₂) ⊛ ‵ ftrue) ∷ ‵ (owns (ShrSlice (named 0) κ₀ u8 ∷ ShrSlice (named 1) κ₁ u8 ∷ MutSlice (named 2) κ₂ R ∷ []) a vals) ∷ []) ∵
+      qed W ((‵ (flft κ₀ q₀) ⊛ ‵ (flft κ₁ q₁) ⊛ ‵ (flft κ₂ q₂) ⊛ ‵ ftrue) ∷ ‵
+      (owns (ShrSlice (named 0) κ₀ u8 ∷ ShrSlice (named 1) κ₁ u8 ∷ MutSlice (named 2) κ₂ R ∷ []) a vals) ∷ []) ∵
       enter ! (𝓣 .C) (𝓣 .Λ) code.function (tv ∷ pv ∷ s ∷ []) _ $
-      alloc1 ! (λ l₀. alloc1 ! (λ l₁. alloc1 ! (λ l₂. alloc1 ! (λ l₃. alloc1 ! (λ l₄. alloc1 ! (λ l₅. alloc1 ! (λ l₆. alloc1 ! (λ l₇. alloc1 ! (λ l₈. alloc1 ! (λ l₉. alloc1 ! (λ l₁₀. alloc1 ! (λ l₁₁. alloc0 ! $
+      alloc1 ! (λ l₀. alloc1 ! (λ l₁. alloc1 !
+      (λ l₂. alloc1 ! (λ l₃. alloc1 !
+      (λ l₄. alloc1 ! (λ l₅. alloc1 !
+      (λ l₆. alloc1 ! (λ l₇. alloc1 ! (λ l₈. alloc1 ! (λ l₉. alloc1 ! (λ l₁₀. alloc1 ! (λ l₁₁. alloc0 ! $
       params1 ! $
       pass1 ! (init ! 20 refl (tt, (tt, (record { fits = gt }, tt)))) $
       pass1 ! (init ! 18 refl (tt, (tt, (record { fits = gp }, tt)))) $
       pass1 ! (init ! 16 refl (tt, (tt, (record { fits = room .0 }, tt)))) $ pass0 ! $
-      assigns ! (of-opd ! (load ! (from ! (fld ! refl (stop !))) (look-in ! 16 (sub ! 1 refl (whole !))))) (from ! (stop !)) (init ! 6 refl (tt, record { fits = room .0 })) $
+      assigns ! (of-opd ! (load ! (from ! (fld ! refl (stop !))) (look-in ! 16 (sub ! 1 refl (whole !))))) (from ! (stop !))
+      (init ! 6 refl (tt, record { fits = room .0 })) $
       -- [_11; …; _0; …; the tokens; what the parameters own]
       move ! (25 ∷ []) $ fsplit ! $ move ! (1 ∷ []) $ fsplit ! $ move ! (1 ∷ []) $ fsplit ! $ fsplit ! $ move ! (1 ∷ []) $
       fsplit ! $
@@ -403,8 +531,13 @@ module _ {M : Type 1} (𝓤 : URA M) (H : Heap 𝓤) (A : Atoms 𝓤) (W : Given
       move ! (0 ∷ 2 ∷ []) $ fjoin ! $
       move ! (3 ∷ 0 ∷ []) $ use2 W (raw (PlanListing 𝓤 H A mem run .pre to-plan)) asked-plan $
       -- [the callee's pre; the text's; the policy's; 'c's token; obs; the borrow; _11; …; _0; …]
-      calls-at ! (fmOf 𝓤 H (W .laws) 𝓣) (PlanListing 𝓤 H A mem run) (known .of-plan) to-plan (and-then ! (load ! (from ! (stop !)) (look ! 26 refl)) (and-then ! (load ! (from ! (stop !)) (look ! 24 refl)) (and-then ! (load ! (from ! (stop !)) (look ! 12 refl)) (no-more !)))) (λ u.
-      use1 W (later (some (λ (r : ListingPlan). ((‵ (flft κ₀ q₀) ⊛ ‵ (flft κ₁ q₁) ⊛ ‵ ftrue) ⊛ ‵ (S.the-row .own r (u ∷ []))) ⊛ raw (ensured 𝓤 H A plan-listing.ended (plan-listing.clauses 𝓤 H A mem run) (κ₀, (κ₁, tt)) (x, (z, (length ys, tt))) tt r)))) (id⊢ 𝓤 _) $
+      calls-at ! (fmOf 𝓤 H (W .laws) 𝓣) (PlanListing 𝓤 H A mem run) (known .of-plan) to-plan
+      (and-then ! (load ! (from ! (stop !)) (look ! 26 refl))
+      (and-then ! (load ! (from ! (stop !)) (look ! 24 refl)) (and-then ! (load ! (from ! (stop !)) (look ! 12 refl)) (no-more !))))
+      (λ u.
+      use1 W (later (some (λ (r : ListingPlan). ((‵ (flft κ₀ q₀) ⊛ ‵ (flft κ₁ q₁) ⊛ ‵ ftrue) ⊛ ‵ (S.the-row .own r (u ∷ []))) ⊛ raw
+      (ensured 𝓤 H A plan-listing.ended (plan-listing.clauses 𝓤 H A mem run) (κ₀, (κ₁, tt)) (x, (z, (length ys, tt))) tt r))))
+      (id⊢ 𝓤 _) $
       await ! tt $ pick ! (λ plan.
       split ! $ move ! (1 ∷ []) $
       use1 W (raw (fact 𝓤 (plan ≡ listingPlan (x .now) (z .now) (length ys)))) (said-plan plan) $
@@ -418,17 +551,28 @@ module _ {M : Type 1} (𝓤 : URA M) (H : Heap 𝓤) (A : Atoms 𝓤) (W : Given
       goes plan (spelled plan u is) (planned (x .now) (z .now) ys e) 𝓣 known l₀ l₁ l₂ l₃ l₄ l₅ l₆ l₇ l₈ l₉ l₁₀ l₁₁))))))))))))))))
 
 module _ {M : Type 1} (𝓤 : URA M) (H : Heap 𝓤) (A : Atoms 𝓤) (W : Given 𝓤 H A) (mem : Memory → SProp 𝓤) (run : Routine → Fun 𝓤) where
-  list-into-table-walks : (𝓣 : Tables 𝓤 H) → Known 𝓤 H A mem run (𝓣 .C) → Walks 𝓤 H A listing.ended stayed (WpFn 𝓤 H (𝓣 .C) (𝓣 .Λ) code.function) (listing.clauses 𝓤 H A mem run)
+  list-into-table-walks : (𝓣 : Tables 𝓤 H) → Known 𝓤 H A mem run (𝓣 .C)
+      → Walks 𝓤 H A listing.ended stayed (WpFn 𝓤 H (𝓣 .C) (𝓣 .Λ) code.function) (listing.clauses 𝓤 H A mem run)
   list-into-table-walks 𝓣 known = walked 𝓤 H A listing.ended stayed (listing.clauses 𝓤 H A mem run) (WpFn 𝓤 H (𝓣 .C) (𝓣 .Λ) code.function)
-      (λ κs. (slice-vals, (slice-vals, (slice-vals, tt)))) (λ κs. (shr-slice-tells (named 0) (κs .0) u8, (shr-slice-tells (named 1) (κs .1 .0) u8, (mut-slice-tells (named 2) (κs .1 .1 .0) R, tt))))
+      (λ κs. (slice-vals, (slice-vals, (slice-vals, tt))))
+      (λ κs. (
+        shr-slice-tells (named 0) (κs .0) u8,
+        (shr-slice-tells (named 1) (κs .1 .0) u8, (mut-slice-tells (named 2) (κs .1 .1 .0) R, tt)),
+      ))
       (λ κs qs bounds a g are. via 𝓤 _ (fst∗ 𝓤 _ (emp 𝓤))
-      (walk 𝓤 H A W mem run (κs .0) (κs .1 .0) (κs .1 .1 .0) (qs .0) (qs .1 .0) (qs .1 .1 .0) (a .0) (a .1 .0) (a .1 .1 .0 .ptr .0) (a .1 .1 .0 .ptr .1) (a .1 .1 .0 .name) (a .1 .1 .0 .now) (are .1 .1 .0 .0 .1) 𝓣 known (are .0 .0 .1 .0) (are .1 .0 .0 .1 .0)))
+      (walk 𝓤 H A W mem run (κs .0) (κs .1 .0) (κs .1 .1 .0) (qs .0) (qs .1 .0) (qs .1 .1 .0) (a .0) (a .1 .0) (a .1 .1 .0 .ptr .0)
+      (a .1 .1 .0 .ptr .1) (a .1 .1 .0 .name) (a .1 .1 .0 .now) (are .1 .1 .0 .0 .1) 𝓣 known (are .0 .0 .1 .0) (are .1 .0 .0 .1 .0)))
 
-list-into-table-meets : {M : Type 1} (𝓤 : URA M) (H : Heap 𝓤) (A : Atoms 𝓤) → Given 𝓤 H A → (mem : Memory → SProp 𝓤) (run : Routine → Fun 𝓤) (𝓣 : Tables 𝓤 H) → Known 𝓤 H A mem run (𝓣 .C)
+list-into-table-meets : {M : Type 1} (𝓤 : URA M) (H : Heap 𝓤) (A : Atoms 𝓤) → Given 𝓤 H A
+    → (mem : Memory → SProp 𝓤) (run : Routine → Fun 𝓤) (𝓣 : Tables 𝓤 H) → Known 𝓤 H A mem run (𝓣 .C)
     → Meets 𝓤 H A listing.signature (WpFn 𝓤 H (𝓣 .C) (𝓣 .Λ) code.function) (listing.spec 𝓤 H A mem run)
 list-into-table-meets 𝓤 H A W mem run 𝓣 known =
-    walk-meets 𝓤 H A listing.ended stayed W (goes-none-slice 𝓤 H A W 3 (0 ∷ []) tt (plain (λ _. u8)) yes, (goes-none-slice 𝓤 H A W 3 (1 ∷ []) tt (plain (λ _. u8)) yes, (goes-slice 𝓤 H A W 3 2 tt (plain (λ _. R)), tt)))
-    (listing.clauses 𝓤 H A mem run) (WpFn 𝓤 H (𝓣 .C) (𝓣 .Λ) code.function) (WpFn-mono 𝓤 H (W .laws) 𝓣 code.function) (list-into-table-walks 𝓤 H A W mem run 𝓣 known)
+    walk-meets 𝓤 H A listing.ended stayed W (
+      goes-none-slice 𝓤 H A W 3 (0 ∷ []) tt (plain (λ _. u8)) yes,
+      (goes-none-slice 𝓤 H A W 3 (1 ∷ []) tt (plain (λ _. u8)) yes, (goes-slice 𝓤 H A W 3 2 tt (plain (λ _. R)), tt)),
+    )
+    (listing.clauses 𝓤 H A mem run) (WpFn 𝓤 H (𝓣 .C) (𝓣 .Λ) code.function) (WpFn-mono 𝓤 H (W .laws) 𝓣 code.function)
+    (list-into-table-walks 𝓤 H A W mem run 𝓣 known)
 
 pub list-into-table-spec : {M : Type 1} → stated.statement M
 unfolding code.routine tablesOf
@@ -437,6 +581,8 @@ list-into-table-spec 𝓤 H 𝓜 𝓖 𝓡 =
     (tables 𝓤 H 𝓜 𝓡 code.env .C) (tables 𝓤 H 𝓜 𝓡 code.env .Λ) #list-into-table code.function (code.unfolded 𝓤 H 𝓜 𝓡)
     (list-into-table-meets 𝓤 H (𝓖 .A) (givenOf 𝓤 H 𝓜 𝓖) (𝓜 .mem) (𝓡 .run) (tablesOf 𝓤 H 𝓜 (tables 𝓤 H 𝓜 𝓡 code.env))
     (record {
-      of-plan = cited 𝓤 H (PlanListing 𝓤 H (𝓖 .A) (𝓜 .mem) (𝓡 .run)) 𝓜 𝓡 code.env #plan-listing plan-listing-def.routine code.calls-listing·table·plan-listing (plan-listing-thm.met 𝓤 H 𝓜 𝓖 𝓡);
-      of-next = cited 𝓤 H (NextFinding 𝓤 H (𝓖 .A) (𝓜 .mem) (𝓡 .run)) 𝓜 𝓡 code.env #first-finding first-finding-def.routine code.calls-listing·table·first-finding (first-finding-thm.met 𝓤 H 𝓜 𝓖 𝓡);
+      of-plan = cited 𝓤 H (PlanListing 𝓤 H (𝓖 .A) (𝓜 .mem) (𝓡 .run)) 𝓜 𝓡 code.env #plan-listing plan-listing-def.routine
+          code.calls-listing·table·plan-listing (plan-listing-thm.met 𝓤 H 𝓜 𝓖 𝓡);
+      of-next = cited 𝓤 H (NextFinding 𝓤 H (𝓖 .A) (𝓜 .mem) (𝓡 .run)) 𝓜 𝓡 code.env #first-finding first-finding-def.routine
+          code.calls-listing·table·first-finding (first-finding-thm.met 𝓤 H 𝓜 𝓖 𝓡);
     }))

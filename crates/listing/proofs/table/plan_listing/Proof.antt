@@ -32,7 +32,8 @@ returns-2 c =
     let x = c .before .before .before .before .before .before .before .before .before .args in
     let t = x .text .now in
     let p = x .policy .now in
-    let e = checked-passed (intakeRefusal t p) (sym (c .before .before .before .before .intake .ensures .same) ∙ c .before .before .enum-told .given .1) in
+    let e = checked-passed (intakeRefusal t p)
+    (sym (c .before .before .before .before .intake .ensures .same) ∙ c .before .before .enum-told .given .1) in
     let q = read-policy p (c .before .before .before .before .before .before .read-policy .ensures) in
     plan-short t p (x .room) q e (counted t p (c .before .count-findings .ensures .0)) (c .if1 .taken)
 
@@ -41,7 +42,8 @@ returns-3 c =
     let x = c .before .before .before .before .before .before .before .before .before .args in
     let t = x .text .now in
     let p = x .policy .now in
-    let e = checked-passed (intakeRefusal t p) (sym (c .before .before .before .before .intake .ensures .same) ∙ c .before .before .enum-told .given .1) in
+    let e = checked-passed (intakeRefusal t p)
+    (sym (c .before .before .before .before .intake .ensures .same) ∙ c .before .before .enum-told .given .1) in
     let q = read-policy p (c .before .before .before .before .before .before .read-policy .ensures) in
     plan-all t p (x .room) q e (counted t p (c .before .count-findings .ensures .0)) (c .if1 .left)
 

@@ -2,14 +2,14 @@
 use mathlib.Core.List.{_∷_, map}
 use native.Mathlib.Omega.{arith}
 use Rattle.base.proofs.Writer.{put-then}
-use Rattle.message_io.specs.Lines.{behindBlanks, decimal, findingLine}
+use Rattle.message_io.specs.Lines.{withBlanks, decimal, findingLine}
 use Rattle.message_io.proofs.Texts.{front, line-put}
 use borrow.Author.Needs.{needs}
 use Rattle.message_io.proofs.line.finding_line.Statement.{statement}
 use Rattle.message_io.proofs.line.finding_line.Tie as tie
 
 returns : tie.Need-returns
-unfolding findingLine behindBlanks
+unfolding findingLine withBlanks
 returns c =
     let x = c .before .before .before .before .before .before .before .before .before .before .args in
     let first = c .before .before .before .before .before .before .before .before .put-decimal .ensures in

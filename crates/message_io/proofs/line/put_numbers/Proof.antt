@@ -9,14 +9,14 @@ use lib.ListN.{length, take}
 use lib.Seq.{length-sets, take-all}
 use Rattle.base.specs.Output.{PutAt}
 use Rattle.base.proofs.Writer.{put-as, put-then}
-use Rattle.message_io.specs.Lines.{behindBlanks, decimal}
+use Rattle.message_io.specs.Lines.{withBlanks, decimal}
 use Rattle.message_io.proofs.Texts.{numbers-next}
 use Rattle.message_io.proofs.line.put_numbers.Statement.{statement}
 use Rattle.message_io.proofs.line.put_numbers.Tie as tie
 
 abbrev Inv-loop : tie.InvT-loop
 Inv-loop out₀ start numbers at₀ i₀ out at i =
-    (i ≤ length numbers) × (at ≤ start + 21 * i) × PutAt out₀ start (behindBlanks (map decimal (take i numbers))) out at
+    (i ≤ length numbers) × (at ≤ start + 21 * i) × PutAt out₀ start (withBlanks (map decimal (take i numbers))) out at
 
 abbrev μ-loop : tie.MeasureT-loop
 μ-loop out₀ start numbers at₀ i₀ out at i = length numbers - i
@@ -25,7 +25,7 @@ same : {o o₁ xs : List ℕ} {s r : ℕ} → PutAt o s xs o₁ r → length o�
 same {o} {xs = xs} {s} p = ap length (p .bytes) ∙ length-sets o s xs
 
 loop-holds : tie.Need-loop-holds Inv-loop μ-loop
-unfolding behindBlanks
+unfolding withBlanks
 loop-holds c = (omega arith, omega arith, record { ends = sym (add-zero _); bytes = refl })
 
 put-number-requires : tie.Need-put-number-requires Inv-loop μ-loop
@@ -51,7 +51,7 @@ returns c =
     let l = c .before .loop in
     let a = c .before .before .before .before .args in
     let e : take (l .i) (a .numbers .now) ≡ a .numbers .now = take-all (l .i) (a .numbers .now) (omega arith) in
-    (put-as _ (ap (λ (ns : List ℕ). behindBlanks (map decimal ns)) e) (l .inv .2), omega (arith, l .inv .0, l .inv .1))
+    (put-as _ (ap (λ (ns : List ℕ). withBlanks (map decimal ns)) e) (l .inv .2), omega (arith, l .inv .0, l .inv .1))
 
 pub put-numbers-spec : {M : Type 1} → statement M
 put-numbers-spec =

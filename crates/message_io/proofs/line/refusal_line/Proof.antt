@@ -5,7 +5,7 @@ use Prim.Native.Nat.{ℕ, _≤_}
 use native.Mathlib.Omega.{arith}
 use Rattle.base.specs.Refusals.{returned}
 use Rattle.base.proofs.Writer.{put-then}
-use Rattle.message_io.specs.Lines.{behindBlanks, decimal, line, refusalLine}
+use Rattle.message_io.specs.Lines.{withBlanks, decimal, line, refusalLine}
 use Rattle.message_io.proofs.Texts.{front, line-put}
 use borrow.Author.Needs.{needs}
 use Rattle.message_io.proofs.line.refusal_line.Statement.{statement}
@@ -16,7 +16,7 @@ abbrev word : List ℕ
 word = 0x72 ∷ 0x65 ∷ 0x66 ∷ 0x75 ∷ 0x73 ∷ 0x65 ∷ 0x64 ∷ []
 
 returns : tie.Need-returns
-unfolding refusalLine behindBlanks
+unfolding refusalLine withBlanks
 returns c =
     let x = c .before .before .before .before .before .before .before .before .before .before .before .args .refusal in
     let p = c .before .before .before .before .before .before .before .before .put-bytes .ensures in

@@ -1,4 +1,4 @@
--- The word, and the numbers behind blanks.
+-- The word, and the numbers after blanks.
 use mathlib.Core.List.{map}
 use native.Mathlib.Omega.{arith}
 use Rattle.message_io.specs.Lines.{decimal, totalLine}

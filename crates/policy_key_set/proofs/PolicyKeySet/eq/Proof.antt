@@ -1,4 +1,4 @@
--- The two tests, one behind the other.
+-- The two tests, one after the other.
 use mathlib.Core.Path.{sym, ap, _∙_}
 use mathlib.Core.Bool.{Bool, _&&_}
 use borrow.Author.Needs.{needs}

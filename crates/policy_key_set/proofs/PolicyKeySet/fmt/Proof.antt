@@ -26,7 +26,8 @@ returns-3 c =
     let t = x .before .before in
     let z = t .before .before in
     let s = z .before .before .args .self in
-    rw (display-list s (λ e. t .before .if1 .left (z .size .ensures ∙ e)) (λ e. t .if2 .left (z .size .ensures ∙ e))) (x .show-keys .ensures)
+    rw (display-list s (λ e. t .before .if1 .left (z .size .ensures ∙ e)) (λ e. t .if2 .left (z .size .ensures ∙ e)))
+    (x .show-keys .ensures)
 
 pub fmt-spec : {M : Type 1} → statement M
 fmt-spec =

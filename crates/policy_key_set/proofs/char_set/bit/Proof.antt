@@ -13,7 +13,8 @@ use Rattle.policy_key_set.proofs.char_set.bit.Tie as tie
 returns : tie.Need-returns
 returns c j =
     let h = c .pre in
-    let p : 1 * 2 ^ c .args .k % 2 ^ 64 ≡ 2 ^ c .args .k = shl-exact 1 (c .args .k) 64 (omega arith) (omega arith) ∙ one-mul (2 ^ c .args .k) in
+    let p : 1 * 2 ^ c .args .k % 2 ^ 64 ≡ 2 ^ c .args .k = shl-exact 1 (c .args .k) 64 (omega arith) (omega arith)
+    ∙ one-mul (2 ^ c .args .k) in
     ap (one j) p ∙ power-one j (c .args .k)
 
 pub bit-spec : {M : Type 1} → statement M

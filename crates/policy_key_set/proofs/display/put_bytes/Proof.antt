@@ -7,7 +7,8 @@ use Rattle.policy_key_set.proofs.display.put_bytes.Tie as tie
 returns : tie.Need-returns
 returns c =
     let x = c .before .before .before .before .before .before .args in
-    bytes-put (x .out .now) _ (x .start) (x .bytes .now) (c .before .before .before .before .before .before .pre) (c .before .before .write-bytes .ensures .1)
+    bytes-put (x .out .now) _ (x .start) (x .bytes .now) (c .before .before .before .before .before .before .pre)
+    (c .before .before .write-bytes .ensures .1)
 
 pub put-bytes-spec : {M : Type 1} → statement M
 put-bytes-spec = tie.close (tie.spec (λ c κs. search needs) (λ c. search needs) (λ c. search needs) returns)

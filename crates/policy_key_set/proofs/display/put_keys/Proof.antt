@@ -32,7 +32,8 @@ put-key-requires c κs =
     let e = c .before .before .before .entry in
     let m = contains-place (a .set .bits) (l .i) (omega arith) (e .ensures) (c .before .before .contains .ensures) in
     room _ _ _ _ (piece (l .at) (keyText (a .keycap) (e .result))) _ (l .inv .1)
-    (keys-in (a .keycap) (a .set .bits) variationEntries (l .i) (l .at) (omega (arith, entries-length)) (e .ensures) (m ∙ c .before .if1 .taken))
+    (keys-in (a .keycap) (a .set .bits) variationEntries (l .i) (l .at) (omega (arith, entries-length)) (e .ensures)
+    (m ∙ c .before .if1 .taken))
 
 loop-again : tie.Need-loop-again Inv-loop μ-loop
 loop-again c =

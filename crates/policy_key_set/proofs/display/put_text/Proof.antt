@@ -25,7 +25,14 @@ put-bytes-requires c κs =
     let x = y .before .before .before .before .before in
     let a = x .before .before .before .args in
     let w = y .before .before .hex-width .result in
-    omega (arith, text-length (a .keycap) (a .ch), hex-length w (a .ch), y .before .before .hex-width .ensures .0, x .put-opening .ensures .ends, y .put-hex .ensures .ends)
+    omega (
+      arith,
+      text-length (a .keycap) (a .ch),
+      hex-length w (a .ch),
+      y .before .before .hex-width .ensures .0,
+      x .put-opening .ensures .ends,
+      y .put-hex .ensures .ends,
+    )
 
 returns : tie.Need-returns
 returns c =
@@ -33,7 +40,8 @@ returns c =
     let y = z .before .before .before .before .before in
     let x = y .before .before .before .before .before in
     let a = x .before .before .before .args in
-    text-put (a .keycap) (a .ch) (x .put-opening .ensures) (y .before .before .hex-width .ensures .0) (y .put-hex .ensures) (z .put-bytes .ensures)
+    text-put (a .keycap) (a .ch) (x .put-opening .ensures) (y .before .before .hex-width .ensures .0) (y .put-hex .ensures)
+    (z .put-bytes .ensures)
 
 pub put-text-spec : {M : Type 1} → statement M
 put-text-spec =

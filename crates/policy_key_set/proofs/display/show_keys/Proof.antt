@@ -1,4 +1,4 @@
--- The measured length is that of the list; the two domains are written one behind the other.
+-- The measured length is that of the list; the two domains are written one after the other.
 use mathlib.Core.Path.{_≡_, _∙_, sym}
 use native.Mathlib.Omega.{arith}
 use Rattle.policy_key_set.specs.Display.{keyList}

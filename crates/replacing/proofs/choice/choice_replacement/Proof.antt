@@ -48,8 +48,10 @@ returns-3 c =
     let e = unit-cells (x .raw .now) (x .at) (u .result) (u .ensures) in
     let l = c .before .before .before .before .before .before .before .before .before .before .if1 .left in
     ends-as (replace-unit (x .policy) (x .raw .now) (x .at) Text (x .out .now) l
-    (part-written (x .raw .now) (x .out .now) (x .at) (u .result) l (whole (c .before .before .write-cells .ensures)) ∙ ap (λ (xs : List Cell). writeOut (encodeAll (render (x .policy) xs (Text ∷ []))) (x .out .now)) e)
-    ∙ ap (λ (q : Presentation). replaceUnit (x .policy) (x .raw .now) (x .at) q (x .out .now)) (sym (c .before .before .before .before .before .before .enum-told .given .1)))
+    (part-written (x .raw .now) (x .out .now) (x .at) (u .result) l (whole (c .before .before .write-cells .ensures))
+    ∙ ap (λ (xs : List Cell). writeOut (encodeAll (render (x .policy) xs (Text ∷ []))) (x .out .now)) e)
+    ∙ ap (λ (q : Presentation). replaceUnit (x .policy) (x .raw .now) (x .at) q (x .out .now))
+    (sym (c .before .before .before .before .before .before .enum-told .given .1)))
 
 returns-4 : tie.Need-returns-4
 returns-4 c =
@@ -58,8 +60,10 @@ returns-4 c =
     let e = unit-cells (x .raw .now) (x .at) (u .result) (u .ensures) in
     let l = c .before .before .before .before .before .before .before .before .before .before .if1 .left in
     ends-as (replace-unit (x .policy) (x .raw .now) (x .at) Emoji (x .out .now) l
-    (part-written (x .raw .now) (x .out .now) (x .at) (u .result) l (whole (c .before .before .write-cells2 .ensures)) ∙ ap (λ (xs : List Cell). writeOut (encodeAll (render (x .policy) xs (Emoji ∷ []))) (x .out .now)) e)
-    ∙ ap (λ (q : Presentation). replaceUnit (x .policy) (x .raw .now) (x .at) q (x .out .now)) (sym (c .before .before .before .before .before .before .enum-told2 .given .1)))
+    (part-written (x .raw .now) (x .out .now) (x .at) (u .result) l (whole (c .before .before .write-cells2 .ensures))
+    ∙ ap (λ (xs : List Cell). writeOut (encodeAll (render (x .policy) xs (Emoji ∷ []))) (x .out .now)) e)
+    ∙ ap (λ (q : Presentation). replaceUnit (x .policy) (x .raw .now) (x .at) q (x .out .now))
+    (sym (c .before .before .before .before .before .before .enum-told2 .given .1)))
 
 pub choice-replacement-spec : {M : Type 1} → statement M
 choice-replacement-spec =

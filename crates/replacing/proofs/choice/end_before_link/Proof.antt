@@ -1,4 +1,5 @@
--- `replacing::choice::end_before_link` meets its contract. The loop's invariant: `end`, with the bytes up to the next link from there on, is
+-- `replacing::choice::end_before_link` meets its contract. The loop's invariant: `end`, with the bytes up to the next link from there on,
+-- is
 -- the end. The measure is the number of bytes left.
 use mathlib.Core.Path.{_≡_, refl, ap, sym, _∙_}
 use mathlib.Core.Bool.{false, not}
@@ -29,25 +30,37 @@ loop-holds c = refl
 returns : tie.Need-returns Inv-loop μ-loop
 returns c =
     let x = c .before .before .before .before .before .before .before .before .args in
-    let k = seen (c .before .before .before .before .before .before .before .before .args .raw .now) (c .before .before .before .before .before .before .loop .end) (sym (c .before .before .before .before .before .peek .ensures) ∙ c .before .before .before .class .given .1) in
+    let k = seen (c .before .before .before .before .before .before .before .before .args .raw .now)
+    (c .before .before .before .before .before .before .loop .end)
+    (sym (c .before .before .before .before .before .peek .ensures) ∙ c .before .before .before .class .given .1) in
     let e = ap not (link-test _ ∙ ap forLink (sym (k .class) ∙ c .enum-told .given .1)) in
     omega (arith, run-over offLink k e, link-end (x .raw .now) (x .at))
 
 loop-less : tie.Need-loop-less Inv-loop μ-loop
 loop-less c =
-    let k = seen (c .before .before .before .before .before .before .before .args .raw .now) (c .before .before .before .before .before .loop .end) (sym (c .before .before .before .before .peek .ensures) ∙ c .before .before .class .given .1) in
+    let k = seen (c .before .before .before .before .before .before .before .args .raw .now)
+    (c .before .before .before .before .before .loop .end)
+    (sym (c .before .before .before .before .peek .ensures) ∙ c .before .before .class .given .1) in
     omega (arith, k .on, k .room)
 
 loop-again : tie.Need-loop-again Inv-loop μ-loop
 loop-again c =
-    let k = seen (c .before .before .before .before .before .before .before .args .raw .now) (c .before .before .before .before .before .loop .end) (sym (c .before .before .before .before .peek .ensures) ∙ c .before .before .class .given .1) in
-    let e = ap not (link-test _ ∙ ap forLink (sym (k .class)) ∙ seen-arm k forLink false (0 ∷ 2 ∷ 3 ∷ 4 ∷ 5 ∷ 6 ∷ 7 ∷ []) (refl, tt, refl, refl, refl, refl, refl, refl) (c .match2 .keys2)) in
+    let k = seen (c .before .before .before .before .before .before .before .args .raw .now)
+    (c .before .before .before .before .before .loop .end)
+    (sym (c .before .before .before .before .peek .ensures) ∙ c .before .before .class .given .1) in
+    let e = ap not (link-test _ ∙ ap forLink (sym (k .class))
+    ∙ seen-arm k forLink false (0 ∷ 2 ∷ 3 ∷ 4 ∷ 5 ∷ 6 ∷ 7 ∷ []) (refl, tt, refl, refl, refl, refl, refl, refl) (c .match2 .keys2)) in
     c .before .before .before .before .before .loop .inv ∙ run-on offLink k e
 
 returns-2 : tie.Need-returns-2 Inv-loop μ-loop
 returns-2 c =
     let x = c .before .before .before .before .before .args in
-    omega (arith, run-none offLink (unseen (x .raw .now) (c .before .before .before .loop .end) (sym (c .before .before .peek .ensures) ∙ c .enum-told2 .given .1)), link-end (x .raw .now) (x .at))
+    omega (
+      arith,
+      run-none offLink (unseen (x .raw .now) (c .before .before .before .loop .end)
+          (sym (c .before .before .peek .ensures) ∙ c .enum-told2 .given .1)),
+      link-end (x .raw .now) (x .at),
+    )
 
 pub end-before-link-spec : {M : Type 1} → statement M
 end-before-link-spec =

@@ -25,47 +25,59 @@ loop-less : tie.Need-loop-less Inv-loop μ-loop
 loop-less c =
     let x = c .before .before .before .before .before .before .before .before .args in
     let l = c .before .before .before .before .before .before .loop in
-    let k = seen (x .raw .now) (l .start) (sym (c .before .before .before .before .before .peek .ensures) ∙ c .before .before .before .value .given .1) in
+    let k = seen (x .raw .now) (l .start)
+    (sym (c .before .before .before .before .before .peek .ensures) ∙ c .before .before .before .value .given .1) in
     omega (arith, k .on, k .room)
 
 loop-again : tie.Need-loop-again Inv-loop μ-loop
 loop-again c =
     let x = c .before .before .before .before .before .before .before .before .args in
     let l = c .before .before .before .before .before .before .loop in
-    let k = seen (x .raw .now) (l .start) (sym (c .before .before .before .before .before .peek .ensures) ∙ c .before .before .before .value .given .1) in
+    let k = seen (x .raw .now) (l .start)
+    (sym (c .before .before .before .before .before .peek .ensures) ∙ c .before .before .before .value .given .1) in
     l .inv ∙ choice-selector (x .policy) (x .raw .now) (l .start) k (is-selector k (c .enum-told .given .1))
 
 returns : tie.Need-returns Inv-loop μ-loop
 returns c =
     let x = c .before .before .before .before .before .before .before .before .before .before .before .before .before .args in
     let l = c .before .before .before .before .before .before .before .before .before .before .before .loop in
-    let k = seen (x .raw .now) (l .start) (sym (c .before .before .before .before .before .before .before .before .before .before .peek .ensures) ∙ c .before .before .before .before .before .before .before .before .value .given .1) in
+    let k = seen (x .raw .now) (l .start)
+    (sym (c .before .before .before .before .before .before .before .before .before .before .peek .ensures)
+    ∙ c .before .before .before .before .before .before .before .before .value .given .1) in
     let e = not-selector k (c .before .before .before .before .before .before .match2 .keys2) in
     let o = c .before .before .before .before .before .cell-outcome in
-    choice-found (x .policy) (x .raw .now) (l .start) k e (o .result .outcome) (o .result .end) (o .ensures .0) (o .ensures .1) (c .before .before .slot .given .0 .0) (c .end-before-link .result) (c .before .before .slot .given .1) (c .end-before-link .ensures)
+    choice-found (x .policy) (x .raw .now) (l .start) k e (o .result .outcome) (o .result .end) (o .ensures .0) (o .ensures .1)
+    (c .before .before .slot .given .0 .0) (c .end-before-link .result) (c .before .before .slot .given .1)
+    (c .end-before-link .ensures)
     ∙ sym (l .inv)
 
 loop-less-2 : tie.Need-loop-less-2 Inv-loop μ-loop
 loop-less-2 c =
     let x = c .before .before .before .before .before .before .before .before .before .before .args in
     let l = c .before .before .before .before .before .before .before .before .loop in
-    let k = seen (x .raw .now) (l .start) (sym (c .before .before .before .before .before .before .before .peek .ensures) ∙ c .before .before .before .before .before .value .given .1) in
+    let k = seen (x .raw .now) (l .start)
+    (sym (c .before .before .before .before .before .before .before .peek .ensures)
+    ∙ c .before .before .before .before .before .value .given .1) in
     omega (arith, k .on, k .room, c .before .before .cell-outcome .ensures .1)
 
 loop-again-2 : tie.Need-loop-again-2 Inv-loop μ-loop
 loop-again-2 c =
     let x = c .before .before .before .before .before .before .before .before .before .before .args in
     let l = c .before .before .before .before .before .before .before .before .loop in
-    let k = seen (x .raw .now) (l .start) (sym (c .before .before .before .before .before .before .before .peek .ensures) ∙ c .before .before .before .before .before .value .given .1) in
+    let k = seen (x .raw .now) (l .start)
+    (sym (c .before .before .before .before .before .before .before .peek .ensures)
+    ∙ c .before .before .before .before .before .value .given .1) in
     let e = not-selector k (c .before .before .before .match2 .keys2) in
     let o = c .before .before .cell-outcome in
-    l .inv ∙ choice-passed (x .policy) (x .raw .now) (l .start) k e (o .result .outcome) (o .result .end) (o .ensures .0) (o .ensures .1) (undecided (o .result .outcome .slot) (c .match3 .keys2))
+    l .inv ∙ choice-passed (x .policy) (x .raw .now) (l .start) k e (o .result .outcome) (o .result .end) (o .ensures .0) (o .ensures .1)
+    (undecided (o .result .outcome .slot) (c .match3 .keys2))
 
 returns-2 : tie.Need-returns-2 Inv-loop μ-loop
 returns-2 c =
     let x = c .before .before .before .before .before .args in
     let l = c .before .before .before .loop in
-    choice-none (x .policy) (x .raw .now) (l .start) (unseen (x .raw .now) (l .start) (sym (c .before .before .peek .ensures) ∙ c .enum-told2 .given .1)) ∙ sym (l .inv)
+    choice-none (x .policy) (x .raw .now) (l .start)
+    (unseen (x .raw .now) (l .start) (sym (c .before .before .peek .ensures) ∙ c .enum-told2 .given .1)) ∙ sym (l .inv)
 
 pub next-choice-spec : {M : Type 1} → statement M
 next-choice-spec =

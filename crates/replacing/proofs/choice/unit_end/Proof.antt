@@ -11,7 +11,8 @@ returns c =
     let x = c .before .before .before .before .before .before .before .args in
     let r = c .before .before .before .before .before .run-end in
     let k = seen (x .raw .now) (r .result) (sym (c .before .before .before .before .peek .ensures) ∙ c .before .before .next .given .1) in
-    unit-on (x .raw .now) (x .at) (r .result) (r .ensures ∙ first-cell (x .raw .now) (x .at)) (c .end-before-link .result) k (c .end-before-link .ensures)
+    unit-on (x .raw .now) (x .at) (r .result) (r .ensures ∙ first-cell (x .raw .now) (x .at)) (c .end-before-link .result) k
+    (c .end-before-link .ensures)
 
 returns-2 : tie.Need-returns-2
 returns-2 c =

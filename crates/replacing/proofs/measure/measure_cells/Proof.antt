@@ -1,4 +1,5 @@
--- `replacing::measure::measure_cells` meets its contract. The loop's invariant: what is counted and measured, with what is left at `at`, gives
+-- `replacing::measure::measure_cells` meets its contract. The loop's invariant: what is counted and measured, with what is left at `at`,
+-- gives
 -- the whole (Measuring). The measure is the number of bytes left.
 use mathlib.Core.Path.{_≡_, refl, ap, sym, _∙_}
 use Prim.Native.Nat.{ℕ, _+_, _-_, _%_}
@@ -28,13 +29,15 @@ returns : tie.Need-returns Inv-loop μ-loop
 returns c =
     let l = c .before .before .loop in
     let d = c .before .decode in
-    measuring-done (l .inv) (packed-stop (c .before .before .before .before .before .before .args .text .now) (l .at) (d .result) (d .ensures) (c .if1 .taken))
+    measuring-done (l .inv) (packed-stop (c .before .before .before .before .before .before .args .text .now) (l .at) (d .result)
+    (d .ensures) (c .if1 .taken))
 
-add-behind : tie.Need-add-behind Inv-loop μ-loop
-add-behind c =
+add-after : tie.Need-add-after Inv-loop μ-loop
+add-after c =
     let l = c .before .before .loop in
     let d = c .before .decode in
-    let k = packed-step (c .before .before .before .before .before .before .args .text .now) (l .at) (d .result) (d .ensures) (c .if1 .left) in
+    let k = packed-step (c .before .before .before .before .before .before .args .text .now) (l .at) (d .result) (d .ensures)
+    (c .if1 .left) in
     omega (arith, k .room)
 
 add-add-count : tie.Need-add-add-count Inv-loop μ-loop
@@ -45,7 +48,8 @@ loop-less c =
     let x = c .before .before .before .before .before .before .before .before .before .before .before .before .before .args in
     let l = c .before .before .before .before .before .before .before .before .before .loop in
     let d = c .before .before .before .before .before .before .before .before .decode in
-    let k = packed-step (x .text .now) (l .at) (d .result) (d .ensures) (c .before .before .before .before .before .before .before .if1 .left) in
+    let k = packed-step (x .text .now) (l .at) (d .result) (d .ensures)
+    (c .before .before .before .before .before .before .before .if1 .left) in
     omega (arith, k .some, k .room, c .before .before .before .before .cell-outcome .ensures .1)
 
 loop-again : tie.Need-loop-again Inv-loop μ-loop
@@ -53,11 +57,15 @@ loop-again c =
     let x = c .before .before .before .before .before .before .before .before .before .before .before .before .before .args in
     let l = c .before .before .before .before .before .before .before .before .before .loop in
     let d = c .before .before .before .before .before .before .before .before .decode in
-    let k = packed-step (x .text .now) (l .at) (d .result) (d .ensures) (c .before .before .before .before .before .before .before .if1 .left) in
+    let k = packed-step (x .text .now) (l .at) (d .result) (d .ensures)
+    (c .before .before .before .before .before .before .before .if1 .left) in
     let o = c .before .before .before .before .cell-outcome in
     let n : c .add-count .result ≡ capped (l .len + (d .result % 8 + slotLength (o .result .outcome .slot))) =
     c .add-count .ensures ∙ ap (λ (m : ℕ). capped (l .len + (d .result % 8 + m))) (c .before .slot-len .ensures) in
-    rw (c .before .before .add .ensures, n) (measuring-cell (l .inv) k (omega (arith, c .before .before .before .before .before .before .before .before .before .before .before .before .before .good .0 .0)) (o .result .outcome) (o .result .end) (o .ensures .0) (o .ensures .1))
+    rw (c .before .before .add .ensures, n)
+    (measuring-cell (l .inv) k (omega
+    (arith, c .before .before .before .before .before .before .before .before .before .before .before .before .before .good .0 .0))
+    (o .result .outcome) (o .result .end) (o .ensures .0) (o .ensures .1))
 
 loop-less-2 : tie.Need-loop-less-2 Inv-loop μ-loop
 loop-less-2 c =
@@ -74,10 +82,13 @@ loop-again-2 c =
     let d = c .before .before .before .before .before .before .before .decode in
     let k = packed-step (x .text .now) (l .at) (d .result) (d .ensures) (c .before .before .before .before .before .before .if1 .left) in
     let e = c .before .before .before .selectors-end in
-    let v = sym (c .before .before .before .before .before .has-variation-sequence-by-block .ensures) ∙ c .before .before .before .before .if2 .left in
+    let v = sym (c .before .before .before .before .before .has-variation-sequence-by-block .ensures)
+    ∙ c .before .before .before .before .if2 .left in
     let a = ap (cappedSum (l .counts)) (c .before .before .unsanctioned2 .ensures) in
     rw (c .before .add2 .ensures, a, c .add-count2 .ensures)
-    (measuring-plain (l .inv) k (omega (arith, c .before .before .before .before .before .before .before .before .before .before .before .before .good .0 .0)) v (e .result) _ (e .ensures ∙ selectors-end (x .text .now) (l .at + d .result % 8)) refl)
+    (measuring-plain (l .inv) k (omega
+    (arith, c .before .before .before .before .before .before .before .before .before .before .before .before .good .0 .0)) v
+    (e .result) _ (e .ensures ∙ selectors-end (x .text .now) (l .at + d .result % 8)) refl)
 
 pub measure-cells-spec : {M : Type 1} → statement M
 measure-cells-spec =
@@ -91,7 +102,7 @@ measure-cells-spec =
     (λ c κs. search needs)
     returns
     (λ c. search needs)
-    add-behind
+    add-after
     (λ c κs. search needs)
     (λ c κs. search needs)
     (λ c κs. search needs)

@@ -78,7 +78,8 @@ returns-3 c =
     let t = x .text .now in
     let h = found-at (x .policy) t (x .at) (g .0 .0) (sym (analysed .analyze-starting-item .ensures) ∙ g .1) in
     let n = text-passed t (tested .check-text .ensures .same) (passed .enum-told .given .1) in
-    ends-as (replace-refused (x .policy) t (x .at) (x .decisions .now) (x .out .now) n h _ (k .result) (k .ensures .same) (c .before .refusal2 .given .1))
+    ends-as (replace-refused (x .policy) t (x .at) (x .decisions .now) (x .out .now) n h _ (k .result) (k .ensures .same)
+    (c .before .refusal2 .given .1))
 
 returns-4 : tie.Need-returns-4
 returns-4 c =
@@ -93,7 +94,8 @@ returns-4 c =
     let t = x .text .now in
     let h = found-at (x .policy) t (x .at) (g .0 .0) (sym (analysed .analyze-starting-item .ensures) ∙ g .1) in
     let n = text-passed t (tested .check-text .ensures .same) (passed .enum-told .given .1) in
-    ends-as (replace-written (x .policy) t (x .at) (x .decisions .now) (x .out .now) n h (k .result) _ (k .ensures .same) (right .enum-told2 .given .1)
+    ends-as (replace-written (x .policy) t (x .at) (x .decisions .now) (x .out .now) n h (k .result) _ (k .ensures .same)
+    (right .enum-told2 .given .1)
     (part-written t (x .out .now) (x .at) (g .0 .0 .end) (text-within t n) (whole (c .before .before .write-cells .ensures))))
 
 pub canonical-replacement-with-decisions-spec : {M : Type 1} → statement M

@@ -24,7 +24,8 @@ returns c =
     let tested = c .before .before .before in
     let x = tested .before .before .before .args in
     let t = x .text .now in
-    ends-as (default-turned-back (x .policy) t (x .at) (x .out .now) (text-refused t (tested .check-text .ensures .same) (c .before .refusal .given .1)))
+    ends-as (default-turned-back (x .policy) t (x .at) (x .out .now)
+    (text-refused t (tested .check-text .ensures .same) (c .before .refusal .given .1)))
 
 returns-2 : tie.Need-returns-2
 returns-2 c =
@@ -33,7 +34,8 @@ returns-2 c =
     let tested = passed .before .before in
     let x = tested .before .before .before .args in
     let t = x .text .now in
-    ends-as (default-none (x .policy) t (x .at) (x .out .now) (text-passed t (tested .check-text .ensures .same) (passed .enum-told .given .1))
+    ends-as (default-none (x .policy) t (x .at) (x .out .now)
+    (text-passed t (tested .check-text .ensures .same) (passed .enum-told .given .1))
     (none-found (x .policy) t (x .at) (a .result) (c .match2 .keys2) (a .ensures)))
 
 sub-write-cells : tie.Need-sub-write-cells

@@ -17,8 +17,14 @@ use Rattle.replacing.proofs.render.put_cell.Tie as tie
 put-char-requires : tie.Need-put-char-requires
 put-char-requires c κs =
     let s = c .before .before .before .before in
-    let r = s .pre .1 in
-    (s .pre .0, omega (arith, length-append (encode (s .args .ch)) (encodeAll (map asSelector (chosen (s .args .slot) (map meaning (drop (s .args .i) (s .args .decisions .now))))))))
+    let r = s .pre .1 in (
+      s .pre .0,
+      omega (
+        arith,
+        length-append (encode (s .args .ch))
+            (encodeAll (map asSelector (chosen (s .args .slot) (map meaning (drop (s .args .i) (s .args .decisions .now)))))),
+      ),
+    )
 
 put-selector-requires : tie.Need-put-selector-requires
 put-selector-requires c κs =
@@ -33,12 +39,16 @@ put-selector-requires c κs =
       length-append (encode (x .ch)) (encodeAll (map asSelector (chosen (x .slot) d))),
       ap length (p .bytes),
       length-sets (x .out .now) (x .at) (encode (x .ch)),
-      ap (λ (l : List Presentation). length (encodeAll (map asSelector l))) (c .before .before .before .before .before .selector-of .ensures),
+      ap (λ (l : List Presentation). length (encodeAll (map asSelector l)))
+          (c .before .before .before .before .before .selector-of .ensures),
     )
 
 returns : tie.Need-returns
 returns c =
-    put-then (c .before .before .before .before .before .before .put-char .ensures) (put-as _ (ap (λ (l : List Presentation). encodeAll (map asSelector l)) (c .before .before .before .before .before .before .before .before .selector-of .ensures)) (c .before .before .put-selector .ensures))
+    put-then (c .before .before .before .before .before .before .put-char .ensures)
+    (put-as _ (ap (λ (l : List Presentation). encodeAll (map asSelector l))
+    (c .before .before .before .before .before .before .before .before .selector-of .ensures))
+    (c .before .before .put-selector .ensures))
 
 pub put-cell-spec : {M : Type 1} → statement M
 put-cell-spec =

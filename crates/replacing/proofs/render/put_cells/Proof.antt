@@ -1,5 +1,6 @@
 -- `replacing::render::put_cells` meets its contract. The loop's invariant: what is left at `at` under the decisions from `used` on is
--- still to be written, at `to`; no selector leads there, and no more decisions are used than bytes are passed. The measure is the number of bytes left.
+-- still to be written, at `to`; no selector leads there, and no more decisions are used than bytes are passed. The measure is the number of
+-- bytes left.
 use mathlib.Core.Path.{_≡_, ap}
 use mathlib.Core.List.{List, [], map}
 use Prim.Native.Nat.{_+_, _-_, _/_, _%_, _≤_}
@@ -19,7 +20,8 @@ use Rattle.replacing.proofs.render.put_cells.Tie as tie
 
 abbrev Inv-loop : tie.InvT-loop
 Inv-loop text policy decisions out₀ start at₀ to₀ used₀ out at to used =
-    (used ≤ at) × (leading (chars (drop at text)) ≡ []) × Writing (leftAt policy text decisions 0 0) 0 out₀ (leftAt policy text decisions at used) out to
+    (used ≤ at) × (leading (chars (drop at text)) ≡ [])
+    × Writing (leftAt policy text decisions 0 0) 0 out₀ (leftAt policy text decisions at used) out to
 
 abbrev μ-loop : tie.MeasureT-loop
 μ-loop text policy decisions out₀ start at₀ to₀ used₀ out at to used = length text - at
@@ -43,7 +45,8 @@ returns c =
     let x = c .before .before .before .before .before .before .before .args in
     let l = c .before .before .loop in
     let d = c .before .decode in
-    finish _ _ _ _ (l .inv .2) (left-none (x .policy) (x .text .now) (x .decisions .now) (l .at) (l .used) (packed-stop (x .text .now) (l .at) (d .result) (d .ensures) (c .if1 .taken)))
+    finish _ _ _ _ (l .inv .2) (left-none (x .policy) (x .text .now) (x .decisions .now) (l .at) (l .used)
+    (packed-stop (x .text .now) (l .at) (d .result) (d .ensures) (c .if1 .taken)))
 
 add-cell-outcome : tie.Need-add-cell-outcome Inv-loop μ-loop
 add-cell-outcome c =
@@ -60,23 +63,37 @@ put-cell-requires c κs =
     let d = c .before .before .before .before .decode in
     let k = packed-step (x .text .now) (l .at) (d .result) (d .ensures) (c .before .before .before .if1 .left) in
     let o = c .before .before .cell-outcome in
-    let f = left-cell (x .policy) (x .text .now) (x .decisions .now) (l .at) (l .used) k (l .inv .1) (o .result .outcome) (o .result .end) (o .ensures .0) (o .ensures .1) in
-    (k .is-scalar, room _ _ _ _ (cellBytes (d .result / 8) (o .result .outcome .slot) (map meaning (drop (l .used) (x .decisions .now)))) _ (l .inv .2) f)
+    let f = left-cell (x .policy) (x .text .now) (x .decisions .now) (l .at) (l .used) k (l .inv .1) (o .result .outcome) (o .result .end)
+    (o .ensures .0) (o .ensures .1) in (
+      k .is-scalar,
+      room _ _ _ _ (cellBytes (d .result / 8) (o .result .outcome .slot) (map meaning (drop (l .used) (x .decisions .now)))) _
+          (l .inv .2) f,
+    )
 
 add-used : tie.Need-add-used Inv-loop μ-loop
 add-used c =
     let x = c .before .before .before .before .before .before .before .before .before .before .before .before .before .before .args in
     let l = c .before .before .before .before .before .before .before .before .before .loop in
     let d = c .before .before .before .before .before .before .before .before .decode in
-    let k = packed-step (x .text .now) (l .at) (d .result) (d .ensures) (c .before .before .before .before .before .before .before .if1 .left) in
-    omega (arith, k .some, k .room, l .inv .0, c .before .before .before .before .before .before .before .before .before .before .before .before .before .before .good .0 .0, c .decisions-used .ensures, used-few (c .before .before .before .before .before .before .cell-outcome .result .outcome .slot))
+    let k = packed-step (x .text .now) (l .at) (d .result) (d .ensures)
+    (c .before .before .before .before .before .before .before .if1 .left) in
+    omega (
+      arith,
+      k .some,
+      k .room,
+      l .inv .0,
+      c .before .before .before .before .before .before .before .before .before .before .before .before .before .before .good .0 .0,
+      c .decisions-used .ensures,
+      used-few (c .before .before .before .before .before .before .cell-outcome .result .outcome .slot),
+    )
 
 loop-less : tie.Need-loop-less Inv-loop μ-loop
 loop-less c =
     let x = c .before .before .before .before .before .before .before .before .before .before .before .before .before .before .args in
     let l = c .before .before .before .before .before .before .before .before .before .loop in
     let d = c .before .before .before .before .before .before .before .before .decode in
-    let k = packed-step (x .text .now) (l .at) (d .result) (d .ensures) (c .before .before .before .before .before .before .before .if1 .left) in
+    let k = packed-step (x .text .now) (l .at) (d .result) (d .ensures)
+    (c .before .before .before .before .before .before .before .if1 .left) in
     omega (arith, k .some, k .room, c .before .before .before .before .before .before .cell-outcome .ensures .1)
 
 loop-again : tie.Need-loop-again Inv-loop μ-loop
@@ -84,9 +101,11 @@ loop-again c =
     let x = c .before .before .before .before .before .before .before .before .before .before .before .before .before .before .args in
     let l = c .before .before .before .before .before .before .before .before .before .loop in
     let d = c .before .before .before .before .before .before .before .before .decode in
-    let k = packed-step (x .text .now) (l .at) (d .result) (d .ensures) (c .before .before .before .before .before .before .before .if1 .left) in
+    let k = packed-step (x .text .now) (l .at) (d .result) (d .ensures)
+    (c .before .before .before .before .before .before .before .if1 .left) in
     let o = c .before .before .before .before .before .before .cell-outcome in
-    let f = left-cell (x .policy) (x .text .now) (x .decisions .now) (l .at) (l .used) k (l .inv .1) (o .result .outcome) (o .result .end) (o .ensures .0) (o .ensures .1) in
+    let f = left-cell (x .policy) (x .text .now) (x .decisions .now) (l .at) (l .used) k (l .inv .1) (o .result .outcome) (o .result .end)
+    (o .ensures .0) (o .ensures .1) in
     let n = c .decisions-used .ensures in (
       omega (arith, k .some, l .inv .0, o .ensures .1, n, used-few (o .result .outcome .slot)),
       ap (λ (a : List Presentation × List Cell). a .0) (split-at (x .text .now) (l .at + d .result % 8) (o .ensures .1)),

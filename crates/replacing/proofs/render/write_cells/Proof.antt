@@ -26,7 +26,8 @@ returns-2 c =
     let x = c .before .before .before .before .before .before .args in
     let m = c .before .measure-cells in
     let l = c .before .before .if1 .left in
-    ends-as (out-short (result (x .policy) (x .raw .now) (x .decisions .now)) (x .out .now) (m .result .len) (m .ensures .1 ∙ measured (x .policy) (x .raw .now) (map meaning (x .decisions .now)) l) (c .if2 .taken)
+    ends-as (out-short (result (x .policy) (x .raw .now) (x .decisions .now)) (x .out .now) (m .result .len)
+    (m .ensures .1 ∙ measured (x .policy) (x .raw .now) (map meaning (x .decisions .now)) l) (c .if2 .taken)
     ∙ not-too-long (x .raw .now) (x .out .now) _ l)
 
 put-cells-requires : tie.Need-put-cells-requires
@@ -34,14 +35,20 @@ put-cells-requires c κs =
     let x = c .before .before .before .before .before .before .before .args in
     let m = c .before .before .measure-cells in
     let h = c .before .if2 .left in
-    omega (arith, m .ensures .1 ∙ measured (x .policy) (x .raw .now) (map meaning (x .decisions .now)) (c .before .before .before .if1 .left))
+    omega (
+      arith,
+      m .ensures .1 ∙ measured (x .policy) (x .raw .now) (map meaning (x .decisions .now))
+          (c .before .before .before .if1 .left),
+    )
 
 returns-3 : tie.Need-returns-3
 returns-3 c =
     let x = c .before .before .before .before .before .before .before .before .before .before .args in
     let m = c .before .before .before .before .before .measure-cells in
     let l = c .before .before .before .before .before .before .if1 .left in
-    ends-as (out-put (result (x .policy) (x .raw .now) (x .decisions .now)) (x .out .now) (m .result .len) (m .ensures .1 ∙ measured (x .policy) (x .raw .now) (map meaning (x .decisions .now)) l) _ _ (c .before .before .before .before .if2 .left) (c .before .before .put-cells .ensures)
+    ends-as (out-put (result (x .policy) (x .raw .now) (x .decisions .now)) (x .out .now) (m .result .len)
+    (m .ensures .1 ∙ measured (x .policy) (x .raw .now) (map meaning (x .decisions .now)) l) _ _
+    (c .before .before .before .before .if2 .left) (c .before .before .put-cells .ensures)
     ∙ not-too-long (x .raw .now) (x .out .now) _ l)
 
 pub write-cells-spec : {M : Type 1} → statement M

@@ -13,7 +13,8 @@ returns-2 c e = sym (class-is (is-modifier (sym (c .before .is-emoji-modifier-by
 
 returns-3 : tie.Need-returns-3
 returns-3 c e =
-    sym (class-is (is-emoji e (sym (c .before .before .before .is-ri-by-ends .ensures) ∙ c .before .before .if1 .left) (sym (c .before .is-emoji-modifier-by-ends .ensures) ∙ c .if2 .left)))
+    sym (class-is (is-emoji e (sym (c .before .before .before .is-ri-by-ends .ensures) ∙ c .before .before .if1 .left)
+    (sym (c .before .is-emoji-modifier-by-ends .ensures) ∙ c .if2 .left)))
 
 pub class-of-emoji-spec : {M : Type 1} → statement M
 class-of-emoji-spec =

@@ -28,7 +28,8 @@ returns-6 c e = sym (class-is (is-tag (sym (c .before .is-tag .ensures) ∙ c .i
 
 returns-7 : tie.Need-returns-7
 returns-7 c e =
-    sym (class-other _ e (c .before .before .before .if4 .left) (c .before .before .if5 .left) (c .before .before .before .before .before .if2 .left) (c .before .before .before .before .if3 .left)
+    sym (class-other _ e (c .before .before .before .if4 .left) (c .before .before .if5 .left)
+    (c .before .before .before .before .before .if2 .left) (c .before .before .before .before .if3 .left)
     (sym (c .before .is-tag .ensures) ∙ c .if6 .left))
 
 pub class-of-plain-spec : {M : Type 1} → statement M

@@ -9,7 +9,8 @@ use Rattle.scanner.proofs.char_class.peek.Tie as tie
 returns : tie.Need-returns
 returns c =
     let x = c .before .before .before .args in
-    not-peeked (x .text .now) (x .at) (packed-stop (x .text .now) (x .at) (c .before .decode .result) (c .before .decode .ensures) (c .if1 .taken))
+    not-peeked (x .text .now) (x .at)
+    (packed-stop (x .text .now) (x .at) (c .before .decode .result) (c .before .decode .ensures) (c .if1 .taken))
 
 add-end : tie.Need-add-end
 add-end c =

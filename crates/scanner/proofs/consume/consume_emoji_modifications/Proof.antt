@@ -12,14 +12,17 @@ use Rattle.scanner.proofs.consume.consume_emoji_modifications.Tie as ti
 returns : tie.Need-returns
 returns c =
     let x = c .before .before .before .before .before .before .before .args in
-    let k = seen (x .text .now) (x .at) (sym (c .before .before .before .before .before .peek .ensures) ∙ c .before .before .before .class .given .1) in
-    modifications-on k (seen-arm k forModification true (3 ∷ 5 ∷ 6 ∷ []) (tt, tt, tt, refl, tt, refl, refl, tt) (c .before .match2 .keys1)) (c .run-end .ensures)
+    let k = seen (x .text .now) (x .at)
+    (sym (c .before .before .before .before .before .peek .ensures) ∙ c .before .before .before .class .given .1) in
+    modifications-on k (seen-arm k forModification true (3 ∷ 5 ∷ 6 ∷ []) (tt, tt, tt, refl, tt, refl, refl, tt) (c .before .match2 .keys1))
+    (c .run-end .ensures)
 
 returns-2 : tie.Need-returns-2
 returns-2 c =
     let x = c .before .before .before .before .before .before .args in
     let k = seen (x .text .now) (x .at) (sym (c .before .before .before .before .peek .ensures) ∙ c .before .before .class .given .1) in
-    modifications-off k (seen-arm k forModification false (0 ∷ 1 ∷ 2 ∷ 4 ∷ 7 ∷ []) (refl, refl, refl, tt, refl, tt, tt, refl) (c .match2 .keys2))
+    modifications-off k (seen-arm k forModification false (0 ∷ 1 ∷ 2 ∷ 4 ∷ 7 ∷ []) (refl, refl, refl, tt, refl, tt, tt, refl)
+    (c .match2 .keys2))
 
 returns-3 : tie.Need-returns-3
 returns-3 c =

@@ -1,4 +1,5 @@
--- `scanner::consume::consume_emoji_tag_runs` meets its contract. Both loops' invariant: `end`, with the bytes of the run of tags and selectors
+-- `scanner::consume::consume_emoji_tag_runs` meets its contract. Both loops' invariant: `end`, with the bytes of the run of tags and
+-- selectors
 -- from there on, is the run's end, and `complete` says whether the last tag so far is E007F (TagsRead). The measure is the number of bytes
 -- left: a group that has selectors has taken in a character.
 use mathlib.Core.Path.{_≡_, refl, ap, sym, _∙_}
@@ -98,7 +99,8 @@ returns c =
     let x = c .before .before .before .before .before .before .before .before .args in
     let l = c .before .before .before .before .before .loop in
     let k = seen (x .text .now) (l .end) (sym (c .before .before .before .before .peek .ensures) ∙ c .before .before .value .given .1) in
-    let o = tags-test _ ∙ ap forTags (sym (k .class)) ∙ seen-arm k forTags false (1 ∷ 2 ∷ 3 ∷ 4 ∷ 5 ∷ 7 ∷ []) (tt, refl, refl, refl, refl, refl, tt, refl) (c .match2 .keys3) in
+    let o = tags-test _ ∙ ap forTags (sym (k .class))
+    ∙ seen-arm k forTags false (1 ∷ 2 ∷ 3 ∷ 4 ∷ 5 ∷ 7 ∷ []) (tt, refl, refl, refl, refl, refl, tt, refl) (c .match2 .keys3) in
     (omega (arith, l .inv .2 .0, run-over inTags k o), tags-over k (l .inv .2 .1) o)
 
 returns-2 : tie.Need-returns-2 Inv-loop μ-loop Inv-groups μ-groups

@@ -27,27 +27,36 @@ loop-holds c = refl
 returns : tie.Need-returns Inv-loop μ-loop
 returns c =
     let x = c .before .before .before .before .before .before .before .before .args in
-    let k = seen (x .text .now) (c .before .before .before .before .before .before .loop .end) (sym (c .before .before .before .before .before .peek .ensures) ∙ c .before .before .before .class .given .1) in
-    let e = ap (inRun (x .kind)) (sym (k .class)) ∙ sym (c .before .in-run .ensures) ∙ not-true (c .before .in-run .result) (c .if1 .taken) in
+    let k = seen (x .text .now) (c .before .before .before .before .before .before .loop .end)
+    (sym (c .before .before .before .before .before .peek .ensures) ∙ c .before .before .before .class .given .1) in
+    let e = ap (inRun (x .kind)) (sym (k .class)) ∙ sym (c .before .in-run .ensures)
+    ∙ not-true (c .before .in-run .result) (c .if1 .taken) in
     omega (arith, run-over (λ y. inRun (x .kind) (classOf y)) k e)
 
 loop-less : tie.Need-loop-less Inv-loop μ-loop
 loop-less c =
     let x = c .before .before .before .before .before .before .before .before .args in
-    let k = seen (x .text .now) (c .before .before .before .before .before .before .loop .end) (sym (c .before .before .before .before .before .peek .ensures) ∙ c .before .before .before .class .given .1) in
+    let k = seen (x .text .now) (c .before .before .before .before .before .before .loop .end)
+    (sym (c .before .before .before .before .before .peek .ensures) ∙ c .before .before .before .class .given .1) in
     omega (arith, k .on, k .room)
 
 loop-again : tie.Need-loop-again Inv-loop μ-loop
 loop-again c =
     let x = c .before .before .before .before .before .before .before .before .args in
-    let k = seen (x .text .now) (c .before .before .before .before .before .before .loop .end) (sym (c .before .before .before .before .before .peek .ensures) ∙ c .before .before .before .class .given .1) in
-    let e = ap (inRun (x .kind)) (sym (k .class)) ∙ sym (c .before .in-run .ensures) ∙ not-false (c .before .in-run .result) (c .if1 .left) in
+    let k = seen (x .text .now) (c .before .before .before .before .before .before .loop .end)
+    (sym (c .before .before .before .before .before .peek .ensures) ∙ c .before .before .before .class .given .1) in
+    let e = ap (inRun (x .kind)) (sym (k .class)) ∙ sym (c .before .in-run .ensures)
+    ∙ not-false (c .before .in-run .result) (c .if1 .left) in
     c .before .before .before .before .before .before .loop .inv ∙ run-on (λ y. inRun (x .kind) (classOf y)) k e
 
 returns-2 : tie.Need-returns-2 Inv-loop μ-loop
 returns-2 c =
     let x = c .before .before .before .before .before .args in
-    omega (arith, run-none (λ y. inRun (x .kind) (classOf y)) (unseen (x .text .now) (c .before .before .before .loop .end) (sym (c .before .before .peek .ensures) ∙ c .enum-told .given .1)))
+    omega (
+      arith,
+      run-none (λ y. inRun (x .kind) (classOf y))
+          (unseen (x .text .now) (c .before .before .before .loop .end) (sym (c .before .before .peek .ensures) ∙ c .enum-told .given .1)),
+    )
 
 pub run-end-spec : {M : Type 1} → statement M
 run-end-spec =

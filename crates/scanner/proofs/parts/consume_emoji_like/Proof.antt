@@ -9,13 +9,15 @@ returns : tie.Need-returns
 returns c =
     let x = c .before .before .before .before .before .before .args in
     let g = c .before .before .stem .given in
-    unit-on (x .text .now) (x .at) (sym (g .1) ∙ c .before .before .before .before .consume-emoji-stem .ensures) single-some refl (c .consume-emoji-modifications .ensures)
+    unit-on (x .text .now) (x .at) (sym (g .1) ∙ c .before .before .before .before .consume-emoji-stem .ensures) single-some refl
+    (c .consume-emoji-modifications .ensures)
 
 returns-2 : tie.Need-returns-2
 returns-2 c =
     let x = c .before .before .before .before .before .before .args in
     let g = c .before .before .stem2 .given in
-    unit-on (x .text .now) (x .at) (sym (g .1) ∙ c .before .before .before .before .consume-emoji-stem .ensures) flag-some refl (c .consume-emoji-modifications2 .ensures)
+    unit-on (x .text .now) (x .at) (sym (g .1) ∙ c .before .before .before .before .consume-emoji-stem .ensures) flag-some refl
+    (c .consume-emoji-modifications2 .ensures)
 
 returns-3 : tie.Need-returns-3
 returns-3 c =

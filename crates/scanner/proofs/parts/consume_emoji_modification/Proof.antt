@@ -12,26 +12,30 @@ use Rattle.scanner.proofs.parts.consume_emoji_modification.Tie as tie
 returns : tie.Need-returns
 returns c =
     let x = c .before .before .before .before .before .before .before .before .args in
-    let k = seen (x .text .now) (x .at) (sym (c .before .before .before .before .before .before .peek .ensures) ∙ c .before .before .before .before .value .given .1) in
+    let k = seen (x .text .now) (x .at)
+    (sym (c .before .before .before .before .before .before .peek .ensures) ∙ c .before .before .before .before .value .given .1) in
     modifier-on k (c .before .enum-told .given .1) (c .consume-presentation-selectors .ensures)
 
 returns-2 : tie.Need-returns-2
 returns-2 c =
     let x = c .before .before .before .before .before .before .before .before .args in
-    let k = seen (x .text .now) (x .at) (sym (c .before .before .before .before .before .before .peek .ensures) ∙ c .before .before .before .before .value .given .1) in
+    let k = seen (x .text .now) (x .at)
+    (sym (c .before .before .before .before .before .before .peek .ensures) ∙ c .before .before .before .before .value .given .1) in
     keycap-on k (c .before .enum-told2 .given .1) (c .consume-presentation-selectors2 .ensures)
 
 returns-3 : tie.Need-returns-3
 returns-3 c =
     let x = c .before .before .before .before .before .before .before .before .args in
-    let k = seen (x .text .now) (x .at) (sym (c .before .before .before .before .before .before .peek .ensures) ∙ c .before .before .before .before .value .given .1) in
+    let k = seen (x .text .now) (x .at)
+    (sym (c .before .before .before .before .before .before .peek .ensures) ∙ c .before .before .before .before .value .given .1) in
     tags-on k (c .before .enum-told3 .given .1) (c .consume-emoji-tag-runs .ensures .0)
 
 returns-4 : tie.Need-returns-4
 returns-4 c =
     let x = c .before .before .before .before .before .before .args in
     let k = seen (x .text .now) (x .at) (sym (c .before .before .before .before .peek .ensures) ∙ c .before .before .value .given .1) in
-    modification-off k (seen-arm k forModification false (0 ∷ 1 ∷ 2 ∷ 4 ∷ 7 ∷ []) (refl, refl, refl, tt, refl, tt, tt, refl) (c .match2 .keys4))
+    modification-off k (seen-arm k forModification false (0 ∷ 1 ∷ 2 ∷ 4 ∷ 7 ∷ []) (refl, refl, refl, tt, refl, tt, tt, refl)
+    (c .match2 .keys4))
     (seen-arm k forTag false (0 ∷ 1 ∷ 2 ∷ 4 ∷ 7 ∷ []) (refl, refl, refl, tt, refl, tt, tt, refl) (c .match2 .keys4))
 
 returns-5 : tie.Need-returns-5

@@ -12,15 +12,18 @@ use Rattle.scanner.proofs.parts.consume_emoji_stem.Tie as tie
 returns : tie.Need-returns
 returns c =
     let x = c .before .before .before .before .before .before .before .before .args in
-    let k = seen (x .text .now) (x .at) (sym (c .before .before .before .before .before .before .peek .ensures) ∙ c .before .before .before .before .value .given .1) in
+    let k = seen (x .text .now) (x .at)
+    (sym (c .before .before .before .before .before .before .peek .ensures) ∙ c .before .before .before .before .value .given .1) in
     stem-ri k (c .before .enum-told .given .1) (c .consume-regional-indicator-stem .ensures)
 
 returns-2 : tie.Need-returns-2
 returns-2 c =
     let x = c .before .before .before .before .before .before .before .args in
-    let k = seen (x .text .now) (x .at) (sym (c .before .before .before .before .before .peek .ensures) ∙ c .before .before .before .value .given .1) in
+    let k = seen (x .text .now) (x .at)
+    (sym (c .before .before .before .before .before .peek .ensures) ∙ c .before .before .before .value .given .1) in
     stem-on k (seen-arm k forEmoji true (3 ∷ 4 ∷ []) (tt, tt, tt, refl, refl, tt, tt, tt) (c .before .match2 .keys2))
-    (seen-arm k forRi false (3 ∷ 4 ∷ []) (tt, tt, tt, refl, refl, tt, tt, tt) (c .before .match2 .keys2)) (c .consume-presentation-selectors .ensures)
+    (seen-arm k forRi false (3 ∷ 4 ∷ []) (tt, tt, tt, refl, refl, tt, tt, tt) (c .before .match2 .keys2))
+    (c .consume-presentation-selectors .ensures)
 
 returns-3 : tie.Need-returns-3
 returns-3 c =

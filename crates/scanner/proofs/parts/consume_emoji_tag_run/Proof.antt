@@ -12,7 +12,8 @@ returns c =
 returns-2 : tie.Need-returns-2
 returns-2 c =
     let x = c .before .before .before .before .args in
-    some-tags (x .text .now) (x .at) (c .before .before .run-end .ensures) (c .before .if1 .left) (c .consume-presentation-selectors .ensures)
+    some-tags (x .text .now) (x .at) (c .before .before .run-end .ensures) (c .before .if1 .left)
+    (c .consume-presentation-selectors .ensures)
 
 pub consume-emoji-tag-run-spec : {M : Type 1} → statement M
 consume-emoji-tag-run-spec =

@@ -1,4 +1,4 @@
--- `scanner::parts::consume_zwj_link` meets its contract: a link is 200D and the selectors behind it.
+-- `scanner::parts::consume_zwj_link` meets its contract: a link is 200D and the selectors after it.
 use mathlib.Core.Path.{refl, sym, _∙_}
 use mathlib.Core.Bool.{false}
 use mathlib.Core.List.{[], _∷_}
@@ -12,7 +12,8 @@ use Rattle.scanner.proofs.parts.consume_zwj_link.Tie as tie
 returns : tie.Need-returns
 returns c =
     let x = c .before .before .before .before .before .before .before .before .args in
-    let k = seen (x .text .now) (x .at) (sym (c .before .before .before .before .before .before .peek .ensures) ∙ c .before .before .before .before .class .given .1) in
+    let k = seen (x .text .now) (x .at)
+    (sym (c .before .before .before .before .before .before .peek .ensures) ∙ c .before .before .before .before .class .given .1) in
     link-on k (c .before .enum-told .given .1) (c .consume-presentation-selectors .ensures)
 
 returns-2 : tie.Need-returns-2

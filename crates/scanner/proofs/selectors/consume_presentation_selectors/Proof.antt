@@ -21,7 +21,8 @@ returns-2 : tie.Need-returns-2
 returns-2 c =
     let x = c .before .before .before .before .before .args in
     let r = c .before .before .before .selectors-end in
-    selectors-are (x .text .now) (x .at) (r .result) (r .ensures) (c .before .before .if1 .left) (c .before .selector-at .result) (c .selector-at2 .result) (c .before .selector-at .ensures) (c .selector-at2 .ensures)
+    selectors-are (x .text .now) (x .at) (r .result) (r .ensures) (c .before .before .if1 .left) (c .before .selector-at .result)
+    (c .selector-at2 .result) (c .before .selector-at .ensures) (c .selector-at2 .ensures)
 
 pub consume-presentation-selectors-spec : {M : Type 1} → statement M
 consume-presentation-selectors-spec =

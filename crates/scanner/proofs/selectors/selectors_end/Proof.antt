@@ -25,21 +25,24 @@ add-at : tie.Need-add-at Inv-loop μ-loop
 add-at c =
     let x = c .before .before .before .before .before .args in
     let l = c .before .before .before .loop in
-    let h = selector-here (x .text .now) (l .at) (c .enum-told .given .0 .0) (sym (c .before .before .selector-at .ensures) ∙ c .enum-told .given .1) in
+    let h = selector-here (x .text .now) (l .at) (c .enum-told .given .0 .0)
+    (sym (c .before .before .selector-at .ensures) ∙ c .enum-told .given .1) in
     omega (arith, h .read .room, c .before .before .before .before .before .good .0 .0)
 
 loop-less : tie.Need-loop-less Inv-loop μ-loop
 loop-less c =
     let x = c .before .before .before .before .before .args in
     let l = c .before .before .before .loop in
-    let h = selector-here (x .text .now) (l .at) (c .enum-told .given .0 .0) (sym (c .before .before .selector-at .ensures) ∙ c .enum-told .given .1) in
+    let h = selector-here (x .text .now) (l .at) (c .enum-told .given .0 .0)
+    (sym (c .before .before .selector-at .ensures) ∙ c .enum-told .given .1) in
     omega (arith, h .read .room)
 
 loop-again : tie.Need-loop-again Inv-loop μ-loop
 loop-again c =
     let x = c .before .before .before .before .before .args in
     let l = c .before .before .before .loop in
-    let h = selector-here (x .text .now) (l .at) (c .enum-told .given .0 .0) (sym (c .before .before .selector-at .ensures) ∙ c .enum-told .given .1) in
+    let h = selector-here (x .text .now) (l .at) (c .enum-told .given .0 .0)
+    (sym (c .before .before .selector-at .ensures) ∙ c .enum-told .given .1) in
     omega (arith, l .inv, h .runs-on)
 
 returns : tie.Need-returns Inv-loop μ-loop

@@ -24,7 +24,8 @@ returns-2 c =
     let t = c .before .before .before .before .args .text .now in
     let v = c .before .valid-up-to in
     let n = ne-eqb (validUpTo t) (length t) (λ e. omega arith) in
-    answers (ap (λ (n : ℕ). Refused (NotWellFormed n)) (v .ensures) ∙ sym (ap checked (text-is t (le-leb (length t) 16777216 (omega arith)) n)))
+    answers (ap (λ (n : ℕ). Refused (NotWellFormed n)) (v .ensures)
+    ∙ sym (ap checked (text-is t (le-leb (length t) 16777216 (omega arith)) n)))
 
 returns-3 : tie.Need-returns-3
 returns-3 c =

@@ -22,14 +22,17 @@ returns c =
     let t = x .text .now in
     let f = c .before .before .before .before .before .before .selector-at in
     let i = c .before .before .before .before .before .number-of in
-    let e = c .before .before .before .before .selectors-behind in
+    let e = c .before .before .before .before .selectors-after in
     let k = c .before .before .before .rule-class-at in
     let a = c .before .before .kept-number in
     let m = c .before .is-change in
-    let q = m .ensures ∙ ap₂ (λ (u v : ℕ). not (eqb u v && leb (e .result - x .at) 3)) (i .ensures .0) (sym (number-selector (a .result) (a .ensures .0))) in
-    subst (λ (s : FromSelector). BaseChange p t (x .base) (x .at) (record { kept = x .at; selector = s; end = e .result; more = m .result })) (sym (c .selector-of .ensures))
+    let q = m .ensures ∙ ap₂ (λ (u v : ℕ). not (eqb u v && leb (e .result - x .at) 3)) (i .ensures .0)
+    (sym (number-selector (a .result) (a .ensures .0))) in
+    subst (λ (s : FromSelector). BaseChange p t (x .base) (x .at)
+    (record { start = x .at; selector = s; end = e .result; present = m .result })) (sym (c .selector-of .ensures))
     (base-read p t (x .base) (x .at) (f .result) (e .result) (k .result) (selectorOf (a .result)) (m .result)
-    (f .ensures ∙ first-leads (chars (drop (x .at) t))) (e .ensures ∙ selectors-end t (x .at)) (k .ensures) (a .ensures .1 (f .result) (i .ensures .0)) q)
+    (f .ensures ∙ first-leads (chars (drop (x .at) t))) (e .ensures ∙ selectors-end t (x .at)) (k .ensures)
+    (a .ensures .1 (f .result) (i .ensures .0)) q)
 
 pub base-change-spec : {M : Type 1} → statement M
 base-change-spec =

@@ -16,7 +16,8 @@ returns c =
     let x = s .args in
     let r = c .before-modifier in (
       r .ensures (selectorOf (x .first)) (sym (number-selector (x .first) (s .pre .1))) true 1 .few,
-      λ f e. before-modifier-kept (policyOf (x .policy .now)) (x .base) (x .index) (s .pre .0) f (selectorOf (r .result)) (x .next) (c .before .enum-told .given .1)
+      λ f e. before-modifier-kept (policyOf (x .policy .now)) (x .base) (x .index) (s .pre .0) f (selectorOf (r .result)) (x .next)
+          (c .before .enum-told .given .1)
           (λ b n. r .ensures f e b n .left),
     )
 
@@ -27,7 +28,8 @@ returns-2 c =
     let d = c .before .is-emoji-default-by-block in
     let r = c .before-tags in (
       r .ensures [] .few,
-      λ f e. before-tags-kept (policyOf (x .policy .now)) (x .base) (x .index) (s .pre .0) f (selectorOf (r .result)) (x .next) (d .result) (c .before .before .enum-told2 .given .1) (d .ensures)
+      λ f e. before-tags-kept (policyOf (x .policy .now)) (x .base) (x .index) (s .pre .0) f (selectorOf (r .result)) (x .next) (d .result)
+          (c .before .before .enum-told2 .given .1) (d .ensures)
           (λ t. r .ensures t .left),
     )
 
@@ -39,7 +41,8 @@ returns-3 c =
     let u = c .before .rule-at in
     let r = c .by-policy in (
       r .ensures (selectorOf (x .first)) (sym (number-selector (x .first) (s .pre .1))) 1 .few,
-      λ f e. before-other-kept (policyOf (x .policy .now)) (x .base) (x .index) (s .pre .0) f (selectorOf (r .result)) (x .next) (k .result) (u .result) (c .before .before .before .match .keys3) (k .ensures) (u .ensures)
+      λ f e. before-other-kept (policyOf (x .policy .now)) (x .base) (x .index) (s .pre .0) f (selectorOf (r .result)) (x .next) (k .result)
+          (u .result) (c .before .before .before .match .keys3) (k .ensures) (u .ensures)
           (λ n. r .ensures f e n .left),
     )
 

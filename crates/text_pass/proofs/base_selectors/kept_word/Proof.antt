@@ -4,7 +4,7 @@ use Prim.Native.Nat.{_*_, _/_, _%_, _^_}
 use borrow.Author.Needs.{needs}
 use Rattle.policy.specs.declared.SingletonRule.{SingletonRule}
 use Rattle.analysis.specs.Rules.{rule6, runWith}
-use Rattle.text_pass.specs.Changes.{Leaves, selectorNumber}
+use Rattle.text_pass.specs.Changes.{LeavesSelector, selectorNumber}
 use Rattle.text_pass.proofs.NumberedSelectors.{bare-to-emoji, bare-to-text, emoji-to-bare, text-to-bare}
 use Rattle.text_pass.proofs.base_selectors.kept_word.Statement.{statement}
 use Rattle.text_pass.proofs.base_selectors.kept_word.Tie as tie
@@ -17,7 +17,11 @@ kept-word-spec =
     (λ c. search needs)
     (λ c. search needs)
     (λ c. search needs)
-    (λ c f n. subst (λ (s : SingletonRule). Leaves (rule6 s (runWith f n) .slot) (0x20 / 2 ^ (2 * selectorNumber f) % 4)) (sym (c .enum-told .given .1)) (text-to-bare f n))
-    (λ c f n. subst (λ (s : SingletonRule). Leaves (rule6 s (runWith f n) .slot) (0x04 / 2 ^ (2 * selectorNumber f) % 4)) (sym (c .enum-told2 .given .1)) (emoji-to-bare f n))
-    (λ c f n. subst (λ (s : SingletonRule). Leaves (rule6 s (runWith f n) .slot) (0x25 / 2 ^ (2 * selectorNumber f) % 4)) (sym (c .enum-told3 .given .1)) (bare-to-text f n))
-    (λ c f n. subst (λ (s : SingletonRule). Leaves (rule6 s (runWith f n) .slot) (0x26 / 2 ^ (2 * selectorNumber f) % 4)) (sym (c .enum-told4 .given .1)) (bare-to-emoji f n)))
+    (λ c f n. subst (λ (s : SingletonRule). LeavesSelector (rule6 s (runWith f n) .slot) (0x20 / 2 ^ (2 * selectorNumber f) % 4))
+    (sym (c .enum-told .given .1)) (text-to-bare f n))
+    (λ c f n. subst (λ (s : SingletonRule). LeavesSelector (rule6 s (runWith f n) .slot) (0x04 / 2 ^ (2 * selectorNumber f) % 4))
+    (sym (c .enum-told2 .given .1)) (emoji-to-bare f n))
+    (λ c f n. subst (λ (s : SingletonRule). LeavesSelector (rule6 s (runWith f n) .slot) (0x25 / 2 ^ (2 * selectorNumber f) % 4))
+    (sym (c .enum-told3 .given .1)) (bare-to-text f n))
+    (λ c f n. subst (λ (s : SingletonRule). LeavesSelector (rule6 s (runWith f n) .slot) (0x26 / 2 ^ (2 * selectorNumber f) % 4))
+    (sym (c .enum-told4 .given .1)) (bare-to-emoji f n)))

@@ -20,7 +20,9 @@ returns-4 : tie.Need-returns-4
 returns-4 c = rules-as (is-tag (sym (c .before .is-tag .ensures) ∙ c .if4 .taken))
 
 returns-5 : tie.Need-returns-5
-returns-5 c = rules-other _ (ne-eqb _ _ (c .before .before .before .before .if2 .left)) (sym (c .before .before .before .is-emoji-modifier-by-ends .ensures) ∙ c .before .before .if3 .left) (sym (c .before .is-tag .ensures) ∙ c .if4 .left)
+returns-5 c = rules-other _ (ne-eqb _ _ (c .before .before .before .before .if2 .left))
+    (sym (c .before .before .before .is-emoji-modifier-by-ends .ensures) ∙ c .before .before .if3 .left)
+    (sym (c .before .is-tag .ensures) ∙ c .if4 .left)
 
 pub rule-class-spec : {M : Type 1} → statement M
 rule-class-spec =

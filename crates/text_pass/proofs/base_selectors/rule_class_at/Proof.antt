@@ -7,7 +7,8 @@ use Rattle.text_pass.proofs.base_selectors.rule_class_at.Tie as tie
 returns : tie.Need-returns
 returns c =
     let x = c .before .before .before .args in
-    class-in-front (x .text .now) (x .at) (c .before .decode .result) (c .rule-class .result) (c .before .decode .ensures) (c .rule-class .ensures)
+    class-in-front (x .text .now) (x .at) (c .before .decode .result) (c .rule-class .result) (c .before .decode .ensures)
+    (c .rule-class .ensures)
 
 pub rule-class-at-spec : {M : Type 1} → statement M
 rule-class-at-spec = tie.close (tie.spec (λ c κs. search needs) (λ c κs. search needs) returns)

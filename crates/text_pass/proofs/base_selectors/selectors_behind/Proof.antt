@@ -3,8 +3,8 @@ use mathlib.Core.Path.{sym, _∙_}
 use native.Mathlib.Omega.{arith}
 use borrow.Author.Needs.{needs}
 use Rattle.scanner.proofs.SelectorBytes.{no-more, selector-here}
-use Rattle.text_pass.proofs.base_selectors.selectors_behind.Statement.{statement}
-use Rattle.text_pass.proofs.base_selectors.selectors_behind.Tie as tie
+use Rattle.text_pass.proofs.base_selectors.selectors_after.Statement.{statement}
+use Rattle.text_pass.proofs.base_selectors.selectors_after.Tie as tie
 
 add-selectors-end : tie.Need-add-selectors-end
 add-selectors-end c =
@@ -20,11 +20,12 @@ returns c =
 returns-2 : tie.Need-returns-2
 returns-2 c =
     let s = c .before .before .before .before in
-    let h = selector-here (s .args .text .now) (s .args .at) (c .before .enum-told2 .given .0 .0) (sym (s .pre) ∙ c .before .enum-told2 .given .1) in
+    let h = selector-here (s .args .text .now) (s .args .at) (c .before .enum-told2 .given .0 .0)
+    (sym (s .pre) ∙ c .before .enum-told2 .given .1) in
     omega (arith, h .runs-on, c .selectors-end .ensures)
 
-pub selectors-behind-spec : {M : Type 1} → statement M
-selectors-behind-spec =
+pub selectors-after-spec : {M : Type 1} → statement M
+selectors-after-spec =
     tie.close
     (tie.spec
     (λ c. search needs)

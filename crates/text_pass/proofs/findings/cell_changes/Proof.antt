@@ -19,13 +19,16 @@ returns c =
     let x = c .before .before .before .before .before .before .before .args in
     let i = c .before .before .number-of in
     let a = c .before .kept-number in
-    let q = c .is-change .ensures ∙ ap₂ (λ (u v : ℕ). not (eqb u v && leb (x .bytes) 3)) (i .ensures .0) (sym (number-selector (a .result) (a .ensures .0))) in
-    λ s f b. entry-changes (policyOf (x .policy .now)) (x .base) (x .next) s (x .first) (selectorOf (a .result)) (x .bytes) (c .is-change .result) f b (a .ensures .1 (x .first) (i .ensures .0)) q
+    let q = c .is-change .ensures ∙ ap₂ (λ (u v : ℕ). not (eqb u v && leb (x .bytes) 3)) (i .ensures .0)
+    (sym (number-selector (a .result) (a .ensures .0))) in
+    λ s f b. entry-changes (policyOf (x .policy .now)) (x .base) (x .next) s (x .first) (selectorOf (a .result)) (x .bytes)
+    (c .is-change .result) f b (a .ensures .1 (x .first) (i .ensures .0)) q
 
 returns-2 : tie.Need-returns-2
 returns-2 c =
     let x = c .before .before .before .args in
-    λ s f b. no-entry-changes (policyOf (x .policy .now)) (x .base) (x .next) s (x .bytes) (c .before .before .before .pre ∙ c .enum-told .given .1) b
+    λ s f b. no-entry-changes (policyOf (x .policy .now)) (x .base) (x .next) s (x .bytes)
+    (c .before .before .before .pre ∙ c .enum-told .given .1) b
 
 pub cell-changes-spec : {M : Type 1} → statement M
 cell-changes-spec =

@@ -11,18 +11,38 @@ use Rattle.policy.specs.PolicyBytes.{policyOf}
 use Rattle.scanner.specs.Classes.{classOf}
 use Rattle.scanner.specs.Items.{kindOf}
 use Rattle.scanner.specs.Theorems.{Structured}
-use Rattle.scanner.specs.declared.place.Place.{Place}
+use Rattle.scanner.specs.declared.state.State.{State}
 use Rattle.text_pass.proofs.Passing.{over-here}
-use Rattle.text_pass.proofs.Walking.{Walking, as-changed, begin-char, further, keeps-on, none-kept, not-plain, now-changed, on-char, reads-next, room, structured-inner, walking-again, walking-begin, walking-finds, walking-on, walking-passes}
+use Rattle.text_pass.proofs.Walking.{
+  Walking,
+  as-changed,
+  begin-char,
+  further,
+  keeps-on,
+  none-kept,
+  not-plain,
+  now-changed,
+  on-char,
+  reads-next,
+  room,
+  structured-inner,
+  walking-again,
+  walking-begin,
+  walking-finds,
+  walking-on,
+  walking-passes,
+}
 use Rattle.text_pass.proofs.findings.walk_items.Statement.{statement}
 use Rattle.text_pass.proofs.findings.walk_items.Tie as tie
 
 abbrev Inv-loop : tie.InvT-loop
-Inv-loop text policy before from ch width start₀ base₀ index₀ at₀ place₀ changed₀ passed₀ counts₀ start base index at place changed passed counts =
-    Walking (policyOf policy) text before from start base index at place changed passed counts
+Inv-loop text policy before from ch width start₀ base₀ index₀ at₀ place₀ changed₀ passed₀ counts₀ start base index at state changed passed
+    counts =
+    Walking (policyOf policy) text before from start base index at state changed passed counts
 
 abbrev μ-loop : tie.MeasureT-loop
-μ-loop text policy before from ch width start₀ base₀ index₀ at₀ place₀ changed₀ passed₀ counts₀ start base index at place changed passed counts =
+μ-loop text policy before from ch width start₀ base₀ index₀ at₀ place₀ changed₀ passed₀ counts₀ start base index at state changed passed
+    counts =
     length text - at
 
 add-at : tie.Need-add-at Inv-loop μ-loop
@@ -36,8 +56,9 @@ loop-holds c =
     let x = c .before .before .before .args in
     let q = c .before .before .before .pre in
     let s = step (x .text .now) (x .from) (x .ch) (x .width) (q .0) in
-    let i = structured-inner (classOf (x .ch)) (subst (λ (y : Place). Structured (kindOf y)) (q .2) (q .3)) in
-    rw (q .2) (walking-begin (policyOf (x .policy .now)) (x .text .now) (x .before) (x .from) (x .first-index) (over-here (x .from)) (c .empty .ensures) s (q .1) i)
+    let i = structured-inner (classOf (x .ch)) (subst (λ (y : State). Structured (kindOf y)) (q .2) (q .3)) in
+    rw (q .2) (walking-begin (policyOf (x .policy .now)) (x .text .now) (x .before) (x .from) (x .first-index) (over-here (x .from))
+    (c .empty .ensures) s (q .1) i)
 
 read-cell-requires : tie.Need-read-cell-requires Inv-loop μ-loop
 read-cell-requires c κs = c .loop .inv .entry
@@ -49,8 +70,15 @@ returns : tie.Need-returns Inv-loop μ-loop
 returns c =
     let l = c .before .before .before .before .before .before .before .before .before .loop .inv in
     let r = c .before .before .before .before .before .before .before .before .read-cell .ensures in
-    let d = ⊎-elim (λ w. now-changed (c .before .before .before .before .before .before .before .before .before .loop .changed) (w .0 .taken) (w .1)) (λ w. as-changed (c .before .before .before .before .before .before .before .before .before .loop .changed) (w .0 .left) (w .1)) (c .before .before .before .before .before .if1 .came) in
-    let y = keeps-on l r (omega (arith, c .before .before .before .before .before .before .before .before .before .before .before .before .before .good .0 .0)) (c .before .before .before .before .before .before .before .is-wanted .ensures) (c .before .before .before .before .before .before .add-cell .ensures) in
+    let d = ⊎-elim (λ w. now-changed (c .before .before .before .before .before .before .before .before .before .loop .changed)
+    (w .0 .taken) (w .1)) (λ w. as-changed (c .before .before .before .before .before .before .before .before .before .loop .changed)
+    (w .0 .left) (w .1)) (c .before .before .before .before .before .if1 .came) in
+    let y = keeps-on l r (omega (
+      arith,
+      c .before .before .before .before .before .before .before .before .before .before .before .before .before .good .0 .0,
+    ))
+    (c .before .before .before .before .before .before .before .is-wanted .ensures)
+    (c .before .before .before .before .before .before .add-cell .ensures) in
     let e = sym (c .before .before .before .before .step .ensures) ∙ c .before .before .enum-told .given .1 in
     (l .passed, λ _. walking-finds l r d e y (c .before .is-wanted2 .ensures) (c .if2 .taken), λ f. absurd (true≢false f))
 
@@ -58,24 +86,40 @@ add-passed : tie.Need-add-passed Inv-loop μ-loop
 add-passed c =
     let l = c .before .before .before .before .before .before .before .before .before .before .loop .inv in
     let r = c .before .before .before .before .before .before .before .before .before .read-cell .ensures in
-    omega (arith, l .passed .few, further l r, room l r, c .findings-of .ensures .1, c .before .before .before .before .before .before .before .before .before .before .before .before .before .before .good .0 .0)
+    omega (
+      arith,
+      l .passed .few,
+      further l r,
+      room l r,
+      c .findings-of .ensures .1,
+      c .before .before .before .before .before .before .before .before .before .before .before .before .before .before .good .0 .0,
+    )
 
 returns-2 : tie.Need-returns-2 Inv-loop μ-loop
 returns-2 c =
     let l = c .before .before .before .before .before .before .before .before .before .before .before .before .before .loop .inv in
     let r = c .before .before .before .before .before .before .before .before .before .before .before .before .read-cell .ensures in
-    let d = ⊎-elim (λ w. now-changed (c .before .before .before .before .before .before .before .before .before .before .before .before .before .loop .changed) (w .0 .taken) (w .1)) (λ w. as-changed (c .before .before .before .before .before .before .before .before .before .before .before .before .before .loop .changed) (w .0 .left) (w .1)) (c .before .before .before .before .before .before .before .before .before .if1 .came) in
-    let e = sym (c .before .before .before .before .before .before .before .before .step .ensures) ∙ c .before .before .before .before .before .before .enum-told .given .1 in
-    let a = walking-passes l r d e (c .before .before .before .before .before .is-wanted2 .ensures) (c .before .before .before .before .if2 .left) (c .before .before .before .findings-of .ensures .0) in
+    let d = ⊎-elim (λ w. now-changed
+    (c .before .before .before .before .before .before .before .before .before .before .before .before .before .loop .changed)
+    (w .0 .taken) (w .1)) (λ w. as-changed
+    (c .before .before .before .before .before .before .before .before .before .before .before .before .before .loop .changed)
+    (w .0 .left) (w .1)) (c .before .before .before .before .before .before .before .before .before .if1 .came) in
+    let e = sym (c .before .before .before .before .before .before .before .before .step .ensures)
+    ∙ c .before .before .before .before .before .before .enum-told .given .1 in
+    let a = walking-passes l r d e (c .before .before .before .before .before .is-wanted2 .ensures)
+    (c .before .before .before .before .if2 .left) (c .before .before .before .findings-of .ensures .0) in
     (a, λ f. absurd (true≢false (sym f)), λ _. omega (arith, l .passed .on, further l r))
 
 add-at-2 : tie.Need-add-at-2 Inv-loop μ-loop
 add-at-2 c =
     let l = c .before .before .before .before .before .before .before .before .loop .inv in
     let r = c .before .before .before .before .before .before .before .read-cell .ensures in
-    let d = ⊎-elim (λ w. now-changed (c .before .before .before .before .before .before .before .before .loop .changed) (w .0 .taken) (w .1)) (λ w. as-changed (c .before .before .before .before .before .before .before .before .loop .changed) (w .0 .left) (w .1)) (c .before .before .before .before .if1 .came) in
+    let d = ⊎-elim (λ w. now-changed (c .before .before .before .before .before .before .before .before .loop .changed) (w .0 .taken)
+    (w .1)) (λ w. as-changed (c .before .before .before .before .before .before .before .before .loop .changed) (w .0 .left) (w .1))
+    (c .before .before .before .before .if1 .came) in
     let t = c .before .before .before .step .ensures in
-    let n = ⊎-elim (λ w. on-char l r d (w .1 .given .0 .0) (sym t ∙ w .1 .given .1)) (λ w. begin-char l r d (λ e. not-plain (w .5 .result) (w .6 .keys2) (w .5 .ensures ∙ e))) (c .before .before .match .came) in
+    let n = ⊎-elim (λ w. on-char l r d (w .1 .given .0 .0) (sym t ∙ w .1 .given .1))
+    (λ w. begin-char l r d (λ e. not-plain (w .5 .result) (w .6 .keys2) (w .5 .ensures ∙ e))) (c .before .before .match .came) in
     let s = reads-next l r d n in
     omega (arith, s .room, c .before .before .before .before .before .before .before .before .before .before .before .before .good .0 .0)
 
@@ -83,9 +127,12 @@ loop-less : tie.Need-loop-less Inv-loop μ-loop
 loop-less c =
     let l = c .before .before .before .before .before .before .before .before .loop .inv in
     let r = c .before .before .before .before .before .before .before .read-cell .ensures in
-    let d = ⊎-elim (λ w. now-changed (c .before .before .before .before .before .before .before .before .loop .changed) (w .0 .taken) (w .1)) (λ w. as-changed (c .before .before .before .before .before .before .before .before .loop .changed) (w .0 .left) (w .1)) (c .before .before .before .before .if1 .came) in
+    let d = ⊎-elim (λ w. now-changed (c .before .before .before .before .before .before .before .before .loop .changed) (w .0 .taken)
+    (w .1)) (λ w. as-changed (c .before .before .before .before .before .before .before .before .loop .changed) (w .0 .left) (w .1))
+    (c .before .before .before .before .if1 .came) in
     let t = c .before .before .before .step .ensures in
-    let n = ⊎-elim (λ w. on-char l r d (w .1 .given .0 .0) (sym t ∙ w .1 .given .1)) (λ w. begin-char l r d (λ e. not-plain (w .5 .result) (w .6 .keys2) (w .5 .ensures ∙ e))) (c .before .before .match .came) in
+    let n = ⊎-elim (λ w. on-char l r d (w .1 .given .0 .0) (sym t ∙ w .1 .given .1))
+    (λ w. begin-char l r d (λ e. not-plain (w .5 .result) (w .6 .keys2) (w .5 .ensures ∙ e))) (c .before .before .match .came) in
     let s = reads-next l r d n in
     omega (arith, s .room, s .some, r .end-is)
 
@@ -93,15 +140,23 @@ loop-again : tie.Need-loop-again Inv-loop μ-loop
 loop-again c =
     let l = c .before .before .before .before .before .before .before .before .loop .inv in
     let r = c .before .before .before .before .before .before .before .read-cell .ensures in
-    let d = ⊎-elim (λ w. now-changed (c .before .before .before .before .before .before .before .before .loop .changed) (w .0 .taken) (w .1)) (λ w. as-changed (c .before .before .before .before .before .before .before .before .loop .changed) (w .0 .left) (w .1)) (c .before .before .before .before .if1 .came) in
-    let y = keeps-on l r (omega (arith, c .before .before .before .before .before .before .before .before .before .before .before .before .good .0 .0)) (c .before .before .before .before .before .before .is-wanted .ensures) (c .before .before .before .before .before .add-cell .ensures) in
+    let d = ⊎-elim (λ w. now-changed (c .before .before .before .before .before .before .before .before .loop .changed) (w .0 .taken)
+    (w .1)) (λ w. as-changed (c .before .before .before .before .before .before .before .before .loop .changed) (w .0 .left) (w .1))
+    (c .before .before .before .before .if1 .came) in
+    let y = keeps-on l r (omega (
+      arith,
+      c .before .before .before .before .before .before .before .before .before .before .before .before .good .0 .0,
+    ))
+    (c .before .before .before .before .before .before .is-wanted .ensures)
+    (c .before .before .before .before .before .add-cell .ensures) in
     let t = c .before .before .before .step .ensures in
     ⊎-elim
     (λ w. rw (w .3, w .4, w .5, w .6) (walking-on l r d y (w .1 .given .0 .0) (sym t ∙ w .1 .given .1)))
     (λ w.
     let e = sym t ∙ w .1 .given .1 in
     rw (w .7, w .8 ∙ w .5 .ensures, w .9, w .10)
-    (walking-again l r d e (walking-passes l r d e (w .2 .ensures) (w .3 .left) (w .4 .ensures .0)) (none-kept l r d e y (w .2 .ensures) (w .3 .left)) (λ e. not-plain (w .5 .result) (w .6 .keys2) (w .5 .ensures ∙ e))))
+    (walking-again l r d e (walking-passes l r d e (w .2 .ensures) (w .3 .left) (w .4 .ensures .0))
+    (none-kept l r d e y (w .2 .ensures) (w .3 .left)) (λ e. not-plain (w .5 .result) (w .6 .keys2) (w .5 .ensures ∙ e))))
     (c .before .before .match .came)
 
 pub walk-items-spec : {M : Type 1} → statement M

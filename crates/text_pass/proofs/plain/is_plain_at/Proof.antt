@@ -27,15 +27,25 @@ returns-4 c = λ e v w r. absurd (true≢false (sym e))
 returns-5 : tie.Need-returns-5
 returns-5 c =
     let x = c .before .before .before .before .before .before .before .before .args in
-    let e : getD (x .text .now) (x .at) 0 ≡ getD (drop (x .at) (x .text .now)) 0 0 = ap (λ (n : ℕ). getD (x .text .now) n 0) (omega arith) ∙ sym (getD-drop (x .at) (x .text .now) 0 0) in
-    λ f v w r. plain-lead (step (x .text .now) (x .at) v w r) (getD (x .text .now) (x .at) 0) e (omega (arith, c .before .before .before .before .before .if1 .left)) (omega (arith, c .before .before .before .before .if2 .left)) (c .before .before .before .if3 .left)
-    (λ _. (λ y. c .if5 .left (c .before .byte-at .ensures ∙ y), λ y. true≢false (sym (eq-eqb _ 0x8A (c .before .byte-at .ensures ∙ y)) ∙ not-true _ f)))
+    let e : getD (x .text .now) (x .at) 0 ≡ getD (drop (x .at) (x .text .now)) 0 0 = ap (λ (n : ℕ). getD (x .text .now) n 0) (omega arith)
+    ∙ sym (getD-drop (x .at) (x .text .now) 0 0) in
+    λ f v w r. plain-lead (step (x .text .now) (x .at) v w r) (getD (x .text .now) (x .at) 0) e
+    (omega (arith, c .before .before .before .before .before .if1 .left)) (omega (arith, c .before .before .before .before .if2 .left))
+    (c .before .before .before .if3 .left)
+    (λ _. (
+      λ y. c .if5 .left (c .before .byte-at .ensures ∙ y),
+      λ y. true≢false
+          (sym (eq-eqb _ 0x8A (c .before .byte-at .ensures ∙ y)) ∙ not-true _ f),
+    ))
 
 returns-6 : tie.Need-returns-6
 returns-6 c =
     let x = c .before .before .before .before .before .before .args in
-    let e : getD (x .text .now) (x .at) 0 ≡ getD (drop (x .at) (x .text .now)) 0 0 = ap (λ (n : ℕ). getD (x .text .now) n 0) (omega arith) ∙ sym (getD-drop (x .at) (x .text .now) 0 0) in
-    λ f v w r. plain-lead (step (x .text .now) (x .at) v w r) (getD (x .text .now) (x .at) 0) e (omega (arith, c .before .before .before .if1 .left)) (omega (arith, c .before .before .if2 .left)) (c .before .if3 .left) (λ y. absurd (c .if4 .left y))
+    let e : getD (x .text .now) (x .at) 0 ≡ getD (drop (x .at) (x .text .now)) 0 0 = ap (λ (n : ℕ). getD (x .text .now) n 0) (omega arith)
+    ∙ sym (getD-drop (x .at) (x .text .now) 0 0) in
+    λ f v w r. plain-lead (step (x .text .now) (x .at) v w r) (getD (x .text .now) (x .at) 0) e
+    (omega (arith, c .before .before .before .if1 .left)) (omega (arith, c .before .before .if2 .left)) (c .before .if3 .left)
+    (λ y. absurd (c .if4 .left y))
 
 pub is-plain-at-spec : {M : Type 1} → statement M
 is-plain-at-spec =

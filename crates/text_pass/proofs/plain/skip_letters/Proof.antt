@@ -8,13 +8,13 @@ use native.Mathlib.Omega.{arith}
 use borrow.Author.Needs.{needs}
 use lib.ListN.{drop, length}
 use Rattle.policy.specs.declared.Policy.{Policy}
-use Rattle.text_pass.specs.Findings.{Skips}
+use Rattle.text_pass.specs.Findings.{PlainBetween}
 use Rattle.text_pass.proofs.Passing.{skips-here, skips-on, skips-other}
 use Rattle.text_pass.proofs.plain.skip_letters.Statement.{statement}
 use Rattle.text_pass.proofs.plain.skip_letters.Tie as tie
 
 abbrev Inv-loop : tie.InvT-loop
-Inv-loop text from at₀ at = (p : Policy) → Skips p text from at
+Inv-loop text from at₀ at = (p : Policy) → PlainBetween p text from at
 
 abbrev μ-loop : tie.MeasureT-loop
 μ-loop text from at₀ at = length text - at
@@ -32,7 +32,8 @@ add-at : tie.Need-add-at Inv-loop μ-loop
 add-at c =
     let x = c .before .before .before .before .before .before .before .args in
     let l = c .before .before .before .before .before .loop in
-    let k = len-reads (drop (l .at) (x .text .now)) (c .before .char-len .result) (c .before .char-len .ensures) (omega (arith, c .if2 .left)) in
+    let k = len-reads (drop (l .at) (x .text .now)) (c .before .char-len .result) (c .before .char-len .ensures)
+    (omega (arith, c .if2 .left)) in
     let s = step (x .text .now) (l .at) (k .value) (c .before .char-len .result) (k .reads) in
     omega (arith, s .room, c .before .before .before .before .before .before .before .good .0 .0)
 
@@ -40,7 +41,8 @@ loop-less : tie.Need-loop-less Inv-loop μ-loop
 loop-less c =
     let x = c .before .before .before .before .before .before .before .args in
     let l = c .before .before .before .before .before .loop in
-    let k = len-reads (drop (l .at) (x .text .now)) (c .before .char-len .result) (c .before .char-len .ensures) (omega (arith, c .if2 .left)) in
+    let k = len-reads (drop (l .at) (x .text .now)) (c .before .char-len .result) (c .before .char-len .ensures)
+    (omega (arith, c .if2 .left)) in
     let s = step (x .text .now) (l .at) (k .value) (c .before .char-len .result) (k .reads) in
     omega (arith, s .room, s .some)
 
@@ -48,9 +50,12 @@ loop-again : tie.Need-loop-again Inv-loop μ-loop
 loop-again c =
     let x = c .before .before .before .before .before .before .before .args in
     let l = c .before .before .before .before .before .loop in
-    let k = len-reads (drop (l .at) (x .text .now)) (c .before .char-len .result) (c .before .char-len .ensures) (omega (arith, c .if2 .left)) in
+    let k = len-reads (drop (l .at) (x .text .now)) (c .before .char-len .result) (c .before .char-len .ensures)
+    (omega (arith, c .if2 .left)) in
     let s = step (x .text .now) (l .at) (k .value) (c .before .char-len .result) (k .reads) in
-    let q = c .before .before .before .is-plain-at .ensures (not-false (c .before .before .before .is-plain-at .result) (c .before .before .if1 .left)) (k .value) (c .before .char-len .result) (k .reads) in
+    let q = c .before .before .before .is-plain-at .ensures
+    (not-false (c .before .before .before .is-plain-at .result) (c .before .before .if1 .left)) (k .value) (c .before .char-len .result)
+    (k .reads) in
     λ p. skips-on (l .inv p) (skips-other p s q)
 
 returns-3 : tie.Need-returns-3 Inv-loop μ-loop

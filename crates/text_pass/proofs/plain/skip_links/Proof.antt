@@ -5,14 +5,14 @@ use native.Mathlib.Omega.{arith}
 use borrow.Author.Needs.{needs}
 use lib.ListN.{length}
 use Rattle.policy.specs.declared.Policy.{Policy}
-use Rattle.text_pass.specs.Changes.{Stays}
+use Rattle.text_pass.specs.Changes.{UnchangedBetween}
 use Rattle.text_pass.proofs.PlainText.{link-at, stays-at}
 use Rattle.text_pass.proofs.Staying.{stays-here, stays-on}
 use Rattle.text_pass.proofs.plain.skip_links.Statement.{statement}
 use Rattle.text_pass.proofs.plain.skip_links.Tie as tie
 
 abbrev Inv-loop : tie.InvT-loop
-Inv-loop text from at₀ at = (p : Policy) → Stays p text from at
+Inv-loop text from at₀ at = (p : Policy) → UnchangedBetween p text from at
 
 abbrev μ-loop : tie.MeasureT-loop
 μ-loop text from at₀ at = length text - at

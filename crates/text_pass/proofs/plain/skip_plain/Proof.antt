@@ -10,13 +10,13 @@ use native.Mathlib.Omega.{arith}
 use borrow.Author.Needs.{needs}
 use lib.ListN.{length}
 use Rattle.policy.specs.declared.Policy.{Policy}
-use Rattle.text_pass.specs.Changes.{AsciiBare, Stays}
+use Rattle.text_pass.specs.Changes.{AsciiBare, UnchangedBetween}
 use Rattle.text_pass.proofs.Staying.{stays-on}
 use Rattle.text_pass.proofs.plain.skip_plain.Statement.{statement}
 use Rattle.text_pass.proofs.plain.skip_plain.Tie as tie
 
 abbrev Inv-loop : tie.InvT-loop
-Inv-loop text bare from at₀ at = (p : Policy) → (bare ≡ true → AsciiBare p) → Stays p text from at
+Inv-loop text bare from at₀ at = (p : Policy) → (bare ≡ true → AsciiBare p) → UnchangedBetween p text from at
 
 abbrev μ-loop : tie.MeasureT-loop
 μ-loop text bare from at₀ at = length text - at

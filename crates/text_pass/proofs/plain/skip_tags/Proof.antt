@@ -6,14 +6,14 @@ use native.Mathlib.Omega.{arith}
 use borrow.Author.Needs.{needs}
 use lib.ListN.{length}
 use Rattle.policy.specs.declared.Policy.{Policy}
-use Rattle.text_pass.specs.Changes.{Stays}
+use Rattle.text_pass.specs.Changes.{UnchangedBetween}
 use Rattle.text_pass.proofs.PlainText.{stays-at, tag-at}
 use Rattle.text_pass.proofs.Staying.{stays-here, stays-on}
 use Rattle.text_pass.proofs.plain.skip_tags.Statement.{statement}
 use Rattle.text_pass.proofs.plain.skip_tags.Tie as tie
 
 abbrev Inv-loop : tie.InvT-loop
-Inv-loop text from at₀ at = (p : Policy) → Stays p text from at
+Inv-loop text from at₀ at = (p : Policy) → UnchangedBetween p text from at
 
 abbrev μ-loop : tie.MeasureT-loop
 μ-loop text from at₀ at = length text - at
@@ -22,21 +22,24 @@ add-at : tie.Need-add-at Inv-loop μ-loop
 add-at c =
     let x = c .before .before .before .before .before .args in
     let l = c .before .before .before .loop in
-    let h = tag-at (x .text .now) (l .at) (c .before .before .decode .result) (c .before .before .decode .ensures) (sym (c .before .is-tag .ensures) ∙ c .if1 .taken) in
+    let h = tag-at (x .text .now) (l .at) (c .before .before .decode .result) (c .before .before .decode .ensures)
+    (sym (c .before .is-tag .ensures) ∙ c .if1 .taken) in
     omega (arith, h .read .room, c .before .before .before .before .before .good .0 .0)
 
 loop-less : tie.Need-loop-less Inv-loop μ-loop
 loop-less c =
     let x = c .before .before .before .before .before .args in
     let l = c .before .before .before .loop in
-    let h = tag-at (x .text .now) (l .at) (c .before .before .decode .result) (c .before .before .decode .ensures) (sym (c .before .is-tag .ensures) ∙ c .if1 .taken) in
+    let h = tag-at (x .text .now) (l .at) (c .before .before .decode .result) (c .before .before .decode .ensures)
+    (sym (c .before .is-tag .ensures) ∙ c .if1 .taken) in
     omega (arith, h .read .room)
 
 loop-again : tie.Need-loop-again Inv-loop μ-loop
 loop-again c =
     let x = c .before .before .before .before .before .args in
     let l = c .before .before .before .loop in
-    let h = tag-at (x .text .now) (l .at) (c .before .before .decode .result) (c .before .before .decode .ensures) (sym (c .before .is-tag .ensures) ∙ c .if1 .taken) in
+    let h = tag-at (x .text .now) (l .at) (c .before .before .decode .result) (c .before .before .decode .ensures)
+    (sym (c .before .is-tag .ensures) ∙ c .if1 .taken) in
     λ p. stays-on (l .inv p) (stays-at p h)
 
 returns : tie.Need-returns Inv-loop μ-loop

@@ -1,4 +1,4 @@
--- The groups stand one behind the other, so that the search ends in the group that is asked; in the dense blocks too.
+-- The groups stand one after the other, so that the search ends in the group that is asked; in the dense blocks too.
 use mathlib.Core.Path.{_≡_, refl, sym, _∙_}
 use mathlib.Core.List.{_++_}
 use mathlib.Core.Logic.{⊎-elim}
@@ -46,14 +46,16 @@ module _ (k : ℕ) where
   of-symbol l h =
       search-within symbolFirst middleFirst lowBlocks symbolBlocks (middleBlocks ++ pictographBlocks) refl refl k l h
       ∙ sym (search-moved symbolFirst symbolFirst symbolBlocks (omega arith) refl k l)
-      ∙ sym (search-stops symbolPlaces (moved symbolFirst symbolBlocks) (moved pictographMove pictographBlocks) refl (k - symbolFirst) (omega arith))
+      ∙ sym (search-stops symbolPlaces (moved symbolFirst symbolBlocks) (moved pictographMove pictographBlocks) refl (k - symbolFirst)
+      (omega arith))
 
   of-pictograph : pictographFirst ≤ k → blockIn k blocks ≡ blockIn (k - pictographMove) denseBlocks
   unfolding blocks denseBlocks lowBlocks symbolBlocks middleBlocks pictographBlocks allBefore ascendFrom moved
   of-pictograph h =
       search-past pictographFirst (lowBlocks ++ (symbolBlocks ++ middleBlocks)) pictographBlocks refl k h
       ∙ sym (search-moved pictographMove pictographFirst pictographBlocks (omega arith) refl k (omega arith))
-      ∙ sym (search-past symbolPlaces (moved symbolFirst symbolBlocks) (moved pictographMove pictographBlocks) refl (k - pictographMove) (omega arith))
+      ∙ sym (search-past symbolPlaces (moved symbolFirst symbolBlocks) (moved pictographMove pictographBlocks) refl (k - pictographMove)
+      (omega arith))
 
 returns : tie.Need-returns
 returns c = c .low-block .ensures ∙ sym (of-low (c .before .before .args .k) (c .before .if1 .taken))

@@ -159,7 +159,7 @@ fn digits(_: &Input, bytes: usize) -> String {
     "1".repeat(bytes)
 }
 
-/// A word and what stands behind it: most often the first of the three.
+/// A word and what stands after it: most often the first of the three.
 fn word(random: &mut Random, words: &[&str], behind: [&str; 3]) -> String {
     let behind = match random.below(12) {
         0 => behind[2],

@@ -36,7 +36,8 @@ returns c =
     l .inv .2 ∙ ap (λ (i : ℕ). countBelow (i * 64) (λ (k : ℕ). member k (b .result .bits))) e
     ∙ count-held entryCount 384 _ (b .result .bits) (omega (arith, entry-count)) (b .ensures)
     ∙ count-same entryCount _ (λ (i : ℕ). member i s)
-    (λ k h. ap (λ (t : Bool). member k s && t) (held entryCount (λ (i : ℕ). true) _ (c .before .before .before .before .all .ensures) k h) ∙ and-true (member k s))
+    (λ k h. ap (λ (t : Bool). member k s && t) (held entryCount (λ (i : ℕ). true) _ (c .before .before .before .before .all .ensures) k h)
+    ∙ and-true (member k s))
 
 pub size-spec : {M : Type 1} → statement M
 size-spec =

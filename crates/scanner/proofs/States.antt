@@ -5,7 +5,20 @@ use mathlib.Core.Option.{Option, none, some}
 use lib.Dec.{T}
 use Rattle.base.proofs.Tests.{beq-so, both-true}
 use Rattle.scanner.specs.Classes.{Class, selector, link, ri, modifier, emoji, keycap, tag, other}
-use Rattle.scanner.specs.Items.{Place, plain, selectors, links, oneRi, unit, joined, leftOver, step, begin, beginsTags, kindOf}
+use Rattle.scanner.specs.Items.{
+  State,
+  plain,
+  selectors,
+  links,
+  oneRi,
+  unit,
+  joined,
+  leftOver,
+  transition,
+  startState,
+  beginsTags,
+  kindOf,
+}
 use Rattle.scanner.specs.declared.ScanKind.the-variants.{EmojiHeaded, LinksOnly, Passthrough, UnsanctionedPresentationSelectors}
 
 -- ---- a fact of all places and classes is one computed test
@@ -13,7 +26,7 @@ use Rattle.scanner.specs.declared.ScanKind.the-variants.{EmojiHeaded, Li
 abbrev pub Row : (Class → Bool) → Type 0
 Row f = T (f selector) × T (f link) × T (f ri) × T (f modifier) × T (f emoji) × T (f keycap) × T (f tag) × T (f other)
 
-abbrev pub Every : (Place → Class → Bool) → Type 0
+abbrev pub Every : (State → Class → Bool) → Type 0
 Every f = Row (f plain) × Row (f selectors) × Row (f links) × Row (f oneRi) × Row (f unit) × Row (f joined) × Row (f leftOver)
 
 pub row-of : (f : Class → Bool) → Row f → (k : Class) → T (f k)
@@ -26,7 +39,7 @@ row-of f e keycap = e .5
 row-of f e tag = e .6
 row-of f e other = e .7
 
-pub everywhere : (f : Place → Class → Bool) → Every f → (p : Place) (k : Class) → T (f p k)
+pub everywhere : (f : State → Class → Bool) → Every f → (p : State) (k : Class) → T (f p k)
 everywhere f e plain = row-of (f plain) (e .0)
 everywhere f e selectors = row-of (f selectors) (e .1)
 everywhere f e links = row-of (f links) (e .2)
@@ -47,19 +60,19 @@ same-bool : (a b : Bool) → T (Bool·beq a b) → a ≡ b
 same-bool a b h = beq-so a b (is-true (Bool·beq a b) h)
 
 -- A test of the place that a step leads to.
-abbrev pub onSome : (Place → Bool) → Option Place → Bool
+abbrev pub onSome : (State → Bool) → Option State → Bool
 onSome f (some q) = f q
 onSome f none = true
 
-abbrev pub onStep : (Place → Place → Bool) → Place → Class → Bool
-onStep f p k = onSome (f p) (step p k)
+abbrev pub onStep : (State → State → Bool) → State → Class → Bool
+onStep f p k = onSome (f p) (transition p k)
 
-pub on-step : (f : Place → Place → Bool) → Every (onStep f) → (p q : Place) (k : Class) → step p k ≡ some q → T (f p q)
-on-step f h p q k e = subst (λ (o : Option Place). T (onSome (f p) o)) e (everywhere (onStep f) h p k)
+pub on-step : (f : State → State → Bool) → Every (onStep f) → (p q : State) (k : Class) → transition p k ≡ some q → T (f p q)
+on-step f h p q k e = subst (λ (o : Option State). T (onSome (f p) o)) e (everywhere (onStep f) h p k)
 
 -- ---- passthrough
 
-abbrev pub isPlain : Place → Bool
+abbrev pub isPlain : State → Bool
 isPlain plain = true
 isPlain selectors = false
 isPlain links = false
@@ -68,11 +81,11 @@ isPlain unit = false
 isPlain joined = false
 isPlain leftOver = false
 
-pub same-side : (p q : Place) (k : Class) → step p k ≡ some q → isPlain p ≡ isPlain q
-unfolding step
+pub same-side : (p q : State) (k : Class) → transition p k ≡ some q → isPlain p ≡ isPlain q
+unfolding transition
 same-side p q k e = same-bool (isPlain p) (isPlain q) (on-step (λ p q. Bool·beq (isPlain p) (isPlain q)) always p q k e)
 
-pub is-plain : (p : Place) → isPlain p ≡ true → p ≡ plain
+pub is-plain : (p : State) → isPlain p ≡ true → p ≡ plain
 is-plain plain e = refl
 is-plain selectors e = absurd (false≢true e)
 is-plain links e = absurd (false≢true e)
@@ -81,24 +94,25 @@ is-plain unit e = absurd (false≢true e)
 is-plain joined e = absurd (false≢true e)
 is-plain leftOver e = absurd (false≢true e)
 
-pub kind-plain : (p : Place) → isPlain p ≡ true → kindOf p ≡ Passthrough
+pub kind-plain : (p : State) → isPlain p ≡ true → kindOf p ≡ Passthrough
 unfolding kindOf
-kind-plain p e = subst (λ (q : Place). kindOf q ≡ Passthrough) (sym (is-plain p e)) refl
+kind-plain p e = subst (λ (q : State). kindOf q ≡ Passthrough) (sym (is-plain p e)) refl
 
 -- Passthrough goes on with what would begin as passthrough.
-plainOn : Class → Place → Bool
-plainOn k q = isPlain q && isPlain (begin k)
+plainOn : Class → State → Bool
+plainOn k q = isPlain q && isPlain (startState k)
 
-pub plain-step : (k : Class) (q : Place) → step plain k ≡ some q → (q ≡ plain) × (begin k ≡ plain)
-unfolding step begin plainOn
+pub plain-step : (k : Class) (q : State) → transition plain k ≡ some q → (q ≡ plain) × (startState k ≡ plain)
+unfolding transition startState plainOn
 plain-step k q e =
-    let t : T (plainOn k q) = subst (λ (o : Option Place). T (onSome (plainOn k) o)) e (row-of (λ k. onSome (plainOn k) (step plain k)) (tt, tt, tt, tt, tt, tt, tt, tt) k) in
-    let b = both-true (isPlain q) (isPlain (begin k)) (is-true (plainOn k q) t) in
-    (is-plain q (b .0), is-plain (begin k) (b .1))
+    let t : T (plainOn k q) = subst (λ (o : Option State). T (onSome (plainOn k) o)) e
+    (row-of (λ k. onSome (plainOn k) (transition plain k)) (tt, tt, tt, tt, tt, tt, tt, tt) k) in
+    let b = both-true (isPlain q) (isPlain (startState k)) (is-true (plainOn k q) t) in
+    (is-plain q (b .0), is-plain (startState k) (b .1))
 
 -- ---- where selectors are taken in: inside links and units
 
-abbrev pub inner : Place → Bool
+abbrev pub inner : State → Bool
 inner plain = false
 inner selectors = false
 inner links = true
@@ -107,13 +121,13 @@ inner unit = true
 inner joined = true
 inner leftOver = true
 
-pub inner-step : (p q : Place) (k : Class) → step p k ≡ some q → inner p ≡ inner q
-unfolding step
+pub inner-step : (p q : State) (k : Class) → transition p k ≡ some q → inner p ≡ inner q
+unfolding transition
 inner-step p q k e = same-bool (inner p) (inner q) (on-step (λ p q. Bool·beq (inner p) (inner q)) always p q k e)
 
 -- A selector moves no place that is not passthrough.
-pub solid-selector : (p : Place) → isPlain p ≡ false → step p selector ≡ some p
-unfolding step
+pub solid-selector : (p : State) → isPlain p ≡ false → transition p selector ≡ some p
+unfolding transition
 solid-selector plain e = absurd (true≢false e)
 solid-selector selectors e = refl
 solid-selector links e = refl
@@ -122,9 +136,9 @@ solid-selector unit e = refl
 solid-selector joined e = refl
 solid-selector leftOver e = refl
 
--- Only behind passthrough, or at the start, a selector begins an item.
-pub selector-ends : (p : Place) → step p selector ≡ none → p ≡ plain
-unfolding step
+-- Only after passthrough, or at the start, a selector begins an item.
+pub selector-ends : (p : State) → transition p selector ≡ none → p ≡ plain
+unfolding transition
 selector-ends plain e = refl
 selector-ends selectors e = cc
 selector-ends links e = cc
@@ -133,7 +147,7 @@ selector-ends unit e = cc
 selector-ends joined e = cc
 selector-ends leftOver e = cc
 
-pub inner-solid : (p : Place) → inner p ≡ true → isPlain p ≡ false
+pub inner-solid : (p : State) → inner p ≡ true → isPlain p ≡ false
 inner-solid plain e = absurd (false≢true e)
 inner-solid selectors e = refl
 inner-solid links e = refl
@@ -142,12 +156,12 @@ inner-solid unit e = refl
 inner-solid joined e = refl
 inner-solid leftOver e = refl
 
-pub inner-selector : (p : Place) → inner p ≡ true → step p selector ≡ some p
+pub inner-selector : (p : State) → inner p ≡ true → transition p selector ≡ some p
 inner-selector p e = solid-selector p (inner-solid p e)
 
 -- A run of selectors goes on with a selector only.
-pub selectors-step : (k : Class) (q : Place) → step selectors k ≡ some q → (k ≡ selector) × (q ≡ selectors)
-unfolding step
+pub selectors-step : (k : Class) (q : State) → transition selectors k ≡ some q → (k ≡ selector) × (q ≡ selectors)
+unfolding transition
 selectors-step selector q e = (refl, cc)
 selectors-step link q e = (cc, cc)
 selectors-step ri q e = (cc, cc)
@@ -158,8 +172,8 @@ selectors-step tag q e = (cc, cc)
 selectors-step other q e = (cc, cc)
 
 -- A base stands in a unit whose stem is whole.
-pub emoji-step : (p q : Place) → step p emoji ≡ some q → q ≡ unit
-unfolding step
+pub emoji-step : (p q : State) → transition p emoji ≡ some q → q ≡ unit
+unfolding transition
 emoji-step plain r e = cc
 emoji-step selectors r e = cc
 emoji-step links r e = cc
@@ -170,7 +184,7 @@ emoji-step leftOver r e = cc
 
 -- ---- places of emoji-headed items, and the tags there
 
-abbrev pub headed : Place → Bool
+abbrev pub headed : State → Bool
 headed plain = false
 headed selectors = false
 headed links = false
@@ -179,12 +193,12 @@ headed unit = true
 headed joined = true
 headed leftOver = true
 
-pub headed-step : (p q : Place) (k : Class) → step p k ≡ some q → headed p ≡ headed q
-unfolding step
+pub headed-step : (p q : State) (k : Class) → transition p k ≡ some q → headed p ≡ headed q
+unfolding transition
 headed-step p q k e = same-bool (headed p) (headed q) (on-step (λ p q. Bool·beq (headed p) (headed q)) always p q k e)
 
-pub tag-step : (p q : Place) → step p tag ≡ some q → headed p ≡ true → q ≡ unit
-unfolding step
+pub tag-step : (p q : State) → transition p tag ≡ some q → headed p ≡ true → q ≡ unit
+unfolding transition
 tag-step plain q e h = absurd (false≢true h)
 tag-step selectors q e h = cc
 tag-step links q e h = cc
@@ -194,7 +208,7 @@ tag-step joined q e h = cc
 tag-step leftOver q e h = cc
 
 -- A tag modification begins with a tag, at a unit.
-pub tag-begins : (q : Place) (k : Class) → beginsTags q k ≡ true → (k ≡ tag) × (q ≡ unit)
+pub tag-begins : (q : State) (k : Class) → beginsTags q k ≡ true → (k ≡ tag) × (q ≡ unit)
 unfolding beginsTags
 tag-begins q selector e = absurd (false≢true e)
 tag-begins q link e = absurd (false≢true e)
@@ -213,8 +227,8 @@ tag-begins q other e = absurd (false≢true e)
 
 -- ---- the kind of an item by its first class
 
-pub kind-passthrough : (k : Class) → kindOf (begin k) ≡ Passthrough → begin k ≡ plain
-unfolding kindOf begin
+pub kind-passthrough : (k : Class) → kindOf (startState k) ≡ Passthrough → startState k ≡ plain
+unfolding kindOf startState
 kind-passthrough selector e = cc
 kind-passthrough link e = cc
 kind-passthrough ri e = cc
@@ -224,8 +238,8 @@ kind-passthrough keycap e = refl
 kind-passthrough tag e = refl
 kind-passthrough other e = refl
 
-pub kind-selector : (k : Class) → kindOf (begin k) ≡ UnsanctionedPresentationSelectors → k ≡ selector
-unfolding kindOf begin
+pub kind-selector : (k : Class) → kindOf (startState k) ≡ UnsanctionedPresentationSelectors → k ≡ selector
+unfolding kindOf startState
 kind-selector selector e = refl
 kind-selector link e = cc
 kind-selector ri e = cc
@@ -235,8 +249,8 @@ kind-selector keycap e = cc
 kind-selector tag e = cc
 kind-selector other e = cc
 
-pub kind-links : (k : Class) → kindOf (begin k) ≡ LinksOnly → inner (begin k) ≡ true
-unfolding kindOf begin
+pub kind-links : (k : Class) → kindOf (startState k) ≡ LinksOnly → inner (startState k) ≡ true
+unfolding kindOf startState
 kind-links selector e = cc
 kind-links link e = refl
 kind-links ri e = refl
@@ -246,8 +260,8 @@ kind-links keycap e = cc
 kind-links tag e = cc
 kind-links other e = cc
 
-pub kind-emoji : (k : Class) → kindOf (begin k) ≡ EmojiHeaded → inner (begin k) ≡ true
-unfolding kindOf begin
+pub kind-emoji : (k : Class) → kindOf (startState k) ≡ EmojiHeaded → inner (startState k) ≡ true
+unfolding kindOf startState
 kind-emoji selector e = cc
 kind-emoji link e = refl
 kind-emoji ri e = refl

@@ -1,0 +1,107 @@
+// Where in an item a character stands, and where the next one stands if the item goes on with it.
+// The loops of scanner.rs of the crate evfmt as one table; document 01, "Item".
+// `begin`, `begins_tags` and `kind_of` equal `begin`, `beginsTags` and `kindOf` of specs/Items.antt, and `step` equals its `step`,
+// place by place.
+ghost use mathlib.Core.Path.{_≡_};
+ghost use Rattle.scanner.specs.Items.{startState, beginsTags, kindOf, nextOf, transition};
+use crate::ScanKind;
+use crate::char_class::Class;
+
+pub enum State {
+    // in passthrough
+    Plain,
+    // in a run of selectors
+    Selectors,
+    // in a run of links
+    Links,
+    // in a unit whose stem is one RI so far
+    OneRi,
+    // in a unit whose stem is whole
+    Unit,
+    // after a unit and one link
+    Joined,
+    // after a unit and two links or more
+    LeftOver,
+}
+
+// Whether an item goes on with a character.
+pub enum Next {
+    On(State),
+    Stop,
+}
+
+// Where the first character of an item stands.
+pub fn start_state(k: Class) -> State
+    ensures { λ r. ⌜ r ≡ startState k ⌝ }
+{
+    match k {
+        Class::Selector => State::Selectors,
+        Class::Link => State::Links,
+        Class::Ri => State::OneRi,
+        Class::Modifier | Class::Emoji => State::Unit,
+        Class::Keycap | Class::Tag | Class::Other => State::Plain,
+    }
+}
+
+// Where a character of the class stands if the item goes on with it.
+pub fn transition(p: State, k: Class) -> Next
+    ensures { λ r. ⌜ r ≡ nextOf (transition p k) ⌝ }
+{
+    match p {
+        State::Plain => match k {
+            Class::Keycap | Class::Tag | Class::Other => Next::On(State::Plain),
+            _ => Next::Stop,
+        },
+        State::Selectors => match k {
+            Class::Selector => Next::On(State::Selectors),
+            _ => Next::Stop,
+        },
+        State::Links | State::LeftOver => match k {
+            Class::Selector | Class::Link => Next::On(p),
+            _ => Next::Stop,
+        },
+        State::OneRi => match k {
+            Class::Selector => Next::On(State::OneRi),
+            Class::Link => Next::On(State::Joined),
+            Class::Ri | Class::Modifier | Class::Keycap | Class::Tag => Next::On(State::Unit),
+            _ => Next::Stop,
+        },
+        State::Unit => match k {
+            Class::Selector | Class::Modifier | Class::Keycap | Class::Tag => Next::On(State::Unit),
+            Class::Link => Next::On(State::Joined),
+            _ => Next::Stop,
+        },
+        State::Joined => match k {
+            Class::Selector => Next::On(State::Joined),
+            Class::Link => Next::On(State::LeftOver),
+            Class::Ri => Next::On(State::OneRi),
+            Class::Modifier | Class::Emoji => Next::On(State::Unit),
+            _ => Next::Stop,
+        },
+    }
+}
+
+// Whether a tag modification begins with a character of the class that stands at the place.
+pub fn begins_tags(p: State, k: Class) -> bool
+    ensures { λ r. ⌜ r ≡ beginsTags p k ⌝ }
+{
+    match k {
+        Class::Tag => match p {
+            State::Unit => true,
+            _ => false,
+        },
+        _ => false,
+    }
+}
+
+// The kind of an item that has a character at the place.
+pub fn kind_of(p: State) -> ScanKind
+    ensures { λ r. ⌜ r ≡ kindOf p ⌝ }
+{
+    match p {
+        State::Plain => ScanKind::Passthrough,
+        State::Selectors => ScanKind::UnsanctionedPresentationSelectors,
+        State::Links => ScanKind::LinksOnly,
+        State::OneRi | State::Unit | State::Joined | State::LeftOver => ScanKind::EmojiHeaded,
+    }
+}
