@@ -78,7 +78,7 @@ loop-again c =
     let s = packed-step (x .text .now) (c .before .before .before .before .before .before .before .skip-bare-ascii .result)
     (c .before .before .before .before .before .before .decode .result)
     (c .before .before .before .before .before .before .decode .ensures) (c .before .before .before .before .before .if1 .left) in
-    let b = ap startState (sym (c .before .before .before .before .classify .ensures .0)) ∙ sym (c .before .before .before .begin .ensures)
+    let b = ap startState (sym (c .before .before .before .before .classify .ensures .0)) ∙ sym (c .before .before .before .start-state .ensures)
     ∙ c .before .enum-told .given .1 in
     over-passes a (passes-on (passes-plain p s b) (c .skip-letters .ensures p .1))
 
@@ -102,7 +102,7 @@ returns-2 c =
     (c .before .before .before .before .before .before .before .before .decode .ensures)
     (c .before .before .before .before .before .before .before .if1 .left) in
     let b = ap startState (sym (c .before .before .before .before .before .before .classify .ensures .0))
-    ∙ sym (c .before .before .before .before .before .begin .ensures) ∙ c .before .before .before .enum-told2 .given .1 in
+    ∙ sym (c .before .before .before .before .before .start-state .ensures) ∙ c .before .before .before .enum-told2 .given .1 in
     let e = c .before .before .selectors-end .ensures
     ∙ selectors-end (x .text .now) (c .before .before .before .before .before .before .before .before .before .skip-bare-ascii .result) in
     let f = selectors-find p s b (c .before .before .selectors-end .result)
@@ -142,7 +142,7 @@ loop-less-2 c =
     (c .before .before .before .before .before .before .before .decode .ensures)
     (c .before .before .before .before .before .before .if1 .left) in
     let b = ap startState (sym (c .before .before .before .before .before .classify .ensures .0))
-    ∙ sym (c .before .before .before .before .begin .ensures) ∙ c .before .before .enum-told2 .given .1 in
+    ∙ sym (c .before .before .before .before .start-state .ensures) ∙ c .before .before .enum-told2 .given .1 in
     let e = c .before .selectors-end .ensures
     ∙ selectors-end (x .text .now) (c .before .before .before .before .before .before .before .before .skip-bare-ascii .result) in
     let f = selectors-find p s b (c .before .selectors-end .result)
@@ -163,7 +163,7 @@ loop-again-2 c =
     (c .before .before .before .before .before .before .before .decode .ensures)
     (c .before .before .before .before .before .before .if1 .left) in
     let b = ap startState (sym (c .before .before .before .before .before .classify .ensures .0))
-    ∙ sym (c .before .before .before .before .begin .ensures) ∙ c .before .before .enum-told2 .given .1 in
+    ∙ sym (c .before .before .before .before .start-state .ensures) ∙ c .before .before .enum-told2 .given .1 in
     let e = c .before .selectors-end .ensures
     ∙ selectors-end (x .text .now) (c .before .before .before .before .before .before .before .before .skip-bare-ascii .result) in
     let f = selectors-find p s b (c .before .selectors-end .result)
@@ -176,7 +176,7 @@ walk-items-requires c κs =
     let x = c .before .before .before .before .before .before .before .before .before .before .args in
     let d = c .before .before .before .before .decode in
     let k = c .before .before .classify .ensures in
-    let b = c .before .begin in (
+    let b = c .before .start-state in (
       packed-reads (drop (c .before .before .before .before .before .skip-bare-ascii .result) (x .text .now)) (d .result) (d .ensures)
           (omega (arith, c .before .before .before .if1 .left)),
       sym (k .1),

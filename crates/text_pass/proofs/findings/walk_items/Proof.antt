@@ -79,7 +79,7 @@ returns c =
     ))
     (c .before .before .before .before .before .before .before .is-wanted .ensures)
     (c .before .before .before .before .before .before .add-cell .ensures) in
-    let e = sym (c .before .before .before .before .step .ensures) ∙ c .before .before .enum-told .given .1 in
+    let e = sym (c .before .before .before .before .transition .ensures) ∙ c .before .before .enum-told .given .1 in
     (l .passed, λ _. walking-finds l r d e y (c .before .is-wanted2 .ensures) (c .if2 .taken), λ f. absurd (true≢false f))
 
 add-passed : tie.Need-add-passed Inv-loop μ-loop
@@ -104,7 +104,7 @@ returns-2 c =
     (w .0 .taken) (w .1)) (λ w. as-changed
     (c .before .before .before .before .before .before .before .before .before .before .before .before .before .loop .changed)
     (w .0 .left) (w .1)) (c .before .before .before .before .before .before .before .before .before .if1 .came) in
-    let e = sym (c .before .before .before .before .before .before .before .before .step .ensures)
+    let e = sym (c .before .before .before .before .before .before .before .before .transition .ensures)
     ∙ c .before .before .before .before .before .before .enum-told .given .1 in
     let a = walking-passes l r d e (c .before .before .before .before .before .is-wanted2 .ensures)
     (c .before .before .before .before .if2 .left) (c .before .before .before .findings-of .ensures .0) in
@@ -117,7 +117,7 @@ add-at-2 c =
     let d = ⊎-elim (λ w. now-changed (c .before .before .before .before .before .before .before .before .loop .changed) (w .0 .taken)
     (w .1)) (λ w. as-changed (c .before .before .before .before .before .before .before .before .loop .changed) (w .0 .left) (w .1))
     (c .before .before .before .before .if1 .came) in
-    let t = c .before .before .before .step .ensures in
+    let t = c .before .before .before .transition .ensures in
     let n = ⊎-elim (λ w. on-char l r d (w .1 .given .0 .0) (sym t ∙ w .1 .given .1))
     (λ w. begin-char l r d (λ e. not-plain (w .5 .result) (w .6 .keys2) (w .5 .ensures ∙ e))) (c .before .before .match .came) in
     let s = reads-next l r d n in
@@ -130,7 +130,7 @@ loop-less c =
     let d = ⊎-elim (λ w. now-changed (c .before .before .before .before .before .before .before .before .loop .changed) (w .0 .taken)
     (w .1)) (λ w. as-changed (c .before .before .before .before .before .before .before .before .loop .changed) (w .0 .left) (w .1))
     (c .before .before .before .before .if1 .came) in
-    let t = c .before .before .before .step .ensures in
+    let t = c .before .before .before .transition .ensures in
     let n = ⊎-elim (λ w. on-char l r d (w .1 .given .0 .0) (sym t ∙ w .1 .given .1))
     (λ w. begin-char l r d (λ e. not-plain (w .5 .result) (w .6 .keys2) (w .5 .ensures ∙ e))) (c .before .before .match .came) in
     let s = reads-next l r d n in
@@ -149,7 +149,7 @@ loop-again c =
     ))
     (c .before .before .before .before .before .before .is-wanted .ensures)
     (c .before .before .before .before .before .add-cell .ensures) in
-    let t = c .before .before .before .step .ensures in
+    let t = c .before .before .before .transition .ensures in
     ⊎-elim
     (λ w. rw (w .3, w .4, w .5, w .6) (walking-on l r d y (w .1 .given .0 .0) (sym t ∙ w .1 .given .1)))
     (λ w.
