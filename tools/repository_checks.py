@@ -15,7 +15,7 @@ that is a finding too.
 - audit:      docs/AUDIT.md has a row for every public function of a library, in the part of its crate, with what its
               contract rules out; and every must-fail edit that it names is there.
 - theorems:   every statement of a crate's specs/ has its proof, none is open or says nothing, and docs/AUDIT.md lists just
-              these (theorem_checks.py).
+              these; the names in it and in docs/DECISIONS.md are declared (theorem_checks.py).
 - counts:     the last line of rt ci counts every crate and every must-fail edit.
 - edits:      every must-fail edit is refused at the place that it names, for a fact (edit_checks.py).
 - proved:     the log of every crate says that it is proved.

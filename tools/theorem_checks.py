@@ -21,8 +21,8 @@ DECLARES = re.compile(
 OWED = "\n## The statements\n"
 # The records that hold the clauses of a theorem, and the theorem.
 CLAIMED_RECORDS = {"ListClaim": "EveryList", "FormattedClaim": "EveryFormattedText"}
-# Names of Rust's own that docs/AUDIT.md quotes from document 01.
-OF_RUST = {"Clone", "Debug", "Hash", "Option", "Peekable", "String", "Vec", "VecDeque"}
+# Names of Rust's own that docs/AUDIT.md and docs/DECISIONS.md have from document 01 or from the crate.
+OF_RUST = {"Clone", "Debug", "Hash", "Option", "PartialEq", "Peekable", "String", "Vec", "VecDeque"}
 
 
 def statements(crate):
@@ -204,8 +204,8 @@ def other_statements(root):
 
 
 def unknown_names(root):
-    """The names in docs/AUDIT.md that begin with a capital letter are declared in specs/ or src/, or are files of proofs/; and what it
-    calls a clause of a claimed record is one."""
+    """The names in docs/AUDIT.md and docs/DECISIONS.md that begin with a capital letter are declared in specs/ or src/, or are files
+    of proofs/; and what docs/AUDIT.md calls a clause of a claimed record is one."""
     audit = (root / "docs" / "AUDIT.md").read_text(encoding="utf-8")
     known = set(OF_RUST)
     for path in root.glob("crates/*/proofs/**/*.antt"):
@@ -214,8 +214,10 @@ def unknown_names(root):
         known.update(name for _, name, _, _ in declarations(antt(path)))
     for path in root.glob("crates/*/src/**/*.rt"):
         known.update(re.findall(r"(?:\b(?:enum|struct|const|type) |^ *)([A-Z]\w*)", rattle(path), re.M))
-    for name in sorted(set(re.findall(r"`([A-Z][\w-]*)`", audit)) - known):
-        yield f"docs/AUDIT.md: `{name}` is nowhere in specs/ or src/"
+    decisions = (root / "docs" / "DECISIONS.md").read_text(encoding="utf-8")
+    for document, text in (("AUDIT", audit), ("DECISIONS", decisions)):
+        for name in sorted(set(re.findall(r"`([A-Z][\w-]*)`", text)) - known):
+            yield f"docs/{document}.md: `{name}` is nowhere in specs/ or src/"
     records = "|".join(CLAIMED_RECORDS)
     said = re.findall(rf"((?:`[\w-]+`(?:, | and )?)+) (?:of|in) ((?:`(?:{records})`(?: and )?)+)", audit)
     said += [(names, record) for record, names in re.findall(rf"(`(?:{records})`) \(((?:`[\w-]+`(?:, | and )?)+)\)", audit)]
