@@ -38,11 +38,7 @@ OF_C = ("io", "libc", "os")
 MAY_CALL_C = ("message_io",)
 STATIC_LIBRARY = "tilghorz"
 RULED_OUT = "## What each contract rules out\n"
-NAMES = r"((?:`\w+`(?:, | and )?)+)"
-NAMED_EDITS = re.compile(rf"\b[Ee]dits? {NAMES}")
-# In the table whose last column is of edits, these stand in brackets.
-EDITS_OF_ROWS = re.compile(r"^\|.*with the edit that shows it \|\n((?:\|.*\n)+)", re.M)
-BRACKETED_EDITS = re.compile(rf"\((?:\w+: )?{NAMES}(?:\.\.)?\)")
+NAMED_EDITS = re.compile(r"\b[Ee]dits?\s+((?:`\w+`(?:\s+of\s+\w+)?(?:,\s+|\s+and\s+)?)+)")
 
 
 def unlisted_crates(root):
@@ -70,7 +66,7 @@ def libraries_that_call_c(root):
 
 
 def closing(text, at, opening, closes):
-    """The place behind the bracket that closes the one at `at`."""
+    """The index after the bracket that closes the bracket at `at`."""
     depth = 0
     for i in range(at, len(text)):
         depth += (text[i] == opening) - (text[i] == closes)
@@ -80,7 +76,7 @@ def closing(text, at, opening, closes):
 
 
 def clauses(text, at):
-    """The clauses of the function whose name ends at `at`, with what each says, and what stands behind them."""
+    """The clauses of the function whose name ends at `at`, each with its text, and the text after the clauses."""
     at = closing(text, text.index("(", at), "(", ")")
     result = re.compile(r"\s*->\s*(?:\[[^]]*\]|[^{])*?(?=\s*(?:\brequires\b|\bensures\b|\bghost\b|\{|;))").match(text, at)
     if result:
@@ -124,7 +120,7 @@ def weak_contracts(root):
                 if kind == "ensures" and says_nothing(said):
                     yield f"{where}: an `ensures` that says nothing of the outcome: {said[:80]}"
             if not rest.startswith(("{", ";")):
-                yield f"{where}: what stands behind its clauses is not understood: {rest[:20]!r}"
+                yield f"{where}: the text after its clauses is not understood: {rest[:20]!r}"
     for name in libraries(root):
         if not any(public_functions(root, name)):
             yield f"crates/{name}: a library without a public function"
@@ -145,11 +141,7 @@ def unaudited_functions(root):
             if function[1] not in named.get(name, ()):
                 yield f"docs/AUDIT.md: {name}: {function[1]} has no row of what its contract rules out"
     edits = {path.stem for path in must_fail_edits(root)}
-    lists = NAMED_EDITS.findall(audit)
-    for table in EDITS_OF_ROWS.findall(audit):
-        last_cells = (row.split(" | ")[-1] for row in table.splitlines())
-        lists += BRACKETED_EDITS.findall("\n".join(last_cells))
-    for names in lists:
+    for names in NAMED_EDITS.findall(audit):
         for edit in re.findall(r"`(\w+)`", names):
             if edit not in edits:
                 yield f"docs/AUDIT.md: there is no must-fail edit {edit}"

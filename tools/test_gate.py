@@ -53,7 +53,7 @@ class Gate(unittest.TestCase):
         self.assertEqual((status, lines[-1]), (0, "3 passed, 0 failed"))
         self.assertIn("python3 tools/repository_checks.py products 3 passed, 0 failed", calls)
         self.assertGreater(len(calls), 25)
-        self.assertFalse(any("PASSED OVER" in line for line in lines))
+        self.assertFalse(any("SKIPPED" in line for line in lines))
 
     def test_any_one_fails(self):
         _, _, calls = self.run_gate()
@@ -88,7 +88,7 @@ class Gate(unittest.TestCase):
     def test_without_the_crate(self):
         status, lines, calls = self.run_gate(EVFMT_SRC="nowhere")
         self.assertEqual((status, lines[-1]), (0, "3 passed, 0 failed"))
-        self.assertEqual(len([line for line in lines if line.startswith("gate: PASSED OVER: ")]), 2)
+        self.assertEqual(len([line for line in lines if line.startswith("gate: SKIPPED: ")]), 2)
         self.assertFalse(any("compare" in call or "stored-answers" in call for call in calls))
         self.assertNotEqual(self.run_gate(EVFMT_SRC="nowhere", CI="true")[0], 0)
 

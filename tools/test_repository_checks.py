@@ -51,9 +51,8 @@ impl Thing {
     "docs/AUDIT.md": """
 Each of `same`, `twice` and `part` has a row below.
 
-| demand | excludes, with the edit that shows it |
-|---|---|
-| any | another letter (one: `wrong`, ..) |
+Excludes: another letter (edit
+`wrong` of one).
 
 ## The statements
 
@@ -169,8 +168,9 @@ class Checks(unittest.TestCase):
     def test_edit_that_is_not_there(self):
         self.finds("no must-fail edit right", checks.unaudited_functions, AUDIT_md=("edit `wrong`", "edits `wrong`, `right`"))
 
-    def test_edit_in_brackets_that_is_not_there(self):
-        self.finds("no must-fail edit right", checks.unaudited_functions, AUDIT_md=("(one: `wrong`, ..)", "(one: `right`, ..)"))
+    def test_edits_of_two_crates_over_two_lines(self):
+        change = ("edit\n`wrong` of one", "edits\n`wrong` of one,\n`right` of two")
+        self.finds("no must-fail edit right", checks.unaudited_functions, AUDIT_md=change)
 
     def test_what_rt_ci_counted(self):
         def of(line):

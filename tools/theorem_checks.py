@@ -219,6 +219,7 @@ def unknown_names(root):
         for name in sorted(set(re.findall(r"`([A-Z][\w-]*)`", text)) - known):
             yield f"docs/{document}.md: `{name}` is nowhere in specs/ or src/"
     records = "|".join(CLAIMED_RECORDS)
+    audit = " ".join(audit.split())
     said = re.findall(rf"((?:`[\w-]+`(?:, | and )?)+) (?:of|in) ((?:`(?:{records})`(?: and )?)+)", audit)
     said += [(names, record) for record, names in re.findall(rf"(`(?:{records})`) \(((?:`[\w-]+`(?:, | and )?)+)\)", audit)]
     for names, of in said:

@@ -285,7 +285,7 @@ def block_specs(numbered, tables):
     for name, first, _ in BLOCK_GROUPS[1:]:
         out += [f"abbrev pub {name}First : ℕ", f"{name}First = 0x{first:X}", ""]
     out += [
-        "-- the symbols, and behind their places the pictographs, as one `match` has them",
+        "-- the symbols, and after their places the pictographs, as one `match` has them",
         "abbrev pub symbolPlaces : ℕ",
         "symbolPlaces = middleFirst - symbolFirst",
         "",
