@@ -62,19 +62,19 @@ module _ (p : Policy) (text : List ℕ) where
       go : (b : Bool) → c .present ≡ b → Passed from c
       go true m =
           let x = h .0 m in
-          record { on = x .on; after = x .after; inside = x .inside l; formatted = x .formatted; valid = x .valid }
+          record { on = x .on; after = x .after; inside = x .advances .inside l; formatted = x .formatted; valid = x .advances .valid }
       go false m =
           let x = h .1 m in
           let s = x .stays in
           record {
-            on = omega (arith, s .on, x .all-kept);
-            after = omega (arith, x .all-kept);
-            inside = s .inside l;
+            on = omega (arith, s .advances .on, x .start-is-end);
+            after = omega (arith, x .start-is-end);
+            inside = s .advances .inside l;
             formatted =
-                s .formatted ∙ ap (λ (n : ℕ). take (n - from) (drop from text) ++ formattedFrom p text (c .end)) (sym (x .all-kept))
+                s .formatted ∙ ap (λ (n : ℕ). take (n - from) (drop from text) ++ formattedFrom p text (c .end)) (sym (x .start-is-end))
                 ∙ ap (λ (f : FromSelector). take (c .start - from) (drop from text) ++ (selectorBytes f ++ formattedFrom p text (c .end)))
                 (sym (x .no-selector));
-            valid = s .valid;
+            valid = s .advances .valid;
           }
 
   kept-length : {from : ℕ} {c : Change} → Passed from c → length (take (c .start - from) (drop from text)) ≡ c .start - from

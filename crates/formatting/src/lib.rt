@@ -11,9 +11,10 @@ ghost use Rattle.base.specs.Output.{PutAt};
 ghost use Rattle.base.specs.Refusals.{textLimit};
 ghost use Rattle.utf8.specs.Rfc3629.{validUpTo};
 ghost use Rattle.unicode.specs.declared.presentation.FromSelector.the-variants.{Selector};
-ghost use Rattle.policy.specs.PolicyBytes.{isPolicy, policyOf};
+ghost use Rattle.policy.specs.PolicyBytes.{policyOf};
 ghost use Rattle.text_pass.specs.Changes.{NextChange, formattedFrom, selectorBytes};
 ghost use Rattle.formatter.specs.Format.{format, formatRow};
+ghost use Rattle.formatting.specs.FirstChange.{FirstChange};
 use base::Refusal;
 use base::TEXT_LIMIT;
 use formatter::FormatAnswer;
@@ -145,8 +146,7 @@ fn put_changes(
 
 // Formats a text that has a change, of which the first is known, into an output that may be too short: it is measured before.
 fn format_measured(text: &[u8], policy: &[u8], first: Change, out: &mut [u8]) -> FormatAnswer
-    requires { ⌜ (length (now text) ≤ textLimit) × (isPolicy (now policy) ≡ true) × NextChange (policyOf (now policy)) (now text) 0 first
-        × (first .present ≡ true) ⌝ }
+    requires { ⌜ FirstChange (now text) (now policy) first ⌝ }
     ensures { λ r. ⌜ record { answer = r; buffer = now (out .exit) } ≡ format (now (text .entry)) (now (policy .entry)) (now (out .entry)) ⌝ }
 {
     let Survey { valid_up_to, len } = survey_text(text, policy, first);
@@ -176,8 +176,7 @@ fn valid_after(text: &[u8], change: Change) -> usize
 // Formats a text that has a change, of which the first is known, into an output that has room for every formatted text. The second one
 // is asked for before anything is written: most messages have none, and then it is known that the rest is well-formed.
 fn format_at_once(text: &[u8], policy: &[u8], first: Change, out: &mut [u8]) -> FormatAnswer
-    requires { ⌜ (length (now text) ≤ textLimit) × (isPolicy (now policy) ≡ true) × NextChange (policyOf (now policy)) (now text) 0 first
-        × (first .present ≡ true) × (4 * length (now text) ≤ length (now out)) ⌝ }
+    requires { ⌜ FirstChange (now text) (now policy) first × (4 * length (now text) ≤ length (now out)) ⌝ }
     ensures { λ r. ⌜ record { answer = r; buffer = now (out .exit) } ≡ format (now (text .entry)) (now (policy .entry)) (now (out .entry)) ⌝ }
 {
     let end = first.end;

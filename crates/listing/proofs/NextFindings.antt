@@ -29,10 +29,10 @@ module _ {p : Policy} {text : List ℕ} {r : FindingSpan} (n : NextFinding p tex
       go false e = n .2 e .0
 
   pub all-counted : r .passed ≡ length (findingsFrom p text 0)
-  all-counted = omega (arith, left-length (n .0 .left), ap length (none-found p text (r .start) none-more))
+  all-counted = omega (arith, left-length (n .0 .skips), ap length (none-found p text (r .start) none-more))
 
   pub all-valid : r .start ≡ validUpTo text
-  all-valid = omega (arith, n .0 .valid, size-chars (drop (r .start) text), ap (size width) none-more)
+  all-valid = omega (arith, n .0 .advances .valid, size-chars (drop (r .start) text), ap (size width) none-more)
 
 -- ---- there is one
 
@@ -51,7 +51,7 @@ finds-row {p} {text} {start} {end} f =
 
 module _ {p : Policy} {text : List ℕ} {from start end : ℕ} (a : NoFindingBetween p text from start) (f : Finds p text start end) where
   pub next-ahead : Ahead text from end
-  next-ahead = let h = finds-ahead f in let o = a .on in let s = h .some in record { some = omega arith; room = h .room }
+  next-ahead = let h = finds-ahead f in let o = a .advances .on in let s = h .some in record { some = omega arith; room = h .room }
 
 -- The rows from an offset on, before which there is none from another on.
 pub next-row : {p : Policy} {text : List ℕ} {from start : ℕ} {rows : List Finding} → NoFindingBetween p text from start

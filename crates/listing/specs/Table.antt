@@ -21,6 +21,10 @@ use Rattle.base.specs.declared.ListAnswer.the-variants.{Listed, Refused}
 use Rattle.listing.specs.declared.table.FewFindings.{FewFindings}
 use Rattle.listing.specs.declared.table.ListingPlan.{ListingPlan}
 
+-- The rows of all findings of a text, by its bytes and the policy's.
+abbrev pub findingRows : List ℕ → List ℕ → List Finding
+findingRows text policy = map (findingRow (policyOf policy)) (findingsFrom (policyOf policy) text 0)
+
 -- No finding: empty, at an offset.
 abbrev pub noFinding : ℕ → Finding
 noFinding at = record { start = at; end = at; counts = empty }

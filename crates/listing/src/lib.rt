@@ -7,7 +7,6 @@ pub mod items;
 pub mod table;
 
 ghost use mathlib.Core.Path.{_≡_};
-ghost use mathlib.Core.List.{map};
 ghost use Prim.Native.Nat.{_+_, _*_, _≤_};
 ghost use lib.ListN.{length};
 ghost use Rattle.base.specs.Tables.{fillTable, rowsBytes};
@@ -17,8 +16,8 @@ ghost use Rattle.base.specs.Words.{bytesOf};
 ghost use Rattle.utf8.specs.Rfc3629.{validUpTo};
 ghost use Rattle.policy.specs.PolicyBytes.{policyOf};
 ghost use Rattle.analysis.specs.Findings.{findingsFrom};
-ghost use Rattle.formatter.specs.Findings.{findingRow};
 ghost use Rattle.formatter.specs.List.{listBytes, rowBytes, rowNumbers};
+ghost use Rattle.listing.specs.Table.{findingRows};
 use analysis::types::Finding;
 use base::ListAnswer;
 use base::Refusal;
@@ -89,11 +88,9 @@ fn put_row(table: &mut [u8], start: usize, finding: Finding) -> usize
 
 // Puts the row of each finding, for which there is room.
 fn put_findings(text: &[u8], policy: &[u8], table: &mut [u8]) -> usize
-    requires { ⌜ length (rowsBytes rowNumbers
-        (map (findingRow (policyOf (now policy))) (findingsFrom (policyOf (now policy)) (now text) 0))) ≤ length (now table) ⌝ }
-    ensures { λ r. ⌜ PutAt (now (table .entry)) 0
-        (rowsBytes rowNumbers (map (findingRow (policyOf (now (policy .entry))))
-        (findingsFrom (policyOf (now (policy .entry))) (now (text .entry)) 0))) (now (table .exit)) r ⌝ }
+    requires { ⌜ length (rowsBytes rowNumbers (findingRows (now text) (now policy))) ≤ length (now table) ⌝ }
+    ensures { λ r. ⌜ PutAt (now (table .entry)) 0 (rowsBytes rowNumbers (findingRows (now (text .entry)) (now (policy .entry))))
+        (now (table .exit)) r ⌝ }
 {
     let mut at = 0;
     let mut to = 0;
@@ -117,9 +114,7 @@ fn put_findings(text: &[u8], policy: &[u8], table: &mut [u8]) -> usize
 fn fill_table(text: &[u8], policy: &[u8], findings: usize, table: &mut [u8]) -> ListAnswer
     requires { ⌜ findings ≡ length (findingsFrom (policyOf (now policy)) (now text) 0) ⌝ }
     ensures { λ r. ⌜ record { answer = r; buffer = now (table .exit) }
-        ≡ fillTable rowNumbers rowBytes
-        (map (findingRow (policyOf (now (policy .entry)))) (findingsFrom (policyOf (now (policy .entry))) (now (text .entry)) 0))
-        (now (table .entry)) ⌝ }
+        ≡ fillTable rowNumbers rowBytes (findingRows (now (text .entry)) (now (policy .entry))) (now (table .entry)) ⌝ }
 {
     if findings == 0 {
         return ListAnswer::Listed { findings };

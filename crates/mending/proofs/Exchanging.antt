@@ -32,7 +32,7 @@ use Rattle.analysis.proofs.Replacing.{item-written, out-short, out-written, par
 use Rattle.formatter.specs.Demand3.{Accepted}
 use Rattle.formatter.specs.Findings.{findings}
 use Rattle.formatter.specs.Mend.{exchanged, mend}
-use Rattle.mending.specs.Parts.{Starts, cellsWritten}
+use Rattle.mending.specs.Parts.{Starts, cellsWritten, withCellsWritten}
 use Rattle.mending.proofs.Around.{between}
 use Rattle.formatter.proofs.Calls.{pass-intake}
 
@@ -53,7 +53,7 @@ module _ (p : Policy) (text : List ℕ) (start : ℕ) (decisions : List ℕ) {en
   B = cellsWritten p text start end (map meaning decisions)
 
   abbrev R : List ℕ
-  R = take start text ++ B ++ drop end text
+  R = withCellsWritten p text start end (map meaning decisions)
 
   start-length : length (take start text) ≡ start
   start-length = length-take-le start text (omega arith)
@@ -143,7 +143,7 @@ module _ (policy text : List ℕ) (acc : Accepted policy text) (offset : ℕ) (d
       ≡ totalCells q (chars (part text offset end))
       → {t : Option Refusal} → decisionsRefusal (n .«presentation_decisions») decisions ≡ t → (out : List ℕ) {a : After MendAnswer ℕ}
       → a ≡ orElse t (λ (r : Refusal). unwritten (Refused r) out)
-      (writeOut (take offset text ++ cellsWritten q text offset end ds ++ drop end text) out)
+      (writeOut (withCellsWritten q text offset end ds) out)
       → a ≡ mend text policy offset decisions out
   unfolding judge
   mend-tested {end} s {q} r {n} c {t} d out e =

@@ -50,23 +50,16 @@ module _ {p : Policy} {text : List ℕ} where
   -- The next finding that does not start before the offset.
   module _ (o : ℕ) {r : FindingSpan} (n : NextFinding p text o 0 r) where
     next-same : findingAt o (findingsFrom p text 0) ≡ findingAt o (findingsFrom p text (r .start))
-    next-same = left-at o (n .0 .left)
+    next-same = left-at o (n .0 .skips)
 
     -- There is none.
-    pub none-further : r .present ≡ false → FindingStarting p text o r
+    pub none-further : r .present ≡ false → FindingStarting p text o (record { end = r .end; present = false })
     unfolding findingAt
-    none-further m = (λ t. absurd (true≢false (sym t ∙ m)), λ _. next-same ∙ ap (findingAt o) (none-found p text (r .start) (n .2 m .0)))
+    none-further m = (λ t. absurd (true≢false (sym t)), λ _. next-same ∙ ap (findingAt o) (none-found p text (r .start) (n .2 m .0)))
 
     -- There is one, at the offset or after it.
     pub none-before : r .present ≡ true
-        → FindingStarting p text o (record {
-          start = r .start;
-          end = r .end;
-          counts = r .counts;
-          present = eqb (r .start) o;
-          passed =
-              r .passed;
-        })
+        → FindingStarting p text o (record { end = r .end; present = eqb (r .start) o })
     none-before m = (
       λ t. starts-here o (n .1 m .1 .finds) (eqb-true (r .start) o t) next-same,
       λ f. next-same ∙ no-finding-past p o (r .start) (items (chars (drop (r .start) text)))
@@ -74,4 +67,4 @@ module _ {p : Policy} {text : List ℕ} where
     )
 
     pub next-valid : r .start + validUpTo (drop (r .start) text) ≡ validUpTo text
-    next-valid = let v = n .0 .valid in omega arith
+    next-valid = let v = n .0 .advances .valid in omega arith

@@ -38,6 +38,7 @@ use Rattle.analysis.proofs.Cells.{split-selector, split-whole}
 use Rattle.analysis.proofs.CellsAt.{after-at, selectors-end, selectors-room, split-after}
 use Rattle.analysis.proofs.RuleLaws.{keeps, settles}
 use Rattle.text_pass.specs.Changes.{
+  Advances,
   BaseChange,
   ChangeAt,
   IsNextChange,
@@ -168,7 +169,7 @@ base-read p text base at first end k a m f e h s q =
     ∙ ap (λ (x : Outcome). chosen (x .slot) []) o in
     let w : end - at ≡ 3 * length (leading t) = omega arith in
     record {
-      kept-is = refl;
+      start-is = refl;
       end-is = e;
       selector-is = u;
       present-is =
@@ -195,8 +196,12 @@ module _ (p : Policy) {text : List ℕ} {at v w : ℕ} (h : Step text at v w) (e
       ∙ ap (λ (l : List ℕ). encode v ++ (encodeAll (map asSelector (chosen (outcomeFrom p text v (at + w) .slot) [])) ++ l))
       (selectors-formatted text (at + w) p ∙ ap (formattedFrom p text) (sym (b .end-is)))
 
-  base-inside : c .end ≤ length text
-  base-inside = omega (arith, b .end-is, selectors-room text (at + w) (h .room))
+  base-advances : Advances text at (c .end)
+  base-advances = record {
+    on = omega (arith, b .end-is);
+    inside = λ _. omega (arith, b .end-is, selectors-room text (at + w) (h .room));
+    valid = base-valid;
+  }
 
   pub change-at-base : ChangeAt p text at c
   change-at-base = (changed, stays)
@@ -210,17 +215,16 @@ module _ (p : Policy) {text : List ℕ} {at v w : ℕ} (h : Step text at v w) (e
 
       changed : c .present ≡ true → IsNextChange p text at c
       changed m = record {
-        on = omega (arith, b .kept-is);
-        after = omega (arith, b .kept-is, b .end-is);
+        advances = base-advances;
+        on = omega (arith, b .start-is);
+        after = omega (arith, b .start-is, b .end-is);
         moves = omega (arith, b .end-is, h .some);
-        inside = λ _. base-inside;
         formatted =
             base-formatted
             ∙ ap₂ (λ (x y : List ℕ). x ++ (y ++ formattedFrom p text (c .end)))
-            (sym (ap (λ (n : ℕ). take (n - at) (drop at text)) (b .kept-is) ∙ step-bytes h))
+            (sym (ap (λ (n : ℕ). take (n - at) (drop at text)) (b .start-is) ∙ step-bytes h))
             (ap (λ (s : List Presentation). encodeAll (map asSelector s)) (sym (b .selector-is)));
         counted = omega (arith, base-total, counted m);
-        valid = base-valid;
       }
 
       stays : c .present ≡ false → UnchangedBetween p text at (c .end) × (at < c .end)
@@ -233,15 +237,13 @@ module _ (p : Policy) {text : List ℕ} {at v w : ℕ} (h : Step text at v w) (e
           ∙ ap₂ (λ (x y : List ℕ). x ++ y) (step-bytes h)
           (ap (λ (n : ℕ). take (n - (at + w)) (drop (at + w) text)) (b .end-is) ∙ selectors-bytes text (at + w)) in (
             record {
-              on = omega (arith, b .end-is);
-              inside = λ _. base-inside;
+              advances = base-advances;
               formatted =
                   base-formatted ∙ ap (λ (x : List Presentation). encode v
                   ++ (encodeAll (map asSelector x) ++ formattedFrom p text (c .end))) s
                   ∙ sym (append-assoc (encode v) (encodeAll (map asSelector (leading t))) (formattedFrom p text (c .end)))
                   ∙ ap (λ (x : List ℕ). x ++ formattedFrom p text (c .end)) (sym a);
               counted = omega (arith, base-total, z);
-              valid = base-valid;
             },
             omega (arith, b .end-is, h .some),
           )
@@ -260,17 +262,20 @@ change-at-selector p {text} {at} {w} q h end e =
     ap (λ (l : List ℕ). total (totalCells p l)) (h .chars-on)
     ∙ ap (λ (a : List Presentation × List Cell). total (unsanctioned (length (a .0)) ⊕ countCells p (a .1))) s ∙ omega arith in (
       λ _. record {
+        advances = record {
+          on = omega arith;
+          inside = λ _. omega (arith, selectors-room text (at + w) (h .room));
+          valid = omega (arith, h .validUpTo-on, selectors-valid text (at + w), ap (λ (n : ℕ). validUpTo (drop n text)) e);
+        };
         on = omega arith;
         after = omega arith;
         moves = omega (arith, h .some);
-        inside = λ _. omega (arith, selectors-room text (at + w) (h .room));
         formatted =
             ap (λ (l : List ℕ). encodeAll (formatCells p l)) (h .chars-on)
             ∙ ap (λ (a : List Presentation × List Cell). encodeAll (render p (a .1) [])) s
             ∙ selectors-formatted text (at + w) p ∙ ap (formattedFrom p text) (sym e)
             ∙ ap (λ (n : ℕ). take n (drop at text) ++ formattedFrom p text end) (sym z);
         counted = omega (arith, n, selectors-total text (at + w) p, ap (totalFrom p text) e);
-        valid = omega (arith, h .validUpTo-on, selectors-valid text (at + w), ap (λ (n : ℕ). validUpTo (drop n text)) e);
       },
       λ f. absurd (true≢false f),
     )

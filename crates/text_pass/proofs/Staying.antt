@@ -19,7 +19,7 @@ use Rattle.analysis.specs.Counts.{_⊕_, total, unsanctioned}
 use Rattle.analysis.specs.Rules.{outcome}
 use Rattle.analysis.proofs.Cells.{split-char}
 use Rattle.analysis.proofs.Replacement.{remaining-none, render-cons, renewed}
-use Rattle.text_pass.specs.Changes.{IsNextChange, UnchangedBetween, formattedFrom, outcomeFrom, selectorBytes, totalFrom}
+use Rattle.text_pass.specs.Changes.{Advances, IsNextChange, UnchangedBetween, formattedFrom, outcomeFrom, selectorBytes, totalFrom}
 use Rattle.text_pass.specs.declared.Change.{Change}
 
 -- The bytes from one place up to another, and from there up to a third.
@@ -31,43 +31,51 @@ between text i j k h l =
     ap (λ (n : ℕ). take n (drop i text)) a ∙ take-add (j - i) (k - j) (drop i text)
     ∙ ap (λ (l : List ℕ). take (j - i) (drop i text) ++ take (k - j) l) (drop-drop (j - i) i text ∙ ap (λ (n : ℕ). drop n text) b)
 
+module _ {text : List ℕ} where
+  pub advances-here : (i : ℕ) → Advances text i i
+  advances-here i = record { on = omega arith; inside = λ h. h; valid = omega arith }
+
+  pub advances-on : {i j k : ℕ} → Advances text i j → Advances text j k → Advances text i k
+  advances-on a b =
+      let l = a .on in
+      let m = b .on in
+      let v = a .valid in
+      let w = b .valid in
+      record { on = omega arith; inside = λ h. b .inside (a .inside h); valid = omega arith }
+
 module _ {p : Policy} {text : List ℕ} where
   pub stays-here : (i : ℕ) → UnchangedBetween p text i i
   stays-here i =
       let z : i - i ≡ 0 = omega arith in
       record {
-        on = omega arith;
-        inside = λ h. h;
+        advances = advances-here i;
         formatted = ap (λ (n : ℕ). take n (drop i text) ++ formattedFrom p text i) (sym z);
         counted = refl;
-        valid = omega arith;
       }
 
   pub stays-on : {i j k : ℕ} → UnchangedBetween p text i j → UnchangedBetween p text j k → UnchangedBetween p text i k
   stays-on {i} {j} {k} a b =
-      let l = a .on in
-      let m = b .on in
+      let l = a .advances .on in
+      let m = b .advances .on in
       record {
-        on = omega arith;
-        inside = λ h. b .inside (a .inside h);
+        advances = advances-on (a .advances) (b .advances);
         formatted =
             a .formatted ∙ ap (λ (t : List ℕ). take (j - i) (drop i text) ++ t) (b .formatted)
             ∙ sym (append-assoc (take (j - i) (drop i text)) (take (k - j) (drop j text)) (formattedFrom p text k))
             ∙ ap (λ (t : List ℕ). t ++ formattedFrom p text k) (sym (between text i j k l m));
         counted = a .counted ∙ b .counted;
-        valid = let v = a .valid in let w = b .valid in omega arith;
       }
 
   pub stays-then : {i j : ℕ} {c : Change} → UnchangedBetween p text i j → IsNextChange p text j c → IsNextChange p text i c
   stays-then {i} {j} {c} a b =
-      let l = a .on in
+      let l = a .advances .on in
       let m = b .on in
       let n = b .moves in
       record {
+        advances = advances-on (a .advances) (b .advances);
         on = omega arith;
         after = b .after;
         moves = omega arith;
-        inside = λ h. b .inside (a .inside h);
         formatted =
             a .formatted ∙ ap (λ (t : List ℕ). take (j - i) (drop i text) ++ t) (b .formatted)
             ∙ sym (append-assoc (take (j - i) (drop i text)) (take (c .start - j) (drop j text))
@@ -75,7 +83,6 @@ module _ {p : Policy} {text : List ℕ} where
             ∙ ap (λ (t : List ℕ). t ++ (selectorBytes (c .selector) ++ formattedFrom p text (c .end)))
             (sym (between text i j (c .start) l m));
         counted = let x = a .counted in let y = b .counted in omega arith;
-        valid = let v = a .valid in let w = b .valid in omega arith;
       }
 
 -- ---- one character that is no selector
@@ -104,6 +111,9 @@ step-bytes {text} {at} {v} {w} h =
     let n : (at + w) - at ≡ w = omega arith in
     ap (λ (n : ℕ). take n (drop at text)) n ∙ ap (take w) (sym (h .bytes)) ∙ take-at (encode v) (drop (at + w) text) w (h .width)
 
+pub step-advances : {text : List ℕ} {at v w : ℕ} → Step text at v w → Advances text at (at + w)
+step-advances h = record { on = omega arith; inside = λ _. h .room; valid = omega (arith, h .validUpTo-on) }
+
 module _ (p : Policy) {text : List ℕ} {at v w : ℕ} (h : Step text at v w) (e : isSelector v ≡ false) where
   pub step-formatted : formattedFrom p text at ≡ encode v
       ++ (encodeAll (map asSelector (chosen (outcomeFrom p text v (at + w) .slot) [])) ++ formattedFrom p text (at + w))
@@ -126,11 +136,9 @@ module _ (p : Policy) {text : List ℕ} {at v w : ℕ} (h : Step text at v w) (e
       → UnchangedBetween p text at (at + w)
   unfolding encodeAll
   stays-char s n = record {
-    on = omega arith;
-    inside = λ _. h .room;
+    advances = step-advances h;
     formatted =
         step-formatted ∙ ap (λ (l : List Presentation). encode v ++ (encodeAll (map asSelector l) ++ formattedFrom p text (at + w))) s
         ∙ ap (λ (l : List ℕ). l ++ formattedFrom p text (at + w)) (sym (step-bytes h));
     counted = omega (arith, step-total);
-    valid = omega (arith, h .validUpTo-on);
   }

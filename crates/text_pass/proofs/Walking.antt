@@ -136,11 +136,11 @@ not-plain q o e = miss (1 ∷ 2 ∷ 3 ∷ 4 ∷ 5 ∷ 6 ∷ []) 0 tt (subst (λ 
 
 -- The counts that are kept: those of an item that does not start before the limit, else none.
 abbrev pub Keeps : ℕ → ℕ → NonCanonicality → NonCanonicality → Type 0
-Keeps before start sum counts = (before ≤ start → counts ≡ sum) × (start < before → counts ≡ empty)
+Keeps limit start sum counts = (limit ≤ start → counts ≡ sum) × (start < limit → counts ≡ empty)
 
-pub record Walking (p : Policy) (text : List ℕ) (before from start base : ℕ) (index : VariationSequenceIndex) (at : ℕ) (state : State)
+pub record Walking (p : Policy) (text : List ℕ) (limit from start base : ℕ) (index : VariationSequenceIndex) (at : ℕ) (state : State)
     (changed : Bool) (n : ℕ) (counts : NonCanonicality) : Type 0 where
-  pub passed : FindingsBetween p text before from start n
+  pub passed : FindingsBetween p text limit from start n
   pub entry : variationSequenceIndex base ≡ index
   pub inside : inner state ≡ true
   -- Its last character that is no selector, and where it stands.
@@ -160,15 +160,15 @@ pub record Walking (p : Policy) (text : List ℕ) (before from start base : ℕ)
   -- There are no more counts than bytes.
   pub few-counts : total sum + start ≤ pos
   pub changed-is : changed ≡ not (eqb (total sum) 0)
-  pub start : Keeps before start sum counts
+  pub kept : Keeps limit start sum counts
 
-pub walking-begin : (p : Policy) (text : List ℕ) (before from : ℕ) {start v w n : ℕ} {counts : NonCanonicality}
+pub walking-begin : (p : Policy) (text : List ℕ) (limit from : ℕ) {start v w n : ℕ} {counts : NonCanonicality}
     (index : VariationSequenceIndex)
-    → FindingsBetween p text before from start n → counts ≡ empty → Step text start v w
+    → FindingsBetween p text limit from start n → counts ≡ empty → Step text start v w
     → variationSequenceIndex v ≡ index → inner (startState (classOf v)) ≡ true
-    → Walking p text before from start v index (start + w) (startState (classOf v)) false n counts
+    → Walking p text limit from start v index (start + w) (startState (classOf v)) false n counts
 unfolding items
-walking-begin p text before from {start} {v} {w} index a z h e i = record {
+walking-begin p text limit from {start} {v} {w} index a z h e i = record {
   passed = a;
   entry = e;
   inside = i;
@@ -190,7 +190,7 @@ walking-begin p text before from {start} {v} {w} index a z h e i = record {
   counted = sym (empty-plus (totalCells p (chars (drop start text))));
   few-counts = omega arith;
   changed-is = refl;
-  start = (λ _. z, λ _. z);
+  kept = (λ _. z, λ _. z);
 }
 
 -- Inside links and units an item ends before any other character.
@@ -224,9 +224,9 @@ begins-inner k s q = go (startState k) refl
     go joined e = refl
     go leftOver e = refl
 
-module _ {p : Policy} {text : List ℕ} {before from start base : ℕ} {index : VariationSequenceIndex} {at : ℕ} {state : State}
+module _ {p : Policy} {text : List ℕ} {limit from start base : ℕ} {index : VariationSequenceIndex} {at : ℕ} {state : State}
     {changed : Bool} {n : ℕ} {counts : NonCanonicality}
-    (l : Walking p text before from start base index at state changed n counts) {cell : CellEnd} (c : ReadsCell p text base at cell) where
+    (l : Walking p text limit from start base index at state changed n counts) {cell : CellEnd} (c : ReadsCell p text base at cell) where
   abbrev T : List ℕ
   T = chars (drop at text)
 
@@ -279,10 +279,10 @@ module _ {p : Policy} {text : List ℕ} {before from start base : ℕ} {index : 
   further = omega (arith, c .end-is, l .at-is, l .on, l .reads .some)
 
   -- The counts that are kept with this cell.
-  pub keeps-on : length text ≤ most → {q : Bool} {k : NonCanonicality} → q ≡ cell .changes && leb before start
+  pub keeps-on : length text ≤ most → {q : Bool} {k : NonCanonicality} → q ≡ cell .changes && leb limit start
       → k ≡ cond q (cappedSum counts (outcome p base (cell .class) (runWith (cell .first) ((cell .end - at) / 3)) .counts)) counts
-      → Keeps before start Sum k
-  keeps-on room-most {q} {k} e z = (after-limit (cell .changes) refl, λ h. z ∙ simp (e, lt-leb before start h, and-false) (l .start .1 h))
+      → Keeps limit start Sum k
+  keeps-on room-most {q} {k} e z = (after-limit (cell .changes) refl, λ h. z ∙ simp (e, lt-leb limit start h, and-false) (l .kept .1 h))
     where
       cell-counts : outcome p base (cell .class) (runWith (cell .first) ((cell .end - at) / 3)) .counts ≡ gain
       cell-counts =
@@ -291,13 +291,13 @@ module _ {p : Policy} {text : List ℕ} {before from start base : ℕ} {index : 
           (ap₂ (λ (f : FromSelector) (m : ℕ). outcome p base (cell .class) (runWith f m)) (c .first-is) i
           ∙ sym (by-numbers p base (cell .class) (leading T)) ∙ c .outcome-is)
 
-      after-limit : (x : Bool) → cell .changes ≡ x → before ≤ start → k ≡ Sum
+      after-limit : (x : Bool) → cell .changes ≡ x → limit ≤ start → k ≡ Sum
       after-limit true t h =
           let s = whole-sum (l .sum) gain (omega (arith, few-on, room, room-most)) in
-          z ∙ simp (e, t, le-leb before start h) (ap₂ cappedSum (l .start .0 h) cell-counts ∙ s)
+          z ∙ simp (e, t, le-leb limit start h) (ap₂ cappedSum (l .kept .0 h) cell-counts ∙ s)
       after-limit false t h =
           let g : gain ≡ empty = total-empty gain (eqb-true (total gain) 0 (not-false _ (sym (c .changes-is) ∙ t))) in
-          z ∙ simp (e, t) (l .start .0 h ∙ sym (plus-empty (l .sum)) ∙ ap (λ (m : NonCanonicality). l .sum ⊕ m) (sym g))
+          z ∙ simp (e, t) (l .kept .0 h ∙ sym (plus-empty (l .sum)) ∙ ap (λ (m : NonCanonicality). l .sum ⊕ m) (sym g))
 
   module _ {b : Bool} (d : b ≡ changed || cell .changes) where
     changed-on : b ≡ not (eqb (total Sum) 0)
@@ -344,14 +344,14 @@ module _ {p : Policy} {text : List ℕ} {before from start base : ℕ} {index : 
     begin-char q = ⊎-elim (λ h. h) (λ h. absurd (q (ap startState (other-class (omega arith))))) (le-or-lt 1 (cell .packed))
 
     -- The item goes on with it.
-    pub walking-on : {k : NonCanonicality} → Keeps before start Sum k → (q : State) → nextOf (transition state (cell .class)) ≡ Next.On q
-        → Walking p text before from start (cell .packed / 8) (cell .index) (cell .end + cell .packed % 8) q b n k
+    pub walking-on : {k : NonCanonicality} → Keeps limit start Sum k → (q : State) → nextOf (transition state (cell .class)) ≡ Next.On q
+        → Walking p text limit from start (cell .packed / 8) (cell .index) (cell .end + cell .packed % 8) q b n k
     walking-on {k} y q e = go (on-char q e)
       where
         on : transition state (cell .class) ≡ some q
         on = next-on (transition state (cell .class)) q e
 
-        go : 1 ≤ cell .packed → Walking p text before from start (cell .packed / 8) (cell .index) (cell .end + cell .packed % 8) q b n k
+        go : 1 ≤ cell .packed → Walking p text limit from start (cell .packed / 8) (cell .index) (cell .end + cell .packed % 8) q b n k
         go h =
             let s = reads-next h in
             let v = cell .packed / 8 in
@@ -377,7 +377,7 @@ module _ {p : Policy} {text : List ℕ} {before from start base : ℕ} {index : 
               counted = total-on;
               few-counts = few-on;
               changed-is = changed-on;
-              start = y;
+              kept = y;
             }
 
     -- Or it ends here.
@@ -406,43 +406,43 @@ module _ {p : Policy} {text : List ℕ} {before from start base : ℕ} {index : 
           some-of (suc m) z = omega arith
 
       -- It is the finding that is looked for ..
-      pub walking-finds : {k : NonCanonicality} → Keeps before start Sum k → {q : Bool} → q ≡ b && leb before start → q ≡ true
-          → FindsFrom p text before (record { start = start; end = cell .end; counts = k; present = true; passed = n })
+      pub walking-finds : {k : NonCanonicality} → Keeps limit start Sum k → {q : Bool} → q ≡ b && leb limit start → q ≡ true
+          → FindsFrom p text limit (record { start = start; end = cell .end; counts = k; present = true; passed = n })
       walking-finds {k} y e t =
-          let h = both-true b (leb before start) (sym e ∙ t) in
-          let m = leb-true before start (h .1) in
+          let h = both-true b (leb limit start) (sym e ∙ t) in
+          let m = leb-true limit start (h .1) in
           (m, subst (λ (x : NonCanonicality). Counted p text start (cell .end) x) (sym (y .0 m)) (finds (h .0)))
 
       -- .. or it is passed, and no count is kept.
-      pub walking-passes : {q : Bool} {m : ℕ} → q ≡ b && leb before start → q ≡ false → m ≡ cond b 1 0
-          → FindingsBetween p text before from (cell .end) (n + m)
+      pub walking-passes : {q : Bool} {m : ℕ} → q ≡ b && leb limit start → q ≡ false → m ≡ cond b 1 0
+          → FindingsBetween p text limit from (cell .end) (n + m)
       walking-passes {q} {m} e f z = go b refl (sym e ∙ f) z
         where
-          go : (a : Bool) → b ≡ a → (a && leb before start) ≡ false → m ≡ cond a 1 0
-              → FindingsBetween p text before from (cell .end) (n + m)
-          go true t h y = rw y (over-on (l .passed) (over-finding (finds t .finds) (leb-false before start h)))
+          go : (a : Bool) → b ≡ a → (a && leb limit start) ≡ false → m ≡ cond a 1 0
+              → FindingsBetween p text limit from (cell .end) (n + m)
+          go true t h y = rw y (over-on (l .passed) (over-finding (finds t .finds) (leb-false limit start h)))
           go false t h y =
               let s : total Sum ≡ 0 = eqb-true (total Sum) 0 (not-false _ (sym changed-on ∙ t)) in
               let k : n ≡ n + m = omega (arith, y) in
-              subst (λ (i : ℕ). FindingsBetween p text before from (cell .end) i) k
+              subst (λ (i : ℕ). FindingsBetween p text limit from (cell .end) i) k
               (over-passes (l .passed) (uncounted-item p text start (cell .end) (l .items-are) ends-here
               (omega (arith, ap total total-on))))
 
-      pub none-kept : {k : NonCanonicality} → Keeps before start Sum k → {q : Bool} → q ≡ b && leb before start → q ≡ false → k ≡ empty
-      none-kept {k} y e f = ⊎-elim (λ h. after-limit h b refl) (y .1) (le-or-lt before start)
+      pub none-kept : {k : NonCanonicality} → Keeps limit start Sum k → {q : Bool} → q ≡ b && leb limit start → q ≡ false → k ≡ empty
+      none-kept {k} y e f = ⊎-elim (λ h. after-limit h b refl) (y .1) (le-or-lt limit start)
         where
-          after-limit : before ≤ start → (a : Bool) → b ≡ a → k ≡ empty
-          after-limit h true t = absurd (true≢false (sym (and-both b (leb before start) t (le-leb before start h)) ∙ sym e ∙ f))
+          after-limit : limit ≤ start → (a : Bool) → b ≡ a → k ≡ empty
+          after-limit h true t = absurd (true≢false (sym (and-both b (leb limit start) t (le-leb limit start h)) ∙ sym e ∙ f))
           after-limit h false t = y .0 h ∙ total-empty Sum (eqb-true (total Sum) 0 (not-false _ (sym changed-on ∙ t)))
 
       -- And another item of links or units begins.
-      pub walking-again : {m : ℕ} {k : NonCanonicality} → FindingsBetween p text before from (cell .end) m → k ≡ empty
+      pub walking-again : {m : ℕ} {k : NonCanonicality} → FindingsBetween p text limit from (cell .end) m → k ≡ empty
           → (startState (cell .class) ≡ plain → ⊥)
-          → Walking p text before from (cell .end) (cell .packed / 8) (cell .index) (cell .end + cell .packed % 8)
+          → Walking p text limit from (cell .end) (cell .packed / 8) (cell .index) (cell .end + cell .packed % 8)
           (startState (cell .class)) false m k
       walking-again {m} {k} a y q = go (begin-char q)
         where
-          go : 1 ≤ cell .packed → Walking p text before from (cell .end) (cell .packed / 8) (cell .index) (cell .end + cell .packed % 8)
+          go : 1 ≤ cell .packed → Walking p text limit from (cell .end) (cell .packed / 8) (cell .index) (cell .end + cell .packed % 8)
               (startState (cell .class)) false m k
           go h =
               let s = reads-next h in
@@ -450,7 +450,7 @@ module _ {p : Policy} {text : List ℕ} {before from start base : ℕ} {index : 
               let i : inner (startState (classOf (cell .packed / 8))) ≡ true =
               begins-inner (classOf (cell .packed / 8)) (λ z. true≢false (sym (selector-class (cell .packed / 8) z) ∙ clean-next s))
               (λ z. q (ap startState j ∙ z)) in
-              rw j (walking-begin p text before from (cell .index) a y s (sym (c .index-is)) i)
+              rw j (walking-begin p text limit from (cell .index) a y s (sym (c .index-is)) i)
 
 -- ---- where the walk begins
 

@@ -30,6 +30,13 @@ use Rattle.text_pass.specs.declared.Change.{Change}
 abbrev pub selectorBytes : FromSelector → List ℕ
 selectorBytes s = encodeAll (map asSelector (runWith s 1))
 
+-- From one offset to another that is not before it: both lie inside the text if the first does, and all bytes between them are
+-- characters.
+pub record Advances (text : List ℕ) (from to : ℕ) : Type 0 where
+  pub on : from ≤ to
+  pub inside : from ≤ length text → to ≤ length text
+  pub valid : validUpTo (drop from text) ≡ (to - from) + validUpTo (drop to text)
+
 module _ (p : Policy) (text : List ℕ) where
   -- What formatting makes of the text from an offset on ..
   abbrev pub formattedFrom : ℕ → List ℕ
@@ -41,27 +48,24 @@ module _ (p : Policy) (text : List ℕ) where
 
   -- The bytes from an offset up to another stay as they are, and nothing is counted of them.
   pub record UnchangedBetween (from to : ℕ) : Type 0 where
-    pub on : from ≤ to
-    pub inside : from ≤ length text → to ≤ length text
+    pub advances : Advances text from to
     pub formatted : formattedFrom from ≡ take (to - from) (drop from text) ++ formattedFrom to
     pub counted : totalFrom from ≡ totalFrom to
-    pub valid : validUpTo (drop from text) ≡ (to - from) + validUpTo (drop to text)
 
   -- From an offset on the bytes stay up to `kept`; from there up to `end` formatting has the selector, or nothing, and that is a change.
   pub record IsNextChange (from : ℕ) (c : Change) : Type 0 where
+    pub advances : Advances text from (c .end)
     pub on : from ≤ c .start
     pub after : c .start ≤ c .end
     pub moves : from < c .end
-    pub inside : from ≤ length text → c .end ≤ length text
     pub formatted : formattedFrom from ≡ take (c .start - from) (drop from text) ++ (selectorBytes (c .selector) ++ formattedFrom (c .end))
     pub counted : totalFrom (c .end) < totalFrom from
-    pub valid : validUpTo (drop from text) ≡ (c .end - from) + validUpTo (drop (c .end) text)
 
   -- From an offset on all bytes stay, up to the end or the first place where no character begins.
   pub record NoChangeFrom (from : ℕ) (c : Change) : Type 0 where
     pub stays : UnchangedBetween from (c .end)
     pub ends : chars (drop (c .end) text) ≡ []
-    pub all-kept : c .start ≡ c .end
+    pub start-is-end : c .start ≡ c .end
     pub no-selector : c .selector ≡ NoSelector
 
   -- A change at an offset, or bytes that stay from there on.
@@ -111,7 +115,7 @@ outcomeFrom p text base at = outcome p base (following (cells (chars (drop at te
 
 -- What becomes of them: all are taken together, the selector that the rules leave stays, and it is a change if something is counted.
 pub record BaseChange (p : Policy) (text : List ℕ) (base at : ℕ) (c : Change) : Type 0 where
-  pub kept-is : c .start ≡ at
+  pub start-is : c .start ≡ at
   pub end-is : c .end ≡ at + 3 * length (leading (chars (drop at text)))
   pub selector-is : runWith (c .selector) 1 ≡ chosen (outcomeFrom p text base at .slot) []
   pub present-is : c .present ≡ not (eqb (total (outcomeFrom p text base at .counts)) 0)

@@ -6,7 +6,7 @@ use mathlib.Core.List.{List, [], _∷_}
 use Prim.Native.Nat.{ℕ, suc, _+_, _*_, _-_, _/_, _<_, _≤_}
 use lib.Dec.{eqb}
 use lib.ListN.{drop, length}
-use Rattle.utf8.specs.Rfc3629.{chars, packed, readChar, validUpTo}
+use Rattle.utf8.specs.Rfc3629.{chars, packed, readChar}
 use Rattle.unicode.specs.Unicode.{variationSequenceIndex}
 use Rattle.policy.specs.declared.Policy.{Policy}
 use Rattle.scanner.specs.Classes.{classOf}
@@ -18,31 +18,27 @@ use Rattle.analysis.specs.Counts.{empty, total}
 use Rattle.analysis.specs.Findings.{findingsFrom}
 use Rattle.analysis.specs.Rules.{firstAsked, outcome}
 use Rattle.analysis.specs.declared.types.NonCanonicality.{NonCanonicality}
-use Rattle.text_pass.specs.Changes.{UnchangedBetween, outcomeFrom}
+use Rattle.text_pass.specs.Changes.{Advances, UnchangedBetween, outcomeFrom}
 use Rattle.text_pass.specs.declared.findings.CellEnd.{CellEnd}
 use Rattle.text_pass.specs.declared.findings.FindingSpan.{FindingSpan}
 
 -- From findings to what is left of them when so many at the front are passed, each of which starts before a limit.
-pub data SkipsFindings (before : ℕ) : List Found → ℕ → List Found → Type 0 where
-  none-skipped : {fs : List Found} → SkipsFindings before fs 0 fs
-  one-skipped : {f : Found} {fs gs : List Found} {n : ℕ} → f .start < before → SkipsFindings before fs n gs
-      → SkipsFindings before (f ∷ fs) (suc n) gs
+pub data SkipsFindings (limit : ℕ) : List Found → ℕ → List Found → Type 0 where
+  none-skipped : {fs : List Found} → SkipsFindings limit fs 0 fs
+  one-skipped : {f : Found} {fs gs : List Found} {n : ℕ} → f .start < limit → SkipsFindings limit fs n gs
+      → SkipsFindings limit (f ∷ fs) (suc n) gs
 
 module _ (p : Policy) (text : List ℕ) where
   -- The findings from an offset on are those from another on, and all bytes between them are characters.
   pub record NoFindingBetween (from to : ℕ) : Type 0 where
-    pub on : from ≤ to
-    pub inside : from ≤ length text → to ≤ length text
+    pub advances : Advances text from to
     pub same : findingsFrom p text from ≡ findingsFrom p text to
-    pub valid : validUpTo (drop from text) ≡ (to - from) + validUpTo (drop to text)
 
   -- The same, where so many findings, each of which starts before a limit, lie between the two offsets.
-  pub record FindingsBetween (before from to n : ℕ) : Type 0 where
-    pub on : from ≤ to
-    pub inside : from ≤ length text → to ≤ length text
+  pub record FindingsBetween (limit from to n : ℕ) : Type 0 where
+    pub advances : Advances text from to
     pub few : n ≤ to - from
-    pub left : SkipsFindings before (findingsFrom p text from) n (findingsFrom p text to)
-    pub valid : validUpTo (drop from text) ≡ (to - from) + validUpTo (drop to text)
+    pub skips : SkipsFindings limit (findingsFrom p text from) n (findingsFrom p text to)
 
   -- The item at an offset is a finding, and ends at another.
   pub record Finds (start end : ℕ) : Type 0 where
@@ -63,19 +59,19 @@ module _ (p : Policy) (text : List ℕ) where
 
   -- The first finding that does not start before a limit, with its counts ..
   abbrev pub FindsFrom : ℕ → FindingSpan → Type 0
-  FindsFrom before r = (before ≤ r .start) × Counted (r .start) (r .end) (r .counts)
+  FindsFrom limit r = (limit ≤ r .start) × Counted (r .start) (r .end) (r .counts)
 
   -- .. or that there is none up to the end or the first place where no character begins; and how many are passed.
   abbrev pub NextFinding : ℕ → ℕ → FindingSpan → Type 0
-  NextFinding before from r =
-      FindingsBetween before from (r .start) (r .passed)
-      × (r .present ≡ true → FindsFrom before r)
+  NextFinding limit from r =
+      FindingsBetween limit from (r .start) (r .passed)
+      × (r .present ≡ true → FindsFrom limit r)
       × (r .present ≡ false → (chars (drop (r .start) text) ≡ []) × (r .end ≡ r .start) × (r .counts ≡ empty))
 
   -- The same, or an offset further on before which there is none.
   abbrev pub WalkedFrom : ℕ → ℕ → FindingSpan → Type 0
-  WalkedFrom before from r =
-      FindingsBetween before from (r .start) (r .passed) × (r .present ≡ true → FindsFrom before r) × (r .present ≡ false → from < r .start)
+  WalkedFrom limit from r =
+      FindingsBetween limit from (r .start) (r .passed) × (r .present ≡ true → FindsFrom limit r) × (r .present ≡ false → from < r .start)
 
 -- What is read of a cell whose selectors begin at an offset: their end and the first of them, whether the rules count something, and what
 -- stands after them, which is to the rules as what follows the cell.

@@ -102,7 +102,7 @@ fn before_tags(is_emoji_default: bool) -> u32
 pub(crate) fn kept_number(policy: &[u8], base: u32, index: usize, next: Class, first: u32) -> u32
     requires { ⌜ (variationSequenceIndex base ≡ At index) × (first ≤ 2) ⌝ }
     ensures few { λ r. ⌜ r ≤ 2 ⌝ }
-    ensures start { λ r. ⌜ ((f : FirstSelector) → first ≡ selectorNumber f → (n : ℕ) → runWith (selectorOf r) 1
+    ensures kept { λ r. ⌜ ((f : FirstSelector) → first ≡ selectorNumber f → (n : ℕ) → runWith (selectorOf r) 1
         ≡ chosen (outcome (policyOf (now (policy .entry))) base next (runWith f n) .slot) []) ⌝ }
 {
     match next {
@@ -142,10 +142,10 @@ fn selector_of(number: u32) -> FromSelector
 }
 
 // Whether selectors of so many bytes, of which the first is known by its number, are other ones than the selector that stays.
-pub(crate) fn is_change(first: u32, bytes: usize, start: u32) -> bool
-    ensures { λ r. ⌜ r ≡ not (eqb first start && leb bytes 3) ⌝ }
+pub(crate) fn is_change(first: u32, bytes: usize, kept: u32) -> bool
+    ensures { λ r. ⌜ r ≡ not (eqb first kept && leb bytes 3) ⌝ }
 {
-    if first != start {
+    if first != kept {
         return true;
     }
     if SELECTOR_BYTES < bytes {
@@ -174,9 +174,9 @@ pub(crate) fn base_change(text: &[u8], policy: &[u8], base: u32, index: usize, a
     let first = number_of(selector);
     let end = selectors_after(text, at, selector);
     let next = rule_class_at(text, end);
-    let start = kept_number(policy, base, index, next, first);
-    let present = is_change(first, end - at, start);
-    let stays = selector_of(start);
+    let kept = kept_number(policy, base, index, next, first);
+    let present = is_change(first, end - at, kept);
+    let stays = selector_of(kept);
     Change {
         start: at,
         selector: stays,

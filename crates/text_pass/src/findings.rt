@@ -110,13 +110,13 @@ fn read_cell(
 }
 
 // Whether it is asked what is counted: something is, and the item does not start before the limit.
-fn is_wanted(changes: bool, before: usize, start: usize) -> bool
-    ensures { λ r. ⌜ r ≡ changes && leb before start ⌝ }
+fn is_wanted(changes: bool, limit: usize, start: usize) -> bool
+    ensures { λ r. ⌜ r ≡ changes && leb limit start ⌝ }
 {
     if !changes {
         return false;
     }
-    before <= start
+    limit <= start
 }
 
 // The counts with those of a cell, where they are wanted; its selectors have so many bytes.
@@ -154,7 +154,7 @@ fn findings_of(changed: bool) -> usize
 fn walk_items(
     text: &[u8],
     policy: &[u8],
-    before: usize,
+    limit: usize,
     from: usize,
     ch: u32,
     width: usize,
@@ -163,7 +163,7 @@ fn walk_items(
 ) -> FindingSpan
     requires { ⌜ (readChar (drop from (now text)) ≡ Char ch width) × (variationSequenceIndex ch ≡ «first_index»)
         × (first ≡ startState (classOf ch)) × Structured (kindOf first) ⌝ }
-    ensures { λ r. ⌜ WalkedFrom (policyOf (now (policy .entry))) (now (text .entry)) before from r ⌝ }
+    ensures { λ r. ⌜ WalkedFrom (policyOf (now (policy .entry))) (now (text .entry)) limit from r ⌝ }
 {
     let mut start = from;
     let mut base = ch;
@@ -178,7 +178,7 @@ fn walk_items(
         let end = cell.end;
         let class = cell.class;
         let selector = cell.first;
-        let wanted = is_wanted(cell.changes, before, start);
+        let wanted = is_wanted(cell.changes, limit, start);
         counts = add_cell(counts, wanted, policy, base, class, selector, end - at);
         if cell.changes {
             changed = true;
@@ -188,7 +188,7 @@ fn walk_items(
                 state = next;
             }
             Next::Stop => {
-                if is_wanted(changed, before, start) {
+                if is_wanted(changed, limit, start) {
                     return FindingSpan {
                         start,
                         end,
@@ -235,8 +235,8 @@ fn skip_bare_ascii(text: &[u8], bare: bool, from: usize) -> usize
 }
 
 // The next finding of a text from an offset on that does not start before a limit; those that do are passed and counted.
-pub fn next_finding(text: &[u8], policy: &[u8], before: usize, from: usize) -> FindingSpan
-    ensures { λ r. ⌜ NextFinding (policyOf (now (policy .entry))) (now (text .entry)) before from r ⌝ }
+pub fn next_finding(text: &[u8], policy: &[u8], limit: usize, from: usize) -> FindingSpan
+    ensures { λ r. ⌜ NextFinding (policyOf (now (policy .entry))) (now (text .entry)) limit from r ⌝ }
 {
     let bare = policy::policy_bytes::ascii_keys_bare(policy);
     let mut at = from;
@@ -263,7 +263,7 @@ pub fn next_finding(text: &[u8], policy: &[u8], before: usize, from: usize) -> F
             }
             State::Selectors => {
                 let end = selectors_end(text, at);
-                if before <= at {
+                if limit <= at {
                     return FindingSpan {
                         start: at,
                         end,
@@ -282,7 +282,7 @@ pub fn next_finding(text: &[u8], policy: &[u8], before: usize, from: usize) -> F
                     counts,
                     present,
                     passed: walked,
-                } = walk_items(text, policy, before, at, ch, width, index, state);
+                } = walk_items(text, policy, limit, at, ch, width, index, state);
                 passed += walked;
                 if present {
                     return FindingSpan {

@@ -80,7 +80,7 @@ fn is_ascii_base(ch: u8) -> bool
 // Past the ASCII characters from one on: a base that stands last before another character is left.
 pub(crate) fn skip_ascii(text: &[u8], from: usize) -> usize
     requires { ⌜ (from < length (now text)) × (getD (now text) from 0 ≤ 0x7F) ⌝ }
-    ensures state { λ r. ⌜ (from ≤ r) × (r ≤ length (now (text .entry))) ⌝ }
+    ensures bounds { λ r. ⌜ (from ≤ r) × (r ≤ length (now (text .entry))) ⌝ }
     ensures skips { λ r. ⌜ ((p : Policy) → AsciiBare p → PlainBetween p (now (text .entry)) from r) ⌝ }
 {
     let end = utf8::ascii::ascii_end(text, from + 1);

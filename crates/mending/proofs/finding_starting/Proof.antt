@@ -22,7 +22,7 @@ returns c =
     let e = n .ensures .2 m .1 in (
       none-further (x .offset) (n .ensures) m,
       (
-        omega (arith, e, n .ensures .0 .inside (omega arith)),
+        omega (arith, e, n .ensures .0 .advances .inside (omega arith)),
         omega
             (arith, e, next-valid (x .offset) (n .ensures), ap (λ (k : ℕ). validUpTo (drop k (x .text .now))) e),
       ),

@@ -50,10 +50,10 @@ returns-3 c =
     let n = plain-char (x .ch) (sym (c .before .before .before .before .before .before .variation-sequence-index-by-block .ensures)
     ∙ c .before .before .before .before .enum-told .given .1)
     (sym (c .before .before .before .from-selector .ensures) ∙ c .before .enum-told3 .given .1) in
-    let present = c .skip-alike .ensures (policyOf (x .policy .now)) in (
+    let alike = c .skip-alike .ensures (policyOf (x .policy .now)) in (
       λ f. absurd (true≢false (sym f)),
       λ _.
-          (stays-on (stays-plain (policyOf (x .policy .now)) s n) present, omega (arith, s .some, present .on)),
+          (stays-on (stays-plain (policyOf (x .policy .now)) s n) alike, omega (arith, s .some, alike .advances .on)),
     )
 
 pub change-at-spec : {M : Type 1} → statement M

@@ -42,7 +42,7 @@ loop-less c =
     let a = c .before .before .skip-ascii .ensures in
     let s = c .skip-letters2 .ensures in
     let q = s (policyOf []) .0 in
-    omega (arith, a .0 .0, a .0 .1, q .on, q .inside (omega (arith, a .0 .1)), c .before .if3 .left)
+    omega (arith, a .0 .0, a .0 .1, q .advances .on, q .advances .inside (omega (arith, a .0 .1)), c .before .if3 .left)
 
 loop-again : tie.Need-loop-again Inv-loop μ-loop
 loop-again c =

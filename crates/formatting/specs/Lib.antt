@@ -1,0 +1,2 @@
+-- The contracts of the functions that formatting calls.
+pub mod FirstChange
