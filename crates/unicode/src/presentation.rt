@@ -1,6 +1,8 @@
 // The presentation that a selector asks for: presentation.rs of the crate evfmt; document 01, "Character":
 // FE0E is Text, FE0F is Emoji.
 ghost use mathlib.Core.Path.{_≡_};
+ghost use mathlib.Core.Logic.{_↔_};
+ghost use mathlib.Core.Bool.{true};
 ghost use Rattle.unicode.specs.Presentation.{asSelector, fromSelector};
 use crate::EMOJI_PRESENTATION_SELECTOR;
 use crate::TEXT_PRESENTATION_SELECTOR;
@@ -38,5 +40,12 @@ impl Presentation {
             return FromSelector::Selector(Presentation::Emoji);
         }
         FromSelector::NoSelector
+    }
+
+    // Whether two presentations are equal.
+    pub fn eq(self, rhs: Self) -> bool
+        ensures { λ r. ⌜ (r ≡ true) ↔ (self ≡ rhs) ⌝ }
+    {
+        Presentation::as_selector(self) == Presentation::as_selector(rhs)
     }
 }
