@@ -1,7 +1,7 @@
-// The next finding of a text from an offset on: the items are gone through cell by cell, each character is read once, and of each cell
-// it is asked whether something is counted of it, and what only of a finding that is looked for (document 01, "Item", "Counts and
-// finding"; analysis.rs of the crate evfmt counts every item instead). `next_finding` meets `NextFinding` of specs/Findings.antt for every
-// text, policy, limit and offset.
+// The next finding of a text from an offset on (document 01, "Item", "Counts and finding"). `next_finding` walks through the items cell by
+// cell and reads each character once. For each cell it decides whether the rules count anything. It adds up the counts only for items that
+// do not start before the limit; analysis.rs of the crate evfmt counts every item instead. `next_finding` meets `NextFinding` of
+// specs/Findings.antt for every text, policy, limit and offset.
 ghost use mathlib.Core.Path.{_≡_};
 ghost use mathlib.Core.Bool.{true, _&&_, cond, not};
 ghost use mathlib.Core.List.{List};
@@ -40,8 +40,8 @@ use scanner::state::State;
 use unicode::VariationSequenceIndex;
 use unicode::presentation::FromSelector;
 
-// The next finding, if there is one more: its bytes, from start up to end, and the eight counts; else both are the end of the well-formed
-// text, and there is no count. So many findings were passed before it.
+// The next finding: its bytes, from `start` up to `end`, and its eight counts. Where no finding is left, `present` is false, both offsets
+// are the end of the longest well-formed beginning, and the counts are empty. `passed` is the number of findings passed before it.
 pub struct FindingSpan {
     pub start: usize,
     pub end: usize,
@@ -50,8 +50,8 @@ pub struct FindingSpan {
     pub passed: usize,
 }
 
-// A cell after its character: where its selectors end, the first of them, whether something is counted of it, and what stands after
-// it: a character's packed number, or 0, its class and its place among the variation entries.
+// The rest of a cell, after its character: where its selectors end, the first of them, and whether the rules count anything. Then the
+// character after the cell: its packed number (0 where there is none), its class and its index among the variation entries.
 struct CellEnd {
     end: usize,
     first: FromSelector,
@@ -61,7 +61,8 @@ struct CellEnd {
     index: VariationSequenceIndex,
 }
 
-// Whether something is counted of a base whose selectors have so many bytes, by the class of what follows them and the first of them.
+// Whether the rules count anything for a base. `next` is the class of the character after its selectors, `first` is the first selector, and
+// `bytes` is the length of all selectors.
 fn cell_changes(
     policy: &[u8],
     base: u32,
@@ -83,7 +84,7 @@ fn cell_changes(
     }
 }
 
-// Reads the cell whose character is the base and whose selectors begin at the offset, and what stands after it.
+// Reads the rest of a cell, and the character after it. The cell's character is `base`, and its selectors begin at the offset.
 fn read_cell(
     text: &[u8],
     policy: &[u8],
@@ -109,7 +110,7 @@ fn read_cell(
     }
 }
 
-// Whether it is asked what is counted: something is, and the item does not start before the limit.
+// Whether counts are wanted: the rules count something, and the item does not start before the limit.
 fn is_wanted(changes: bool, limit: usize, start: usize) -> bool
     ensures { λ r. ⌜ r ≡ changes && leb limit start ⌝ }
 {
@@ -119,7 +120,7 @@ fn is_wanted(changes: bool, limit: usize, start: usize) -> bool
     limit <= start
 }
 
-// The counts with those of a cell, where they are wanted; its selectors have so many bytes.
+// Adds the counts of a cell if they are wanted. `bytes` is the length of the cell's selectors.
 fn add_cell(
     counts: NonCanonicality,
     wanted: bool,
@@ -139,7 +140,7 @@ fn add_cell(
     counts.add(outcome.counts)
 }
 
-// How many findings an item is.
+// The number of findings that an item is: 1 if the rules count something in it, else 0.
 fn findings_of(changed: bool) -> usize
     ensures { λ r. ⌜ (r ≡ cond changed 1 0) × (r ≤ 1) ⌝ }
 {
@@ -149,8 +150,8 @@ fn findings_of(changed: bool) -> usize
     0
 }
 
-// From an item of links or units on, whose first character is known, past items that are no findings or start before the limit: up to a
-// finding, or to the end of the last item before plain text.
+// Walks through items, from one of links or units on, whose first character is known. It passes items that are no findings and findings
+// that start before the limit. It ends at another finding, or at the end of the last item before plain text.
 fn walk_items(
     text: &[u8],
     policy: &[u8],
@@ -218,7 +219,7 @@ fn walk_items(
     }
 }
 
-// Past ASCII where a character of it stands and the policy keeps the ASCII bases bare.
+// Skips ASCII characters where one stands at the offset and the policy keeps the ASCII bases bare.
 fn skip_bare_ascii(text: &[u8], bare: bool, from: usize) -> usize
     ensures { λ r. ⌜ ((p : Policy) → (bare ≡ true → AsciiBare p) → PlainBetween p (now (text .entry)) from r) ⌝ }
 {
@@ -234,7 +235,7 @@ fn skip_bare_ascii(text: &[u8], bare: bool, from: usize) -> usize
     skip_ascii(text, from)
 }
 
-// The next finding of a text from an offset on that does not start before a limit; those that do are passed and counted.
+// Finds the next finding of a text, from an offset on, that does not start before the limit. It passes findings that do, and counts them.
 pub fn next_finding(text: &[u8], policy: &[u8], limit: usize, from: usize) -> FindingSpan
     ensures { λ r. ⌜ NextFinding (policyOf (now (policy .entry))) (now (text .entry)) limit from r ⌝ }
 {
