@@ -1,2 +1,2 @@
--- The contracts of the functions that formatting calls.
+-- Contracts of helper functions: the parts of formatting a text.
 pub mod FirstChange

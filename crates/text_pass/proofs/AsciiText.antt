@@ -16,7 +16,7 @@ use Rattle.utf8.specs.Rfc3629.{chars}
 use Rattle.utf8.proofs.AsciiRuns.{readChar-ascii-at}
 use Rattle.utf8.proofs.Folds.{chars-end}
 use Rattle.utf8.proofs.Fronts.{readChar-past-end}
-use Rattle.utf8.proofs.Places.{Step, transition as read}
+use Rattle.utf8.proofs.Places.{Step, step as read}
 use Rattle.unicode.specs.Presentation.{isSelector}
 use Rattle.unicode.specs.Unicode.{hasVariationSequence, isEmojiModifier, isRi, isTag}
 use Rattle.unicode.specs.UnicodeData.{emojiModifiers, riRanges}
