@@ -1,4 +1,4 @@
--- What becomes of a base with a variation entry and the selectors after it, and of a selector without such a base.
+-- The change at a base with a variation entry and the selectors after it, and at a selector without such a base.
 use mathlib.Core.Path.{_≡_, refl, ap, ap₂, sym, _∙_}
 use mathlib.Core.Bool.{Bool, true, false, _&&_, not, true≢false}
 use mathlib.Core.List.{List, [], _∷_, _++_, append-assoc, map}
@@ -69,7 +69,7 @@ number-tells (Selector Emoji) NoSelector e = absurd (omega arith)
 number-tells (Selector Emoji) (Selector Text) e = absurd (omega arith)
 number-tells (Selector Emoji) (Selector Emoji) e = refl
 
--- Selectors, at most one, are what their first tells.
+-- A run of at most one selector is determined by its first selector.
 one-at-most : (s : List Presentation) → length s ≤ 1 → runWith (firstAsked s) 1 ≡ s
 unfolding runWith firstAsked
 one-at-most [] h = refl
@@ -86,7 +86,7 @@ unfolding runWith
 few-are NoSelector = omega arith
 few-are (Selector q) = omega arith
 
--- Nothing is counted exactly where the selector that stays is all there was.
+-- The rules count nothing exactly if the selectors are just the selector that stays.
 pub no-change : (p : Policy) (c : ℕ) (k : Class) (s : List Presentation) (a : FromSelector) → runWith a 1
     ≡ chosen (outcome p c k s .slot) []
     → (eqb (selectorNumber (firstAsked s)) (selectorNumber a) && leb (3 * length s) 3) ≡ eqb (total (outcome p c k s .counts)) 0
@@ -115,7 +115,7 @@ module _ (text : List ℕ) (at : ℕ) where
   abbrev End : ℕ
   End = at + 3 * length (leading (chars (drop at text)))
 
-  -- After them nothing leads, and the cells are the same.
+  -- The characters after the selectors.
   after-cells : chars (drop End text) ≡ afterSelectors (chars (drop at text))
   after-cells = after-at text at
 
@@ -146,7 +146,7 @@ module _ (text : List ℕ) (at : ℕ) where
   three-each (Text ∷ s) = omega (arith, three-each s)
   three-each (Emoji ∷ s) = omega (arith, three-each s)
 
-  -- Their bytes.
+  -- The bytes of the selectors.
   pub selectors-bytes : take (End - at) (drop at text) ≡ encodeAll (map asSelector (leading (chars (drop at text))))
   selectors-bytes =
       let t = chars (drop at text) in
@@ -250,7 +250,7 @@ module _ (p : Policy) {text : List ℕ} {at v w : ℕ} (h : Step text at v w) (e
 
 -- ---- a selector
 
--- It goes, and the selectors after it go with it.
+-- Formatting removes the selector and all selectors after it.
 pub change-at-selector : (p : Policy) {text : List ℕ} {at w : ℕ} (q : Presentation) → Step text at (asSelector q) w → (end : ℕ) → end
     ≡ End text (at + w)
     → ChangeAt p text at (record { start = at; selector = NoSelector; end = end; present = true })
@@ -280,7 +280,7 @@ change-at-selector p {text} {at} {w} q h end e =
       λ f. absurd (true≢false f),
     )
 
--- ---- which of them a character is
+-- ---- a character with a variation entry is no selector
 
 pub entry-no-selector : (c i : ℕ) → variationSequenceIndex c ≡ At i → isSelector c ≡ false
 unfolding VariationEntriesAreEmoji

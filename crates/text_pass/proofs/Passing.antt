@@ -1,4 +1,4 @@
--- Where no finding begins, where one does, and how many are passed: by the items from an offset on and the totals before and after an item.
+-- Stretches of a text in which no finding starts or in which findings are passed, and items that are findings.
 use mathlib.Core.Path.{_≡_, refl, ap, sym, _∙_, subst}
 use mathlib.Core.Bool.{Bool, true, false, cond, not}
 use mathlib.Core.List.{List, _∷_}
@@ -60,7 +60,7 @@ left-on {limit} {n = n} {fs} {hs = hs} none-skipped b = let z : n
 left-on {limit} {n = n} {fs} {hs = hs} (one-skipped {n = m} h a) b = let z : suc (m + n)
     ≡ suc m + n = omega arith in subst (λ (k : ℕ). SkipsFindings limit fs k hs) z (one-skipped h (left-on a b))
 
--- The findings that are passed are counted.
+-- A list of findings is as long as the number of skipped findings and the list of the others together.
 pub left-length : {limit n : ℕ} {fs gs : List Found} → SkipsFindings limit fs n gs → length fs ≡ n + length gs
 left-length none-skipped = omega arith
 left-length (one-skipped h a) = let e = left-length a in omega arith
@@ -86,7 +86,7 @@ module _ {p : Policy} {text : List ℕ} {limit : ℕ} where
         skips = left-on (a .skips) (b .skips);
       }
 
-  -- A stretch without a finding after it.
+  -- A stretch in which findings are passed, followed by a stretch without a finding.
   pub over-passes : {i j k n : ℕ} → FindingsBetween p text limit i j n → NoFindingBetween p text j k → FindingsBetween p text limit i k n
   over-passes {i} {n = n} a b =
       let l = a .advances .on in
@@ -98,11 +98,11 @@ module _ {p : Policy} {text : List ℕ} {limit : ℕ} where
         skips = subst (λ (l : List Found). SkipsFindings limit (findingsFrom p text i) n l) (b .same) (a .skips);
       }
 
--- Nothing starts before the first offset, so that no finding is passed.
+-- No finding starts before offset 0, so that with this limit none is passed.
 pub over-none : {p : Policy} {text : List ℕ} {i j n : ℕ} → FindingsBetween p text 0 i j n → NoFindingBetween p text i j
 over-none a = record { advances = a .advances; same = none-passed (a .skips) }
 
--- ---- an item, by the totals before and after it
+-- ---- an item, and the totals from its start and from its end on
 
 module _ (p : Policy) (text : List ℕ) (at end : ℕ) {x : Item} {xs : List Item} (e : items (chars (drop at text)) ≡ x ∷ xs)
     (f : end ≡ at + size width (x .chars)) where
@@ -179,7 +179,7 @@ module _ {p : Policy} {text : List ℕ} {start end : ℕ} (f : Finds p text star
   pub finds-room : end ≤ length text
   finds-room = let e = f .end-is in let r = here .room in omega arith
 
-  -- It is passed where it starts before the limit.
+  -- A finding that starts before the limit is passed.
   pub over-finding : {limit : ℕ} → start < limit → FindingsBetween p text limit start end 1
   over-finding {limit} l =
       let s = finds-some in
@@ -196,7 +196,7 @@ pub step-width : {text : List ℕ} {at v w : ℕ} → Step text at v w → width
 step-width {text} {at} {v} {w} s =
     omega (arith, size-chars (drop at text), size-chars (drop (at + w) text), ap (size width) (s .chars-on), s .validUpTo-on)
 
--- No finding begins in passthrough, and after a character of it the same findings follow.
+-- No finding starts at a character of passthrough.
 pub passes-plain : (p : Policy) {text : List ℕ} {at v w : ℕ} → Step text at v w → startState (classOf v)
     ≡ plain → NoFindingBetween p text at (at + w)
 unfolding items kindOf
@@ -214,7 +214,7 @@ passes-plain p {text} {at} {v} {w} s b =
           ∙ sym (found-items (isFinding p) width (passthrough-no-finding p) (at + w) t);
     }
 
--- ---- plain text: its bytes stay too
+-- ---- plain text, which formatting also keeps
 
 module _ {p : Policy} {text : List ℕ} where
   pub skips-here : (i : ℕ) → PlainBetween p text i i
@@ -227,7 +227,7 @@ pub skips-other : (p : Policy) {text : List ℕ} {at v w : ℕ} → Step text at
 unfolding startState
 skips-other p {v = v} s e = (stays-plain p s (other-plain v e), passes-plain p s (ap startState e))
 
--- Plain text passed by what the policy's bytes say of the ASCII bases, as the code does.
+-- The code skips plain text by what the policy's bytes say of the ASCII bases.
 pub passed : (policy text : List ℕ) {at to : ℕ} {bare : Bool} → bare ≡ asciiKeysBare policy
     → ((p : Policy) → (bare ≡ true → AsciiBare p) → PlainBetween p text at to)
     → NoFindingBetween (policyOf policy) text at to

@@ -1,4 +1,4 @@
--- Bytes that stay: none stay trivially, two stretches make one, and a change after bytes that stay is the next change.
+-- Stretches of a text that formatting keeps: the empty one, two in a row, one before a change, and one character.
 use mathlib.Core.Path.{_≡_, refl, ap, sym, _∙_}
 use mathlib.Core.Bool.{false}
 use mathlib.Core.List.{List, [], _∷_, _++_, append-assoc, map}
@@ -22,7 +22,7 @@ use Rattle.analysis.proofs.Replacement.{remaining-none, render-cons, renewed}
 use Rattle.text_pass.specs.Changes.{Advances, IsNextChange, UnchangedBetween, formattedFrom, outcomeFrom, selectorBytes, totalFrom}
 use Rattle.text_pass.specs.declared.Change.{Change}
 
--- The bytes from one place up to another, and from there up to a third.
+-- The bytes from i up to k are those from i up to j and those from j up to k.
 pub between : (text : List ℕ) (i j k : ℕ) → i ≤ j → j ≤ k → take (k - i) (drop i text) ≡ take (j - i) (drop i text)
     ++ take (k - j) (drop j text)
 between text i j k h l =
@@ -88,7 +88,7 @@ module _ {p : Policy} {text : List ℕ} where
 -- ---- one character that is no selector
 
 module _ (p : Policy) (v : ℕ) (t : List ℕ) (e : isSelector v ≡ false) where
-  -- It is written with what the rules leave of its selectors, ..
+  -- Formatting writes the character, and then the selectors that the rules leave.
   format-cons : formatCells p (v ∷ t)
       ≡ v ∷ (map asSelector (chosen (outcome p v (following (cells t)) (leading t) .slot) []) ++ formatCells p t)
   unfolding formatCells renewed
@@ -97,7 +97,8 @@ module _ (p : Policy) (v : ℕ) (t : List ℕ) (e : isSelector v ≡ false) wher
       render-cons p v t [] e ∙ ap (λ (ds : List Presentation). v ∷ (map asSelector (chosen o []) ++ render p (cells t) ds))
       (remaining-none o)
 
-  -- .. and what the rules count of them takes the place of their number, which counts where nothing stands before them.
+  -- With the character, the total has the rules' counts for its selectors; without it, the total has the number of these selectors, since
+  -- selectors without a base are all counted.
   total-cons : total (totalCells p (v ∷ t)) + length (leading t) ≡ total (outcome p v (following (cells t)) (leading t) .counts) + total
       (totalCells p t)
   unfolding totalCells countCells
@@ -105,7 +106,7 @@ module _ (p : Policy) (v : ℕ) (t : List ℕ) (e : isSelector v ≡ false) wher
       let a = ap (λ (a : List Presentation × List Cell). total (unsanctioned (length (a .0)) ⊕ countCells p (a .1))) (split-char v t e) in
       omega (arith, a)
 
--- The character's own bytes.
+-- The bytes of a character in the text are its encoding.
 pub step-bytes : {text : List ℕ} {at v w : ℕ} → Step text at v w → take ((at + w) - at) (drop at text) ≡ encode v
 step-bytes {text} {at} {v} {w} h =
     let n : (at + w) - at ≡ w = omega arith in
@@ -130,7 +131,7 @@ module _ (p : Policy) {text : List ℕ} {at v w : ℕ} (h : Step text at v w) (e
       let t = chars (drop (at + w) text) in
       ap (λ (l : List ℕ). total (totalCells p l) + length (leading t)) (h .chars-on) ∙ total-cons p v t e
 
-  -- It stays if the rules leave no selector and count only the selectors after it.
+  -- Formatting keeps the character if the rules leave no selector and count exactly the selectors after it.
   pub stays-char : chosen (outcomeFrom p text v (at + w) .slot) [] ≡ [] → total (outcomeFrom p text v (at + w) .counts)
       ≡ length (leading (chars (drop (at + w) text)))
       → UnchangedBetween p text at (at + w)

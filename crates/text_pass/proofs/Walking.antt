@@ -1,4 +1,4 @@
--- From an item of links or units on, cell by cell: what the loop over items goes by, up to the finding that is looked for.
+-- The walk through items of links and units, cell by cell: the invariant of the loop, and what each turn does to it.
 use mathlib.Core.Path.{_≡_, refl, ap, ap₂, sym, _∙_, subst}
 use mathlib.Core.Logic.{inl, inr, ⊎-elim}
 use mathlib.Core.Bool.{Bool, true, false, _&&_, _||_, and-false, cond, not, true≢false}
@@ -74,7 +74,7 @@ use Rattle.text_pass.proofs.Passing.{counted-item, over-finding, over-o
 use Rattle.text_pass.proofs.PlainText.{ascii-other}
 use Rattle.text_pass.proofs.RuleClasses.{same-outcome}
 
--- ---- whether something is counted of a cell
+-- ---- whether the rules count something for a cell
 
 pub entry-changes : (p : Policy) (c : ℕ) (k : Class) (s : List Presentation) (first a : FromSelector) (bytes : ℕ) (m : Bool)
     → first ≡ firstAsked s → bytes ≡ 3 * length s → ((n : ℕ) → runWith a 1 ≡ chosen (outcome p c k (runWith first n) .slot) [])
@@ -96,7 +96,7 @@ no-entry-changes p c k s bytes e b =
     (λ h. eq-eqb bytes 0 (omega arith) ∙ sym (eq-eqb (total (outcome p c k s .counts)) 0 (omega (arith, o))))
     (le-or-lt 1 (length s)))
 
--- The cell as the code reads it.
+-- What the code reads of a cell and of the character after it.
 pub read-end : (p : Policy) (text : List ℕ) (base at : ℕ) (first : FromSelector) (end n : ℕ) (k : Class) (i : VariationSequenceIndex)
     (m : Bool)
     → first ≡ firstAsked (leading (chars (drop at text))) → end ≡ at + 3 * length (leading (chars (drop at text))) → n
@@ -119,7 +119,7 @@ read-end p text base at first end n k i m f e d c j h =
       index-is = j;
     }
 
--- Whether something was counted, with this cell, as the branch that asks leaves it.
+-- The value of `changed` after the branch that sets it: it was true, or the rules count something for this cell.
 pub now-changed : (x : Bool) {b y : Bool} → y ≡ true → b ≡ true → b ≡ x || y
 now-changed true e f = f
 now-changed false e f = f ∙ sym e
@@ -128,13 +128,13 @@ pub as-changed : (x : Bool) {b y : Bool} → y ≡ false → b ≡ x → b ≡ x
 as-changed true e f = f
 as-changed false e f = f ∙ sym e
 
--- The arm for every place but that in passthrough.
+-- In the arm for every state but that of passthrough, the state is not that of passthrough.
 pub not-plain : (q : State) → OneOf (1 ∷ 2 ∷ 3 ∷ 4 ∷ 5 ∷ 6 ∷ []) (tagOf the-place q) → q ≡ plain → ⊥
 not-plain q o e = miss (1 ∷ 2 ∷ 3 ∷ 4 ∷ 5 ∷ 6 ∷ []) 0 tt (subst (λ (r : State). OneOf (1 ∷ 2 ∷ 3 ∷ 4 ∷ 5 ∷ 6 ∷ []) (tagOf the-place r)) e o)
 
--- ---- the loop: the item that is gone through, and what is counted of it so far
+-- ---- the invariant of the loop: the current item, and what is counted in it so far
 
--- The counts that are kept: those of an item that does not start before the limit, else none.
+-- The variable `counts` has the sum of the counts if the item does not start before the limit; else it is empty.
 abbrev pub Keeps : ℕ → ℕ → NonCanonicality → NonCanonicality → Type 0
 Keeps limit start sum counts = (limit ≤ start → counts ≡ sum) × (start < limit → counts ≡ empty)
 
@@ -143,21 +143,21 @@ pub record Walking (p : Policy) (text : List ℕ) (limit from start base : ℕ) 
   pub passed : FindingsBetween p text limit from start n
   pub entry : variationSequenceIndex base ≡ index
   pub inside : inner state ≡ true
-  -- Its last character that is no selector, and where it stands.
+  -- The last character of the item so far that is no selector: its offset and its number of bytes.
   pub pos : ℕ
   pub wide : ℕ
   pub reads : Step text pos base wide
   pub at-is : at ≡ pos + wide
   pub clean : isSelector base ≡ false
   pub on : start ≤ pos
-  -- The item ends where it ends from here on.
+  -- The item, and where it ends, seen from its start and from `at`.
   pub item : Item
   pub after : List Item
   pub items-are : items (chars (drop start text)) ≡ item ∷ after
   pub end-same : start + size width (item .chars) ≡ at + size width ((splitFrom state (chars (drop at text))) .0)
   pub sum : NonCanonicality
   pub counted : totalCells p (chars (drop start text)) ≡ sum ⊕ totalCells p (chars (drop pos text))
-  -- There are no more counts than bytes.
+  -- The sum of the counts is at most the number of bytes passed.
   pub few-counts : total sum + start ≤ pos
   pub changed-is : changed ≡ not (eqb (total sum) 0)
   pub kept : Keeps limit start sum counts
@@ -193,7 +193,7 @@ walking-begin p text limit from {start} {v} {w} index a z h e i = record {
   kept = (λ _. z, λ _. z);
 }
 
--- Inside links and units an item ends before any other character.
+-- In a state of links or units, a character of the class other ends the item.
 inner-other : (q : State) → inner q ≡ true → transition q other ≡ none
 unfolding transition
 inner-other plain e = absurd (true≢false (sym e))
@@ -211,7 +211,7 @@ begins-selectors : (k : Class) → startState k ≡ selectors → k ≡ selector
 unfolding kindOf
 begins-selectors k e = kind-selector k (ap kindOf e)
 
--- A class that begins neither passthrough nor a run of selectors begins links or a unit.
+-- A character that starts neither passthrough nor a run of selectors starts links or a unit.
 begins-inner : (k : Class) → (k ≡ selector → ⊥) → (startState k ≡ plain → ⊥) → inner (startState k) ≡ true
 begins-inner k s q = go (startState k) refl
   where
@@ -242,7 +242,7 @@ module _ {p : Policy} {text : List ℕ} {limit from start base : ℕ} {index : V
   text-after : U ≡ afterSelectors T
   text-after = ap (λ (n : ℕ). chars (drop n text)) (c .end-is) ∙ after-at text at
 
-  -- The selectors belong to the item.
+  -- The selectors of the cell belong to the item.
   cut-selectors : (splitFrom state T) .0 ≡ selectorsAt T ++ (splitFrom state U) .0
   cut-selectors =
       let w = walk-passes state isSelector (λ x e. ap (transition state) (class-selector x e) ∙ inner-selector state (l .inside))
@@ -261,7 +261,7 @@ module _ {p : Policy} {text : List ℕ} {limit from start base : ℕ} {index : V
     c .end-is,
   )
 
-  -- What is counted with this cell.
+  -- The sum of the counts, with this cell.
   total-on : totalCells p (chars (drop start text)) ≡ Sum ⊕ totalCells p U
   total-on =
       l .counted
@@ -278,7 +278,7 @@ module _ {p : Policy} {text : List ℕ} {limit from start base : ℕ} {index : V
   pub further : start < cell .end
   further = omega (arith, c .end-is, l .at-is, l .on, l .reads .some)
 
-  -- The counts that are kept with this cell.
+  -- The variable `counts` after `add_cell`.
   pub keeps-on : length text ≤ most → {q : Bool} {k : NonCanonicality} → q ≡ cell .changes && leb limit start
       → k ≡ cond q (cappedSum counts (outcome p base (cell .class) (runWith (cell .first) ((cell .end - at) / 3)) .counts)) counts
       → Keeps limit start Sum k
@@ -331,7 +331,7 @@ module _ {p : Policy} {text : List ℕ} {limit from start base : ℕ} {index : V
         go at-end e = let z : 0 ≡ suc (length (chars (drop (cell .end + w) text))) = ap length e in absurd (omega arith)
         go (at-char {c = x} n) e = let z : x ≡ v = cc in subst (λ (y : ℕ). isSelector y ≡ false) z n
 
-    -- There is one where the item goes on, or links or a unit begin.
+    -- A character stands there if the item continues, or if links or a unit start.
     pub on-char : (q : State) → nextOf (transition state (cell .class)) ≡ Next.On q → 1 ≤ cell .packed
     on-char q e = ⊎-elim (λ h. h) (λ h. absurd (true≢false (no (omega arith)))) (le-or-lt 1 (cell .packed))
       where
@@ -343,7 +343,7 @@ module _ {p : Policy} {text : List ℕ} {limit from start base : ℕ} {index : V
     unfolding startState
     begin-char q = ⊎-elim (λ h. h) (λ h. absurd (q (ap startState (other-class (omega arith))))) (le-or-lt 1 (cell .packed))
 
-    -- The item goes on with it.
+    -- The item continues with that character.
     pub walking-on : {k : NonCanonicality} → Keeps limit start Sum k → (q : State) → nextOf (transition state (cell .class)) ≡ Next.On q
         → Walking p text limit from start (cell .packed / 8) (cell .index) (cell .end + cell .packed % 8) q b n k
     walking-on {k} y q e = go (on-char q e)
@@ -380,7 +380,7 @@ module _ {p : Policy} {text : List ℕ} {limit from start base : ℕ} {index : V
               kept = y;
             }
 
-    -- Or it ends here.
+    -- The item ends before that character.
     module _ (e : nextOf (transition state (cell .class)) ≡ Next.Stop) where
       nothing-left : (splitFrom state U) .0 ≡ []
       unfolding splitFrom
@@ -405,7 +405,7 @@ module _ {p : Policy} {text : List ℕ} {limit from start base : ℕ} {index : V
           some-of zero z = absurd (true≢false (sym t ∙ changed-on ∙ ap not (eq-eqb (total Sum) 0 z)))
           some-of (suc m) z = omega arith
 
-      -- It is the finding that is looked for ..
+      -- The item is a finding that does not start before the limit.
       pub walking-finds : {k : NonCanonicality} → Keeps limit start Sum k → {q : Bool} → q ≡ b && leb limit start → q ≡ true
           → FindsFrom p text limit (record { start = start; end = cell .end; counts = k; present = true; passed = n })
       walking-finds {k} y e t =
@@ -413,7 +413,7 @@ module _ {p : Policy} {text : List ℕ} {limit from start base : ℕ} {index : V
           let m = leb-true limit start (h .1) in
           (m, subst (λ (x : NonCanonicality). Counted p text start (cell .end) x) (sym (y .0 m)) (finds (h .0)))
 
-      -- .. or it is passed, and no count is kept.
+      -- The item is no finding, or starts before the limit: it is passed, and `counts` is empty.
       pub walking-passes : {q : Bool} {m : ℕ} → q ≡ b && leb limit start → q ≡ false → m ≡ cond b 1 0
           → FindingsBetween p text limit from (cell .end) (n + m)
       walking-passes {q} {m} e f z = go b refl (sym e ∙ f) z
@@ -435,7 +435,7 @@ module _ {p : Policy} {text : List ℕ} {limit from start base : ℕ} {index : V
           after-limit h true t = absurd (true≢false (sym (and-both b (leb limit start) t (le-leb limit start h)) ∙ sym e ∙ f))
           after-limit h false t = y .0 h ∙ total-empty Sum (eqb-true (total Sum) 0 (not-false _ (sym changed-on ∙ t)))
 
-      -- And another item of links or units begins.
+      -- After a passed item, another item of links or units starts.
       pub walking-again : {m : ℕ} {k : NonCanonicality} → FindingsBetween p text limit from (cell .end) m → k ≡ empty
           → (startState (cell .class) ≡ plain → ⊥)
           → Walking p text limit from (cell .end) (cell .packed / 8) (cell .index) (cell .end + cell .packed % 8)
@@ -452,9 +452,9 @@ module _ {p : Policy} {text : List ℕ} {limit from start base : ℕ} {index : V
               (λ z. q (ap startState j ∙ z)) in
               rw j (walking-begin p text limit from (cell .index) a y s (sym (c .index-is)) i)
 
--- ---- where the walk begins
+-- ---- where the walk starts
 
--- The arm for the places of links and units.
+-- In the arm for the states of links and units, the kind of the item is one of these.
 pub structured-place : (q : State) → OneOf (2 ∷ 3 ∷ 4 ∷ 5 ∷ 6 ∷ []) (tagOf the-place q) → Structured (kindOf q)
 unfolding kindOf
 structured-place plain o = absurd (miss (2 ∷ 3 ∷ 4 ∷ 5 ∷ 6 ∷ []) 0 tt o)
@@ -465,7 +465,7 @@ structured-place unit o = inr refl
 structured-place joined o = inr refl
 structured-place leftOver o = inr refl
 
--- A run of selectors that begins an item is a finding, and all of them are unsanctioned.
+-- A run of selectors at the start of an item is a finding, and all of them are unsanctioned.
 pub selectors-find : (p : Policy) {text : List ℕ} {at v w : ℕ} → Step text at v w → startState (classOf v) ≡ selectors
     → {counts : NonCanonicality} (end n : ℕ)
     → end ≡ at + 3 * length (leading (chars (drop at text))) → n ≡ (end - at) / 3 → counts ≡ unsanctioned n → Counted p text at end counts

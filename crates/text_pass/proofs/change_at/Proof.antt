@@ -1,4 +1,4 @@
--- `text_pass::change_at` meets its contract: a base with its selectors, a selector, or a plain character with more like it.
+-- `text_pass::change_at` meets its contract: at a base with its selectors, at a selector, and at any other character.
 use Rattle.text_pass.proofs.PlainText.{stays-plain}
 use Rattle.text_pass.proofs.Staying.{stays-on}
 use Rattle.text_pass.proofs.Bases.{change-at-base, change-at-selector, entry-no-selector, plain-char}

@@ -1,4 +1,5 @@
--- `text_pass::next_change` meets its contract. The loop's invariant: all bytes up to `at` stay. The measure is the number of bytes left.
+-- `text_pass::next_change` meets its contract. The loop's invariant: formatting keeps all bytes up to `at`. The measure is the number of
+-- bytes after `at`.
 use Rattle.text_pass.proofs.Staying.{stays-here, stays-on, stays-then}
 use Rattle.policy.proofs.ByEntry.{ascii-rule-bare}
 use Rattle.utf8.proofs.Packed.{packed-reads, packed-step, packed-stop}

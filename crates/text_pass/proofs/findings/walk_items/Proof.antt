@@ -1,4 +1,4 @@
--- `text_pass::findings::walk_items` meets its contract: `Walking` is the loop's invariant, and the measure is the number of bytes left.
+-- `text_pass::findings::walk_items` meets its contract. The loop's invariant is `Walking`; the measure is the number of bytes after `at`.
 use mathlib.Core.Path.{sym, _∙_, subst}
 use mathlib.Core.Logic.{⊎-elim}
 use mathlib.Core.Bool.{true≢false}

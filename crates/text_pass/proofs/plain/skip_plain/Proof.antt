@@ -1,5 +1,5 @@
--- `text_pass::plain::skip_plain` meets its contract. The loop's invariant: all bytes up to `at` stay, if ASCII is kept bare where `bare`
--- says so. The measure is the number of bytes left.
+-- `text_pass::plain::skip_plain` meets its contract. The loop's invariant: formatting keeps all bytes up to `at`, if the policy keeps the
+-- ASCII bases bare where `bare` says so. The measure is the number of bytes after `at`.
 use Rattle.policy.specs.PolicyBytes.{policyOf}
 use mathlib.Core.List.{[]}
 use Prim.Native.Nat.{_-_}
