@@ -1,4 +1,4 @@
--- `formatting::format_at_once` meets its contract: the first change is put, and then what is left after it.
+-- `formatting::format_at_once` meets its contract: it writes the first change, and then the rest of the text.
 use mathlib.Core.Path.{sym}
 use native.Mathlib.Omega.{arith}
 use borrow.Author.Needs.{needs}
