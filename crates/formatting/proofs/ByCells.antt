@@ -1,4 +1,5 @@
--- Formatting an accepted text by its cells: the text is unchanged exactly if the rules count nothing, and else the written cells go out.
+-- Formatting an accepted text by its cells: the text is unchanged exactly if the rules count nothing; else the formatted text is
+-- that of its cells.
 use mathlib.Core.Path.{_≡_, refl, ap, sym, _∙_}
 use mathlib.Core.Bool.{Bool, true, false, cond, not, false≢true}
 use mathlib.Core.List.{List, [], _∷_}

@@ -170,7 +170,7 @@ module _ (p : Policy) (text : List ℕ) where
   change-formatted {at} {c} h = h .formatted
       ∙ sym (append-assoc (take (c .start - at) (drop at text)) (selectorBytes (c .selector)) (formattedFrom p text (c .end)))
 
-  -- The output has room for a change, and is as it should be after the change is written.
+  -- The output has room for a change, and the invariant `Writing` holds again once the change is written.
   module _ {all o₀ o : List ℕ} {from at to : ℕ} {c : Change} (w : Writing all from o₀ (formattedFrom p text at) o to)
       (h : Passed at c) where
     pub change-room : to + (c .start - at) + length (selectorBytes (c .selector)) ≤ length o

@@ -58,11 +58,11 @@ use Rattle.tilghorz.proofs.FewItems.{few-found, few-items, few-spans, f
 
 -- ---- the tests of a call
 
--- The bound.
+-- The bound of all values.
 abbrev pub most : ℕ
 most = 6 * textLimit
 
--- The answer is small if the refusal's value is small, and so is the answer without a refusal.
+-- If the value of the refusal is at most the bound, and that of the answer without a refusal too, so is the value of the answer.
 tested : {R A : Type 0} (row : R → RefusalRow) (refused : Refusal → R) → ((r : Refusal) → row (refused r) ≡ refusalRow r)
     → (o : Option Refusal) (out : List A) (next : After R A) → ((r : Refusal) → o ≡ some r → refusalRow r .value ≤ most)
     → (o ≡ none → row (next .answer) .value ≤ most)
