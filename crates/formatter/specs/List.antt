@@ -68,7 +68,7 @@ itemNumbers x = x .start ∷ x .end ∷ kindNumber (x .kind) ∷ cond (x .«tags
 abbrev pub itemBytes : ℕ
 itemBytes = 32
 
--- Listing the items of a text into a table of bytes, with refusals 1, 3 and 7 in this order. Document 01 does not ask for this call.
+-- Listing the items of a text into a table of bytes, with refusals 1, 3 and 7 in this order. The crate evfmt has no such call.
 unfoldable pub listItems : List ℕ → List ℕ → After ListAnswer ℕ
 listItems text table =
     orElse (textRefusal text) (λ (r : Refusal). unwritten (Refused r) table) (fillTable itemNumbers itemBytes (scan text) table)

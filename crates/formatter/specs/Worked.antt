@@ -37,7 +37,7 @@ use Rattle.base.specs.declared.Refusal.the-variants.{
 
 -- ---- worked texts
 
--- "Worked texts, default policy": its bytes, as a call takes them.
+-- "Worked texts, default policy": the bytes of the default policy.
 unfoldable pub theDefault : List ℕ
 theDefault = policyBytes defaultPolicy
 
@@ -45,11 +45,11 @@ theDefault = policyBytes defaultPolicy
 abbrev pub room : List ℕ
 room = 7 ∷ 7 ∷ 7 ∷ 7 ∷ 7 ∷ 7 ∷ 7 ∷ 7 ∷ 7 ∷ 7 ∷ 7 ∷ 7 ∷ []
 
--- A row of a table.
+-- A row of a table, by its start, its end and its counts.
 abbrev pub finding : ℕ → ℕ → NonCanonicality → Finding
 finding start end n = record { start = start; end = end; counts = n }
 
--- A row that nothing was written to.
+-- A row of the tables before a call.
 abbrev pub blank : Finding
 blank = finding 0 0 empty
 
@@ -161,7 +161,7 @@ ExampleCalls =
 
 -- ---- a worked list
 
--- A call of a list.
+-- A call of a list, by its offset, its decisions and its output.
 abbrev pub call : ℕ → List ℕ → List ℕ → Call
 call offset decisions out = record { offset = offset; decisions = decisions; out = out }
 

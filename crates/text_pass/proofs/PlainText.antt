@@ -150,7 +150,7 @@ plain-lead {text} {at} {v} {w} h a e low high two three =
     second : (s : List ℕ) → encode v ≡ s → getD (drop at text) 1 0 ≡ getD (s ++ drop (at + w) text) 1 0
     second s f = ap (λ (l : List ℕ). getD l 1 0) (sym (h .bytes)) ∙ ap (λ (l : List ℕ). getD (l ++ drop (at + w) text) 1 0) f
 
--- ---- such characters stay
+-- ---- formatting keeps such characters
 
 pub stays-plain : (p : Policy) {text : List ℕ} {at v w : ℕ} → Step text at v w → StaysAlone v → UnchangedBetween p text at (at + w)
 unfolding rule1
