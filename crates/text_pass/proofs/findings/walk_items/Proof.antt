@@ -1,4 +1,4 @@
--- `text_pass::findings::walk_items` meets its contract: `Walking` is the loop's invariant, and the measure is the number of bytes left.
+-- `text_pass::findings::walk_items` meets its contract. The loop's invariant is `Walking`; the measure is the number of bytes after `at`.
 use mathlib.Core.Path.{sym, _∙_, subst}
 use mathlib.Core.Logic.{⊎-elim}
 use mathlib.Core.Bool.{true≢false}
@@ -36,12 +36,12 @@ use Rattle.text_pass.proofs.findings.walk_items.Statement.{statement}
 use Rattle.text_pass.proofs.findings.walk_items.Tie as tie
 
 abbrev Inv-loop : tie.InvT-loop
-Inv-loop text policy before from ch width start₀ base₀ index₀ at₀ place₀ changed₀ passed₀ counts₀ start base index at state changed passed
+Inv-loop text policy limit from ch width start₀ base₀ index₀ at₀ state₀ changed₀ passed₀ counts₀ start base index at state changed passed
     counts =
-    Walking (policyOf policy) text before from start base index at state changed passed counts
+    Walking (policyOf policy) text limit from start base index at state changed passed counts
 
 abbrev μ-loop : tie.MeasureT-loop
-μ-loop text policy before from ch width start₀ base₀ index₀ at₀ place₀ changed₀ passed₀ counts₀ start base index at state changed passed
+μ-loop text policy limit from ch width start₀ base₀ index₀ at₀ state₀ changed₀ passed₀ counts₀ start base index at state changed passed
     counts =
     length text - at
 
@@ -57,7 +57,7 @@ loop-holds c =
     let q = c .before .before .before .pre in
     let s = step (x .text .now) (x .from) (x .ch) (x .width) (q .0) in
     let i = structured-inner (classOf (x .ch)) (subst (λ (y : State). Structured (kindOf y)) (q .2) (q .3)) in
-    rw (q .2) (walking-begin (policyOf (x .policy .now)) (x .text .now) (x .before) (x .from) (x .first-index) (over-here (x .from))
+    rw (q .2) (walking-begin (policyOf (x .policy .now)) (x .text .now) (x .limit) (x .from) (x .first-index) (over-here (x .from))
     (c .empty .ensures) s (q .1) i)
 
 read-cell-requires : tie.Need-read-cell-requires Inv-loop μ-loop
@@ -108,7 +108,7 @@ returns-2 c =
     ∙ c .before .before .before .before .before .before .enum-told .given .1 in
     let a = walking-passes l r d e (c .before .before .before .before .before .is-wanted2 .ensures)
     (c .before .before .before .before .if2 .left) (c .before .before .before .findings-of .ensures .0) in
-    (a, λ f. absurd (true≢false (sym f)), λ _. omega (arith, l .passed .on, further l r))
+    (a, λ f. absurd (true≢false (sym f)), λ _. omega (arith, l .passed .advances .on, further l r))
 
 add-at-2 : tie.Need-add-at-2 Inv-loop μ-loop
 add-at-2 c =
