@@ -1,5 +1,4 @@
--- A row of the table of refusals tells the refusal, its number leaves 0 and 255 to other answers, and the row of an answer tells the
--- answer.
+-- Different refusals have different rows, a refusal's number is never 0 or 255, and different answers have different rows.
 use mathlib.Core.Path.{_≡_, refl, ap, sym, _∙_}
 use mathlib.Core.Bool.{cond}
 use Prim.Native.Nat.{_≤_}
@@ -26,7 +25,7 @@ use Rattle.base.specs.declared.Refusal.the-variants.{
   WrongNumberOfDecisions,
 }
 
--- The refusal of a row.
+-- The refusal whose row is given.
 told : RefusalRow → Refusal
 told w =
     cond (eqb (w .number) 1) TextTooLong
@@ -52,7 +51,7 @@ pub rows-tell : RefusalRowsDistinct
 unfolding RefusalRowsDistinct
 rows-tell r s e = sym (told-row r) ∙ ap told e ∙ told-row s
 
--- Every number is from 1 to 254.
+-- Every number is at least 1 and at most 254.
 pub refusal-numbers : (r : Refusal) → (1 ≤ refusalRow r .number) × (refusalRow r .number ≤ 254)
 refusal-numbers TextTooLong = (omega arith, omega arith)
 refusal-numbers NotAPolicy = (omega arith, omega arith)
@@ -63,7 +62,7 @@ refusal-numbers (BadDecision n) = (omega arith, omega arith)
 refusal-numbers (TableTooShort n) = (omega arith, omega arith)
 refusal-numbers (OutputTooShort n) = (omega arith, omega arith)
 
--- ---- rows of answers: a refusal has a number from 1 to 254, so none of a success or of nothing to do
+-- ---- rows of answers: a refusal's number is from 1 to 254, so it differs from 0 (success) and 255 (nothing)
 
 pub num : {r s : RefusalRow} → r ≡ s → r .number ≡ s .number
 num e = ap (λ (r : RefusalRow). r .number) e
