@@ -54,7 +54,7 @@ use Rattle.policy.proofs.RoundTrips.{Sixes, append-below, many-words, r
 use Rattle.policy.proofs.Refusals.{passed-policy, policy-passes, policy-refused, refused-policy}
 use Rattle.policy.proofs.Unused.{refused-by, refused-for}
 
--- what each of the default policy's sets holds, by one computed test
+-- The entries of each set of the default policy, by one computed test for each.
 holds-prefer-bare : rightWords (λ (c : ℕ). isAscii c || isEmojiDefault c) preferBare ≡ true
 unfolding rightWords allBelow member one entryCount isEmojiDefault isEmojiPresentation hasVariationSequence inRanges Tables·member
     emojiPresentationRanges variationEntries preferBare
@@ -86,7 +86,7 @@ default-policy-holds = (
   },
 )
 
--- what a policy says where its sets answer as the default ones do
+-- The rule for the default policy's sets.
 default-rule : (e a : Bool) → ruleOf (a || e) (not e) ≡ cond e EmojiToBare (cond a TextToBare BareToText)
 unfolding ruleOf
 default-rule true true = refl
@@ -108,7 +108,7 @@ default-rules c h =
           (in-both (λ (x : ℕ). true) bareAsTextKeycap holds-bare-as-text-keycap),
     )
 
--- a character without an entry is in no set
+-- A character that is no variation entry is in no set.
 in-none : (c : ℕ) (ws : List ℕ) → hasVariationSequence c ≡ false → contains c ws ≡ false
 unfolding contains memberAt NoIndexNoEntry
 in-none c ws h = ap (λ (r : VariationSequenceIndex). memberAt r ws) (no-index-no-entry c .1 h)

@@ -1,4 +1,4 @@
--- When two policies, or two rules, are equal.
+-- Equality of policies, and of rules.
 use mathlib.Core.Path.{_≡_, refl, sym, ap, _∙_, subst}
 use mathlib.Core.Logic.{⊎-elim}
 use mathlib.Core.Bool.{Bool, true, false, not, _||_}
@@ -23,7 +23,7 @@ use Rattle.policy.proofs.Unused.{unused}
 
 -- ---- sets
 
--- Past the entries nothing is held.
+-- After the entries, a set without unused bits has no member.
 none-past : {ws : List ℕ} → SetValue ws → noUnusedBit ws ≡ true → (i : ℕ) → entryCount ≤ i → member i ws ≡ false
 unfolding noUnusedBit
 none-past {ws} v e i h = ⊎-elim past inside (le-or-lt (wordCount * 64) i)

@@ -1,4 +1,4 @@
--- Tests of every number below a bound: one that is computed, and how many numbers pass.
+-- Tests of every number below a bound: a computed test, and the count of the numbers that pass.
 use mathlib.Core.Path.{_≡_, refl, sym, ap, ap₂, _∙_, subst}
 use mathlib.Core.Logic.{⊎-elim}
 use mathlib.Core.Bool.{Bool, true, false, Bool·beq, _&&_, _||_, not}
@@ -23,13 +23,13 @@ unfolding allBelow
 below-all zero p h = refl
 below-all (suc n) p h = simp (h n (omega arith), below-all n p (λ k l. h k (omega arith)))
 
--- tests that agree below n pass equally often
+-- Tests that agree below n have the same count.
 pub count-same : (n : ℕ) (p q : ℕ → Bool) → ((k : ℕ) → k < n → p k ≡ q k) → countBelow n p ≡ countBelow n q
 unfolding countBelow
 count-same zero p q h = refl
 count-same (suc n) p q h = ap₂ _+_ (count-same n p q (λ k l. h k (omega arith))) (ap number (h n (omega arith)))
 
--- what passes nowhere from n on is counted below n
+-- If no number from n on passes, the count below m is the count below n.
 pub count-to : (n m : ℕ) (p : ℕ → Bool) → n ≤ m → ((k : ℕ) → n ≤ k → p k ≡ false) → countBelow m p ≡ countBelow n p
 unfolding countBelow
 count-to n zero p l h = let e : 0 ≡ n = omega arith in ap (λ (k : ℕ). countBelow k p) e
@@ -47,7 +47,7 @@ unfolding countBelow
 count-le zero p = omega arith
 count-le (suc n) p = omega (arith, count-le n p, number-le (p n))
 
--- none passes where the count is 0, all where it is n
+-- If the count is 0, no number passes. If it is n, every number passes.
 pub count-none : (n : ℕ) (p : ℕ → Bool) → countBelow n p ≡ 0 → (k : ℕ) → k < n → p k ≡ false
 unfolding countBelow
 count-none zero p e k h = absurd (not-suc-le-zero h)
@@ -81,7 +81,7 @@ unfolding countBelow
 all-counted zero = refl
 all-counted (suc n) = omega (arith, all-counted n)
 
--- no number differs exactly when all agree
+-- The count of the numbers at which two tests differ is 0 exactly if the tests agree.
 pub none-differ : (n : ℕ) (p q : ℕ → Bool)
     → eqb (countBelow n (λ (i : ℕ). differ (p i) (q i))) 0 ≡ allBelow n (λ (i : ℕ). Bool·beq (p i) (q i))
 unfolding countBelow allBelow
@@ -94,7 +94,7 @@ none-differ (suc n) p q = go (Bool·beq (p n) (q n)) (none-differ n p q)
     go true h = ap (λ (m : ℕ). eqb m 0) (add-zero (countBelow n (λ (i : ℕ). differ (p i) (q i)))) ∙ h
     go false h = ne-eqb (countBelow n (λ (i : ℕ). differ (p i) (q i)) + 1) 0 (λ e. omega arith)
 
--- what is counted in either is counted in both besides
+-- The count of either test plus the count of both tests is the sum of the two counts.
 pub count-union : (n : ℕ) (p q : ℕ → Bool)
     → countBelow n (λ (i : ℕ). p i || q i) + countBelow n (λ (i : ℕ). p i && q i) ≡ countBelow n p + countBelow n q
 unfolding countBelow

@@ -1,4 +1,4 @@
--- The texts of the keys: their lengths, the walk along the entries, and texts written one after the other.
+-- The texts of the keys: their lengths, one step along the entries, and texts written one after the other.
 use mathlib.Core.Path.{_≡_, refl, sym, ap, _∙_}
 use mathlib.Core.Bool.{Bool, true, false, cond}
 use mathlib.Core.List.{List, [], _∷_, _++_, append-assoc, append-nil}
@@ -26,7 +26,7 @@ unfolding hexDigits
 hex-length zero n = refl
 hex-length (suc k) n = ap suc (hex-length k n)
 
--- the highest digit of k, and the others
+-- The first of k digits, and the others.
 pub hex-step : (k n : ℕ) → 0 < k → hexDigits k n ≡ hexDigit (n / 2 ^ (4 * (k - 1)) % 16) ∷ hexDigits (k - 1) n
 unfolding hexDigits
 hex-step zero n h = absurd (not-suc-le-zero h)
@@ -46,8 +46,8 @@ unfolding piece
 piece-later zero t h = absurd (not-suc-le-zero h)
 piece-later (suc j) t h = refl
 
--- what the members from an entry on take from place j on: where the entry is a member, with the character ch, where it
--- is not, and past the entries
+-- The bytes for the keys from entry i on, at the offset j: if entry i is a member with the character ch, if it is not a member, and
+-- after the last entry.
 module _ (keycap : Bool) (ws cs : List ℕ) (i j : ℕ) where
   pub keys-in : {ch : ℕ} → i < length cs → ch ≡ getD cs i 0 → member i ws ≡ true
       → written j (keyTexts keycap ws i (drop i cs))
@@ -64,7 +64,7 @@ module _ (keycap : Bool) (ws cs : List ℕ) (i j : ℕ) where
   unfolding keyTexts written
   keys-done h = rw (drop-of-length-le cs h) refl
 
--- texts after other texts
+-- The bytes of texts after other texts.
 pub written-append : (j : ℕ) (ts us : List (List ℕ)) → written j (ts ++ us) ≡ written j ts ++ written (j + length (written j ts)) us
 unfolding written
 written-append j [] us = ap (λ (n : ℕ). written n us) (sym (add-zero j))
@@ -75,20 +75,20 @@ written-append j (t ∷ ts) us =
     ap (λ (xs : List ℕ). p ++ xs) (written-append (j + length p) ts us ∙ ap (λ (n : ℕ). w ++ written n us) e)
     ∙ sym (append-assoc p w (written (j + length (p ++ w)) us))
 
--- after a first text there is a comma before each
+-- At every offset but 0, each text has a comma before it.
 after : (j : ℕ) (t : List ℕ) (ts : List (List ℕ)) → 0 < j → written j (t ∷ ts) ≡ 0x2C ∷ parted 0x2C (t ∷ ts)
 unfolding written parted
 after j t [] h = rw (piece-later j t h) (ap (λ (xs : List ℕ). 0x2C ∷ xs) (append-nil t))
 after j t (u ∷ ts) h =
     rw (piece-later j t h) (ap (λ (xs : List ℕ). 0x2C ∷ (t ++ xs)) (after (j + length (0x2C ∷ t)) u ts (omega arith)))
 
--- texts of which the first is not empty, written from the front on
+-- From the offset 0 on, the texts have commas between them if the first is not empty.
 pub written-parted : (t : List ℕ) (ts : List (List ℕ)) → 0 < length t → written 0 (t ∷ ts) ≡ parted 0x2C (t ∷ ts)
 unfolding written parted piece
 written-parted t [] h = append-nil t
 written-parted t (u ∷ ts) h = ap (λ (xs : List ℕ). t ++ xs) (after (0 + length t) u ts (omega arith))
 
--- the texts of keys are not empty
+-- The text of a key is not empty.
 text-full : (keycap : Bool) (c : ℕ) → 0 < length (keyText keycap c)
 text-full keycap c = let e = text-length keycap c in omega arith
 

@@ -1,4 +1,4 @@
--- The one computed test of each named set: its words against its rule, at every entry.
+-- `policy_key_set::named_bits` meets its contract: one computed test compares the words of each named set with its rule.
 use mathlib.Core.Path.{_≡_, refl, sym, subst}
 use borrow.Author.Needs.{needs}
 use Rattle.unicode.specs.Tables as Tables

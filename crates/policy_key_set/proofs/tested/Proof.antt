@@ -1,4 +1,4 @@
--- What the test says, by the law `right-words`.
+-- `policy_key_set::tested` meets its contract, by the law `right-words`.
 use Rattle.policy_key_set.specs.KeySets.{namedEntryMatches}
 use Rattle.policy_key_set.proofs.Entries.{right-words}
 use Rattle.policy_key_set.proofs.tested.Statement.{statement}

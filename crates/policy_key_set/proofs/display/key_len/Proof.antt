@@ -1,4 +1,4 @@
--- The text, or a comma and the text.
+-- `display::key_len` meets its contract: the length of the text, or of a comma and the text.
 use mathlib.Core.Path.{ap}
 use native.Mathlib.Omega.{arith}
 use lib.ListN.{length}

@@ -1,4 +1,5 @@
--- The place so far and what the keys from here on take are together what all keys take.
+-- `display::keys_end` meets its contract. The loop's invariant: the offset plus the length of the keys from entry `i` on is the offset
+-- after all keys.
 use mathlib.Core.Path.{_≡_, refl, ap, _∙_}
 use mathlib.Core.Logic.{⊎-elim}
 use Prim.Native.Nat.{_+_, _*_, _-_, _<_, _≤_}

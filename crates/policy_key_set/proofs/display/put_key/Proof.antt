@@ -1,4 +1,4 @@
--- The text, or a comma and the text.
+-- `display::put_key` meets its contract: it writes the text, or a comma and the text.
 use mathlib.Core.Path.{ap}
 use native.Mathlib.Omega.{arith}
 use lib.ListN.{length}

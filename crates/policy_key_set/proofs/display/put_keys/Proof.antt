@@ -1,4 +1,4 @@
--- The loop writes the keys from its entry on at its place.
+-- `display::put_keys` meets its contract. The loop's invariant: the keys before entry `i` are written.
 use mathlib.Core.Path.{sym, ap, _∙_}
 use mathlib.Core.Logic.{⊎-elim}
 use Prim.Native.Nat.{ℕ, _+_, _-_, _<_, _≤_}
