@@ -26,8 +26,8 @@ use Rattle.base.specs.declared.Refusal.the-variants.{
 }
 
 -- The refusal whose row is given.
-told : RefusalRow → Refusal
-told w =
+refusalOf : RefusalRow → Refusal
+refusalOf w =
     cond (eqb (w .number) 1) TextTooLong
     (cond (eqb (w .number) 2) NotAPolicy
     (cond (eqb (w .number) 3) (NotWellFormed (w .value))
@@ -36,20 +36,20 @@ told w =
     (cond (eqb (w .number) 6) (BadDecision (w .value))
     (cond (eqb (w .number) 7) (TableTooShort (w .value)) (OutputTooShort (w .value))))))))
 
-told-row : (r : Refusal) → told (refusalRow r) ≡ r
-unfolding told
-told-row TextTooLong = refl
-told-row NotAPolicy = refl
-told-row (NotWellFormed n) = refl
-told-row NoFinding = refl
-told-row (WrongNumberOfDecisions n) = refl
-told-row (BadDecision n) = refl
-told-row (TableTooShort n) = refl
-told-row (OutputTooShort n) = refl
+refusal-of-row : (r : Refusal) → refusalOf (refusalRow r) ≡ r
+unfolding refusalOf
+refusal-of-row TextTooLong = refl
+refusal-of-row NotAPolicy = refl
+refusal-of-row (NotWellFormed n) = refl
+refusal-of-row NoFinding = refl
+refusal-of-row (WrongNumberOfDecisions n) = refl
+refusal-of-row (BadDecision n) = refl
+refusal-of-row (TableTooShort n) = refl
+refusal-of-row (OutputTooShort n) = refl
 
-pub rows-tell : RefusalRowsDistinct
+pub rows-distinct : RefusalRowsDistinct
 unfolding RefusalRowsDistinct
-rows-tell r s e = sym (told-row r) ∙ ap told e ∙ told-row s
+rows-distinct r s e = sym (refusal-of-row r) ∙ ap refusalOf e ∙ refusal-of-row s
 
 -- Every number is at least 1 and at most 254.
 pub refusal-numbers : (r : Refusal) → (1 ≤ refusalRow r .number) × (refusalRow r .number ≤ 254)
@@ -72,7 +72,7 @@ val e = ap (λ (r : RefusalRow). r .value) e
 
 pub refusals : (r s : Refusal) → refusalRow r ≡ refusalRow s → r ≡ s
 unfolding RefusalRowsDistinct
-refusals = rows-tell
+refusals = rows-distinct
 
 pub check-rows : (a b : Check) → checkRow a ≡ checkRow b → a ≡ b
 unfolding checkRow

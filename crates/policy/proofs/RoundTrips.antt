@@ -90,13 +90,13 @@ same-policy p q e f g h = made (as-set e) (as-set f) (as-set g) (as-set h)
     made e f g h = cc
 
 -- Each of the four sets has six words.
-pub record Sixes (p : Policy) : Type 0 where
+pub record SixWordSets (p : Policy) : Type 0 where
   pub first : length (p .«prefer_bare» .chars .bits) ≡ 6
   pub second : length (p .«prefer_bare» .«keycap_chars» .bits) ≡ 6
   pub third : length (p .«bare_as_text» .chars .bits) ≡ 6
   pub fourth : length (p .«bare_as_text» .«keycap_chars» .bits) ≡ 6
 
-pub same-words : (p q : Policy) → Sixes p → Sixes q → policyWords p ≡ policyWords q → p ≡ q
+pub same-words : (p q : Policy) → SixWordSets p → SixWordSets q → policyWords p ≡ policyWords q → p ≡ q
 unfolding policyWords keyWords
 same-words p q s t e =
     let a = p .«prefer_bare» .chars .bits in
@@ -116,14 +116,14 @@ same-words p q s t e =
     let r = append-split c d z w (s .third ∙ sym (t .third)) (both .1) in
     same-policy p q (l .0) (l .1) (r .0) (r .1)
 
-pub many-words : (p : Policy) → Sixes p → length (policyWords p) ≡ 24
+pub many-words : (p : Policy) → SixWordSets p → length (policyWords p) ≡ 24
 unfolding policyWords keyWords
 many-words p s = simp length-append (omega arith)
 
 -- The policy that bytes encode has six words in each set.
-pub sixes-of : (bs : List ℕ) → Sixes (policyOf bs)
+pub six-words-of : (bs : List ℕ) → SixWordSets (policyOf bs)
 unfolding policyOf wordCount entryCount variationEntries
-sixes-of bs = record {
+six-words-of bs = record {
   first = length-wordsFrom 6 0 bs;
   second = length-wordsFrom 6 48 bs;
   third = length-wordsFrom 6 96 bs;

@@ -89,7 +89,7 @@ asciiKeysBare bs =
 
 -- The property that every value of the type `Policy` has: each of its four sets has W words of 64 bits.
 pub record SetValue (ws : List ℕ) : Type 0 where
-  pub as-many : length ws ≡ wordCount
+  pub word-count : length ws ≡ wordCount
   pub words : (k : ℕ) → getD ws k 0 < 2 ^ 64
 
 pub record PolicyValue (p : Policy) : Type 0 where

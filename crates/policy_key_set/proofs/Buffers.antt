@@ -18,12 +18,12 @@ use Rattle.policy_key_set.specs.Display.{
   keyText,
   keyTexts,
   opening,
-  piece,
-  written,
+  withComma,
+  writtenFrom,
 }
 use Rattle.policy_key_set.specs.declared.PolicyKeySet.{PolicyKeySet}
 use Rattle.policy_key_set.proofs.Entries.{entry-count}
-use Rattle.policy_key_set.proofs.Texts.{piece-later, written-append, written-texts}
+use Rattle.policy_key_set.proofs.Texts.{comma-before, written-append, written-texts}
 use Rattle.base.specs.Output.{PutAt}
 use Rattle.base.proofs.Writer.{put-as, put-then}
 
@@ -36,8 +36,8 @@ text-put keycap c p e q u =
 
 -- A text after a comma.
 pub later-put : {o o₁ o₂ : List ℕ} {s i r : ℕ} (t : List ℕ) → 0 < s → PutAt o s (0x2C ∷ []) o₁ i → PutAt o₁ i t o₂ r
-    → PutAt o s (piece s t) o₂ r
-later-put {s = s} t h p q = put-as (piece s t) (sym (piece-later s t h)) (put-then p q)
+    → PutAt o s (withComma s t) o₂ r
+later-put {s = s} t h p q = put-as (withComma s t) (sym (comma-before s t h)) (put-then p q)
 
 -- The texts of the two domains one after the other are the list of the keys.
 module _ (s : PolicyKeySet) where
@@ -47,20 +47,20 @@ module _ (s : PolicyKeySet) where
   abbrev pub keycapTexts : List (List ℕ)
   keycapTexts = keyTexts true (s .«keycap_chars» .bits) 0 variationEntries
 
-  key-list : written 0 ordinaryTexts ++ written (0 + length (written 0 ordinaryTexts)) keycapTexts ≡ keyList s
-  unfolding keyList written parted
+  key-list : writtenFrom 0 ordinaryTexts ++ writtenFrom (0 + length (writtenFrom 0 ordinaryTexts)) keycapTexts ≡ keyList s
+  unfolding keyList writtenFrom parted
   key-list =
-      let e : written 0 keycapTexts ≡ parted 0x2C keycapTexts =
+      let e : writtenFrom 0 keycapTexts ≡ parted 0x2C keycapTexts =
       rw append-nil at (written-texts true (s .«keycap_chars» .bits) 0 variationEntries [] refl) in
       sym (written-append 0 ordinaryTexts keycapTexts) ∙ written-texts false (s .chars .bits) 0 variationEntries keycapTexts e
 
-  after-first : {i : ℕ} → i ≡ 0 + length (written 0 ordinaryTexts) → written 0 ordinaryTexts ++ written i keycapTexts ≡ keyList s
-  after-first e = ap (λ (n : ℕ). written 0 ordinaryTexts ++ written n keycapTexts) e ∙ key-list
+  after-first : {i : ℕ} → i ≡ 0 + length (writtenFrom 0 ordinaryTexts) → writtenFrom 0 ordinaryTexts ++ writtenFrom i keycapTexts ≡ keyList s
+  after-first e = ap (λ (n : ℕ). writtenFrom 0 ordinaryTexts ++ writtenFrom n keycapTexts) e ∙ key-list
 
-  pub list-length : {i r : ℕ} → i ≡ 0 + length (written 0 ordinaryTexts) → r ≡ i + length (written i keycapTexts) → r ≡ length (keyList s)
-  list-length {i} e f = omega (arith, ap length (after-first e), length-append (written 0 ordinaryTexts) (written i keycapTexts))
+  pub list-length : {i r : ℕ} → i ≡ 0 + length (writtenFrom 0 ordinaryTexts) → r ≡ i + length (writtenFrom i keycapTexts) → r ≡ length (keyList s)
+  list-length {i} e f = omega (arith, ap length (after-first e), length-append (writtenFrom 0 ordinaryTexts) (writtenFrom i keycapTexts))
 
-  pub list-put : {o o₁ o₂ : List ℕ} {i r : ℕ} → PutAt o 0 (written 0 ordinaryTexts) o₁ i → PutAt o₁ i (written i keycapTexts) o₂ r
+  pub list-put : {o o₁ o₂ : List ℕ} {i r : ℕ} → PutAt o 0 (writtenFrom 0 ordinaryTexts) o₁ i → PutAt o₁ i (writtenFrom i keycapTexts) o₂ r
       → PutAt o 0 (keyList s) o₂ r
   list-put p q = put-as (keyList s) (after-first (p .ends)) (put-then p q)
 

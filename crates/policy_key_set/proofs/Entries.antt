@@ -16,7 +16,7 @@ use Rattle.unicode.proofs.Ascent.{entry-in, entry-out, index-holds, place-is-in
 use Rattle.unicode.proofs.InOrder.{variation-entries-ascend}
 use Rattle.base.specs.Bits.{one}
 use Rattle.policy_key_set.specs.Sets.{Holds, HoldsChars, allBelow, entryCount, member, sizeOf}
-use Rattle.policy_key_set.specs.KeySets.{rightWords}
+use Rattle.policy_key_set.specs.KeySets.{wordsMatchRule}
 use Rattle.policy_key_set.proofs.Below.{count-le}
 use Rattle.policy_key_set.proofs.Members.{decide, holds-same, none-held, one-member, test-holds}
 
@@ -78,9 +78,9 @@ nothing-held ch e =
     (λ j h. sym (no-entry ch e j h))
 
 -- Words that pass the test of a rule hold the entries whose character matches it.
-pub right-words : (p : ℕ → Bool) (ws : List ℕ) → rightWords p ws ≡ true → HoldsChars p ws
-unfolding rightWords
-right-words p ws t =
+pub matching-words-hold : (p : ℕ → Bool) (ws : List ℕ) → wordsMatchRule p ws ≡ true → HoldsChars p ws
+unfolding wordsMatchRule
+matching-words-hold p ws t =
     let s = both-true (leb entryCount (length ws * 64)) _ t in
     test-holds entryCount (λ (i : ℕ). p (getD variationEntries i 0)) ws (leb-true entryCount (length ws * 64) (s .0)) (s .1)
 
@@ -96,5 +96,5 @@ allWords =
     ∷ []
 
 pub all-words : Holds (λ (i : ℕ). true) allWords
-unfolding rightWords allBelow member one entryCount variationEntries
-all-words = right-words (λ c. true) allWords refl
+unfolding wordsMatchRule allBelow member one entryCount variationEntries
+all-words = matching-words-hold (λ c. true) allWords refl

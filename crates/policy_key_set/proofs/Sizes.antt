@@ -12,11 +12,11 @@ use lib.ListN.{getD}
 use borrow.Author.Tests.{le-ltb}
 use Rattle.base.specs.Bits.{one}
 use Rattle.base.proofs.Bits.{low-bit, next-bit}
-use Rattle.policy_key_set.specs.Sets.{HoldsBelow, countBelow, member, number, sumBelow}
+use Rattle.policy_key_set.specs.Sets.{HoldsBelow, countBelow, member, oneIf, sumBelow}
 use Rattle.policy_key_set.proofs.Below.{count-same, count-to}
 use Rattle.policy_key_set.proofs.Members.{held}
 
-bit-number : (b : ℕ) → b < 2 → number (eqb b 1) ≡ b
+bit-number : (b : ℕ) → b < 2 → oneIf (eqb b 1) ≡ b
 bit-number zero h = refl
 bit-number (suc zero) h = refl
 bit-number (suc (suc b)) h = absurd (omega arith)
@@ -28,8 +28,8 @@ bitCount k w = countBelow k (λ (i : ℕ). one i w)
 -- The count is the lowest bit plus the count of the others.
 lowest-first : (k w : ℕ) → bitCount (suc k) w ≡ w % 2 + bitCount k (w / 2)
 unfolding countBelow
-lowest-first zero w = let e = ap number (low-bit w) ∙ bit-number (w % 2) (omega arith) in omega arith
-lowest-first (suc k) w = let e = lowest-first k w in let f = ap number (next-bit k w) in omega arith
+lowest-first zero w = let e = ap oneIf (low-bit w) ∙ bit-number (w % 2) (omega arith) in omega arith
+lowest-first (suc k) w = let e = lowest-first k w in let f = ap oneIf (next-bit k w) in omega arith
 
 no-ones : ones 0 ≡ 0
 unfolding ones
@@ -53,7 +53,7 @@ part-word ws j (suc k) h =
     let e = part-word ws j k (omega arith) in
     let d : (j * 64 + k) / 64 ≡ j = omega arith in
     let m : (j * 64 + k) % 64 ≡ k = omega arith in
-    let f : number (member (j * 64 + k) ws) ≡ number (one k (getD ws j 0)) = ap₂ (λ (a b : ℕ). number (one a (getD ws b 0))) m d in
+    let f : oneIf (member (j * 64 + k) ws) ≡ oneIf (one k (getD ws j 0)) = ap₂ (λ (a b : ℕ). oneIf (one a (getD ws b 0))) m d in
     ap (λ (n : ℕ). countBelow n (λ (i : ℕ). member i ws)) (add-suc (j * 64) k) ∙ omega (arith, e, f)
 
 -- The number of entries in the words up to word j.

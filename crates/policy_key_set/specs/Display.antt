@@ -40,14 +40,14 @@ keyTexts keycap ws i (c ∷ cs) =
     cond (member i ws) (keyText keycap c ∷ keyTexts keycap ws (suc i) cs) (keyTexts keycap ws (suc i) cs)
 
 -- The bytes that are written for a text at the offset j of the output: at every offset but 0 a comma comes first.
-unfoldable pub piece : ℕ → List ℕ → List ℕ
-piece zero t = t
-piece (suc j) t = 0x2C ∷ t
+unfoldable pub withComma : ℕ → List ℕ → List ℕ
+withComma zero t = t
+withComma (suc j) t = 0x2C ∷ t
 
 -- The bytes that are written for several texts from the offset j on. From the offset 0 on they are the texts with commas between them.
-unfoldable pub written : ℕ → List (List ℕ) → List ℕ
-written j [] = []
-written j (t ∷ ts) = piece j t ++ written (j + length (piece j t)) ts
+unfoldable pub writtenFrom : ℕ → List (List ℕ) → List ℕ
+writtenFrom j [] = []
+writtenFrom j (t ∷ ts) = withComma j t ++ writtenFrom (j + length (withComma j t)) ts
 
 -- The ordinary keys in ascending order, then the keycap keys in ascending order, with a comma between each two.
 unfoldable pub keyList : PolicyKeySet → List ℕ

@@ -48,8 +48,8 @@ namedEntryMatches KeycapRgi = isKeycapRgi
 
 -- The test of a named set's words: the words have a bit for every entry, and a bit is 1 exactly if its entry's character matches the
 -- rule.
-unfoldable pub rightWords : (ℕ → Bool) → List ℕ → Bool
-rightWords p ws =
+unfoldable pub wordsMatchRule : (ℕ → Bool) → List ℕ → Bool
+wordsMatchRule p ws =
     leb entryCount (length ws * 64)
     && allBelow (length ws * 64) (λ (i : ℕ). Bool·beq (member i ws) (ltb i entryCount && p (getD variationEntries i 0)))
 

@@ -64,14 +64,14 @@ abbrev pub MadeBy : (Bool → Bool → Bool) → CharSet → CharSet → CharSet
 MadeBy f a b r = Holds (λ (i : ℕ). f (member i (a .bits)) (member i (b .bits))) (r .bits)
 
 -- 1 for true and 0 for false.
-abbrev pub number : Bool → ℕ
-number true = 1
-number false = 0
+abbrev pub oneIf : Bool → ℕ
+oneIf true = 1
+oneIf false = 0
 
 -- The number of the numbers below n that pass a test.
 unfoldable pub countBelow : ℕ → (ℕ → Bool) → ℕ
 countBelow zero p = 0
-countBelow (suc n) p = countBelow n p + number (p n)
+countBelow (suc n) p = countBelow n p + oneIf (p n)
 
 -- The sum of a function's values below n.
 unfoldable pub sumBelow : ℕ → (ℕ → ℕ) → ℕ

@@ -21,7 +21,7 @@ use Rattle.policy_key_set.specs.Sets.{
   sumBelow,
   wordCount,
 }
-use Rattle.policy_key_set.specs.KeySets.{isAscii, isKeycapRgi, keycap, keysSize, ordinary, rightWords}
+use Rattle.policy_key_set.specs.KeySets.{isAscii, isKeycapRgi, keycap, keysSize, ordinary, wordsMatchRule}
 use Rattle.policy_key_set.specs.Display.{display}
 use Rattle.policy_key_set.specs.declared.PolicyKeySet.{PolicyKeySet}
 
@@ -50,7 +50,7 @@ OnesAreMembers =
 
 -- Words that pass the computed test of a rule hold exactly the entries whose character matches the rule.
 unfoldable pub TestedWordsHold : Type 0
-TestedWordsHold = (p : ℕ → Bool) (ws : List ℕ) → rightWords p ws ≡ true → HoldsChars p ws
+TestedWordsHold = (p : ℕ → Bool) (ws : List ℕ) → wordsMatchRule p ws ≡ true → HoldsChars p ws
 
 -- A set that holds the entries whose character passes a test contains exactly these characters.
 unfoldable pub NamedSetsContain : Type 0

@@ -16,8 +16,8 @@ ghost use Rattle.policy_key_set.specs.Display.{
   keyText,
   keyTexts,
   opening,
-  piece,
-  written,
+  withComma,
+  writtenFrom,
 };
 use crate::PolicyKeySet;
 use crate::char_set::CharSet;
@@ -106,8 +106,8 @@ fn put_text(out: &mut [u8], start: usize, keycap: bool, ch: u32) -> usize
 
 // Writes the text of a key, with a comma before it unless it is the first.
 fn put_key(out: &mut [u8], start: usize, keycap: bool, ch: u32) -> usize
-    requires { ⌜ start + length (piece start (keyText keycap ch)) ≤ length (now out) ⌝ }
-    ensures { λ r. ⌜ PutAt (now (out .entry)) start (piece start (keyText keycap ch)) (now (out .exit)) r ⌝ }
+    requires { ⌜ start + length (withComma start (keyText keycap ch)) ≤ length (now out) ⌝ }
+    ensures { λ r. ⌜ PutAt (now (out .entry)) start (withComma start (keyText keycap ch)) (now (out .exit)) r ⌝ }
 {
     if start == 0 {
         return put_text(out, 0, keycap, ch);
@@ -129,7 +129,7 @@ fn text_len(keycap: bool, ch: u32) -> usize
 
 // Returns the number of bytes that `put_key` writes.
 fn key_len(start: usize, keycap: bool, ch: u32) -> usize
-    ensures { λ r. ⌜ (r ≡ length (piece start (keyText keycap ch))) × (r ≤ 17) ⌝ }
+    ensures { λ r. ⌜ (r ≡ length (withComma start (keyText keycap ch))) × (r ≤ 17) ⌝ }
 {
     let n = text_len(keycap, ch);
     if start == 0 {
@@ -141,7 +141,7 @@ fn key_len(start: usize, keycap: bool, ch: u32) -> usize
 // Returns the offset after the keys of a domain, if they are written from an offset on.
 fn keys_end(start: usize, keycap: bool, set: CharSet) -> usize
     requires { ⌜ start ≤ 0x10000 ⌝ }
-    ensures { λ r. ⌜ (r ≡ start + length (written start (keyTexts keycap (set .bits) 0 variationEntries))) × (r ≤ start + 0x2000) ⌝ }
+    ensures { λ r. ⌜ (r ≡ start + length (writtenFrom start (keyTexts keycap (set .bits) 0 variationEntries))) × (r ≤ start + 0x2000) ⌝ }
 {
     let mut at = start;
     let mut i = 0;
@@ -157,8 +157,8 @@ fn keys_end(start: usize, keycap: bool, set: CharSet) -> usize
 
 // Writes the keys of a domain.
 fn put_keys(out: &mut [u8], start: usize, keycap: bool, set: CharSet) -> usize
-    requires { ⌜ start + length (written start (keyTexts keycap (set .bits) 0 variationEntries)) ≤ length (now out) ⌝ }
-    ensures { λ r. ⌜ PutAt (now (out .entry)) start (written start (keyTexts keycap (set .bits) 0 variationEntries)) (now (out .exit)) r ⌝ }
+    requires { ⌜ start + length (writtenFrom start (keyTexts keycap (set .bits) 0 variationEntries)) ≤ length (now out) ⌝ }
+    ensures { λ r. ⌜ PutAt (now (out .entry)) start (writtenFrom start (keyTexts keycap (set .bits) 0 variationEntries)) (now (out .exit)) r ⌝ }
 {
     let mut at = start;
     let mut i = 0;

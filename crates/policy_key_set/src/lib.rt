@@ -22,7 +22,7 @@ ghost use Rattle.policy_key_set.specs.KeySets.{
   namedEntryMatches,
   ordinary,
   OrdinaryChars,
-  rightWords,
+  wordsMatchRule,
   sameKeys,
 };
 use char_set::CharSet;
@@ -54,7 +54,7 @@ pub enum NamedSet {
 
 // Makes a set of words that pass the test of a rule.
 fn tested(id: NamedSet, bits: [u64; CHARSET_WORDS]) -> CharSet
-    requires { ⌜ rightWords (namedEntryMatches id) bits ≡ true ⌝ }
+    requires { ⌜ wordsMatchRule (namedEntryMatches id) bits ≡ true ⌝ }
     ensures { λ r. ⌜ HoldsChars (namedEntryMatches id) (r .bits) ⌝ }
 {
     CharSet { bits }
