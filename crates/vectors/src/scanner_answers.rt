@@ -1,5 +1,5 @@
-// The scanner that borrows the text against the cursor: item by item they must answer the same, with the same bytes,
-// and after the last item the scanner says end on each call. A text that is cut inside a character is turned back.
+// Compares the scanner that borrows the text with the cursor. Both must give the same items with the same bytes, and
+// after the last item the scanner must give the end on each call. A text that ends inside a character must be refused.
 use crate::lines::is_word;
 use base::Check;
 use scanner::ScanItem;
@@ -8,7 +8,7 @@ use text_scanner::NthItem;
 use text_scanner::nth_item;
 use text_scanner::nth_raw;
 
-// Whether the scanner's n-th item of a text that passes is this one, with its bytes.
+// Tests whether the n-th item of the scanner is this item, with its bytes.
 fn hands_out(text: &[u8], n: usize, item: ScanItem) -> bool {
     let NthItem { verdict, step } = nth_item(text, n);
     let Check::Passed = verdict else {
@@ -25,7 +25,7 @@ fn hands_out(text: &[u8], n: usize, item: ScanItem) -> bool {
     ScanItem::eq(found, item) && is_word(nth_raw(text, n), &text[start..end])
 }
 
-// Whether the scanner's n-th answer is the end, with no bytes.
+// Tests whether the n-th answer of the scanner is the end, with no bytes.
 fn says_end(text: &[u8], n: usize) -> bool {
     let NthItem { verdict: _, step } = nth_item(text, n);
     match step {
@@ -34,7 +34,7 @@ fn says_end(text: &[u8], n: usize) -> bool {
     }
 }
 
-// Whether a text that ends inside a character is turned back, and its scanner says end at once.
+// Tests whether a text that ends inside a character is refused, and its scanner gives the end at once.
 fn turned_back(text: &[u8]) -> bool {
     let NthItem { verdict, step: _ } = nth_item(text, 0);
     match verdict {
@@ -43,7 +43,7 @@ fn turned_back(text: &[u8]) -> bool {
     }
 }
 
-// Whether a text without its last byte is turned back, if that byte is not a character of its own.
+// Tests whether the text without its last byte is refused, if this byte is not a character by itself.
 fn cut_is_turned_back(text: &[u8]) -> bool {
     let len = text.len();
     if len == 0 {
@@ -56,7 +56,7 @@ fn cut_is_turned_back(text: &[u8]) -> bool {
     turned_back(&text[0..last])
 }
 
-// Whether the scanner hands out the items that the cursor gives, and then the end.
+// Tests whether the scanner gives the items of the cursor, and then the end.
 pub(crate) fn scanner_agrees(text: &[u8]) -> bool {
     let mut at = 0;
     let mut n = 0;
