@@ -29,12 +29,14 @@ abbrev pub WritesAt : List ℕ → List ℕ → ℕ → Bool → List ℕ → Ty
 WritesAt bytes before at r after =
     (r ≡ roomFor bytes before at) × (after ≡ cond (roomFor bytes before at) (sets before at bytes) before)
 
--- Contract of a function that writes the list xs at an offset: it returns the offset after the list, and changes no other byte.
-pub record PutAt (before : List ℕ) (at : ℕ) (xs after : List ℕ) (r : ℕ) : Type 0 where
-  pub ends : r ≡ at + length xs
-  pub bytes : after ≡ sets before at xs
-
 -- Contract of a function that writes a result at the front of a buffer: its answer, and the buffer after the call.
 pub record Wrote (result before after : List ℕ) (answer : WriteAnswer) : Type 0 where
   pub answered : Answers writeRow (answerOf result before) answer
   pub buffer : after ≡ bufferOf result before
+
+-- ---- contracts of helper functions
+
+-- Contract of a function that writes the list xs at an offset: it returns the offset after the list, and changes no other byte.
+pub record PutAt (before : List ℕ) (at : ℕ) (xs after : List ℕ) (r : ℕ) : Type 0 where
+  pub ends : r ≡ at + length xs
+  pub bytes : after ≡ sets before at xs

@@ -23,6 +23,8 @@ ReadLength Ending.Failed n before after = n ≡ 0
 abbrev pub ReadsMessage : List ℕ → Message → List ℕ → Type 0
 ReadsMessage before m after = Counts (m .len) after × (m .len ≤ length after - 1) × ReadLength (m .ending) (m .len) before after
 
+-- ---- contracts of helper functions
+
 -- Contract of one read at an offset. If it gave n bytes, n is at least 1, the bytes fit, and every byte before and after them is
 -- unchanged.
 abbrev pub Reads : List ℕ → ℕ → ReadResult → List ℕ → Type 0

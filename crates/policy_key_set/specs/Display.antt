@@ -39,16 +39,6 @@ keyTexts keycap ws i [] = []
 keyTexts keycap ws i (c ∷ cs) =
     cond (member i ws) (keyText keycap c ∷ keyTexts keycap ws (suc i) cs) (keyTexts keycap ws (suc i) cs)
 
--- The bytes that are written for a text at the offset j of the output: at every offset but 0 a comma comes first.
-unfoldable pub withComma : ℕ → List ℕ → List ℕ
-withComma zero t = t
-withComma (suc j) t = 0x2C ∷ t
-
--- The bytes that are written for several texts from the offset j on. From the offset 0 on they are the texts with commas between them.
-unfoldable pub writtenFrom : ℕ → List (List ℕ) → List ℕ
-writtenFrom j [] = []
-writtenFrom j (t ∷ ts) = withComma j t ++ writtenFrom (j + length (withComma j t)) ts
-
 -- The ordinary keys in ascending order, then the keycap keys in ascending order, with a comma between each two.
 unfoldable pub keyList : PolicyKeySet → List ℕ
 keyList s =
@@ -59,3 +49,15 @@ unfoldable pub display : PolicyKeySet → List ℕ
 display s =
     cond (eqb (keysSize s) 0) (0x6E ∷ 0x6F ∷ 0x6E ∷ 0x65 ∷ [])
     (cond (eqb (keysSize s) (entryCount + entryCount)) (0x61 ∷ 0x6C ∷ 0x6C ∷ []) (keyList s))
+
+-- ---- contracts of helper functions
+
+-- The bytes that are written for a text at the offset j of the output: at every offset but 0 a comma comes first.
+unfoldable pub withComma : ℕ → List ℕ → List ℕ
+withComma zero t = t
+withComma (suc j) t = 0x2C ∷ t
+
+-- The bytes that are written for several texts from the offset j on. From the offset 0 on they are the texts with commas between them.
+unfoldable pub writtenFrom : ℕ → List (List ℕ) → List ℕ
+writtenFrom j [] = []
+writtenFrom j (t ∷ ts) = withComma j t ++ writtenFrom (j + length (withComma j t)) ts

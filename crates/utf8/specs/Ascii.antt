@@ -16,10 +16,6 @@ asciiBytes (b ∷ s) = cond (utf8-1 b) (suc (asciiBytes s)) 0
 unfoldable pub asciiEnd : List ℕ → ℕ → ℕ
 asciiEnd s from = from + asciiBytes (drop from s)
 
--- Each of the n bytes of s from the offset `from` on is at most `top`.
-pub record AllUpTo (top : ℕ) (s : List ℕ) (from n : ℕ) : Type 0 where
-  pub each : (k : ℕ) → from ≤ k → k < from + n → getD s k 0 ≤ top
-
 -- Every byte of s from the offset `from` up to `end` is ASCII. If `from` is after the end of s, the run is empty.
 pub record AsciiRun (s : List ℕ) (from end : ℕ) : Type 0 where
   pub from-le : from ≤ end
@@ -30,3 +26,9 @@ pub record AsciiRun (s : List ℕ) (from end : ℕ) : Type 0 where
 -- The run ends at `end`: s ends there, or the byte there is above 7F.
 abbrev pub NoAsciiAt : List ℕ → ℕ → Type 0
 NoAsciiAt s end = end < length s → 0x7F < getD s end 0
+
+-- ---- contracts of helper functions
+
+-- Each of the n bytes of s from the offset `from` on is at most `top`.
+pub record AllUpTo (top : ℕ) (s : List ℕ) (from n : ℕ) : Type 0 where
+  pub each : (k : ℕ) → from ≤ k → k < from + n → getD s k 0 ≤ top

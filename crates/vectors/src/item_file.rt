@@ -16,7 +16,7 @@ use crate::parse::Place;
 use crate::parse::VALUES;
 use crate::parse::ends_with;
 use crate::parse::fields_at;
-use crate::policy_bytes::crosses;
+use crate::policy_bytes::round_trips;
 use crate::policy_format::POLICIES;
 use crate::policy_store::STORE_WORDS;
 use crate::policy_store::keep_policy;
@@ -39,7 +39,7 @@ fn policy_agrees(number: u64, values: &[u64; VALUES], store: &mut [u64; STORE_WO
             return false;
         }
     }
-    crosses(policy, values, 0)
+    round_trips(policy, values, 0)
 }
 
 // Replays a line `policy`. `number` is the number of such lines before it.

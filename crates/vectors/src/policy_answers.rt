@@ -67,7 +67,7 @@ pub(crate) fn sizes_agree(values: &[u64; VALUES]) -> bool {
 pub(crate) fn default_agrees(values: &[u64; VALUES]) -> bool {
     let policy = Policy::default();
     if sets::same_policy(policy, sets::policy_at(values, 0)) {
-        return policy_bytes::crosses(policy, values, 0);
+        return policy_bytes::round_trips(policy, values, 0);
     }
     false
 }

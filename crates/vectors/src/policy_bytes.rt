@@ -53,7 +53,7 @@ fn is_read_back(bytes: &[u8; POLICY_BYTES], policy: Policy) -> bool {
 
 // Tests whether the policy is written as the bytes of the words from an index on, and whether reading these bytes gives
 // the policy.
-pub(crate) fn crosses(policy: Policy, words: &[u64], at: usize) -> bool {
+pub(crate) fn round_trips(policy: Policy, words: &[u64], at: usize) -> bool {
     let mut bytes = [0u8; POLICY_BYTES];
     let WriteAnswer::Written { len } = policy::write_policy(policy, &mut bytes) else {
         return false;
@@ -91,7 +91,7 @@ fn counted(tried: Tried, accepted: bool) -> Tried {
 }
 
 // Counts a wrong answer.
-fn mistaken(tried: Tried) -> Tried {
+fn with_mistake(tried: Tried) -> Tried {
     Tried {
         accepted: tried.accepted,
         refused: tried.refused,
@@ -106,7 +106,7 @@ fn with_bytes(tried: Tried, bytes: &[u8], is_policy: bool) -> Tried {
     if read.accepted == is_policy {
         return next;
     }
-    mistaken(next)
+    with_mistake(next)
 }
 
 // Tries the policy that has one bit of one set.

@@ -79,7 +79,7 @@ fn agrees(kind: usize, line: &[u8], values: &[u64; VALUES], store: &[u64; STORE_
             2,
         ),
         EQUAL => truth(PolicyKeySet::eq(a, b)) == values[2],
-        POLICY => policy_bytes::crosses(policy_of(store, first), store, policy_place(first)),
+        POLICY => policy_bytes::round_trips(policy_of(store, first), store, policy_place(first)),
         RULE => policy_answers::rule_agrees(policy_of(store, first), values),
         _ => true,
     }

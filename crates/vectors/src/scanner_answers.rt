@@ -9,7 +9,7 @@ use text_scanner::nth_item;
 use text_scanner::nth_raw;
 
 // Tests whether the n-th item of the scanner is this item, with its bytes.
-fn hands_out(text: &[u8], n: usize, item: ScanItem) -> bool {
+fn gives_item(text: &[u8], n: usize, item: ScanItem) -> bool {
     let NthItem { verdict, step } = nth_item(text, n);
     let Check::Passed = verdict else {
         return false;
@@ -26,7 +26,7 @@ fn hands_out(text: &[u8], n: usize, item: ScanItem) -> bool {
 }
 
 // Tests whether the n-th answer of the scanner is the end, with no bytes.
-fn says_end(text: &[u8], n: usize) -> bool {
+fn gives_end(text: &[u8], n: usize) -> bool {
     let NthItem { verdict: _, step } = nth_item(text, n);
     match step {
         ScanStep::Item(_) => false,
@@ -35,16 +35,16 @@ fn says_end(text: &[u8], n: usize) -> bool {
 }
 
 // Tests whether a text that ends inside a character is refused, and its scanner gives the end at once.
-fn turned_back(text: &[u8]) -> bool {
+fn text_is_refused(text: &[u8]) -> bool {
     let NthItem { verdict, step: _ } = nth_item(text, 0);
     match verdict {
         Check::Passed => false,
-        Check::Refused(_) => says_end(text, 0),
+        Check::Refused(_) => gives_end(text, 0),
     }
 }
 
 // Tests whether the text without its last byte is refused, if this byte is not a character by itself.
-fn cut_is_turned_back(text: &[u8]) -> bool {
+fn cut_is_refused(text: &[u8]) -> bool {
     let len = text.len();
     if len == 0 {
         return true;
@@ -53,7 +53,7 @@ fn cut_is_turned_back(text: &[u8]) -> bool {
     if text[last] < 0x80 {
         return true;
     }
-    turned_back(&text[0..last])
+    text_is_refused(&text[0..last])
 }
 
 // Tests whether the scanner gives the items of the cursor, and then the end.
@@ -64,7 +64,7 @@ pub(crate) fn scanner_agrees(text: &[u8]) -> bool {
         let ScanStep::Item(item) = scanner::next_item(text, at) else {
             return false;
         };
-        if !hands_out(text, n, item) {
+        if !gives_item(text, n, item) {
             return false;
         }
         let end = item.end;
@@ -74,5 +74,5 @@ pub(crate) fn scanner_agrees(text: &[u8]) -> bool {
         at = end;
         n += 1;
     }
-    says_end(text, n) && says_end(text, text.len()) && cut_is_turned_back(text)
+    gives_end(text, n) && gives_end(text, text.len()) && cut_is_refused(text)
 }
