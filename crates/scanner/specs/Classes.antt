@@ -1,4 +1,4 @@
--- What the scanner asks of a character: one of eight classes (document 01, "Character").
+-- The class of a character: the scanner asks no more of a character than which of eight classes it has (document 01, "Character").
 use mathlib.Core.Bool.{cond}
 use mathlib.Core.List.{List, [], _∷_}
 use Prim.Native.Nat.{ℕ}
@@ -18,7 +18,7 @@ pub use Rattle.scanner.specs.declared.char_class.Class.the-variants.{
   Other as other,
 }
 
--- The first class that fits: the tables of document 01 say which characters are emoji, RI and modifiers.
+-- The class of a character is the first one that fits. The tables of document 01 say which characters are emoji, RI and modifiers.
 unfoldable pub classOf : ℕ → Class
 classOf c =
     cond (isSelector c) selector
@@ -29,7 +29,7 @@ classOf c =
     (cond (isEmojiModifier c) modifier
     (cond (isEmoji c) emoji other))))))
 
--- The characters that are no selectors.
+-- A list of characters without its selectors.
 unfoldable pub strip : List ℕ → List ℕ
 strip [] = []
 strip (c ∷ t) = cond (isSelector c) (strip t) (c ∷ strip t)
