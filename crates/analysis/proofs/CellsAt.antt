@@ -19,7 +19,8 @@ use Rattle.scanner.specs.declared.char_class.Class.{Class}
 use Rattle.scanner.specs.declared.char_class.Class.the-variants.{Selector as selector}
 use Rattle.scanner.specs.declared.selectors.PresentationSelectors.{PresentationSelectors}
 use Rattle.scanner.proofs.Bytes.{chars-from, size-chars}
-use Rattle.scanner.proofs.ClassTests.{forSelector, selector-test}
+use Rattle.scanner.specs.RunKinds.{isSelectorClass}
+use Rattle.scanner.proofs.ClassTests.{selector-test}
 use Rattle.scanner.proofs.Peek.{Seen, seen-arm}
 use Rattle.scanner.proofs.Rescan.{size-append}
 use Rattle.scanner.proofs.Runs.{after-false, after-true, run-after, run-false, run-true}
@@ -84,11 +85,11 @@ following-is t = go (cells t) ∙ ap classInFront (sym (after-are t))
 -- The character there is a selector in the arm of that class, and none in the arm of all other classes.
 module _ {text : List ℕ} {at v : ℕ} {k : Class} {next : ℕ} (h : Seen text at v k next) where
   pub is-selector : k ≡ selector → isSelector v ≡ true
-  is-selector e = selector-test v ∙ ap forSelector (sym (h .class) ∙ e)
+  is-selector e = selector-test v ∙ ap isSelectorClass (sym (h .class) ∙ e)
 
   pub not-selector : OneOf (1 ∷ 2 ∷ 3 ∷ 4 ∷ 5 ∷ 6 ∷ 7 ∷ []) (tagOf the-class k) → isSelector v ≡ false
   not-selector o =
-      selector-test v ∙ ap forSelector (sym (h .class)) ∙ seen-arm h forSelector false (1 ∷ 2 ∷ 3 ∷ 4 ∷ 5 ∷ 6 ∷ 7 ∷ [])
+      selector-test v ∙ ap isSelectorClass (sym (h .class)) ∙ seen-arm h isSelectorClass false (1 ∷ 2 ∷ 3 ∷ 4 ∷ 5 ∷ 6 ∷ 7 ∷ [])
       (tt, refl, refl, refl, refl, refl, refl, refl) o
 
 module _ (text : List ℕ) (at : ℕ) where

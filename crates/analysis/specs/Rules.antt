@@ -12,17 +12,9 @@ use Rattle.policy.specs.Policy.{singletonRule}
 use Rattle.policy.specs.declared.Policy.{Policy}
 use Rattle.policy.specs.declared.SingletonRule.{SingletonRule}
 use Rattle.policy.specs.declared.SingletonRule.the-variants.{BareToEmoji, BareToText, EmojiToBare, TextToBare}
+use Rattle.scanner.specs.Classes.{isClass}
 use Rattle.scanner.specs.declared.char_class.Class.{Class}
-use Rattle.scanner.specs.declared.char_class.Class.the-variants.{
-  Selector as selector,
-  Link as link,
-  Ri as ri,
-  Modifier as modifier,
-  Emoji as emoji,
-  Keycap as keycap,
-  Tag as tag,
-  Other as other,
-}
+use Rattle.scanner.specs.declared.char_class.Class.the-variants.{Modifier as modifier, Keycap as keycap, Tag as tag}
 use Rattle.analysis.specs.Counts.{
   _⊕_,
   additionalDefective,
@@ -103,36 +95,15 @@ rule6 r (q ∷ s) =
 
 -- The first modification is a modifier.
 unfoldable pub byModifier : Class → Bool
-byModifier selector = false
-byModifier link = false
-byModifier ri = false
-byModifier modifier = true
-byModifier emoji = false
-byModifier keycap = false
-byModifier tag = false
-byModifier other = false
+byModifier = isClass modifier
 
 -- The first modification is tags.
 unfoldable pub byTags : Class → Bool
-byTags selector = false
-byTags link = false
-byTags ri = false
-byTags modifier = false
-byTags emoji = false
-byTags keycap = false
-byTags tag = true
-byTags other = false
+byTags = isClass tag
 
 -- The first modification is 20E3.
 unfoldable pub byKeycap : Class → Bool
-byKeycap selector = false
-byKeycap link = false
-byKeycap ri = false
-byKeycap modifier = false
-byKeycap emoji = false
-byKeycap keycap = true
-byKeycap tag = false
-byKeycap other = false
+byKeycap = isClass keycap
 
 -- "FE0E first"
 unfoldable pub textFirst : List Presentation → Bool

@@ -10,7 +10,7 @@ use Rattle.scanner.proofs.char_class.Class.{the-type as the-class}
 use Rattle.scanner.specs.RunKinds.{inRun}
 use Rattle.scanner.specs.declared.consume.RunKind.{RunKind}
 use Rattle.scanner.specs.declared.state.Next.{Next}
-use Rattle.scanner.proofs.state.State.{the-type as the-place}
+use Rattle.scanner.proofs.state.State.{the-type as the-state}
 use Rattle.scanner.specs.Classes.{Class, selector, link, ri, modifier, emoji, keycap, tag, other}
 use Rattle.scanner.specs.Items.{State, plain, selectors, links, oneRi, unit, joined, leftOver, nextOf, transition}
 
@@ -45,25 +45,25 @@ class-arm ks P e other h = named ks 7 (P other) (e .7) h
 
 -- ---- a match on a place
 
-abbrev pub OfPlaces : List ℕ → (State → Type 0) → Type 0
-OfPlaces ks P =
+abbrev pub OfStates : List ℕ → (State → Type 0) → Type 0
+OfStates ks P =
     When (hasKey ks 0) (P plain) × When (hasKey ks 1) (P selectors) × When (hasKey ks 2) (P links) × When (hasKey ks 3) (P oneRi)
     × When (hasKey ks 4) (P unit) × When (hasKey ks 5) (P joined) × When (hasKey ks 6) (P leftOver)
 
-pub place-arm : (ks : List ℕ) (P : State → Type 0) → OfPlaces ks P → (p : State) → OneOf ks (tagOf the-place p) → P p
-place-arm ks P e plain h = named ks 0 (P plain) (e .0) h
-place-arm ks P e selectors h = named ks 1 (P selectors) (e .1) h
-place-arm ks P e links h = named ks 2 (P links) (e .2) h
-place-arm ks P e oneRi h = named ks 3 (P oneRi) (e .3) h
-place-arm ks P e unit h = named ks 4 (P unit) (e .4) h
-place-arm ks P e joined h = named ks 5 (P joined) (e .5) h
-place-arm ks P e leftOver h = named ks 6 (P leftOver) (e .6) h
+pub state-arm : (ks : List ℕ) (P : State → Type 0) → OfStates ks P → (p : State) → OneOf ks (tagOf the-state p) → P p
+state-arm ks P e plain h = named ks 0 (P plain) (e .0) h
+state-arm ks P e selectors h = named ks 1 (P selectors) (e .1) h
+state-arm ks P e links h = named ks 2 (P links) (e .2) h
+state-arm ks P e oneRi h = named ks 3 (P oneRi) (e .3) h
+state-arm ks P e unit h = named ks 4 (P unit) (e .4) h
+state-arm ks P e joined h = named ks 5 (P joined) (e .5) h
+state-arm ks P e leftOver h = named ks 6 (P leftOver) (e .6) h
 
 -- ---- a match on a place and then on a class
 
-pub step-arm : (ks : List ℕ) (q : State) (n : Next) → OfClasses ks (λ k. n ≡ nextOf (transition q k)) → (p : State) (k : Class) → p ≡ q
+pub transition-arm : (ks : List ℕ) (q : State) (n : Next) → OfClasses ks (λ k. n ≡ nextOf (transition q k)) → (p : State) (k : Class) → p ≡ q
     → OneOf ks (tagOf the-class k) → n ≡ nextOf (transition p k)
-step-arm ks q n h p k e o = class-arm ks (λ k. n ≡ nextOf (transition q k)) h k o ∙ ap (λ (x : State). nextOf (transition x k)) (sym e)
+transition-arm ks q n h p k e o = class-arm ks (λ k. n ≡ nextOf (transition q k)) h k o ∙ ap (λ (x : State). nextOf (transition x k)) (sym e)
 
 -- ---- a match on a run and then on a class
 

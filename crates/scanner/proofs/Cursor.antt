@@ -21,7 +21,7 @@ use Rattle.scanner.specs.declared.ScanStep.the-variants as Answer
 use Rattle.scanner.specs.declared.state.Next.the-variants as Next
 use Rattle.scanner.proofs.Bytes.{chars-from}
 use Rattle.scanner.proofs.Classes.{class-is, is-selector, is-tag}
-use Rattle.scanner.proofs.ClassTests.{forTags, tags-test}
+use Rattle.scanner.proofs.ClassTests.{isTagOrSelectorClass, tags-test}
 use Rattle.scanner.proofs.ItemRuns.{walk-passes}
 use Rattle.scanner.proofs.Peek.{Seen, Unseen}
 use Rattle.scanner.proofs.States.{headed-step, tag-begins}
@@ -114,7 +114,7 @@ module _ {text : List ℕ} {at v next : ℕ} (h : Seen text at v tag next) (p : 
       ∙ ap (λ (b : Bool). allComplete (tagModifications tags) && b) (sym (tags-headed unit (restAt text end unit) refl))
 
   pub tags-go-on : at < end
-  tags-go-on = omega (arith, h .on, run-on inTags h (tags-test v ∙ ap forTags (sym (h .class))))
+  tags-go-on = omega (arith, h .on, run-on inTags h (tags-test v ∙ ap isTagOrSelectorClass (sym (h .class))))
 
 -- ---- the loop over the rest of an item, begun at an offset and a place: at each turn what is left gives the same end and the same tags
 

@@ -31,7 +31,8 @@ use Rattle.scanner.specs.declared.parts.EmojiModification.the-variants a
 use Rattle.scanner.specs.declared.parts.EmojiTagRun.the-variants.{NoTags}
 use Rattle.scanner.proofs.Bytes.{chars-from}
 use Rattle.scanner.proofs.Classes.{HasClass, class-is, is-keycap, is-modifier, is-selector, tag-no-selector}
-use Rattle.scanner.proofs.ClassTests.{forModification, forTag, modification-test, tag-test}
+use Rattle.scanner.specs.RunKinds.{isModificationClass, isTagClass}
+use Rattle.scanner.proofs.ClassTests.{modification-test, tag-test}
 use Rattle.scanner.proofs.ModificationWalks.{no-tag-after, Mods, mods-end, mods-keycap, mods-modifier, mods-tags}
 use Rattle.scanner.proofs.Modifications.{RunsOk, one-run, run-and as run-more, of-class}
 use Rattle.scanner.proofs.Rescan.{size-append}
@@ -43,7 +44,7 @@ use Rattle.scanner.proofs.UnitsAt.{tag-run-by}
 -- ---- one run of tags
 
 selector-no-tag : (c : ℕ) → isSelector c ≡ true → isTag c ≡ false
-selector-no-tag c e = tag-test c ∙ ap forTag (class-is (is-selector e))
+selector-no-tag c e = tag-test c ∙ ap isTagClass (class-is (is-selector e))
 
 neither : {t : List ℕ} → Stops inTags t → Stops isTag t × Stops isSelector t
 neither at-end = (at-end, at-end)
@@ -138,11 +139,11 @@ front-read at t e f = ap (λ (l : List ℕ). firstFrom at ((modificationsOf l) .
 
 module _ {c : ℕ} {k : Class} (h : HasClass c k) (s t : List ℕ) where
   -- A modifier or 20E3 and its selectors, before t.
-  one-read : (at : ℕ) → forTag k ≡ false → forModification k ≡ true → S s → Stops isSelector t → modificationRead at (c ∷ (s ++ t))
+  one-read : (at : ℕ) → isTagClass k ≡ false → isModificationClass k ≡ true → S s → Stops isSelector t → modificationRead at (c ∷ (s ++ t))
       ≡ firstFrom at ((toModifications k c (s, [])) .1)
   one-read at e f a p =
-      front-read at (c ∷ (s ++ t)) (modification-other c (s ++ t) true (tag-test c ∙ ap forTag (class-is h) ∙ e)
-      (modification-test c ∙ ap forModification (class-is h) ∙ f) ∙ ap (λ (l : List ℕ). c ∷ l) (run-all isSelector (S-passes a) p))
+      front-read at (c ∷ (s ++ t)) (modification-other c (s ++ t) true (tag-test c ∙ ap isTagClass (class-is h) ∙ e)
+      (modification-test c ∙ ap isModificationClass (class-is h) ∙ f) ∙ ap (λ (l : List ℕ). c ∷ l) (run-all isSelector (S-passes a) p))
       (ap (λ (x : List ℕ × List EmojiModification). x .1) (of-class s h ∙ ap (toModifications k c) (of-selectors (S-passes a))))
 
 none-read : (at : ℕ) {t : List ℕ} → Stops inModifications t → modificationRead at t ≡ Value.NoModification

@@ -163,14 +163,14 @@ walk-unit h (unit-of s m) =
     record { end = v .end; inside = v .inside; walked = front-append (r .walked) (v .walked) }
 
 -- After one link.
-abbrev pub Behind : Class → State → Type 0
-Behind k p = transition joined k ≡ some p
+abbrev pub AfterLink : Class → State → Type 0
+AfterLink k p = transition joined k ≡ some p
 
-pub after : Starts Behind
+pub after : Starts AfterLink
 unfolding transition
 after = record { at-ri = refl; at-modifier = refl; at-emoji = refl }
 
-pub walk-front : {s : List ℕ} {q : State} → Front Behind s q → Walk joined s q
+pub walk-front : {s : List ℕ} {q : State} → Front AfterLink s q → Walk joined s q
 walk-front (front i e w) = via i e w
 
 -- At the front of an item.

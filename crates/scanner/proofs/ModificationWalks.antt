@@ -33,7 +33,7 @@ use Rattle.scanner.proofs.Classes.{
   modifier-emoji,
   tag-no-selector,
 }
-use Rattle.scanner.proofs.ClassTests.{forTags, tags-test}
+use Rattle.scanner.proofs.ClassTests.{isTagOrSelectorClass, tags-test}
 use Rattle.scanner.proofs.Modifications.{
   RunsOk,
   tag-more,
@@ -63,8 +63,8 @@ no-tag-after (at-char {c = c} e) =
     let q = both-false (isEmojiModifier c) (eqb c 0x20E3 || isTag c) (p .0) in
     at-char (ap₂ (λ (x y : Bool). x || y) (both-false (eqb c 0x20E3) (isTag c) (q .1) .1) (p .1))
 
-no-tags-at : {c : ℕ} {k : Class} → HasClass c k → forTags k ≡ false → inTags c ≡ false
-no-tags-at {c} h e = tags-test c ∙ ap forTags (class-is h) ∙ e
+no-tags-at : {c : ℕ} {k : Class} → HasClass c k → isTagOrSelectorClass k ≡ false → inTags c ≡ false
+no-tags-at {c} h e = tags-test c ∙ ap isTagOrSelectorClass (class-is h) ∙ e
 
 -- ---- modifications before r
 

@@ -10,7 +10,7 @@ use Rattle.utf8.specs.Rfc3629.{chars}
 use Rattle.unicode.specs.Unicode.{isEmoji, isRi, isTag}
 use Rattle.scanner.specs.Classes.{Class}
 use Rattle.scanner.specs.Parts.{joins, linkPart, linkRead, noUnit, partRead, stemAfter, stemRead, tagRunFrom, tagRunRead, unitRead}
-use Rattle.scanner.specs.RunKinds.{runOf}
+use Rattle.scanner.specs.RunKinds.{isEmojiClass, runOf}
 use Rattle.scanner.specs.Runs.{afterRun, afterSelectors, afterStem, modificationsAt, run, secondRiAt, selectorsAt, stemAt, unitAt}
 use Rattle.scanner.specs.SelectorRun.{selectorRun, selectorsFrom}
 use Rattle.scanner.specs.Spans.{size, width}
@@ -25,7 +25,7 @@ use Rattle.scanner.specs.declared.parts.ZwjLink.{ZwjLink}
 use Rattle.scanner.specs.declared.parts.ZwjLink.the-variants.{Link, NoLink}
 use Rattle.scanner.specs.declared.selectors.PresentationSelectors.{PresentationSelectors}
 use Rattle.scanner.proofs.Bytes.{chars-from, width-some}
-use Rattle.scanner.proofs.ClassTests.{emoji-test, forEmoji, run-tags}
+use Rattle.scanner.proofs.ClassTests.{emoji-test, run-tags}
 use Rattle.scanner.proofs.EmojiRuns.{after-stem, stem-read}
 use Rattle.scanner.proofs.Peek.{Seen, Unseen}
 use Rattle.scanner.proofs.Rescan.{size-append}
@@ -233,14 +233,14 @@ module _ (text : List ℕ) (end at : ℕ) where
         part-before-none u = ap (joins s) (sym (u .chars-none)) ∙ joins-is
 
         module _ {v : ℕ} {c : Class} {next : ℕ} (u : Seen text (s .end) v c next) where
-          joins-by : (b : Bool) → forEmoji c ≡ b → cond b (JoiningLink s) (LeftOverLink s) ≡ partRead text end at
+          joins-by : (b : Bool) → isEmojiClass c ≡ b → cond b (JoiningLink s) (LeftOverLink s) ≡ partRead text end at
           unfolding joins
           joins-by b f =
-              ap (λ (x : Bool). cond x (JoiningLink s) (LeftOverLink s)) (sym (emoji-test v ∙ ap forEmoji (sym (u .class)) ∙ f))
+              ap (λ (x : Bool). cond x (JoiningLink s) (LeftOverLink s)) (sym (emoji-test v ∙ ap isEmojiClass (sym (u .class)) ∙ f))
               ∙ ap (joins s) (sym (u .chars-on)) ∙ joins-is
 
-          pub part-joins : forEmoji c ≡ true → JoiningLink s ≡ partRead text end at
+          pub part-joins : isEmojiClass c ≡ true → JoiningLink s ≡ partRead text end at
           part-joins f = joins-by true f
 
-          pub part-left : forEmoji c ≡ false → LeftOverLink s ≡ partRead text end at
+          pub part-left : isEmojiClass c ≡ false → LeftOverLink s ≡ partRead text end at
           part-left f = joins-by false f

@@ -1,5 +1,5 @@
 -- The class of a character: the scanner asks no more of a character than which of eight classes it has (document 01, "Character").
-use mathlib.Core.Bool.{cond}
+use mathlib.Core.Bool.{Bool, cond}
 use mathlib.Core.List.{List, [], _∷_}
 use Prim.Native.Nat.{ℕ}
 use lib.Dec.{eqb}
@@ -28,6 +28,21 @@ classOf c =
     (cond (isRi c) ri
     (cond (isEmojiModifier c) modifier
     (cond (isEmoji c) emoji other))))))
+
+-- The number of a class, in the order of the list above.
+abbrev pub classNumber : Class → ℕ
+classNumber selector = 0
+classNumber link = 1
+classNumber ri = 2
+classNumber modifier = 3
+classNumber emoji = 4
+classNumber keycap = 5
+classNumber tag = 6
+classNumber other = 7
+
+-- Whether k is the class j.
+abbrev pub isClass : Class → Class → Bool
+isClass j k = eqb (classNumber k) (classNumber j)
 
 -- A list of characters without its selectors.
 unfoldable pub strip : List ℕ → List ℕ

@@ -12,7 +12,7 @@ use lib.ListN.{drop, length}
 use Rattle.utf8.specs.Rfc3629.{chars}
 use Rattle.scanner.specs.Runs.{inTags, run, tagModificationAt}
 use Rattle.scanner.specs.Spans.{size, width}
-use Rattle.scanner.proofs.ClassTests.{forTags, tags-test}
+use Rattle.scanner.proofs.ClassTests.{isTagOrSelectorClass, tags-test}
 use Rattle.scanner.proofs.Peek.{seen, seen-arm, unseen}
 use Rattle.scanner.proofs.RunsAt.{run-none, run-on, run-over}
 use Rattle.scanner.proofs.TagsRead.{TagsRead, tags-begin, tags-none, tags-over, tags-selector, tags-tag}
@@ -70,7 +70,7 @@ loop-again c =
     let k = seen (x .text .now) (l .end) (sym (c .before .before .before .before .before .peek .ensures)
     ∙ c .before .before .before .value .given .1) in
     let e = c .enum-told .given .1 in
-    let o = tags-test _ ∙ ap forTags (sym (k .class) ∙ e) in (
+    let o = tags-test _ ∙ ap isTagOrSelectorClass (sym (k .class) ∙ e) in (
       omega (arith, k .on, l .inv .0),
       λ _. omega (arith, k .on, l .inv .0),
       (l .inv .2 .0 ∙ run-on inTags k o, tags-selector k (l .inv .2 .1) e),
@@ -90,7 +90,7 @@ loop-again-2 c =
     let k = seen (x .text .now) (l .end) (sym (c .before .before .before .before .before .before .peek .ensures)
     ∙ c .before .before .before .before .value .given .1) in
     let e = c .before .enum-told2 .given .1 in
-    let o = tags-test _ ∙ ap forTags (sym (k .class) ∙ e) in
+    let o = tags-test _ ∙ ap isTagOrSelectorClass (sym (k .class) ∙ e) in
     (omega (arith, k .on, l .inv .0), λ _. omega (arith, k .on, l .inv .0), (l .inv .2 .0 ∙ run-on inTags k o, tags-tag k (l .inv .2 .1) e))
 
 returns : tie.Need-returns Inv-loop μ-loop Inv-groups μ-groups
@@ -99,8 +99,8 @@ returns c =
     let x = c .before .before .before .before .before .before .before .before .args in
     let l = c .before .before .before .before .before .loop in
     let k = seen (x .text .now) (l .end) (sym (c .before .before .before .before .peek .ensures) ∙ c .before .before .value .given .1) in
-    let o = tags-test _ ∙ ap forTags (sym (k .class))
-    ∙ seen-arm k forTags false (1 ∷ 2 ∷ 3 ∷ 4 ∷ 5 ∷ 7 ∷ []) (tt, refl, refl, refl, refl, refl, tt, refl) (c .match2 .keys3) in
+    let o = tags-test _ ∙ ap isTagOrSelectorClass (sym (k .class))
+    ∙ seen-arm k isTagOrSelectorClass false (1 ∷ 2 ∷ 3 ∷ 4 ∷ 5 ∷ 7 ∷ []) (tt, refl, refl, refl, refl, refl, tt, refl) (c .match2 .keys3) in
     (omega (arith, l .inv .2 .0, run-over inTags k o), tags-over k (l .inv .2 .1) o)
 
 returns-2 : tie.Need-returns-2 Inv-loop μ-loop Inv-groups μ-groups
