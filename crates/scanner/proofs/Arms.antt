@@ -1,4 +1,4 @@
--- An arm of a match on a class, a place or a kind: what holds at each variant that the arm names holds where the arm is taken.
+-- An arm of a match on a class, a state or a run kind: a property of each variant that the arm names holds where the arm is taken.
 use mathlib.Core.Path.{_≡_, refl, ap, sym, _∙_}
 use mathlib.Core.Bool.{Bool, true, false}
 use mathlib.Core.List.{List}
@@ -14,7 +14,7 @@ use Rattle.scanner.proofs.state.State.{the-type as the-state}
 use Rattle.scanner.specs.Classes.{Class, selector, link, ri, modifier, emoji, keycap, tag, other}
 use Rattle.scanner.specs.Items.{State, plain, selectors, links, oneRi, unit, joined, leftOver, nextOf, transition}
 
--- What is to be shown of the variant with a number: nothing where the arm does not name it.
+-- The property X, if the arm names the variant; otherwise nothing is to be shown.
 abbrev pub When : Bool → Type 0 → Type 0
 When true X = X
 When false X = Unit {0}
@@ -43,7 +43,7 @@ class-arm ks P e keycap h = named ks 5 (P keycap) (e .5) h
 class-arm ks P e tag h = named ks 6 (P tag) (e .6) h
 class-arm ks P e other h = named ks 7 (P other) (e .7) h
 
--- ---- a match on a place
+-- ---- a match on a state
 
 abbrev pub OfStates : List ℕ → (State → Type 0) → Type 0
 OfStates ks P =
@@ -59,13 +59,13 @@ state-arm ks P e unit h = named ks 4 (P unit) (e .4) h
 state-arm ks P e joined h = named ks 5 (P joined) (e .5) h
 state-arm ks P e leftOver h = named ks 6 (P leftOver) (e .6) h
 
--- ---- a match on a place and then on a class
+-- ---- a match on a state and then on a class
 
 pub transition-arm : (ks : List ℕ) (q : State) (n : Next) → OfClasses ks (λ k. n ≡ nextOf (transition q k)) → (p : State) (k : Class) → p ≡ q
     → OneOf ks (tagOf the-class k) → n ≡ nextOf (transition p k)
 transition-arm ks q n h p k e o = class-arm ks (λ k. n ≡ nextOf (transition q k)) h k o ∙ ap (λ (x : State). nextOf (transition x k)) (sym e)
 
--- ---- a match on a run and then on a class
+-- ---- a match on a run kind and then on a class
 
 pub run-arm : (ks : List ℕ) (q : RunKind) (b : Bool) → OfClasses ks (λ k. b ≡ inRun q k) → (r : RunKind) (k : Class) → r ≡ q
     → OneOf ks (tagOf the-class k) → b ≡ inRun r k

@@ -1,4 +1,4 @@
--- What the class of a character says of document 01's tests: each is a test of the class, and so are the runs by these tests.
+-- Document 01's tests of a character are tests of its class, and the runs by these tests are runs by class.
 use mathlib.Core.Path.{_≡_, refl, ap, ap₂, sym, _∙_}
 use mathlib.Core.Bool.{Bool, true, false, cond, not, _||_, false≢true}
 use mathlib.Core.List.{List, [], _∷_}
@@ -39,7 +39,7 @@ use Rattle.scanner.proofs.Classes.{
 abbrev pub isRiClass : Class → Bool
 isRiClass = isClass ri
 
--- A class that the test passes, at a character of which the test holds.
+-- If the test f passes the class k, it passes the class of a character of class k.
 at-class : (f : Class → Bool) {c : ℕ} {k : Class} → HasClass c k → f k ≡ true → f (classOf c) ≡ true
 at-class f h e = ap f (class-is h) ∙ e
 
@@ -47,7 +47,7 @@ taken : (b : Bool) (X : Type 0) → When b X → b ≡ true → X
 taken true X x e = x
 taken false X x e = absurd (false≢true e)
 
--- What holds of a character whose class the test passes: to be shown from what each such class says of the character.
+-- A property X of a character whose class passes the test f: X is shown for each class that passes f.
 passed : (f : Class → Bool) (c : ℕ) (X : Type 0)
     → When (f selector) (isSelector c ≡ true → X)
     × When (f link) (c ≡ 0x200D → X)

@@ -1,4 +1,4 @@
--- The cursors over tag runs and modifications, walked over the modifications of a unit.
+-- Calls of the functions that read tag runs and modifications, from the first modification of a unit to the unit's end.
 use mathlib.Core.Path.{_≡_, refl, ap, ap₂, sym, _∙_, subst}
 use mathlib.Core.Bool.{Bool, true, false}
 use mathlib.Core.List.{List, [], _∷_, _++_, append-assoc}
@@ -58,7 +58,7 @@ tags-pass : {t : List ℕ} → Tags t → Passes isTag t
 tags-pass (one-tag e) = pass-and e all-pass
 tags-pass (tag-and e h) = pass-and e (tags-pass h)
 
--- A list that begins with a tag.
+-- A list whose first character is a tag.
 data TagFirst : List ℕ → Type 0 where
   tag-first : {c : ℕ} {t : List ℕ} → isTag c ≡ true → TagFirst (c ∷ t)
 
@@ -78,7 +78,7 @@ unfolding tagRunRead
 no-run-read at at-end = refl
 no-run-read at (at-char {c = c} {s = t} e) = tag-run-by at c t false e
 
--- Tags and selectors, before t.
+-- The function reads tags and selectors before characters t.
 group-read : (at : ℕ) {g s t : List ℕ} → Tags g → S s → Stops isTag (s ++ t) → Stops isSelector t
     → tagRunRead at (g ++ (s ++ t)) ≡ tagRunFrom at (record { tags = g; after = s })
 group-read at {g} {s} {t} a b p q =
@@ -138,7 +138,7 @@ unfolding modificationRead
 front-read at t e f = ap (λ (l : List ℕ). firstFrom at ((modificationsOf l) .1)) e ∙ ap (firstFrom at) f
 
 module _ {c : ℕ} {k : Class} (h : HasClass c k) (s t : List ℕ) where
-  -- A modifier or 20E3 and its selectors, before t.
+  -- The function reads a modifier or 20E3 and its selectors, before characters t.
   one-read : (at : ℕ) → isTagClass k ≡ false → isModificationClass k ≡ true → S s → Stops isSelector t → modificationRead at (c ∷ (s ++ t))
       ≡ firstFrom at ((toModifications k c (s, [])) .1)
   one-read at e f a p =
@@ -155,7 +155,7 @@ none-read at (at-char {c = c} {s = t} e) = front-read at (c ∷ t)
     no-tag : Stops isTag (c ∷ t) → isTag c ≡ false
     no-tag (at-char f) = f
 
--- Groups of tags, before t.
+-- The function reads groups of tags, before characters t.
 passes-append : {f : ℕ → Bool} {s t : List ℕ} → Passes f s → Passes f t → Passes f (s ++ t)
 passes-append all-pass k = k
 passes-append (pass-and e h) k = pass-and e (passes-append h k)

@@ -1,4 +1,4 @@
--- What is read of an item's parts at an offset, by the character there and its class: what the consume functions go by.
+-- The parts of an item at an offset, by the character there and its class: the laws that the consume functions use.
 use mathlib.Core.Path.{_≡_, refl, ap, ap₂, sym, _∙_, subst}
 use mathlib.Core.Bool.{Bool, true, false, cond}
 use mathlib.Core.List.{List, [], _∷_}
@@ -67,11 +67,11 @@ keycap-is : {c : ℕ} → HasClass c keycap → c ≡ 0x20E3
 keycap-is (is-keycap e) = e
 
 module _ {text : List ℕ} {at v : ℕ} {k : Class} {next : ℕ} (h : Seen text at v k next) where
-  -- A test by class says the same of the character.
+  -- A test of the class has the same result as the test of the character.
   tested : {b : Bool} (f : ℕ → Bool) (g : Class → Bool) → ((c : ℕ) → f c ≡ g (classOf c)) → g k ≡ b → f v ≡ b
   tested f g t e = t v ∙ ap g (sym (h .class)) ∙ e
 
-  -- The selectors after it.
+  -- The selectors after the character.
   selectors-after : {r : PresentationSelectors} → r ≡ selectorRun text next → r
       ≡ selectorsFrom (at + width v) (selectorsAt (chars (drop next text)))
   unfolding selectorRun
@@ -118,14 +118,14 @@ module _ {text : List ℕ} {at v : ℕ} {k : Class} {next : ℕ} (h : Seen text 
 
   -- ---- a modification
 
-  -- The modification that is read, by the characters of it.
+  -- The modification at the offset, by its characters.
   modification-is : {s : List ℕ} {ms : List Structure.EmojiModification} → modificationAt (v ∷ chars (drop next text)) ≡ s
       → (modificationsOf s) .1 ≡ ms → firstFrom at ms ≡ modificationRead at (chars (drop at text))
   unfolding modificationRead
   modification-is p q = sym (ap (modificationRead at) (h .chars-on) ∙ ap (λ (l : List ℕ). firstFrom at ((modificationsOf l) .1)) p
       ∙ ap (firstFrom at) q)
 
-  -- A modifier or 20E3, and its selectors.
+  -- The modification at the offset, if the character is a modifier or 20E3.
   one-modification : isTagClass k ≡ false → isModificationClass k ≡ true → (ms : List Structure.EmojiModification)
       → (toModifications k v (selectorsAt (chars (drop next text)), [])) .1 ≡ ms → firstFrom at ms
       ≡ modificationRead at (chars (drop at text))
@@ -200,10 +200,10 @@ module _ {text : List ℕ} {at v : ℕ} {k : Class} {next : ℕ} (h : Seen text 
   pub stem-off : isEmojiClass k ≡ false → NoStem ≡ stemRead at (chars (drop at text))
   stem-off e = sym (stem-by false (isRiClass k) e refl)
 
--- ---- the stem of a first RI
+-- ---- the stem whose first character is an RI
 
 module _ (text : List ℕ) (at : ℕ) {r : PresentationSelectors} (e : r ≡ selectorRun text at) where
-  -- After the selectors.
+  -- The characters after the selectors.
   mid-is : chars (drop (r .end) text) ≡ afterSelectors (chars (drop at text))
   unfolding selectorRun
   mid-is =

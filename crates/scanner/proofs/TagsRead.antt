@@ -1,4 +1,4 @@
--- Whether tags are complete, read from left to right: over a tag modification, by the last tag so far; over the rest of an item, by its tag
+-- Whether tags are complete, from left to right: in a tag modification, by the last tag read; in the rest of an item, by its tag
 -- modifications one after the other.
 use mathlib.Core.Path.{_≡_, refl, ap, ap₂, sym, _∙_}
 use mathlib.Core.Logic.{⊎-elim}
@@ -42,7 +42,8 @@ use Rattle.scanner.proofs.Tags.{tag-runs-other, tag-runs-selector}
 
 -- ---- a tag modification
 
--- Of the characters `whole`, `rest` is left, and `b` says whether the last tag so far is E007F.
+-- Of the characters `whole`, the characters `rest` are still to be read; b says whether the last tag read is E007F, or none was
+-- read.
 pub record TagsRead (whole rest : List ℕ) (b : Bool) : Type 0 where
   tags : List ℕ
   so-far : b ≡ allComplete (withTags tags [])
@@ -112,13 +113,13 @@ both-parts {t = t} ts (pass-and {c = c} {s = s} e h) f =
     ∙ ap (λ (b : Bool). b && completeFrom [] t) (sym (complete-selector ts c s g)))
     (either-true (isTag c) (isSelector c) e)
 
--- After a tag modification stands what is neither tag nor selector.
+-- A tag modification, before a character that is neither tag nor selector.
 pub tags-then : {s t : List ℕ} → Passes inTags s → Stops inTags t
     → allComplete (tagModifications (s ++ t)) ≡ (allComplete (tagModifications s) && allComplete (tagModifications t))
 tags-then {s} {t} h f = complete-start (s ++ t) ∙ both-parts [] h f
     ∙ sym (ap₂ (λ (a b : Bool). a && b) (complete-start s) (complete-start t))
 
--- Any other character changes nothing.
+-- A character that is no tag changes nothing.
 other-tags : (c : ℕ) (t : List ℕ) → isTag c ≡ false → tagModifications (c ∷ t) ≡ tagModifications t
 unfolding tagModifications withTags
 other-tags c t e = go (isSelector c) refl
@@ -127,7 +128,7 @@ other-tags c t e = go (isSelector c) refl
     go true s = ap (λ (r : List ℕ × List (List ℕ)). withTags (r .0) (r .1)) (tag-runs-selector c t s)
     go false s = ap (λ (r : List ℕ × List (List ℕ)). withTags (r .0) (r .1)) (tag-runs-other c t e s)
 
--- ---- by the place
+-- ---- by the state
 
 abbrev tagsIn : Bool → List ℕ → Bool
 tagsIn b s = cond b (allComplete (tagModifications s)) true
@@ -152,7 +153,7 @@ tags-nil UnsanctionedPresentationSelectors = refl
 tags-nil LinksOnly = refl
 tags-nil EmojiHeaded = refl
 
--- A tag with which no tag modification begins stands in no emoji-headed item.
+-- In an emoji-headed item, a tag always belongs to a tag modification.
 no-tag : (p q : State) (k : Class) → transition p k ≡ some q → headed p ≡ true → beginsTags q k ≡ false → isTagClass k ≡ false
 unfolding beginsTags
 no-tag p q selector e h b = refl

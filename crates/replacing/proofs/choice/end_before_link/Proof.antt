@@ -1,6 +1,5 @@
--- `replacing::choice::end_before_link` meets its contract. The loop's invariant: `end`, with the bytes up to the next link from there on,
--- is
--- the end. The measure is the number of bytes left.
+-- `replacing::choice::end_before_link` meets its contract. The loop's invariant: the next link from `end` on is the next link from
+-- `at` on. The measure is the number of bytes after `end`.
 use mathlib.Core.Path.{_≡_, refl, ap, sym, _∙_}
 use mathlib.Core.Bool.{false, not}
 use mathlib.Core.List.{[], _∷_}

@@ -1,4 +1,5 @@
--- `scanner::parts::consume_emoji_modification` meets its contract: the class of the character there says which modification it is.
+-- `scanner::parts::consume_emoji_modification` meets its contract: the class of the character at the offset decides which
+-- modification it is.
 use mathlib.Core.Path.{refl, sym, _∙_}
 use mathlib.Core.Bool.{false}
 use mathlib.Core.List.{[], _∷_}

@@ -1,4 +1,4 @@
--- `scanner::parts::consume_emoji_stem` meets its contract: the class of the character there says which stem it is.
+-- `scanner::parts::consume_emoji_stem` meets its contract: the class of the character at the offset decides which stem it is.
 use mathlib.Core.Path.{refl, sym, _∙_}
 use mathlib.Core.Bool.{true, false}
 use mathlib.Core.List.{[], _∷_}

@@ -1,4 +1,4 @@
--- `scanner::parts::consume_regional_indicator_stem` meets its contract: the selectors, and what stands after them.
+-- `scanner::parts::consume_regional_indicator_stem` meets its contract: by the selectors, and the character after them.
 use mathlib.Core.Path.{refl, sym, _∙_}
 use mathlib.Core.Bool.{false}
 use mathlib.Core.List.{[], _∷_}

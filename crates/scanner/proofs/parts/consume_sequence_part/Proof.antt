@@ -1,4 +1,4 @@
--- `scanner::parts::consume_sequence_part` meets its contract: a link, and the character where its selectors end.
+-- `scanner::parts::consume_sequence_part` meets its contract: by the link, and the character after its selectors.
 use mathlib.Core.Path.{refl, sym, _∙_}
 use mathlib.Core.Bool.{true, false}
 use mathlib.Core.List.{[], _∷_}

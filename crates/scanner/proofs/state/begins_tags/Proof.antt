@@ -1,4 +1,4 @@
--- `scanner::place::begins_tags` meets its contract: each arm is a line of the definition, or several with one answer.
+-- `scanner::state::begins_tags` meets its contract: each arm is one line of the definition, or several with the same result.
 use mathlib.Core.Path.{_≡_, refl, ap, sym, _∙_}
 use mathlib.Core.Bool.{false}
 use mathlib.Core.List.{[], _∷_}
