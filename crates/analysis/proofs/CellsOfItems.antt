@@ -294,7 +294,7 @@ module _ (p : Policy) where
             ∙ ap (λ (n : NonCanonicality). n ⊕ totals p xs) (sym (counts-at p x Passthrough k));
       }
 
-  -- The sum over the cells of the items after an item, if no selector leads them.
+  -- The sum over the cells of items is the totals of the items, if no selector leads them.
   sum-after : {xs : List Item} → leading (join xs) ≡ [] → ByCells xs → sum (outs other (cells (join xs))) ≡ totals p xs
   sum-after {xs} e i =
       let Y = outs other (cells (join xs)) in

@@ -146,7 +146,7 @@ pub of-structured : {A : Type 0} {k : ScanKind} (f : ScanKind → A) (a : A) →
 of-structured f a o l e = ⊎-elim (λ z. ap f z ∙ l) (λ z. ap f z ∙ e) o
 
 module _ (p : Policy) where
-  -- The counts of characters, and the pieces of their replacement.
+  -- The characters t have the counts n, and es are the pieces of their replacement.
   pub record Says (t : List ℕ) (n : NonCanonicality) (es : List Element) : Type 0 where
     pub leads : leading t ≡ []
     pub counted : countCells p (cells t) ≡ n

@@ -150,7 +150,7 @@ module _ (p : Policy) (t : List ℕ) (ds : List Presentation) where
       let d = ap (size width) (strip-render p t []) in
       omega (arith, bytes-parts r, bytes-parts s, renew-balances p (cells t) ds, renew-balances p (cells t) [])
 
--- For a slice within the limit, the length fits.
+-- For a slice within the limit, the capped length is the length of the written cells.
 pub measured : (p : Policy) (raw : List ℕ) (ds : List Presentation) → length raw ≤ textLimit
     → capped (size width (formatCells p (chars raw))) ≡ length (encodeAll (render p (cells (chars raw)) ds))
 measured p raw ds h =

@@ -93,7 +93,7 @@ part text at end = take (end - at) (drop at text)
 pub part-within : (text : List ℕ) (at end : ℕ) → length (part text at end) ≤ length text
 part-within text at end = omega (arith, length-take (end - at) (drop at text), length-drop at text)
 
--- The call that writes the cells of a part, for a text within the limit.
+-- A part of a text within the limit is within the limit: the test of its length passes.
 pub part-written : (text out : List ℕ) (at end : ℕ) → length text ≤ textLimit → {a next : After MendAnswer ℕ} → a
     ≡ withinLimit (part text at end) out next → a ≡ next
 part-written text out at end l e = e ∙ sym (not-too-long (part text at end) out _ (omega (arith, part-within text at end)))
@@ -108,7 +108,7 @@ pub record FoundAt (p : Policy) (text : List ℕ) (at : ℕ) (f : Finding) : Typ
   pub end-is : f .end ≡ at + size width (item .chars)
   pub counts-are : f .counts ≡ nonCanonicality p item
 
--- The characters of the finding's renewed cells under decisions.
+-- The bytes of the finding's renewed cells under decisions.
 abbrev cellsWritten : Policy → List ℕ → ℕ → Finding → List Presentation → List ℕ
 cellsWritten p text at f ds = encodeAll (render p (cells (chars (part text at (f .end)))) ds)
 

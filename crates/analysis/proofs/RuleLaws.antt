@@ -133,6 +133,7 @@ held bare = 0
 held (fixed q) = 1
 held (decided d) = 1
 
+-- The number of decisions that a slot takes.
 abbrev pub decisions : Slot → ℕ
 decisions bare = 0
 decisions (fixed q) = 0

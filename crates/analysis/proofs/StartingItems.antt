@@ -50,7 +50,7 @@ or-none true = refl
 or-none false = refl
 
 module _ (text : List ℕ) (o at : ℕ) where
-  -- Whether an item starts at the offset, by the cursor's answer at an earlier offset.
+  -- Whether one of the items from the offset `at` on starts at the offset o, by the cursor's answer at `at`.
   abbrev pub Starting : ScanStep → Type 0
   Starting Step.End = startsAt o (scanFrom text at) ≡ false
   Starting (Step.Item x) =

@@ -182,7 +182,7 @@ emoji-class c e = go (isRi c) (isEmojiModifier c) refl refl
     go false true r′ m′ = a-modifier m′
     go false false r′ m′ = an-emoji (is-emoji e r′ m′)
 
--- 20E3 and tags are plain characters in the grammar's sense, where no item contains them.
+-- 20E3 and tags are plain characters in the grammar's sense.
 pub keycap-plain : Plain 0x20E3
 unfolding isSelector LinkAndKeycapAreNotEmoji
 keycap-plain = record { no-selector = refl; no-link = refl; no-emoji = link-and-keycap-are-not-emoji .1 }

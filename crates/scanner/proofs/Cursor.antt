@@ -62,7 +62,7 @@ module _ {text : List ℕ} {at v : ℕ} {k : Class} {next : ℕ} (h : Seen text 
       ∙ ap (λ (r : List ℕ × List Item). r .0)
       (cut-none p v (chars (drop next text)) (ap (transition p) (sym (h .class)) ∙ next-stop (transition p k) e))
 
-  -- The end of the rest, by its bytes.
+  -- The rest from the next character on has the same end.
   width-on : (q : State) → nextOf (transition p k) ≡ Next.On q → at + size width (restAt text at p) ≡ next + size width (restAt text next q)
   width-on q e = omega (arith, h .after, ap (size width) (rest-on q e))
 

@@ -107,7 +107,7 @@ runs-size r rs = ap (size width) (sym (append-assoc (r .tags) (r .after) (flatte
     ∙ size-append width (r .tags ++ r .after) (flattenRuns rs)
 
 module _ (text : List ℕ) where
-  -- The offset after a run.
+  -- The characters from the end of a run on.
   next-run : (at : ℕ) (r : EmojiTagRun) (rs : List EmojiTagRun) (u : List ℕ) → chars (drop at text) ≡ flattenRuns (r ∷ rs) ++ u
       → chars (drop (at + size width (r .tags ++ r .after)) text) ≡ flattenRuns rs ++ u
   next-run at r rs u e =
@@ -155,7 +155,6 @@ none-read at (at-char {c = c} {s = t} e) = front-read at (c ∷ t)
     no-tag : Stops isTag (c ∷ t) → isTag c ≡ false
     no-tag (at-char f) = f
 
--- The function reads groups of tags, before characters t.
 passes-append : {f : ℕ → Bool} {s t : List ℕ} → Passes f s → Passes f t → Passes f (s ++ t)
 passes-append all-pass k = k
 passes-append (pass-and e h) k = pass-and e (passes-append h k)

@@ -213,8 +213,8 @@ stem-cut in-unit s n = refl
 
 -- ---- the unit at the front of an item
 
--- The item at an emoji: its unit, and the rest from the state `unit` after that. No modification and no selector stands after the
--- unit.
+-- The item at an emoji: its unit, and the rest from the state `unit` on. The character after the unit is neither a selector nor the
+-- beginning of a modification.
 pub record UnitItem (c : ℕ) (t : List ℕ) : Type 0 where
   pub whole : unitAt (c ∷ t) ++ afterUnit (c ∷ t) ≡ c ∷ t
   pub item : c ∷ (splitFrom (startState (classOf c)) t) .0 ≡ unitAt (c ∷ t) ++ (splitFrom unit (afterUnit (c ∷ t))) .0

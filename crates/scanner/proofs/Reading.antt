@@ -71,7 +71,7 @@ first-longest c s r k w h j d f g e = longest c d f w (h d (f ++ g) e)
 
 -- ---- the items are a reading
 
--- The rest of an item, and the items after it, as a reading.
+-- The rest of an item is a walk to a state at which the item ends, and the items after it are a reading of their characters.
 record Read (p : State) (t : List ℕ) : Type 0 where
   end : State
   walked : Walk p ((splitFrom p t) .0) end

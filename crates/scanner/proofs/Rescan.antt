@@ -44,7 +44,7 @@ module _ (test : Item → Bool) (w : ℕ → ℕ) (plain-fails : (x : Item) → 
     pub same : (n : ℕ) → found test w (n + size w ((splitFrom p (join xs)) .0)) ((splitFrom p (join xs)) .1) ≡ found test w n xs
     pub whole : isPlain p ≡ false → (splitFrom p (join xs)) .0 ≡ []
 
-  -- The first item that the scan finds, if the item before it ended at state p.
+  -- The item that the scan finds for x: it has the characters of x and those of the items after x that continue it.
   abbrev next : Item → List Item → State → ℕ → List ℕ → Item
   next x xs q c s = record { kind = x .kind; chars = c ∷ (s ++ (splitFrom q (join xs)) .0) }
 
@@ -75,7 +75,7 @@ module _ (test : Item → Bool) (w : ℕ → ℕ) (plain-fails : (x : Item) → 
       ap (λ (i : Item). found test w n (i ∷ R .1)) y
       ∙ found-tail test w n x (R .1) xs (ap (λ (m : ℕ). found test w m (R .1)) (sym a) ∙ h .same (n + size w (x .chars)))
 
-  -- The case in which the item begins anew.
+  -- The case in which the scan begins a new item at x.
   again-none : {p q : State} {x : Item} {xs : List Item} (c : ℕ) (s : List ℕ) → transition p (classOf c) ≡ none → x .kind
       ≡ kindOf (startState (classOf c)) → x .chars ≡ c ∷ s → Walk (startState (classOf c)) s q → Again q xs → Again p (x ∷ xs)
   again-none {p} {q} {x} {xs} c s e k l wk h = record {
@@ -90,7 +90,7 @@ module _ (test : Item → Bool) (w : ℕ → ℕ) (plain-fails : (x : Item) → 
           found-skip (n + 0) (next x xs q c s) ((splitFrom q (join xs)) .1) kp ∙ rw (add-zero n) (again-plain x c s kp l h n)
       go false i n = rw (add-zero n) (again-solid x c s l (h .whole (sym (walk-plain wk) ∙ i)) h n)
 
-  -- The case in which the passthrough before it goes on.
+  -- The case in which the passthrough before x goes on with x.
   again-some : {q : State} {x : Item} {xs : List Item} (c : ℕ) (s : List ℕ) (r : State) → transition plain (classOf c) ≡ some r → x .kind
       ≡ kindOf (startState (classOf c)) → x .chars ≡ c ∷ s → Walk (startState (classOf c)) s q → Again q xs → Again plain (x ∷ xs)
   unfolding kindOf

@@ -101,7 +101,7 @@ unit-joins t c u e f =
     link-cut t ∙ ap (λ (a : List ℕ × List Item). (0x200D ∷ (selectorsAt t ++ a .0), a .1))
     (ap (splitFrom joined) e ∙ cut-some joined (startState (classOf c)) c u (joined-on (emoji-class c f)))
 
--- Otherwise the rest is all links there, and the item ends.
+-- After one link and its S, the item ends at a character that is no selector, no link and no emoji.
 joined-off : {c : ℕ} {k : Class} → HasClass c k → isSelector c ≡ false → eqb c 0x200D ≡ false → isEmoji c ≡ false → transition joined k
     ≡ none
 unfolding transition

@@ -68,7 +68,7 @@ use Rattle.scanner.proofs.Runs.{Passes, all-pass, pass-and, Stops, at-c
 use Rattle.scanner.proofs.Units.{front-no-ri, front-stops, like-flag, like-of, like-single, unit-read}
 use Rattle.scanner.proofs.UnitsAt.{no-stem, stem-emoji, stemEnd, unit-on}
 
--- No beginning of r can be added to the unit v.
+-- The first character of r cannot be added to the unit v, and it is no selector.
 pub record Last (v r : List ℕ) : Type 0 where
   pub no-selector : Stops isSelector r
   pub no-more : (d : ℕ) (f : List ℕ) → r ≡ d ∷ f → EmojiUnit (v ++ d ∷ []) → ⊥
