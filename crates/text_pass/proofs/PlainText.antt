@@ -22,7 +22,8 @@ use Rattle.policy.specs.declared.Policy.{Policy}
 use Rattle.scanner.specs.Classes.{classOf}
 use Rattle.scanner.specs.declared.char_class.Class.{Class}
 use Rattle.scanner.specs.declared.char_class.Class.the-variants.{Emoji as emoji, Other as other}
-use Rattle.scanner.proofs.ClassTests.{forSelector, selector-test}
+use Rattle.scanner.specs.RunKinds.{isSelectorClass}
+use Rattle.scanner.proofs.ClassTests.{selector-test}
 use Rattle.scanner.proofs.Classes.{class-is, entry-class, is-link, is-other, is-tag}
 use Rattle.analysis.specs.Analysis.{following}
 use Rattle.analysis.specs.Cells.{cells, leading}
@@ -112,8 +113,8 @@ ascii-other c ascii hash star digit =
     go false m = refl
 
 -- A character whose class is neither emoji nor selector has no variation entry and is no selector.
-class-plain : (c : ℕ) {k : Class} → classOf c ≡ k → (k ≡ emoji → ⊥) → forSelector k ≡ false → StaysAlone c
-class-plain c e never s = record { no-entry = entry (hasVariationSequence c) refl; no-selector = selector-test c ∙ ap forSelector e ∙ s }
+class-plain : (c : ℕ) {k : Class} → classOf c ≡ k → (k ≡ emoji → ⊥) → isSelectorClass k ≡ false → StaysAlone c
+class-plain c e never s = record { no-entry = entry (hasVariationSequence c) refl; no-selector = selector-test c ∙ ap isSelectorClass e ∙ s }
   where
     entry : (b : Bool) → hasVariationSequence c ≡ b → b ≡ false
     entry true v = absurd (never (sym e ∙ entry-class c v))

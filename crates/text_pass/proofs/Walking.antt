@@ -51,7 +51,7 @@ use Rattle.scanner.proofs.Rescan.{size-append}
 use Rattle.scanner.proofs.Runs.{Stops, at-char, at-end, after-stops, run-after, run-passes}
 use Rattle.scanner.proofs.Tiling.{cut-none, cut-some}
 use Rattle.scanner.proofs.Walk.{inner-no-selector, walk-cut}
-use Rattle.scanner.proofs.state.State.{the-type as the-place}
+use Rattle.scanner.proofs.state.State.{the-type as the-state}
 use Rattle.analysis.specs.Analysis.{chosen, following}
 use Rattle.analysis.specs.CellView.{classInFront, totalCells}
 use Rattle.analysis.specs.Cells.{cells, leading}
@@ -129,8 +129,8 @@ as-changed true e f = f
 as-changed false e f = f ∙ sym e
 
 -- In the arm for every state but that of passthrough, the state is not that of passthrough.
-pub not-plain : (q : State) → OneOf (1 ∷ 2 ∷ 3 ∷ 4 ∷ 5 ∷ 6 ∷ []) (tagOf the-place q) → q ≡ plain → ⊥
-not-plain q o e = miss (1 ∷ 2 ∷ 3 ∷ 4 ∷ 5 ∷ 6 ∷ []) 0 tt (subst (λ (r : State). OneOf (1 ∷ 2 ∷ 3 ∷ 4 ∷ 5 ∷ 6 ∷ []) (tagOf the-place r)) e o)
+pub not-plain : (q : State) → OneOf (1 ∷ 2 ∷ 3 ∷ 4 ∷ 5 ∷ 6 ∷ []) (tagOf the-state q) → q ≡ plain → ⊥
+not-plain q o e = miss (1 ∷ 2 ∷ 3 ∷ 4 ∷ 5 ∷ 6 ∷ []) 0 tt (subst (λ (r : State). OneOf (1 ∷ 2 ∷ 3 ∷ 4 ∷ 5 ∷ 6 ∷ []) (tagOf the-state r)) e o)
 
 -- ---- the invariant of the loop: the current item, and what is counted in it so far
 
@@ -455,7 +455,7 @@ module _ {p : Policy} {text : List ℕ} {limit from start base : ℕ} {index : V
 -- ---- where the walk starts
 
 -- In the arm for the states of links and units, the kind of the item is one of these.
-pub structured-place : (q : State) → OneOf (2 ∷ 3 ∷ 4 ∷ 5 ∷ 6 ∷ []) (tagOf the-place q) → Structured (kindOf q)
+pub structured-place : (q : State) → OneOf (2 ∷ 3 ∷ 4 ∷ 5 ∷ 6 ∷ []) (tagOf the-state q) → Structured (kindOf q)
 unfolding kindOf
 structured-place plain o = absurd (miss (2 ∷ 3 ∷ 4 ∷ 5 ∷ 6 ∷ []) 0 tt o)
 structured-place selectors o = absurd (miss (2 ∷ 3 ∷ 4 ∷ 5 ∷ 6 ∷ []) 1 tt o)

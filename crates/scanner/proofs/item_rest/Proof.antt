@@ -1,6 +1,6 @@
--- `scanner::item_rest` meets its contract. The loop's invariant: what is left at `at` and `place` gives the end and the tags of the whole
--- (Cursor, Reading).
--- The measure is the number of bytes left.
+-- `scanner::item_rest` meets its contract. The loop's invariant: the rest from `at` and `state` on, with `tags_complete`, gives the
+-- end and the tag report of the whole rest (Cursor, Reading).
+-- The measure is the number of bytes after `at`.
 use mathlib.Core.Path.{sym, _∙_}
 use Prim.Native.Nat.{_-_}
 use native.Mathlib.Omega.{arith}

@@ -1,4 +1,4 @@
--- `scanner::next_item` meets its contract: the item's parts, one after the other (Cursor, cursor-item).
+-- `scanner::next_item` meets its contract: the item is its first character and the rest (Cursor, cursor-item).
 use mathlib.Core.Path.{sym, _∙_}
 use Rattle.scanner.proofs.Cursor.{cursor-end, cursor-item}
 use Rattle.scanner.proofs.Peek.{seen, unseen}
