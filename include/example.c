@@ -1,4 +1,5 @@
-/* Formats a text under the default policy. In the repository root, after rt staticlib tilghorz:
+/* Formats a text under the default policy. After "rt staticlib tilghorz", these commands in the root of the repository compile and
+ * run it:
  *
  *     cc -Iinclude include/example.c -Ltarget/staticlib -ltilghorz -o example
  *     ./example
@@ -12,7 +13,7 @@ int main(void)
 {
     const char *text = "1\xEF\xB8\x8E \xE2\x9D\xA4";
     uint8_t policy[TILGHORZ_POLICY_BYTES];
-    uint8_t out[64]; /* four times the text's bytes are always enough */
+    uint8_t out[64]; /* four times the length of the text is always enough */
     uint64_t word;
 
     tilghorz_default_policy(policy, sizeof policy);

@@ -1,34 +1,39 @@
-/* The C functions of the library tilghorz (target/staticlib/libtilghorz.a, made by: rt staticlib tilghorz). example.c beside
- * this file calls two of them.
+/* The C functions of the library tilghorz. The command "rt staticlib tilghorz" makes the library,
+ * target/staticlib/libtilghorz.a. The file example.c in this folder calls two of the functions.
  *
- * Slices. A slice is a pointer and a length in bytes. With a length of 0 the pointer may be any that is not null. Bytes that
- * a call writes must not overlap bytes that it reads, and nobody else may write either of them during the call.
+ * Slices. A function takes each slice as a pointer and a length in bytes. If the length is 0, the pointer may have any value
+ * except null. The bytes that a call writes must not overlap the bytes that it reads. Nothing else may write to any of these
+ * bytes during the call.
  *
- * State. A call keeps no pointer and no state. Calls may run at the same time in several threads, on different buffers; they may
- * read the same text and the same policy.
+ * State. A function keeps no pointer and no state after the call. Several threads may call at the same time, if each call has
+ * its own output; they may share the text and the policy.
  *
- * Answers. Each function answers one word. Its top 8 bits are a number, its low 56 bits a value:
+ * Answers. Each function returns one word. The top 8 bits of the word are a number, the low 56 bits are a value:
  *
  *   number     meaning                                value
- *   0          done                                   bytes or places written, or the code point
+ *   0          done                                   bytes or rows written, or the code point
  *   1          text over 16,777,216 bytes             0
  *   2          not a policy                           0
  *   3          text not well-formed                   length of the longest well-formed beginning
  *   4          no finding starts at the offset        0
- *   5          decisions too few or many              number wanted
- *   6          decision byte above 1                  index of the first
- *   7          table too short                        places wanted
- *   8          output too short                       length wanted
+ *   5          decisions too few or many              number of decisions needed
+ *   6          decision byte above 1                  index of the first such byte
+ *   7          table too short                        number of rows needed
+ *   8          output too short                       number of bytes needed
  *   255        nothing to do                          0
  *
- * A refusal (1 to 8) and "nothing to do" leave every buffer as it was. "Done" writes its result at the front and leaves the
- * bytes after it unchanged.
+ * The numbers 1 to 8 are refusals. After a refusal, and after "nothing to do", every buffer is unchanged. After "done" the
+ * result is at the front of the buffer, and the bytes after the result are unchanged.
  *
  * Policies. A policy is 192 bytes: 24 words of 8 bytes, lowest byte first. The words are four sets of 6 words, in this order:
- * prefer_bare ordinary, prefer_bare keycap, bare_as_text ordinary, bare_as_text keycap. Entry i of the variation table stands at bit
- * i mod 64 of word i / 64 of each set, where bit 0 is the lowest. There are 354 entries (tilghorz_variation_entry gives each code
- * point), those of Unicode 15.0; the other 30 bits of a set are unused and must be 0. A base is ruled by the keycap sets where 20E3
- * follows it, else by the ordinary sets.
+ * prefer_bare ordinary, prefer_bare keycap, bare_as_text ordinary, bare_as_text keycap. In each set, bit i mod 64 of word i / 64
+ * says whether the set has entry i of the variation table; bit 0 is the lowest bit.
+ * There are 354 entries, those of Unicode 15.0; the other 30 bits of a set are unused and must be 0. The function
+ * tilghorz_variation_entry gives the code point of an entry. If 20E3 follows a base, the keycap sets apply to the base; otherwise
+ * the ordinary sets apply.
+ *
+ * The comment at each function lists the numbers that it can return besides 0, in the order of its tests, and says what the
+ * value means for 0.
  */
 #ifndef TILGHORZ_H
 #define TILGHORZ_H
@@ -41,12 +46,12 @@ extern "C" {
 #endif
 
 #define TILGHORZ_TEXT_LIMIT 16777216 /* the longest text, in bytes */
-#define TILGHORZ_POLICY_BYTES 192    /* a policy */
+#define TILGHORZ_POLICY_BYTES 192    /* the length of a policy */
 #define TILGHORZ_ENTRIES 354         /* variation entries, those of Unicode 15.0 */
-#define TILGHORZ_FINDING_BYTES 80    /* a row of tilghorz_list */
-#define TILGHORZ_ITEM_BYTES 32       /* a row of tilghorz_scan */
+#define TILGHORZ_FINDING_BYTES 80    /* the length of a row of tilghorz_list */
+#define TILGHORZ_ITEM_BYTES 32       /* the length of a row of tilghorz_scan */
 
-/* The number and the value of an answer. The word may be held in a signed type too. */
+/* The number and the value of an answer. The argument may also have a signed type. */
 #define TILGHORZ_NUMBER(word) ((unsigned)((uint64_t)(word) >> 56))
 #define TILGHORZ_VALUE(word) ((uint64_t)(word) & 0xFFFFFFFFFFFFFF)
 
@@ -62,28 +67,30 @@ extern "C" {
 #define TILGHORZ_OUTPUT_TOO_SHORT 8
 #define TILGHORZ_NOTHING_TO_DO 255
 
-/* Formats a text under a policy: 1, 2, 3, 8; 255 where no change is needed. Value: bytes written, at most 4 times the text's. */
+/* Formats a text under a policy. Numbers: 1, 2, 3, 8, and 255 if the text needs no change. Value: the number of bytes written, at
+ * most 4 times the length of the text. */
 uint64_t tilghorz_format(const uint8_t *text, size_t text_len, const uint8_t *policy, size_t policy_len, uint8_t *out, size_t out_len);
 
-/* Lists the findings in text order: 1, 2, 3, 7. Value: places written. A place is ten numbers of 8 bytes, lowest byte first: start,
- * end, and the counts unsanctioned, modifier-defective, additional-defective, tag-conflicting, tag-forced, tag-redundant,
- * policy-redundant, decisions. The table has as many places as whole rows fit. */
+/* Lists the findings of a text in text order. Numbers: 1, 2, 3, 7. Value: the number of rows written. A row is ten numbers of 8 bytes,
+ * lowest byte first: start, end, and the counts unsanctioned, modifier-defective, additional-defective, tag-conflicting, tag-forced,
+ * tag-redundant, policy-redundant, decisions. The table has room for as many rows as fit into it whole. */
 uint64_t tilghorz_list(const uint8_t *text, size_t text_len, const uint8_t *policy, size_t policy_len, uint8_t *table, size_t table_len);
 
-/* Writes the whole text with the finding that starts at the offset mended: 1, 2, 3, 4, 5, 6, 8. Value: bytes written. Decisions are
- * bytes, 0 text, 1 emoji, as many as the finding's eighth count. For a finding without decisions pass the length 0 and any pointer
- * that is not null, for example the text's. */
+/* Mends the finding that starts at the offset: writes the whole text, with this finding replaced. Numbers: 1, 2, 3, 4, 5, 6, 8.
+ * Value: the number of bytes written. Each decision is one byte: 0 for text, 1 for emoji. The finding's eighth count is the number
+ * of decisions. If it is 0, pass the length 0 and any pointer that is not null, for example the pointer to the text. */
 uint64_t tilghorz_mend(const uint8_t *text, size_t text_len, const uint8_t *policy, size_t policy_len, uint64_t offset,
                        const uint8_t *decisions, size_t decisions_len, uint8_t *out, size_t out_len);
 
-/* Lists the items in text order: 1, 3, 7. Value: places written. A place is four numbers of 8 bytes, lowest byte first: start, end,
- * kind (0 passthrough, 1 unsanctioned selectors, 2 links only, 3 emoji-headed), tags complete (0 or 1). */
+/* Lists the items of a text in text order. Numbers: 1, 3, 7. Value: the number of rows written. A row is four numbers of 8 bytes,
+ * lowest byte first: start, end, kind (0 passthrough, 1 unsanctioned selectors, 2 links only, 3 emoji-headed), and whether the tags
+ * are complete (0 or 1). */
 uint64_t tilghorz_scan(const uint8_t *text, size_t text_len, uint8_t *table, size_t table_len);
 
-/* Writes the default policy: 8. Value: bytes written. */
+/* Writes the default policy. Number: 8. Value: the number of bytes written. */
 uint64_t tilghorz_default_policy(uint8_t *out, size_t out_len);
 
-/* The code point of a variation entry; 255 where there is no such entry. */
+/* Gives the code point of a variation entry. Number: 255 if there is no such entry. Value: the code point. */
 uint64_t tilghorz_variation_entry(uint64_t index);
 
 #ifdef __cplusplus

@@ -85,6 +85,7 @@ worked = (refl, refl)
     "docs/AUDIT.md": """
 `EveryList` is about `Some`, `Answer`, `Done` and `LIMIT`, and not about Rust's `Vec`; its proof is in `Laws`.
 `others` and `number` of `ListClaim`, `again` in `FormattedClaim`, which is `FormattedClaim` (`again`).
+one/Theorems: `Through`, `Last`; one/lib.rt: `Answer`.
 
 ## The statements
 
@@ -213,6 +214,11 @@ class Checks(unittest.TestCase):
     def test_clause_named_in_passing(self):
         self.finds("ListClaim has no clause other", checks.unknown_names, ("AUDIT.md", "`others` and", "`other` and"))
         self.finds("FormattedClaim has no clause once", checks.unknown_names, ("AUDIT.md", "(`again`)", "(`once`)"))
+
+    def test_name_that_is_not_in_its_place(self):
+        self.finds("one/Theorems does not declare Laws", checks.unknown_names, ("AUDIT.md", "`Last`", "`Laws`"))
+        self.finds("one/Claimed does not declare Through", checks.unknown_names, ("AUDIT.md", "one/Theorems", "one/Claimed"))
+        self.finds("two/Theorems does not declare Last", checks.unknown_names, ("AUDIT.md", "one/Theorems", "two/Theorems"))
 
     def test_name_that_is_not_there(self):
         self.finds("`Other` is nowhere", checks.unknown_names, ("AUDIT.md", "about `Some`", "about `Other`"))

@@ -19,6 +19,8 @@ DECLARES = re.compile(
     r"(?:(?P<made>record|data|module|use|mod) )?(?P<name>[^\s(){}=]+)(?P<rest>[^=]*)$"
 )
 OWED = "\n## The statements\n"
+# Names of definitions after their place, as in base/Refusals: `textLimit`, `written`
+PLACE = re.compile(r"\b(\w+)/([A-Z]\w*): ((?:`[^`]+`(?:, | and )?)+)")
 # The records that hold the clauses of a theorem, and the theorem.
 CLAIMED_RECORDS = {"ListClaim": "EveryList", "FormattedClaim": "EveryFormattedText"}
 # Names of Rust's own that docs/AUDIT.md and docs/DECISIONS.md have from document 01 or from the crate.
@@ -204,8 +206,9 @@ def other_statements(root):
 
 
 def unknown_names(root):
-    """The names in docs/AUDIT.md and docs/DECISIONS.md that begin with a capital letter are declared in specs/ or src/, or are files
-    of proofs/; and what docs/AUDIT.md calls a clause of a claimed record is one."""
+    """The names in docs/AUDIT.md and docs/DECISIONS.md that are declared nowhere: one that begins with a capital letter and is neither in
+    specs/ nor in src/ nor a file of proofs/; in docs/AUDIT.md also one after its place, as in base/Refusals: `written`, that
+    crates/base/specs/Refusals.antt does not declare, and one that is called a clause of a claimed record and is none."""
     audit = (root / "docs" / "AUDIT.md").read_text(encoding="utf-8")
     known = set(OF_RUST)
     for path in root.glob("crates/*/proofs/**/*.antt"):
@@ -218,6 +221,12 @@ def unknown_names(root):
     for document, text in (("AUDIT", audit), ("DECISIONS", decisions)):
         for name in sorted(set(re.findall(r"`([A-Z][\w-]*)`", text)) - known):
             yield f"docs/{document}.md: `{name}` is nowhere in specs/ or src/"
+    for crate, file, names in PLACE.findall(audit):
+        path = root / "crates" / crate / "specs" / f"{file}.antt"
+        there = {name for _, name, _, _ in declarations(antt(path))} if path.is_file() else set()
+        for name in re.findall(r"`([^`]+)`", names):
+            if name not in there:
+                yield f"docs/AUDIT.md: {crate}/{file} does not declare {name}"
     records = "|".join(CLAIMED_RECORDS)
     audit = " ".join(audit.split())
     said = re.findall(rf"((?:`[\w-]+`(?:, | and )?)+) (?:of|in) ((?:`(?:{records})`(?: and )?)+)", audit)
