@@ -105,7 +105,8 @@ that is named itself is always taken.
   --include GLOB  take only what matches, with all that is in it; may be given several times. --exclude comes first
   --no-ignore     take what a .gitignore ignores, too
   --binary        take binary files, too
-  --jobs N        let N threads work; else as many as there are processors. The output is the same for each N
+  --jobs N        let N threads work, at most 256; else as many as there are processors. The output is the same for
+                  each N
   --quiet         write no summary and no progress; faults are told
   --verbose       name each file that is passed over, and why
 

@@ -93,16 +93,18 @@ impl<'a> Batch<'a> {
             return Err(fault("it is no file"));
         };
         accept(seen)?;
-        let path = fs::canonicalize(path)?;
-        let folder = path
-            .parent()
-            .ok_or_else(|| fault("it stands in no folder"))?;
-        let (mut file, beside) = Beside::create(folder)?;
+        let path = if fs::symlink_metadata(path)?.is_symlink() {
+            fs::canonicalize(path)?
+        } else {
+            path.clone()
+        };
+        let (mut file, beside) = Beside::create(&folder_of(&path))?;
         file.write_all(bytes)?;
-        keep_owner(&file, seen, self.how.new_owner)?;
+        let own = file.metadata()?;
+        let is_owner_kept = keep_owner(&file, &own, seen, self.how.new_owner)?;
         keep_attributes(read, &file)?;
-        file.set_permissions(permissions(&file, seen)?)?;
-        let unsynced = self.sync_or_note(file)?;
+        file.set_permissions(permissions(seen, is_owner_kept))?;
+        let unsynced = self.sync_or_note(file, own.dev())?;
         self.length += bytes.len();
         self.files.push(Prepared {
             path,
@@ -113,12 +115,11 @@ impl<'a> Batch<'a> {
         Ok(())
     }
 
-    /// Syncs a file, or keeps it where its file system is synced at once, and gives that file system.
-    fn sync_or_note(&mut self, file: File) -> io::Result<Option<u64>> {
+    /// Syncs a file, or keeps it where its file system, which has this number, is synced at once, and gives the number.
+    fn sync_or_note(&mut self, file: File, number: u64) -> io::Result<Option<u64>> {
         if !self.how.sync {
             return Ok(None);
         }
-        let number = file.metadata()?.dev();
         if self.file_systems.contains_key(&number) || is_synced_at_once(&file) {
             self.file_systems.entry(number).or_insert(file);
             return Ok(Some(number));
@@ -141,9 +142,11 @@ impl<'a> Batch<'a> {
         let results = files.into_iter().map(|file| {
             let is_synced = file.unsynced.is_none_or(|number| synced.contains(&number));
             let stands_alone = self.how.sync && file.unsynced.is_none();
-            let folder = stands_alone.then(|| file.path.parent().map(Path::to_owned));
+            let folder = stands_alone.then(|| folder_of(&file.path));
             file.rename(is_synced)?;
-            self.folders.lock().folders.extend(folder.flatten());
+            if let Some(folder) = folder {
+                self.folders.lock().folders.insert(folder);
+            }
             Ok(())
         });
         let results = results.collect();
@@ -280,6 +283,14 @@ fn system_tells() -> bool {
     version >= (Some(5), Some(8))
 }
 
+/// The folder in which a file is.
+fn folder_of(path: &Path) -> PathBuf {
+    match path.parent() {
+        Some(folder) if folder != Path::new("") => folder.to_owned(),
+        _ => PathBuf::from("."),
+    }
+}
+
 /// Whether a file may be changed.
 fn accept(seen: &Metadata) -> io::Result<()> {
     if !seen.is_file() {
@@ -293,18 +304,22 @@ fn accept(seen: &Metadata) -> io::Result<()> {
     Ok(())
 }
 
-/// Gives a file the owner and the group of the one that was seen. If another is accepted, the group is kept where it can
-/// be.
-fn keep_owner(file: &File, seen: &Metadata, is_another_accepted: bool) -> io::Result<()> {
-    let own = file.metadata()?;
+/// Gives a file, which has its own now, the owner and the group of the one that was seen, and says whether it has both. If
+/// another owner is accepted, the group is kept where it can be.
+fn keep_owner(
+    file: &File,
+    own: &Metadata,
+    seen: &Metadata,
+    is_another_accepted: bool,
+) -> io::Result<bool> {
     if (own.uid(), own.gid()) == (seen.uid(), seen.gid()) {
-        return Ok(());
+        return Ok(true);
     }
     match fchown(file, Some(seen.uid()), Some(seen.gid())) {
-        Ok(()) => Ok(()),
+        Ok(()) => Ok(true),
         Err(_) if is_another_accepted => {
             let _ = fchown(file, None, Some(seen.gid()));
-            Ok(())
+            Ok(false)
         }
         Err(error) => Err(fault(&format!(
             "its owner and group could not be kept, and it was left as it was (--new-owner accepts that): {error}"
@@ -313,13 +328,11 @@ fn keep_owner(file: &File, seen: &Metadata, is_another_accepted: bool) -> io::Re
 }
 
 /// The permissions of the file that was seen. Under another owner or group a program does not run as them.
-fn permissions(file: &File, seen: &Metadata) -> io::Result<Permissions> {
+fn permissions(seen: &Metadata, is_owner_kept: bool) -> Permissions {
     const AS_OWNER_OR_GROUP: u32 = 0o6000;
-    let own = file.metadata()?;
     let mode = seen.mode() & 0o7777;
-    let is_own = (own.uid(), own.gid()) == (seen.uid(), seen.gid());
-    let dropped = if is_own { 0 } else { AS_OWNER_OR_GROUP };
-    Ok(Permissions::from_mode(mode & !dropped))
+    let dropped = if is_owner_kept { 0 } else { AS_OWNER_OR_GROUP };
+    Permissions::from_mode(mode & !dropped)
 }
 
 /// Gives a file the extended attributes of another, access control lists among them, and no others.

@@ -69,6 +69,9 @@ impl Source {
             if bytes[bytes.len() - length..].contains(&0) {
                 return Ok(None);
             }
+            if (length as u64) < most {
+                break;
+            }
         }
         Ok(Some(Text {
             bytes,

@@ -152,6 +152,9 @@ pub struct Manner {
     pub in_place: Option<InPlace>,
 }
 
+/// The most threads that work.
+const MOST_JOBS: usize = 256;
+
 /// What is written and said of a text, and the files that change with it.
 pub struct Page<'a, 'b> {
     /// What goes to standard output.
@@ -308,6 +311,7 @@ impl<W: Work> Go<'_, W> {
     fn all<'a>(&self, entries: &[Entry], order: Order<'a>) -> io::Result<Order<'a>> {
         let processors = || thread::available_parallelism().unwrap_or(NonZero::<usize>::MIN);
         let jobs = self.manner.jobs.unwrap_or_else(processors).get();
+        let jobs = jobs.min(MOST_JOBS);
         let length = match self.manner.in_place {
             None => 1,
             Some(_) => entries.len().div_ceil(jobs).clamp(1, Batch::MOST_FILES),

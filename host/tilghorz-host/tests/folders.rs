@@ -211,6 +211,21 @@ fn what_cannot_be_ignored_rightly_is_left() {
     symlink("/dev/null", folder.path("t/.gitignore")).expect("a link");
     let ran = folder.run(&["format", "--check", "t"]);
     assert_eq!((ran.status, ran.text()), (1, "t/a/b.txt\nt/c.txt\n"));
+    // The files of a folder whose rules cannot be read are not touched.
+    folder.write("t/d/.gitignore", "*.txt\n");
+    folder.write("t/d/e.txt", MESSAGE);
+    let allowed = Permissions::from_mode(0o000);
+    fs::set_permissions(folder.path("t/d/.gitignore"), allowed).expect("set");
+    let Some(mut command) = folder.as_nobody() else {
+        return;
+    };
+    command.args(["format", "--in-place", "t"]);
+    let ran = folder.run_command(command, b"");
+    let expected = "tilghorz-host: t/d/.gitignore: Permission denied (os error 13), so its folder was passed over
+tilghorz-host: 2 files: 2 changed, 0 unchanged; passed over: 2 hidden; 1 folder not read
+";
+    assert_eq!((ran.status, ran.err.as_str()), (2, expected));
+    assert_eq!(folder.read("t/d/e.txt"), MESSAGE.as_bytes());
 }
 
 /// Texts of all kinds in some folders.
@@ -239,7 +254,7 @@ fn the_output_is_the_same_for_any_number_of_threads() {
         let run = |jobs| folder.run(&[arguments, &["--jobs", jobs]].concat());
         let one = run("1");
         assert_eq!(one.status, 2);
-        for jobs in ["2", "16", "1000000"] {
+        for jobs in ["2", "16", "18446744073709551615"] {
             let ran = run(jobs);
             assert!(ran.out == one.out && ran.err == one.err, "{arguments:?}");
             assert_eq!(ran.status, 2);
