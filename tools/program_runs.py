@@ -4,8 +4,8 @@ are what the two are to write. And the stored lines of the program findings_tabl
 write, in its stdout.
 
     tools/program_runs.py run [FOLDER]   run FOLDER/format and FOLDER/report (target/bin) on each NAME.in, and
-                                         FOLDER/findings_table on the texts of evfmt's stored answers; and the examples
-                                         of README.md that call ./tilghorz
+                                         FOLDER/findings_table on the texts of evfmt's stored answers; ./tilghorz on each
+                                         NAME.in, for its status; and the examples of README.md that call it
     tools/program_runs.py check          NAME.in and the lines are what this script makes, and nothing else is stored
     tools/program_runs.py make           write these, and by the host's stored-answers what the programs are to write
 
@@ -229,6 +229,28 @@ def wrong_examples(root):
             yield f"README.md: {command}: {answer.stdout.decode()!r}"
 
 
+def is_refused(text):
+    """Whether a text is refused: it is too long, or not well-formed."""
+    try:
+        text.decode()
+    except UnicodeDecodeError:
+        return True
+    return len(text) > LIMIT
+
+
+def wrong_statuses(root, folder):
+    """The stored runs on which ./tilghorz writes something else, or ends with another status than 0, or 3 for a refusal."""
+    for program in PROGRAMS:
+        for name in stored(folder):
+            text = (folder / f"{name}.in").read_bytes()
+            answer = subprocess.run([root / "tilghorz", program], input=text, capture_output=True, timeout=SECONDS, check=False)
+            wanted = 3 if is_refused(text) else 0
+            if answer.returncode != wanted:
+                yield f"./tilghorz {program} {name}: exit status {answer.returncode} for {wanted}"
+            if answer.stdout != (folder / f"{name}.{program}").read_bytes():
+                yield f"./tilghorz {program} {name}: writes something else than the program"
+
+
 def wrong_failure(program, folder):
     """What is wrong where standard input cannot be read."""
     with subprocess.Popen(["sh", "-c", 'exec "$1" < "$2"', "sh", program, folder], stdout=subprocess.PIPE, stderr=subprocess.PIPE) as process:
@@ -252,7 +274,7 @@ def main(arguments):
         found = [*wrong_files(folder), *wrong_lines(table)]
     elif arguments[:1] == ["run"] and len(arguments) <= 2:
         programs = pathlib.Path(arguments[1]) if arguments[1:] else ROOT / "target" / "bin"
-        found = [*wrong_runs(folder, programs), *wrong_tables(programs / "findings_table", answered_texts()), *wrong_examples(ROOT)]
+        found = [*wrong_runs(folder, programs), *wrong_tables(programs / "findings_table", answered_texts()), *wrong_statuses(ROOT, folder), *wrong_examples(ROOT)]
     else:
         print(__doc__, file=sys.stderr)
         return 2
