@@ -9,6 +9,8 @@ also a fault.
 - links:    every link in README.md and docs/ to a file of the repository, or to a heading of it, has its target.
 - stages:   the numbered list in README.md, "Testing", has the stages of .ci/run, with their names and in their order.
 - data:     docs/UNICODE.md gives the SHA-256 of every data file of crates/published_data, and it is right.
+- decisions: every decision that README.md or docs/ cites by its number has a heading in docs/DECISIONS.md; no number has two
+            headings; and each decision has a context, a decision and a reason.
 - tests:    every script of tools/ has a file of tests.
 """
 
@@ -20,6 +22,11 @@ import sys
 LINK = re.compile(r"\[[^\]]*\]\(([^)\s]+)\)")
 STAGE = re.compile(r"""^ *stage (?:'([^']*)'|"([^"$`]*)")$""", re.M)
 DIGEST = re.compile(r"^\| (\S+) \| ([0-9a-f]{64}) \|$", re.M)
+# A decision is a heading with its number, or with its number and a letter if it has parts. It is cited as "decided: 37, 46" in
+# the tables of docs/AUDIT.md, else as "decision 37" or "decisions 24 and 39".
+DECISION = re.compile(r"^### (\d+)([a-z]?)\. .*\n((?:(?!#).*\n)*)", re.M)
+CITED = re.compile(r"\b(?:decided:|[Dd]ecisions?) (\d+[a-z]?(?:(?:, | and )\d+[a-z]?)*)")
+PARTS = ("Context", "Decision", "Reason")
 
 
 def without_blocks(text):
@@ -76,6 +83,27 @@ def other_data(root):
         yield "docs/UNICODE.md: it gives no SHA-256"
 
 
+def other_decisions(root):
+    found = DECISION.findall((root / "docs" / "DECISIONS.md").read_text(encoding="utf-8"))
+    headings = [number + letter for number, letter, _ in found]
+    for number, letter, text in found:
+        heading = number + letter
+        if headings.count(heading) > 1 or (letter and number in headings):
+            yield f"docs/DECISIONS.md: {heading}: the number has two headings"
+        if re.findall(r"^- (\w+): \S", text, re.M) != list(PARTS):
+            yield f"docs/DECISIONS.md: {heading}: its parts are not {', '.join(PARTS)}"
+    known = {*headings, *(number for number, _, _ in found)}
+    cited = 0
+    for path in [root / "README.md", *sorted((root / "docs").glob("*.md"))]:
+        for numbers in CITED.findall(path.read_text(encoding="utf-8")):
+            for number in re.findall(r"\d+[a-z]?", numbers):
+                cited += 1
+                if number not in known:
+                    yield f"{path.relative_to(root)}: it cites decision {number}, which docs/DECISIONS.md does not have"
+    if not headings or not cited:
+        yield f"docs/DECISIONS.md: {len(headings)} decisions are found, and {cited} are cited"
+
+
 def untested_tools(root):
     scripts = [path for path in sorted((root / "tools").glob("*.py")) if not path.name.startswith("test_")]
     if not scripts:
@@ -86,7 +114,7 @@ def untested_tools(root):
             yield f"tools/{script.name}: tools/{tests.name} has no test"
 
 
-CHECKS = (broken_links, other_stages, other_data, untested_tools)
+CHECKS = (broken_links, other_stages, other_data, other_decisions, untested_tools)
 
 
 def main(arguments):

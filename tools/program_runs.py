@@ -3,8 +3,8 @@
 the two programs must write. Also the stored input of the program findings_table, in its file stdin, and its output, in stdout.
 
     tools/program_runs.py run [FOLDER]   run FOLDER/format and FOLDER/report on each NAME.in, FOLDER/findings_table on the texts
-                                         of evfmt's stored answers, and the examples of README.md that call ./tilghorz.
-                                         FOLDER is target/bin if it is not given
+                                         of evfmt's stored answers, ./tilghorz on each NAME.in for its exit status, and the
+                                         examples of README.md that call it. FOLDER is target/bin if it is not given
     tools/program_runs.py check          check that the stored inputs are what this script makes, and that there are no others
     tools/program_runs.py make           write the inputs; the host's program stored-answers then writes the outputs
 
@@ -228,6 +228,28 @@ def wrong_examples(root):
             yield f"README.md: {command}: its output is {answer.stdout.decode()!r}"
 
 
+def is_refused(text):
+    """Whether the programs refuse a text, because it is too long or not well-formed."""
+    try:
+        text.decode()
+    except UnicodeDecodeError:
+        return True
+    return len(text) > LIMIT
+
+
+def wrong_statuses(root, folder):
+    """The stored runs on which ./tilghorz has another output, or an exit status other than 0, or 3 for a refusal."""
+    for program in PROGRAMS:
+        for name in stored(folder):
+            text = (folder / f"{name}.in").read_bytes()
+            answer = subprocess.run([root / "tilghorz", program], input=text, capture_output=True, timeout=SECONDS, check=False)
+            wanted = 3 if is_refused(text) else 0
+            if answer.returncode != wanted:
+                yield f"./tilghorz {program} {name}: exit status {answer.returncode}, expected {wanted}"
+            if answer.stdout != (folder / f"{name}.{program}").read_bytes():
+                yield f"./tilghorz {program} {name}: its output differs from that of the program"
+
+
 def wrong_failure(program, folder):
     """The faults of a program when standard input cannot be read."""
     with subprocess.Popen(["sh", "-c", 'exec "$1" < "$2"', "sh", program, folder], stdout=subprocess.PIPE, stderr=subprocess.PIPE) as process:
@@ -251,7 +273,7 @@ def main(arguments):
         found = [*wrong_files(folder), *wrong_lines(table)]
     elif arguments[:1] == ["run"] and len(arguments) <= 2:
         programs = pathlib.Path(arguments[1]) if arguments[1:] else ROOT / "target" / "bin"
-        found = [*wrong_runs(folder, programs), *wrong_tables(programs / "findings_table", answered_texts()), *wrong_examples(ROOT)]
+        found = [*wrong_runs(folder, programs), *wrong_tables(programs / "findings_table", answered_texts()), *wrong_statuses(ROOT, folder), *wrong_examples(ROOT)]
     else:
         print(__doc__, file=sys.stderr)
         return 2

@@ -14,8 +14,8 @@ also a fault.
 - contracts:  no public function has a `requires`; each has an `ensures`, and every `ensures` is about the outcome.
 - audit:      docs/AUDIT.md has a row for every public function of a library, in the part about its crate, and every must-fail
               edit that it names exists.
-- theorems:   every statement of a crate's specs/ has its proof, none is open or empty, and docs/AUDIT.md lists exactly these
-              (theorem_checks.py).
+- theorems:   every statement of a crate's specs/ has its proof, none is open or empty, and docs/AUDIT.md lists exactly these;
+              the names in it and in docs/DECISIONS.md are declared (theorem_checks.py).
 - counts:     the last line of rt ci counts every crate and every must-fail edit.
 - edits:      the place that a must-fail edit names refuses it, because a fact is false there (edit_checks.py).
 - proved:     the log of every crate says that it is proved.

@@ -36,6 +36,40 @@ SOUND = {
 |---|---|
 | emoji.txt | {hashlib.sha256(DATA.encode()).hexdigest()} |
 """,
+    "docs/AUDIT.md": "| a sentence | decided: 1, 3 and tested |\n| another | decided: 2 |\n",
+    "docs/DECISIONS.md": """# Decisions
+
+A decision 2 to come is no heading.
+
+## One part
+
+### 1. A point
+
+- Context: There are two forms
+  - of it.
+- Decision: This one, as in decision 3.
+- Reason: It is short.
+
+### 2a. The first half
+
+- Context: One.
+- Decision: Two.
+- Reason: Decisions 1 and 2b.
+
+## Another part
+
+### 2b. The second half
+
+- Context: One.
+- Decision: Two.
+- Reason: Three.
+
+### 3. The last
+
+- Context: One.
+- Decision: Two.
+- Reason: Three.
+""",
     "crates/published_data/data/emoji.txt": DATA,
     ".ci/run": """
 stage() { printf '%s' "$1"; }
@@ -95,6 +129,19 @@ class Checks(unittest.TestCase):
         self.finds("its SHA-256 is missing", checks.other_data, removed=["crates/published_data/data/emoji.txt"])
         self.finds("says nothing", checks.other_data, "docs/UNICODE.md", "| emoji.txt |", "| other.txt |")
         self.finds("gives no SHA-256", checks.other_data, "docs/UNICODE.md", "| emoji.txt |", "|")
+
+    def test_other_decisions(self):
+        check, text = checks.other_decisions, "docs/DECISIONS.md"
+        self.finds("docs/AUDIT.md: it cites decision 4,", check, "docs/AUDIT.md", "1, 3", "1, 4")
+        self.finds("docs/AUDIT.md: it cites decision 2c,", check, "docs/AUDIT.md", "decided: 2 ", "decided: 2c ")
+        self.finds("README.md: it cites decision 9,", check, "README.md", "It proves", "It proves (decision 9)")
+        self.finds("docs/DECISIONS.md: it cites decision 7,", check, text, "1 and 2b", "1 and 7")
+        self.finds("docs/AUDIT.md: it cites decision 3,", check, text, "### 3. The last", "### The last")
+        self.finds("3: the number has two headings", check, text, "### 1. ", "### 3. ")
+        self.finds("2b: the number has two headings", check, text, "### 2a. ", "### 2. ")
+        self.finds("1: its parts are not Context", check, text, "- Reason: It is short.\n", "")
+        self.finds("3: its parts are not Context", check, text, "\n\n- Context: One.\n- Decision: Two.\n- Reason: Three.\n", "\n")
+        self.finds("0 decisions are found", check, text, "### ", "#### ")
 
     def test_untested_tools(self):
         self.finds("test_one.py has no test", checks.untested_tools, removed=["tools/test_one.py"])

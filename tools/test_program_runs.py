@@ -90,6 +90,22 @@ class Runs(unittest.TestCase):
         self.program("report", "#!/bin/sh\nif [ -d /dev/stdin ]; then echo no; echo no >&2; fi\n")
         self.assertEqual(self.wrong(), ["report: it writes b'no\\n' when standard input cannot be read"])
 
+    def test_statuses_of_refusals(self):
+        root = self.runs.parent
+        self.store("a", b"refused 1\n", b"refused 1\n", b"total\n")
+        self.store("b", b"\xff", b"refused 3 0\n", b"refused 3 0\n")
+        self.store("c", b"a" * 12289, b"refused 1\n", b"refused 1\n")
+        wrapper = root / "tilghorz"
+        lines = """#!/bin/sh
+cat > "$0.text"
+for name in a b c; do cmp -s "$0.text" "$(dirname "$0")/runs/$name.in" && cat "$(dirname "$0")/runs/$name.$1"; done
+cmp -s "$0.text" "$(dirname "$0")/runs/a.in" || exit 3
+"""
+        for text, wrong in ((lines, 0), (lines.replace("exit 3", "exit 0"), 4), (lines.replace(" || exit 3", "; exit 3"), 2), (lines.replace("cat \"$(", "echo \"$("), 6)):
+            wrapper.write_text(text, encoding="utf-8")
+            wrapper.chmod(0o755)
+            self.assertEqual(len(list(program_runs.wrong_statuses(root, self.runs))), wrong)
+
     def test_nothing_stored_and_nothing_built(self):
         found = self.wrong()
         self.assertEqual(len(found), 3)

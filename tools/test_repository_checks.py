@@ -47,6 +47,7 @@ impl Thing {
     "crates/message_io/src/lib.rt": "pub fn get() -> u8 ensures { λ r. ⌜ r ≡ 0 ⌝ } { 0 }\n",
     "crates/message_io/must-fail/one.edit": "refused by: get: returns\nfile: src/lib.rt\nold: { 0 }\nnew: { 1 }\n",
     "crates/two/src/main.rt": "fn main() {}\n",
+    "docs/DECISIONS.md": "A theorem is as `Same`.\n",
     "docs/AUDIT.md": """
 Each of `same`, `twice` and `part` has a row below.
 

@@ -81,6 +81,7 @@ every-list policy calls = list-claim policy calls
 pub worked : Worked
 worked = (refl, refl)
 """,
+    "docs/DECISIONS.md": "The answer is an `Answer`, and not an `Option`, as `Same` says.\n",
     "docs/AUDIT.md": """
 `EveryList` is about `Some`, `Answer`, `Done` and `LIMIT`, and not about Rust's `Vec`; its proof is in `Laws`.
 `others` and `number` of `ListClaim`, `again` in `FormattedClaim`, which is `FormattedClaim` (`again`).
@@ -151,6 +152,7 @@ class Checks(unittest.TestCase):
             shutil.copytree(ROOT / "crates" / "formatter", root / "crates" / "formatter")
             (root / "docs").mkdir()
             shutil.copy(ROOT / "docs" / "AUDIT.md", root / "docs")
+            shutil.copy(ROOT / "docs" / "DECISIONS.md", root / "docs")
             (root / "crates.txt").write_text("formatter:\n", encoding="utf-8")
             gone = "formatter lists EveryList, which specs/ does not have"
             self.assertFalse([one for one in checks.other_statements(root) if "formatter" in one])
@@ -220,6 +222,7 @@ class Checks(unittest.TestCase):
 
     def test_name_that_is_not_there(self):
         self.finds("`Other` is nowhere", checks.unknown_names, ("AUDIT.md", "about `Some`", "about `Other`"))
+        self.finds("DECISIONS.md: `Sum` is nowhere", checks.unknown_names, ("DECISIONS.md", "`Same`", "`Sum`"))
         self.finds("`Answer` is nowhere", checks.unknown_names, ("lib.rt", "enum Answer", "enum Question"))
 
     def test_statement_without_claim(self):

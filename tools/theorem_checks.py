@@ -23,8 +23,8 @@ OWED = "\n## The statements\n"
 PLACE = re.compile(r"\b(\w+)/([A-Z]\w*): ((?:`[^`]+`(?:, | and )?)+)")
 # The records that hold the clauses of a theorem, and the theorem.
 CLAIMED_RECORDS = {"ListClaim": "EveryList", "FormattedClaim": "EveryFormattedText"}
-# Names of Rust's standard library that docs/AUDIT.md quotes from document 01.
-OF_RUST = {"Clone", "Debug", "Hash", "Option", "Peekable", "String", "Vec", "VecDeque"}
+# Names of Rust's standard library that docs/AUDIT.md and docs/DECISIONS.md quote from document 01 or from evfmt.
+OF_RUST = {"Clone", "Debug", "Hash", "Option", "PartialEq", "Peekable", "String", "Vec", "VecDeque"}
 
 
 def statements(crate):
@@ -206,9 +206,9 @@ def other_statements(root):
 
 
 def unknown_names(root):
-    """The names in docs/AUDIT.md that are declared nowhere: one that begins with a capital letter and is neither in specs/ nor in src/ nor
-    a file of proofs/; one after its place, as in base/Refusals: `written`, that crates/base/specs/Refusals.antt does not declare; one that
-    is called a clause of a claimed record and is none."""
+    """The names in docs/AUDIT.md and docs/DECISIONS.md that are declared nowhere: one that begins with a capital letter and is neither in
+    specs/ nor in src/ nor a file of proofs/; in docs/AUDIT.md also one after its place, as in base/Refusals: `written`, that
+    crates/base/specs/Refusals.antt does not declare, and one that is called a clause of a claimed record and is none."""
     audit = (root / "docs" / "AUDIT.md").read_text(encoding="utf-8")
     known = set(OF_RUST)
     for path in root.glob("crates/*/proofs/**/*.antt"):
@@ -217,8 +217,10 @@ def unknown_names(root):
         known.update(name for _, name, _, _ in declarations(antt(path)))
     for path in root.glob("crates/*/src/**/*.rt"):
         known.update(re.findall(r"(?:\b(?:enum|struct|const|type) |^ *)([A-Z]\w*)", rattle(path), re.M))
-    for name in sorted(set(re.findall(r"`([A-Z][\w-]*)`", audit)) - known):
-        yield f"docs/AUDIT.md: `{name}` is nowhere in specs/ or src/"
+    decisions = (root / "docs" / "DECISIONS.md").read_text(encoding="utf-8")
+    for document, text in (("AUDIT", audit), ("DECISIONS", decisions)):
+        for name in sorted(set(re.findall(r"`([A-Z][\w-]*)`", text)) - known):
+            yield f"docs/{document}.md: `{name}` is nowhere in specs/ or src/"
     for crate, file, names in PLACE.findall(audit):
         path = root / "crates" / crate / "specs" / f"{file}.antt"
         there = {name for _, name, _, _ in declarations(antt(path))} if path.is_file() else set()

@@ -145,8 +145,8 @@ def described(what, width, numbers):
 def source(numbered, tables):
     major, minor = numbered
     out = [
-        f"// The tables of Unicode {major}.{minor}, made by tools/unicode_tables.py from emoji-data.txt and",
-        "// emoji-variation-sequences.txt. The crate evfmt has them in a file of this name, made when it is built.",
+        f"// The tables of Unicode {major}.{minor}. tools/unicode_tables.py makes this file from emoji-data.txt and",
+        "// emoji-variation-sequences.txt. The crate evfmt makes a file of the same name when it is built.",
         f"pub const UNICODE_VERSION_MAJOR: u32 = {major};",
         "",
         f"pub const UNICODE_VERSION_MINOR: u32 = {minor};",
@@ -162,8 +162,8 @@ def source(numbered, tables):
 def specs(numbered, tables):
     major, minor = numbered
     out = [
-        f"-- The tables of Unicode {major}.{minor} as lists, made by tools/unicode_tables.py from emoji-data.txt and",
-        '-- emoji-variation-sequences.txt: the numbers that document 01, "Character", takes from these files.',
+        f"-- The tables of Unicode {major}.{minor} as lists: the numbers that document 01, \"Character\", takes from emoji-data.txt and",
+        "-- emoji-variation-sequences.txt. tools/unicode_tables.py makes this file from the two data files.",
         "use mathlib.Core.List.{List, [], _∷_}",
         "use Prim.Native.Nat.{ℕ}",
     ]
@@ -212,17 +212,17 @@ def matched(tables):
 def block_source(numbered, tables):
     major, minor = numbered
     out = [
-        f"// The emoji and the variation entries of Unicode {major}.{minor} as words, a block of 64 code points to an arm,",
-        "// made by tools/unicode_tables.py. A `match` becomes a table in read-only memory, while a read of a constant",
-        "// array copies the array. Each function equals the search in the list of the same blocks, in specs/BlockData.antt.",
+        f"// The emoji and the variation entries of Unicode {major}.{minor} as bit sets: one `match` arm for each block of 64 code",
+        "// points. A `match` is compiled to a table in read-only memory, while reading a constant array copies the array. Each",
+        "// function equals the search in a list of specs/BlockData.antt. tools/unicode_tables.py makes this file.",
         "ghost use mathlib.Core.Path.{_≡_};",
         "ghost use Rattle.unicode.specs.Blocks.{blockIn};",
         "ghost use Rattle.unicode.specs.BlockData.{",
         *[f"  {name}," for name in sorted(["blocks"] + [f"{name}Blocks" for name, *_ in matched(tables)])],
         "};",
         "",
-        "// Bit j of `emoji` says that character j of the block is emoji, bit j of `entries` that it is a variation",
-        "// entry; `rank` entries stand before the block.",
+        "// Bit j of `emoji` is 1 if character j of the block is emoji. Bit j of `entries` is 1 if character j is a variation",
+        "// entry. `rank` is the number of variation entries before the block.",
         "pub(crate) struct Block {",
         "    pub(crate) emoji: u64,",
         "    pub(crate) entries: u64,",
@@ -230,7 +230,7 @@ def block_source(numbered, tables):
         "}",
     ]
     for name, what, given, rows in matched(tables):
-        out += ["", f"// The blocks {what}: {len(rows)}.", f"fn {name}_block({given}: u32) -> Block"]
+        out += ["", f"// Returns one of the {len(rows)} blocks {what}.", f"fn {name}_block({given}: u32) -> Block"]
         out += [f"    ensures {{ λ r. ⌜ r ≡ blockIn {given} {name}Blocks ⌝ }}", "{", f"    match {given} {{"]
         for block, emoji, entries, rank in rows:
             out += [f"        0x{block:X} => Block {{", f"            emoji: 0x{emoji:016X},"]
@@ -239,7 +239,7 @@ def block_source(numbered, tables):
         out += ["        },", "    }", "}"]
     out += [
         "",
-        "// The block k. The last `if` only chooses what is taken from k, so that the compiler makes no branch of it.",
+        "// Returns block k. The last `if` only chooses the number to subtract, so that the compiler makes no branch of it.",
         "pub(crate) fn block_of(k: u32) -> Block",
         "    ensures { λ r. ⌜ r ≡ blockIn k blocks ⌝ }",
         "{",
@@ -266,26 +266,27 @@ def block_source(numbered, tables):
 def block_specs(numbered, tables):
     major, minor = numbered
     out = [
-        f"-- The emoji and the variation entries of Unicode {major}.{minor} as words, made by tools/unicode_tables.py: of",
-        "-- each block of 64 code points that has any, its number, the word of its emoji, the word of its variation",
-        "-- entries, and the number of entries before it.",
+        "-- Contracts of helper functions (src/blocks.rt); no public contract rests on this file.",
+        f"-- The emoji and the variation entries of Unicode {major}.{minor} as bit sets. For each block of 64 code points that has any,",
+        "-- a row has the block's number, the bits of its emoji, the bits of its variation entries, and the number of entries before",
+        "-- the block. tools/unicode_tables.py makes this file.",
         "use mathlib.Core.List.{List, [], _∷_, _++_}",
         "use Prim.Native.Nat.{ℕ, _-_}",
         "use Rattle.unicode.specs.Blocks.{BlockRow, moved, row}",
     ]
     for name, what, rows in grouped(tables):
-        out += ["", f"-- the blocks {what}: {len(rows)}"]
+        out += ["", f"-- The {len(rows)} blocks {what}."]
         out += [f"unfoldable pub {name}Blocks : List BlockRow", f"{name}Blocks ="]
         out += [f"    row 0x{block:X} 0x{emoji:016X} 0x{entries:016X} {rank} ∷" for block, emoji, entries, rank in rows]
         out[-1] += " []"
     names = [f"{name}Blocks" for name, *_ in BLOCK_GROUPS]
-    out += ["", "-- all blocks", "unfoldable pub blocks : List BlockRow"]
+    out += ["", "-- All blocks.", "unfoldable pub blocks : List BlockRow"]
     out += ["blocks = " + " ++ (".join(names[:-1]) + f" ++ {names[-1]}" + ")" * (len(names) - 2)]
-    out += ["", "-- the first block of each group but the low one"]
+    out += ["", "-- The first block of each group after the low one."]
     for name, first, _ in BLOCK_GROUPS[1:]:
         out += [f"abbrev pub {name}First : ℕ", f"{name}First = 0x{first:X}", ""]
     out += [
-        "-- the symbols, and after their places the pictographs, as one `match` has them",
+        "-- The blocks that one `match` of the code holds: the symbols, and after them the pictographs. Each has the number of its arm.",
         "abbrev pub symbolPlaces : ℕ",
         "symbolPlaces = middleFirst - symbolFirst",
         "",
@@ -308,7 +309,8 @@ def block_proof(name):
         if name == "dense":
             lists, laws = lists + [f"{group}Blocks" for group in sorted(MOVED)], ["blockIn", "moved", "noBlock"]
         out = [
-            "-- Each arm is found in the list, and nothing else is. Made by tools/unicode_tables.py.",
+            f"-- `unicode::blocks::{name}_block` meets its contract: each arm of the `match` is the row of the list with that number, and",
+            "-- the list has no other row. tools/unicode_tables.py makes this file.",
             "use mathlib.Core.Path.{sym}",
             f"use Rattle.unicode.specs.Blocks.{{{', '.join(laws)}}}",
             f"use Rattle.unicode.specs.BlockData.{{{', '.join(lists)}}}",
@@ -368,15 +370,15 @@ def named_sets(numbered, tables):
         "ASCII": "The entries below 80",
         "TEXT_DEFAULT": "The entries that default to text presentation",
         "EMOJI_DEFAULT": "The entries that default to emoji presentation",
-        "KEYCAP_RGI": "# and * and the digits",
+        "KEYCAP_RGI": "The characters #, * and the digits",
     }
     out = [
-        f"// The words of the named sets of Unicode {major}.{minor}, entry i at bit i % 64 of word i / 64, made by",
-        "// tools/unicode_tables.py.",
+        f"// The words of the named sets of Unicode {major}.{minor}. Variation entry i is bit i % 64 of word i / 64.",
+        "// tools/unicode_tables.py makes this file.",
         f"pub const CHARSET_WORDS: usize = {len(words(set(), entries))};",
     ]
     for name, what in described.items():
-        out += ["", f"// {what}: {len(sets[name])}."] + set_words(name + "_BITS", sets[name], entries)
+        out += ["", f"// {what}: {len(sets[name])} entries."] + set_words(name + "_BITS", sets[name], entries)
     return "\n".join(out) + "\n"
 
 
@@ -386,7 +388,7 @@ def default_policy_words(tables):
     entries, sets = members(tables)
     return [
         ("PREFER_BARE_BITS", "preferBare", "`prefer_bare`, ordinary: ASCII and the emoji defaults", sets["ASCII"] | sets["EMOJI_DEFAULT"]),
-        (None, "preferBareKeycap", "`prefer_bare`, keycap: none", set()),
+        (None, "preferBareKeycap", "`prefer_bare`, keycap: the empty set", set()),
         (None, "bareAsText", "`bare_as_text`, ordinary: the text defaults", sets["TEXT_DEFAULT"]),
         (None, "bareAsTextKeycap", "`bare_as_text`, keycap: every entry", sets["ALL"]),
     ], entries
@@ -397,11 +399,11 @@ def default_policy(numbered, tables):
     (name, _, what, held), *_ = default_policy_words(tables)[0]
     entries = default_policy_words(tables)[1]
     out = [
-        f"// The words of the default policy that are no named set's, with the tables of Unicode {major}.{minor}, made by",
-        "// tools/unicode_tables.py.",
+        f"// The words of the one set of the default policy that has no name of its own, for the tables of Unicode {major}.{minor}.",
+        "// tools/unicode_tables.py makes this file.",
         "use policy_key_set::named_sets::CHARSET_WORDS;",
         "",
-        f"// {what}: {len(held)}.",
+        f"// {what}: {len(held)} entries.",
     ]
     return "\n".join(out + set_words(name, held, entries)) + "\n"
 
@@ -410,15 +412,15 @@ def default_policy_specs(numbered, tables):
     major, minor = numbered
     sets, entries = default_policy_words(tables)
     out = [
-        f"-- The words of the default policy with the tables of Unicode {major}.{minor}, made by tools/unicode_tables.py.",
-        "-- What they hold is the theorem `DefaultPolicyHolds`.",
+        f"-- The words of the default policy, for the tables of Unicode {major}.{minor}. The theorem `DefaultPolicyHolds` says which",
+        "-- entries the four sets hold. tools/unicode_tables.py makes this file.",
         "use mathlib.Core.List.{List, [], _∷_}",
         "use Prim.Native.Nat.{ℕ}",
         "use Rattle.policy.specs.declared.Policy.{Policy}",
     ]
     for _, name, what, held in sets:
         numbers = [f"0x{w:016X}" for w in words(held, entries)]
-        out += ["", f"-- {what}: {len(held)}", f"unfoldable pub {name} : List ℕ", f"{name} ="]
+        out += ["", f"-- {what}: {len(held)} entries", f"unfoldable pub {name} : List ℕ", f"{name} ="]
         rows = [numbers[i : i + 4] for i in range(0, len(numbers), 4)]
         lines = ["    " + " ∷ ".join(row) for row in rows]
         out += [line + " ∷" for line in lines[:-1]] + [lines[-1] + " ∷ []"]

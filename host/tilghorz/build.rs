@@ -1,8 +1,13 @@
 //! Links the proved static library. One that the variable names must be there; without the variable it is the one that
-//! the repository makes, and where that is missing it is made now. A fault is told to cargo and ends the build.
+//! the repository makes. Where that is missing, or was made from other sources or with another kit, it is made now. A fault
+//! is told to cargo and ends the build.
 
+use std::collections::hash_map::DefaultHasher;
 use std::env;
 use std::ffi::OsString;
+use std::fs;
+use std::hash::{Hash, Hasher};
+use std::io;
 use std::path::{Path, PathBuf};
 use std::process::{Command, Output, Stdio};
 
@@ -12,8 +17,14 @@ pub const VARIABLE: &str = "TILGHORZ_LIBRARY";
 const MADE_HERE: &str = "target/staticlib";
 /// The file.
 const FILE: &str = "libtilghorz.a";
-/// How the library is made, in the repository root. It is proved first, which takes minutes from a fresh clone.
-const MAKE: [&str; 3] = ["rt", "staticlib", "tilghorz"];
+/// Beside it stands what it was made from: a digest of the sources, the kit, and a digest of the library itself.
+const MADE_FROM: &str = "libtilghorz.a.made-from";
+/// What the sources are, from the repository root.
+const SOURCES: [&str; 2] = ["crates.txt", "crates"];
+/// The command that makes the library, in the repository root. It is proved first, which takes minutes from a fresh clone.
+const RT: &str = "rt";
+/// Its arguments.
+const MAKE: [&str; 2] = ["staticlib", "tilghorz"];
 
 fn main() {
     println!("cargo::rerun-if-env-changed={VARIABLE}");
@@ -43,13 +54,97 @@ fn library_folder() -> Result<PathBuf, String> {
             folder.join(FILE).display()
         )),
         Place::Made(root) => {
-            let folder = root.join(MADE_HERE);
-            if !folder.join(FILE).is_file() {
-                make(&root)?;
+            watch(&root);
+            if let Some(why) = bring_up_to_date(&root, Path::new(RT))? {
+                println!("cargo::warning={MADE_HERE}/{FILE} {why}, and was made anew");
             }
-            Ok(folder)
+            Ok(root.join(MADE_HERE))
         }
     }
+}
+
+/// Has cargo run this again when a source or the kit is another.
+fn watch(root: &Path) {
+    for source in SOURCES {
+        println!("cargo::rerun-if-changed={}", root.join(source).display());
+    }
+    println!("cargo::rerun-if-env-changed=PATH");
+    let paths = env::var_os("PATH").unwrap_or_default();
+    let found = env::split_paths(&paths).find_map(|path| fs::canonicalize(path.join(RT)).ok());
+    let kit = found.as_deref().and_then(|rt| rt.ancestors().nth(2));
+    if let Some(kit) = kit
+        .map(|kit| kit.join("KIT-ID"))
+        .filter(|kit| kit.is_file())
+    {
+        println!("cargo::rerun-if-changed={}", kit.display());
+    }
+}
+
+/// Makes the library, if it is missing or was made from other sources or with another kit; and says why, if it was there.
+pub fn bring_up_to_date(root: &Path, rt: &Path) -> Result<Option<&'static str>, String> {
+    let (file, note) = (
+        root.join(MADE_HERE).join(FILE),
+        root.join(MADE_HERE).join(MADE_FROM),
+    );
+    let noted = fs::read_to_string(&note).ok();
+    let sources = digest(root, &SOURCES)
+        .map_err(|error| format!("the sources in {} cannot be read: {error}", root.display()))?;
+    // Without rt there is no kit to compare with.
+    let kit = kit(rt).or_else(|| noted.as_deref().and_then(noted_kit));
+    let current = || {
+        let library = digest(root, &[&format!("{MADE_HERE}/{FILE}")]).ok()?;
+        let kit = kit.as_deref().unwrap_or_default();
+        Some(format!(
+            "sources {sources:016x}\nkit {kit}\nlibrary {library:016x}\n"
+        ))
+    };
+    let why = match (&noted, file.is_file()) {
+        (_, false) => "is missing",
+        (None, true) => "does not say what it was made from",
+        (Some(noted), true) if current().as_ref() == Some(noted) => return Ok(None),
+        (Some(_), true) => "was made from other sources or with another kit",
+    };
+    let was_there = file.is_file();
+    make(root, rt, why)?;
+    let current = current().ok_or(format!("{MADE_HERE}/{FILE} cannot be read"))?;
+    fs::write(&note, current).map_err(|error| format!("{}: {error}", note.display()))?;
+    Ok(was_there.then_some(why))
+}
+
+/// The kit's identity, if there is a kit.
+fn kit(rt: &Path) -> Option<String> {
+    let output = Command::new(rt).arg("version").output().ok()?;
+    let identity = String::from_utf8(output.stdout).ok()?;
+    output.status.success().then(|| identity.trim().to_owned())
+}
+
+/// The kit that is noted.
+fn noted_kit(noted: &str) -> Option<String> {
+    let kit = noted.lines().find_map(|line| line.strip_prefix("kit "));
+    kit.map(str::to_owned)
+}
+
+/// A digest of files and folders: of each file the path, the length and the bytes, in the order of the paths.
+fn digest(root: &Path, names: &[&str]) -> io::Result<u64> {
+    let mut files = Vec::new();
+    let mut left: Vec<PathBuf> = names.iter().map(PathBuf::from).collect();
+    while let Some(name) = left.pop() {
+        let path = root.join(&name);
+        if !path.is_dir() {
+            files.push(name);
+            continue;
+        }
+        for entry in fs::read_dir(path)? {
+            left.push(name.join(entry?.file_name()));
+        }
+    }
+    files.sort();
+    let mut hasher = DefaultHasher::new();
+    for name in files {
+        let bytes = fs::read(root.join(&name))?;
+        (name, bytes).hash(&mut hasher);
+    }
+    Ok(hasher.finish())
 }
 
 /// Where the library is to be.
@@ -86,26 +181,25 @@ fn repository_root() -> Option<PathBuf> {
     root.join("crates.txt").is_file().then(|| root.to_owned())
 }
 
-/// Makes the library.
-fn make(root: &Path) -> Result<(), String> {
-    let [program, arguments @ ..] = MAKE;
-    let command = MAKE.join(" ");
-    let mut make = Command::new(program);
+/// Makes the library, which is not as it is to be for this reason.
+fn make(root: &Path, rt: &Path, why: &str) -> Result<(), String> {
+    let command = format!("{RT} {}", MAKE.join(" "));
+    let mut make = Command::new(rt);
     let made = make
-        .args(arguments)
+        .args(MAKE)
         .current_dir(root)
         .stdin(Stdio::null())
         .output();
     let output = made.map_err(|error| {
         format!(
-            "{MADE_HERE}/{FILE} is missing, and the command that makes it, {command}, cannot be run: {error}\n\
+            "{MADE_HERE}/{FILE} {why}, and the command that makes it, {command}, cannot be run: {error}\n\
              install the Rattle kit (README.md, \"What it needs\"), or set {VARIABLE} to the folder of a library made \
              elsewhere"
         )
     })?;
     if !output.status.success() {
         return Err(format!(
-            "{command} failed, {}\n{}",
+            "{MADE_HERE}/{FILE} {why}, and {command} failed, {}\n{}",
             output.status,
             last_lines(&output)
         ));

@@ -1,4 +1,4 @@
--- Characters and their cells: each gives the other back, and both have the same characters and the same number of selectors.
+-- Characters and their cells: each determines the other, and both have the same characters and the same number of selectors.
 use mathlib.Core.Path.{_≡_, refl, ap, sym, _∙_, subst}
 use mathlib.Core.Bool.{true, false, cond}
 use mathlib.Core.List.{List, [], _∷_, _++_, map, append-nil}
@@ -14,7 +14,7 @@ use Rattle.scanner.proofs.SelectorChars.{CharIs, a-selector, char-is, from-othe
 use Rattle.scanner.proofs.Walk.{strip-char, strip-selector}
 use Rattle.analysis.specs.Cells.{Cell, addChar, cells, leading, selectorCount, split, unsplit}
 
--- ---- one character more
+-- ---- one more character
 
 pub split-selector : (q : Presentation) (t : List ℕ) → split (asSelector q ∷ t) ≡ (q ∷ leading t, cells t)
 unfolding split addChar
@@ -24,7 +24,7 @@ pub split-char : (c : ℕ) (t : List ℕ) → isSelector c ≡ false → split (
 unfolding split addChar
 split-char c t e = ap (λ (f : FromSelector). addChar c f (split t)) (from-other c e)
 
--- The first character is no selector where none leads.
+-- If no selector leads, the first character is no selector.
 pub front-char : (c : ℕ) (t : List ℕ) → leading (c ∷ t) ≡ [] → isSelector c ≡ false
 front-char c t e = go (char-is c)
   where
@@ -35,7 +35,7 @@ front-char c t e = go (char-is c)
         (ap (λ (x : ℕ). leading (x ∷ t)) f ∙ ap (λ (a : List Presentation × List Cell). a .0) (split-selector q t)) ∙ e in
         absurd (omega (arith, ap length l))
 
--- Induction over characters: selectors, and the others.
+-- Induction over characters, by whether the first is a selector.
 module _ (P : List ℕ → Type 0) (end : P []) (sel : (q : Presentation) (t : List ℕ) → P t → P (asSelector q ∷ t))
     (char : (c : ℕ) (t : List ℕ) → isSelector c ≡ false → P t → P (c ∷ t)) where
   pub by-chars : (t : List ℕ) → P t
@@ -46,7 +46,7 @@ module _ (P : List ℕ → Type 0) (end : P []) (sel : (q : Presentation) (t : L
       go (a-selector q e) h = subst (λ (x : ℕ). P (x ∷ t)) (sym e) (sel q t h)
       go (no-selector e) h = char c t e h
 
--- The cells and the leading selectors give the characters back.
+-- The leading selectors and the characters of the cells, one after the other, are the text.
 pub split-whole : (t : List ℕ) → map asSelector (leading t) ++ unsplit (cells t) ≡ t
 unfolding split
 split-whole =
@@ -84,7 +84,7 @@ split-unsplit (cell-and {x = x} {xs = xs} e h) =
     ∙ ap (λ (a : List Presentation × List Cell). ([], record { char = x .char; after = a .0 } ∷ a .1)) i
     ∙ ap (λ (s : List Presentation). ([], record { char = x .char; after = s } ∷ xs)) (append-nil (x .after))
 
--- The cells of one text after another that does not begin with a selector.
+-- The cells of a text s ++ t, if t does not begin with a selector.
 pub split-append : (s t : List ℕ) → leading t ≡ [] → split (s ++ t) ≡ (leading s, cells s ++ cells t)
 unfolding split
 split-append s t e =
@@ -96,7 +96,7 @@ split-append s t e =
     ∙ sym (ap (λ (a : List Presentation × List Cell). (a .0, a .1 ++ cells t)) (split-char c s f)))
     s
 
--- ---- the characters that are no selectors
+-- ---- the characters other than selectors
 
 abbrev pub charsOf : List Cell → List ℕ
 charsOf [] = []

@@ -1,4 +1,5 @@
--- The selectors at the front of a text are its leading ones, and after them stand its cells: what a cell that is read at an offset is.
+-- The leading selectors of a text are the run of selectors at its front, and the cells are those of the text after this run. So the
+-- code can read a cell at an offset.
 use mathlib.Core.Path.{_≡_, refl, ap, sym, _∙_}
 use mathlib.Core.Bool.{true, false}
 use mathlib.Core.List.{List, [], _∷_, map}
@@ -19,7 +20,8 @@ use Rattle.scanner.specs.declared.char_class.Class.{Class}
 use Rattle.scanner.specs.declared.char_class.Class.the-variants.{Selector as selector}
 use Rattle.scanner.specs.declared.selectors.PresentationSelectors.{PresentationSelectors}
 use Rattle.scanner.proofs.Bytes.{chars-from, size-chars}
-use Rattle.scanner.proofs.ClassTests.{forSelector, selector-test}
+use Rattle.scanner.specs.RunKinds.{isSelectorClass}
+use Rattle.scanner.proofs.ClassTests.{selector-test}
 use Rattle.scanner.proofs.Peek.{Seen, seen-arm}
 use Rattle.scanner.proofs.Rescan.{size-append}
 use Rattle.scanner.proofs.Runs.{after-false, after-true, run-after, run-false, run-true}
@@ -33,7 +35,7 @@ use Rattle.analysis.specs.Rules.{Outcome, firstAsked, outcome, runWith}
 use Rattle.analysis.proofs.Cells.{by-chars, clean-cells, split-char, split-selector, split-unsplit, split-whole}
 use Rattle.analysis.proofs.NumberRules.{by-numbers}
 
--- ---- the selectors at the front and what stands after them
+-- ---- the leading selectors and the text after them
 
 selectors-are : (t : List ℕ) → selectorsAt t ≡ map asSelector (leading t)
 unfolding split run
@@ -52,7 +54,7 @@ after-are =
     (λ c t e h. after-false isSelector c t e ∙ ap (λ (l : List ℕ). c ∷ l) (sym (split-whole t))
     ∙ sym (ap (λ (a : List Presentation × List Cell). unsplit (a .1)) (split-char c t e)))
 
--- No selector leads what stands after the leading ones, and its cells are the same.
+-- After the leading selectors no selector leads, and the cells are the same.
 pub split-after : (t : List ℕ) → split (afterSelectors t) ≡ ([], cells t)
 split-after t = ap split (after-are t) ∙ split-unsplit (clean-cells t)
 
@@ -67,7 +69,7 @@ first-is t = ap firstSelector (selectors-are t) ∙ go (leading t)
     go [] = refl
     go (q ∷ s) = from-selector q
 
--- What the first character asks for as a selector is the first of the leading ones.
+-- The first leading selector is the presentation that the first character selects, if it is a selector.
 pub first-leads : (t : List ℕ) → firstSelector t ≡ firstAsked (leading t)
 first-leads t = first-in-run t ∙ first-is t
 
@@ -81,34 +83,34 @@ following-is t = go (cells t) ∙ ap classInFront (sym (after-are t))
 
 -- ---- at an offset
 
--- The character there is a selector in the arm of that class, and none in the arm of all other classes.
+-- The character is a selector in the arm of the class Selector, and none in the arm of all other classes.
 module _ {text : List ℕ} {at v : ℕ} {k : Class} {next : ℕ} (h : Seen text at v k next) where
   pub is-selector : k ≡ selector → isSelector v ≡ true
-  is-selector e = selector-test v ∙ ap forSelector (sym (h .class) ∙ e)
+  is-selector e = selector-test v ∙ ap isSelectorClass (sym (h .class) ∙ e)
 
   pub not-selector : OneOf (1 ∷ 2 ∷ 3 ∷ 4 ∷ 5 ∷ 6 ∷ 7 ∷ []) (tagOf the-class k) → isSelector v ≡ false
   not-selector o =
-      selector-test v ∙ ap forSelector (sym (h .class)) ∙ seen-arm h forSelector false (1 ∷ 2 ∷ 3 ∷ 4 ∷ 5 ∷ 6 ∷ 7 ∷ [])
+      selector-test v ∙ ap isSelectorClass (sym (h .class)) ∙ seen-arm h isSelectorClass false (1 ∷ 2 ∷ 3 ∷ 4 ∷ 5 ∷ 6 ∷ 7 ∷ [])
       (tt, refl, refl, refl, refl, refl, refl, refl) o
 
 module _ (text : List ℕ) (at : ℕ) where
-  -- The leading selectors end at three bytes each ..
+  -- The end of the leading selectors: three bytes each.
   pub selectors-end : at + size width (selectorsAt (chars (drop at text))) ≡ at + 3 * length (leading (chars (drop at text)))
   selectors-end = let t = chars (drop at text) in omega (arith, selectors-size t, count-is t)
 
-  -- .. and from there on the text is what stands after them.
+  -- The text from that end on.
   pub after-at : chars (drop (at + 3 * length (leading (chars (drop at text)))) text) ≡ afterSelectors (chars (drop at text))
   after-at =
       let t = chars (drop at text) in
       ap (λ (n : ℕ). chars (drop n text)) (sym selectors-end)
       ∙ chars-from text at (selectorsAt t) (afterSelectors t) (sym (run-after isSelector t))
 
-  -- There none leads, and the cells are the same.
+  -- From that end on no selector leads, and the cells are the same.
   pub split-at : {end : ℕ} → end ≡ at + 3 * length (leading (chars (drop at text))) → split (chars (drop end text))
       ≡ ([], cells (chars (drop at text)))
   split-at e = ap (λ (n : ℕ). split (chars (drop n text))) e ∙ ap split after-at ∙ split-after (chars (drop at text))
 
-  -- They end within the text.
+  -- That end is within the text.
   pub selectors-room : at ≤ length text → at + 3 * length (leading (chars (drop at text))) ≤ length text
   selectors-room h =
       let s = drop at text in
@@ -117,7 +119,7 @@ module _ (text : List ℕ) (at : ℕ) where
       let b = ap (size width) (run-after isSelector t) in
       omega (arith, a, b, size-chars s, validUpTo-le s, length-drop at text, selectors-end)
 
-  -- The run as the code reads it.
+  -- The run of selectors as the code reads it.
   module _ (r : PresentationSelectors) (e : r ≡ selectorRun text at) where
     pub read-end : r .end ≡ at + 3 * length (leading (chars (drop at text)))
     unfolding selectorRun
@@ -131,7 +133,7 @@ module _ (text : List ℕ) (at : ℕ) where
     unfolding selectorRun
     read-first = ap (λ (x : PresentationSelectors). x .first) e ∙ first-is (chars (drop at text))
 
-  -- The cell as the code reads it: the run of selectors, the class after it, and what the rules say.
+  -- The cell as the code reads it: by the run of selectors, the class of the character after it, and the result of the rules.
   pub cell-read : (p : Policy) (c : ℕ) (r : PresentationSelectors) (k : Class) (o : Outcome) → r ≡ selectorRun text at
       → k ≡ classInFront (chars (drop (r .end) text)) → o ≡ outcome p c k (runWith (r .first) (r .count))
       → (o ≡ outcome p c (following (cells (chars (drop at text)))) (leading (chars (drop at text))))

@@ -1,5 +1,5 @@
--- The cells of items in a row: their formatted characters and their totals are those of the items, since the last cell of an item does not
--- see what comes after the item.
+-- The cells of items in a row: their formatted characters and their totals are those of the items, since the result of the rules
+-- for the last cell of an item does not depend on the text after the item.
 use mathlib.Core.Path.{_≡_, refl, ap, sym, _∙_, subst}
 use mathlib.Core.Bool.{Bool, true, false, false≢true}
 use mathlib.Core.Option.{none}
@@ -111,7 +111,7 @@ say-append (x ∷ a) b =
     (ap (λ (l : List ℕ). map asSelector (chosen (x .out .slot) []) ++ l) (say-append a b)
     ∙ sym (append-assoc (map asSelector (chosen (x .out .slot) [])) (say a) (say b)))
 
--- The class of the next cell's character, or k after the last.
+-- The class of the first cell's character, or k if there is no cell.
 abbrev next : Class → List Cell → Class
 next k [] = k
 next k (x ∷ xs) = classOf (x .char)
@@ -125,7 +125,7 @@ no-cells : (xs : List Cell) → charsOf xs ≡ [] → xs ≡ []
 no-cells [] e = refl
 no-cells (x ∷ xs) e = let z : suc (length (charsOf xs)) ≡ 0 = ap length e in absurd (omega arith)
 
--- ---- what stands after an item
+-- ---- the text after an item
 
 data Stop (q : State) (k : Class) : Type 0 where
   at-end : k ≡ other → Stop q k
@@ -186,7 +186,7 @@ module _ (p : Policy) where
       ap (λ (l : List Piece). record { char = x .char; out = outcome p (x .char) (classOf (y .char)) (x .after) } ∷ l)
       (outs-append k (y ∷ xs) ys)
 
-  -- After a whole stem the item ends only where no modification follows.
+  -- After a complete stem the item ends only where no modification follows.
   unit-ends : (c : ℕ) (k : Class) (s : List Presentation) → transition unit k ≡ none → outcome p c k s ≡ outcome p c other s
   unfolding transition byModifier byTags byKeycap
   unit-ends c selector s e = cc
@@ -233,7 +233,7 @@ module _ (p : Policy) where
   abbrev pub cellSum : List ℕ → NonCanonicality
   cellSum t = unsanctioned (length (leading t)) ⊕ sum (outs other (cells t))
 
-  -- Every item's replacement, by default.
+  -- The default replacements of all items, one after the other.
   abbrev pub replaceAll : List Item → List ℕ
   replaceAll [] = []
   replaceAll (x ∷ xs) = replacement p x [] ++ replaceAll xs
@@ -294,7 +294,7 @@ module _ (p : Policy) where
             ∙ ap (λ (n : NonCanonicality). n ⊕ totals p xs) (sym (counts-at p x Passthrough k));
       }
 
-  -- What the cells of the items after come to, where no selector leads.
+  -- The sum over the cells of items is the totals of the items, if no selector leads them.
   sum-after : {xs : List Item} → leading (join xs) ≡ [] → ByCells xs → sum (outs other (cells (join xs))) ≡ totals p xs
   sum-after {xs} e i =
       let Y = outs other (cells (join xs)) in
@@ -379,7 +379,7 @@ module _ (p : Policy) where
   unfolding totalCells
   total-cells t = ap (λ (m : NonCanonicality). unsanctioned (length (leading t)) ⊕ m) (count-outs (cells t))
 
-  -- The counts of the first item, and the totals of what is after it.
+  -- The sum of the counts of the first item and the totals of the other items.
   abbrev firstAndRest : List Item → NonCanonicality
   firstAndRest [] = empty
   firstAndRest (x ∷ xs) = nonCanonicality p x ⊕ totalCells p (join xs)

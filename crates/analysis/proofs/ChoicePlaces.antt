@@ -1,4 +1,4 @@
--- The cells, the unit and the first choice at an offset of a slice, as the code reads them: a unit ends where the next link begins.
+-- The cells, the unit and the first choice at an offset of a slice, as the code reads them. A unit ends where the next link begins.
 use mathlib.Core.Path.{_≡_, refl, ap, ap₂, sym, _∙_}
 use mathlib.Core.Bool.{Bool, true, false, cond, not, true≢false}
 use mathlib.Core.List.{List, [], _∷_, _++_, map}
@@ -32,7 +32,7 @@ use Rattle.analysis.proofs.Cells.{by-chars, split-char, split-selector}
 use Rattle.analysis.proofs.CellsAt.{selectors-end, split-at}
 use Rattle.analysis.proofs.singleton.Slot.{the-type as the-slot}
 
--- The bytes of selectors, and of what stands after them.
+-- The bytes of selectors and of the characters after them.
 pub selectors-bytes : (qs : List Presentation) (t : List ℕ) → size width (map asSelector qs ++ t) ≡ 3 * length qs + size width t
 selectors-bytes [] t = omega arith
 selectors-bytes (q ∷ qs) t = omega (arith, width-selector q, selectors-bytes qs t)
@@ -80,7 +80,7 @@ link-end raw at =
 -- ---- the cells at an offset
 
 module _ (raw : List ℕ) (at : ℕ) where
-  -- After the leading selectors the same cells are read, and no selector before them.
+  -- After the leading selectors the cells are the same, and no selector leads them.
   pub cells-after : split (chars (drop (cellsStart raw at) raw)) ≡ ([], cellsFrom raw at)
   cells-after = split-at raw at refl
 
@@ -93,7 +93,7 @@ module _ (raw : List ℕ) (at : ℕ) where
         ≡ ([], record { char = v; after = leading (chars (drop next raw)) } ∷ cellsFrom raw next)
     cells-char e = ap split (h .chars-on) ∙ split-char v (chars (drop next raw)) e
 
-    -- A selector is passed.
+    -- At a selector, the cells are those from the offset after it on.
     cells-selector : isSelector v ≡ true → (cellsStart raw at ≡ cellsStart raw next) × (cellsFrom raw at ≡ cellsFrom raw next)
     cells-selector e = go (char-is v)
       where
@@ -114,7 +114,7 @@ module _ (raw : List ℕ) (at : ℕ) where
 pub first-cell : (raw : List ℕ) (at : ℕ) → at + size width (runOf Selectors (chars (drop at raw))) ≡ cellsStart raw at
 first-cell raw at = ap (λ (l : List ℕ). at + size width l) (run-selectors (chars (drop at raw))) ∙ selectors-end raw at
 
--- The unit begins after the leading selectors; where no character stands there is none ..
+-- The unit begins after the leading selectors. If no character begins there, there is no unit.
 module _ (raw : List ℕ) (at start : ℕ) (s : start ≡ cellsStart raw at) where
   starts : split (chars (drop start raw)) ≡ ([], cellsFrom raw at)
   starts = ap (λ (n : ℕ). split (chars (drop n raw))) s ∙ cells-after raw at
@@ -125,7 +125,7 @@ module _ (raw : List ℕ) (at start : ℕ) (s : start ≡ cellsStart raw at) whe
       let e : cellsFrom raw at ≡ [] = ap (λ (a : List Presentation × List Cell). a .1) (sym starts ∙ cells-none raw start h) in
       omega (arith, ap (λ (l : List Cell). cellsLength (frontUnit l)) e)
 
-  -- .. and else it ends where the next link begins.
+  -- Otherwise the unit ends where the next link begins.
   pub unit-on : {v : ℕ} {k : Class} {next : ℕ} (end : ℕ) → Seen raw start v k next → end
       ≡ cellsStart raw next + cellsLength (upToLink (cellsFrom raw next))
       → end ≡ cellsStart raw at + cellsLength (frontUnit (cellsFrom raw at))
@@ -154,11 +154,11 @@ module _ (raw : List ℕ) (at start : ℕ) (s : start ≡ cellsStart raw at) whe
 
 -- ---- the first choice at an offset
 
--- A slot that adds no choice.
+-- A slot that takes no decision.
 abbrev pub Undecided : Slot → Type 0
 Undecided s = (c : Presentation → ReplacementChoice) (l : List ReplacementChoice) → addChoiceAt s c l ≡ l
 
--- A slot that is bare or fixed is one.
+-- A slot that is bare or fixed takes no decision.
 pub undecided : (s : Slot) → OneOf (0 ∷ 1 ∷ []) (tagOf the-slot s) → Undecided s
 undecided bare o c l = refl
 undecided (fixed q) o c l = refl
@@ -175,7 +175,7 @@ module _ (p : Policy) (raw : List ℕ) (at : ℕ) where
     unfolding choiceAt
     choice-selector e = let r = cells-selector raw at h e in ap₂ (λ (n : ℕ) (l : List Cell). firstChoice (choicesFrom p n l)) (r .0) (r .1)
 
-    -- A cell, as the code reads it: what the rules say of it, and its end.
+    -- A cell as the code reads it: the result of the rules for it, and its end.
     module _ (e : isSelector v ≡ false) (o : Outcome) (end : ℕ)
         (ho : o ≡ outcome p v (following (cellsFrom raw next)) (leading (chars (drop next raw)))) (he : end ≡ cellsStart raw next) where
       after : (cellsStart raw end ≡ end) × (cellsFrom raw end ≡ cellsFrom raw next)
@@ -188,7 +188,7 @@ module _ (p : Policy) (raw : List ℕ) (at : ℕ) where
       abbrev own : Presentation → ReplacementChoice
       own d = record { start = at; end = end + cellsLength (upToLink (cellsFrom raw next)); next = end; default = d }
 
-      -- The choices from the cell on: its own, if its slot is decided, and those from its end on.
+      -- The choices from the cell on: its own, if its slot takes a decision, and those from its end on.
       from-cell : choiceAt p raw at ≡ firstChoice (addChoiceAt (o .slot) own (choicesFrom p (cellsStart raw end) (cellsFrom raw end)))
       unfolding choiceAt choicesFrom frontUnit
       from-cell =
@@ -205,12 +205,12 @@ module _ (p : Policy) (raw : List ℕ) (at : ℕ) where
           ∙ (λ i. firstChoice (addChoiceAt (g i .slot) (λ (d : Presentation). record { start = b i; end = m i; next = n i; default = d })
           (choicesFrom p (z i) (y i))))
 
-      -- A cell whose slot is not decided is passed ..
+      -- If the cell's slot takes no decision, the first choice is the first one from the cell's end on.
       pub choice-passed : Undecided (o .slot) → choiceAt p raw at ≡ choiceAt p raw end
       unfolding choiceAt
       choice-passed q = from-cell ∙ ap firstChoice (q own (choicesFrom p (cellsStart raw end) (cellsFrom raw end)))
 
-      -- .. and a decided one is the choice, whose unit ends where the next link begins.
+      -- If the cell's slot takes a decision, the cell is the first choice, and its unit ends where the next link begins.
       pub choice-found : (d : Presentation) (last : ℕ) → o .slot ≡ decided d → last
           ≡ cellsStart raw end + cellsLength (upToLink (cellsFrom raw end))
           → Choice (record { start = at; end = last; next = end; default = d }) ≡ choiceAt p raw at

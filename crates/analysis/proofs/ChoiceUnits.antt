@@ -1,4 +1,5 @@
--- The bytes of the unit at an offset: they are within the slice, their cells are the unit's, and writing these is writing the unit.
+-- The bytes of the unit at an offset: they are within the slice, their cells are the unit's, and writing these cells writes the
+-- unit.
 use mathlib.Core.Path.{_≡_, refl, ap, sym, _∙_, subst}
 use mathlib.Core.Bool.{Bool, true, false, cond}
 use mathlib.Core.List.{List, [], _∷_, _++_, append-assoc, map}
@@ -31,7 +32,7 @@ use Rattle.analysis.proofs.ItemsAt.{scalar-front}
 
 -- ---- the unit is a beginning of the cells
 
--- A list is a beginning of another.
+-- The list s is a beginning of the list t.
 pub record Begins (s t : List ℕ) : Type 0 where
   pub rest : List ℕ
   pub whole : t ≡ s ++ rest
@@ -67,7 +68,7 @@ unfolding frontUnit
 clean-unit no-cell = no-cell
 clean-unit (cell-and e h) = cell-and e (clean-up h)
 
--- ---- its bytes
+-- ---- the bytes of the unit
 
 module _ (raw : List ℕ) (at end : ℕ) (e : end ≡ cellsStart raw at + cellsLength (frontUnit (cellsFrom raw at))) where
   abbrev t : List ℕ
@@ -106,7 +107,7 @@ module _ (raw : List ℕ) (at end : ℕ) (e : end ≡ cellsStart raw at + cellsL
       ap cells c ∙ ap (λ (a : List Presentation × List Cell). a .1) (split-selectors (leading t) (unsplit (frontUnit (cells t))))
       ∙ ap (λ (a : List Presentation × List Cell). a .1) (split-unsplit (clean-unit (clean-cells t)))
 
--- ---- the call that writes it
+-- ---- the call that writes the unit
 
 module _ (p : Policy) (raw : List ℕ) (at : ℕ) (q : Presentation) (out : List ℕ) where
   pub replace-long : textLimit < length raw → unwritten (Refused TextTooLong) out ≡ replaceUnit p raw at q out
@@ -119,7 +120,7 @@ module _ (p : Policy) (raw : List ℕ) (at : ℕ) (q : Presentation) (out : List
     unfolding replaceUnit
     replace-unit e = e ∙ simp (le-leb (length raw) textLimit h)
 
-    -- After the slice's end there is no unit.
+    -- At or after the end of the slice there is no unit.
     pub replace-none : length raw ≤ at → record { answer = Mended 0; buffer = out } ≡ replaceUnit p raw at q out
     unfolding frontUnit render renew encodeAll split
     replace-none g =

@@ -1,4 +1,4 @@
--- Walking a slice from choice to choice meets the choices of its cells.
+-- A walk over a slice from choice to choice finds the choices of its cells.
 use mathlib.Core.Path.{_≡_, refl, ap, sym, _∙_, subst}
 use mathlib.Core.List.{List, [], _∷_, _++_, append-assoc, map}
 use Prim.Native.Nat.{ℕ, _+_}
@@ -36,12 +36,12 @@ use Rattle.analysis.proofs.ChoiceUnits.{unit-cells}
 use Rattle.analysis.proofs.Components.{of-structured}
 
 module _ (p : Policy) (raw : List ℕ) where
-  -- A walk begins with the first choice: from an offset with the same one it is the same.
+  -- A walk depends only on the first choice: it is the same from two offsets with the same first choice.
   meets-same : {at from : ℕ} {ks : List Choice} → choiceAt p raw from ≡ choiceAt p raw at → Meets p raw at ks → Meets p raw from ks
   meets-same e (no-more f) = no-more (e ∙ f)
   meets-same e (one-more c f i m) = one-more c (e ∙ f) i m
 
-  -- ---- at an offset where cells stand, with no selectors before them
+  -- ---- at an offset where a cell begins
 
   module _ (at : ℕ) (xs : List Cell) (e : split (chars (drop at raw)) ≡ ([], xs)) where
     start-is : cellsStart raw at ≡ at
@@ -54,7 +54,7 @@ module _ (p : Policy) (raw : List ℕ) where
     unfolding choiceAt
     choice-is = λ i. firstChoice (choicesFrom p (start-is i) (cells-are i))
 
-  -- After the first cell stand the others.
+  -- The cells after the first cell.
   others : (at : ℕ) (x : Cell) (xs : List Cell) → split (chars (drop at raw)) ≡ ([], x ∷ xs)
       → split (chars (drop (at + cellsLength (x ∷ [])) raw)) ≡ ([], xs)
   others at x xs e =
@@ -103,13 +103,13 @@ module _ (p : Policy) (raw : List ℕ) where
       go (fixed q) f m = meets-same (first (fixed q) f ∙ sym (choice-is (at + cellsLength (x ∷ [])) xs (others at x xs e))) m
       go (decided d) f m = one-more (own d) (first (decided d) f) (is-choice at x xs d e) m
 
-  -- From any offset on, the walk meets the choices of the cells.
+  -- From any offset on, the walk finds the choices of the cells there.
   pub walk : (at : ℕ) → Meets p raw at (choicesOfCells p (cellsFrom raw at))
   unfolding choiceAt
   walk at = meets-same (sym (choice-is (cellsStart raw at) (cellsFrom raw at) (cells-after raw at)))
       (walk-cells (cellsFrom raw at) (cellsStart raw at) (cells-after raw at))
 
-  -- So it does from the start of an item's bytes.
+  -- From the start of an item's bytes, the walk finds the item's choices.
   pub walk-item : (x : Item) → chars raw ≡ x .chars → Structured (x .kind) → Meets p raw 0 (choices p x)
   unfolding choices choicesOf
   walk-item x e o =

@@ -1,4 +1,5 @@
--- As many choices as decisions are counted, and the default decisions, which are the choices' defaults, replace as no decisions do.
+-- The number of choices is the eighth count. The default decisions are the defaults of the choices, and give the same replacement
+-- as no decisions.
 use mathlib.Core.Path.{_≡_, refl, ap, _∙_}
 use mathlib.Core.List.{List, [], _∷_, map}
 use Prim.Native.Nat.{ℕ, _+_}

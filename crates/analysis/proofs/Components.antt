@@ -112,7 +112,7 @@ unfolding flattenModifications
 modifications-of [] h = unmodified
 modifications-of (m ∷ ms) h = modified (h m (List·Memᴰ·head refl)) (modifications-of ms (λ n i. h n (List·Memᴰ·tail i)))
 
--- The characters m of modifications: no selector leads, and no cell has an entry.
+-- The characters m of modifications: no selector leads, and the character of no cell has a variation entry.
 record Modifies (m : List ℕ) : Type 0 where
   leads : leading m ≡ []
   entryless : Entryless (cells m)
@@ -130,7 +130,7 @@ stem-no-selector (single {c = c} e s) = at-char (emoji-no-selector c e)
 first-no-selector : {c : ℕ} {s : List ℕ} → Stops isSelector (c ∷ s) → isSelector c ≡ false
 first-no-selector (at-char e) = e
 
--- What may stand after a unit: nothing, or a link.
+-- What can stand after a unit: nothing, or a link.
 data EndsText : List ℕ → Type 0 where
   text-end : EndsText []
   text-link : {t : List ℕ} → EndsText (0x200D ∷ t)
@@ -141,12 +141,12 @@ ends-cells text-end = ends-none
 ends-cells (text-link {t = t}) =
     subst (λ (a : List Presentation × List Cell). Ends (a .1)) (sym (split-char 0x200D t refl)) (ends-link refl)
 
--- What holds of both kinds of item that have links or units.
+-- A value that is the same for both links-only and emoji-headed items.
 pub of-structured : {A : Type 0} {k : ScanKind} (f : ScanKind → A) (a : A) → Structured k → f LinksOnly ≡ a → f EmojiHeaded ≡ a → f k ≡ a
 of-structured f a o l e = ⊎-elim (λ z. ap f z ∙ l) (λ z. ap f z ∙ e) o
 
 module _ (p : Policy) where
-  -- What characters come to: their counts and the pieces of their replacement.
+  -- The characters t have the counts n, and es are the pieces of their replacement.
   pub record Says (t : List ℕ) (n : NonCanonicality) (es : List Element) : Type 0 where
     pub leads : leading t ≡ []
     pub counted : countCells p (cells t) ≡ n
@@ -347,7 +347,7 @@ module _ (p : Policy) where
 
   -- ---- items
 
-  -- The cells of an item of links or units.
+  -- The cells of a links-only or emoji-headed item.
   pub item-says : {k : ScanKind} {t : List ℕ} → Structured k → Derives k t
       → Says t (sequenceCounts p (structure t)) (elements p (structure t))
   item-says {k} {t} o d =

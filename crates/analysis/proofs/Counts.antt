@@ -1,5 +1,4 @@
--- The eight counts under the sum: it is associative, what is added can be taken away, `empty` is its zero, and only `empty` has the total
--- 0.
+-- The sum of records of counts: it is associative, an equal summand cancels, `empty` is its zero, and only `empty` has the total 0.
 use mathlib.Core.Path.{_≡_, ap}
 use native.Mathlib.Omega.{arith}
 use Rattle.analysis.specs.Counts.{_⊕_, empty, total}

@@ -1,4 +1,4 @@
--- The examples, computed over the tables.
+-- The examples, computed from the tables.
 use mathlib.Core.Path.{refl}
 use Rattle.unicode.specs.Presentation.{asSelector, fromSelector, isSelector}
 use Rattle.unicode.specs.Tables.{indexOf, inRanges, member, next}

@@ -1,5 +1,5 @@
--- The replacement of an item, by its kind: no count, the same other characters, selectors as counted, the item itself exactly
--- where there is no finding, and again one item of that kind.
+-- The replacement of an item, by its kind: it has no count, the same characters other than selectors, and selectors added and
+-- removed as counted. It is the item itself exactly if the item is no finding, and it is again one item of the same kind.
 use mathlib.Core.Path.{_≡_, refl, ap, sym, _∙_, subst}
 use mathlib.Core.Bool.{true, false, not, true≢false}
 use mathlib.Core.List.{List, [], _∷_, _++_, map, append-nil, List·Memᴰ, List·Memᴰ·cases-cons, List·Memᴰ·not-nil}
@@ -52,7 +52,7 @@ use Rattle.analysis.proofs.Replacement.{
   strip-renewed,
 }
 
--- An item that the scanner's places lead through is derived.
+-- The grammar derives an item that is a walk of the scanner's automaton.
 pub walked-derives : {q : State} (x : Item) (c : ℕ) (s : List ℕ) → x .kind ≡ kindOf (startState (classOf c)) → x .chars ≡ c ∷ s
     → Walk (startState (classOf c)) s q → Derives (x .kind) (x .chars)
 walked-derives x c s k l w = subst (λ (y : Item). Derives (y .kind) (y .chars)) (λ i. item (sym k i) (sym l i)) (walk-derive c w)
@@ -75,7 +75,7 @@ headed {k} {t} o d =
       no-selector = inner-no-selector (h .char) (derive-inner (h .char) (h .tail) o (subst (Derives k) (h .split) d));
     }
 
--- So no selector leads, and the cells are all of it.
+-- No selector leads, so that the cells are all characters.
 pub no-leading : {k : ScanKind} {t : List ℕ} → Structured k → Derives k t → leading t ≡ []
 no-leading o d =
     let h = headed o d in
@@ -102,7 +102,7 @@ unfolding strip
 strip-S no-selectors = refl
 strip-S (selector-and {c = c} {s = s} e h) = strip-selector c s e ∙ strip-S h
 
--- The selectors of s are those of t, less the removing counts, plus the adding ones.
+-- The number of selectors of s is that of t, less the counts that remove, plus the counts that add.
 abbrev pub Balanced : List ℕ → List ℕ → NonCanonicality → Type 0
 Balanced s t n = selectorCount s + removing n ≡ selectorCount t + adding n
 
@@ -154,7 +154,7 @@ module _ (p : Policy) where
   balance-of {k} {t} (emoji-headed v j l) ds = balance-cells (inr refl) (emoji-headed v j l) ds
   balance-of {k} {t} (passthrough h s) ds = refl
 
-  -- The replacement of links or units is an item of the same kind.
+  -- The replacement of a links-only or emoji-headed item is derived as an item of the same kind.
   pub derives-of : {k : ScanKind} {t : List ℕ} → Structured k → Derives k t → (ds : List Presentation) → Derives k (render p (cells t) ds)
   derives-of {k} {t} o d ds =
       let h = headed o d in
@@ -163,7 +163,7 @@ module _ (p : Policy) where
       (derives-alike (h .char) (h .tail) (renewed p (h .char) (h .tail) ds) (derive-inner (h .char) (h .tail) o e)
       (sym (strip-renewed p (h .char) (h .tail) ds)) e)
 
-  -- ---- of an item
+  -- ---- for an item
 
   pub counts-at : (x : Item) (k : ScanKind) → x .kind ≡ k → nonCanonicality p x ≡ countsOf p k (x .chars)
   unfolding nonCanonicality
@@ -186,7 +186,7 @@ module _ (p : Policy) where
   unfolding countsOf
   passthrough-no-finding x e = empty-no-finding x (counts-at x Passthrough e)
 
-  -- A finding is of another kind.
+  -- A finding is not passthrough.
   pub finding-no-passthrough : (x : Item) → isFinding p x ≡ true → x .kind ≢ Passthrough
   finding-no-passthrough x f e = true≢false (sym f ∙ passthrough-no-finding x e)
 
@@ -194,7 +194,7 @@ module _ (p : Policy) where
   unfolding nonCanonicality replacement
   replacement-no-count x ds = no-count-of (x .kind) (x .chars) ds
 
-  -- No finding exactly where the default replacement is the item itself.
+  -- An item is no finding exactly if its default replacement is the item itself.
   pub unchanged : (x : Item) → Derives (x .kind) (x .chars) → (isFinding p x ≡ false) ↔ (replacement p x [] ≡ x .chars)
   unfolding nonCanonicality replacement
   unchanged x d = (
@@ -209,7 +209,7 @@ module _ (p : Policy) where
       ⊎-elim (λ e. subst (λ (k : ScanKind). Derives (x .kind) (replacementOf p k (x .chars) ds)) (sym e) (derives-of o d ds))
       (λ e. subst (λ (k : ScanKind). Derives (x .kind) (replacementOf p k (x .chars) ds)) (sym e) (derives-of o d ds)) o
 
-  -- The items of the replacement: none, or the one of the same kind.
+  -- The items of the replacement: none, or one of the same kind.
   pub items-of : {k : ScanKind} {t : List ℕ} → Derives k t → (ds : List Presentation) → (y : Item)
       → List·Memᴰ y (items (replacementOf p k t ds)) → y ≡ item k (replacementOf p k t ds)
   unfolding replacementOf items

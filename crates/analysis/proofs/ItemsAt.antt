@@ -1,4 +1,5 @@
--- The item at an offset: its bytes are its characters and stand within the text, and the totals of its characters are its counts.
+-- The item at an offset: its bytes are the encoding of its characters and lie within the text, and the totals of its characters are
+-- its counts.
 use mathlib.Core.Path.{_≡_, refl, ap, sym, _∙_, subst}
 use mathlib.Core.Logic.{_≢_, inl, inr}
 use mathlib.Core.Bool.{Bool, true, false, cond, not, _&&_, true≢false}
@@ -55,7 +56,7 @@ module _ (text : List ℕ) (at : ℕ) (x : Item) (xs : List Item) (e : items (ch
   member : List·Memᴰ x (items (chars (drop at text)))
   member = subst (λ (l : List Item). List·Memᴰ x l) (sym e) (List·Memᴰ·head refl)
 
-  -- They are read as its characters ..
+  -- These bytes are read as the item's characters.
   pub item-chars : chars (take (at + size width (x .chars) - at) (drop at text)) ≡ x .chars
   item-chars =
       let d : at + size width (x .chars) - at ≡ length (encodeAll (x .chars)) = omega (arith, size-width (x .chars)) in
@@ -63,7 +64,7 @@ module _ (text : List ℕ) (at : ℕ) (x : Item) (xs : List Item) (e : items (ch
       ∙ chars-encodeAll-alone (x .chars)
       (scalar-front (x .chars) (join xs) (subst (λ (l : List ℕ). allScalar l ≡ true) first-and-rest (chars-allScalar (drop at text))))
 
-  -- .. and end within the text.
+  -- These bytes end within the text.
   pub item-within : at + size width (x .chars) ≤ length text
   item-within =
       let s = drop at text in
@@ -95,7 +96,7 @@ module _ (p : Policy) where
   total-item {k} {t} n (emoji-headed v j l) = total-structured (inr refl) (emoji-headed v j l)
   total-item {k} {t} n (passthrough h s) = absurd (n refl)
 
--- And so are those of its bytes.
+-- The totals of an item's bytes are its counts.
 pub item-totals : (p : Policy) (text : List ℕ) (at : ℕ) {x : Item} {xs : List Item} → items (chars (drop at text)) ≡ x ∷ xs
     → x .kind ≢ Passthrough
     → {end : ℕ} → end ≡ at + size width (x .chars) → totalCells p (chars (take (end - at) (drop at text))) ≡ nonCanonicality p x
@@ -104,7 +105,7 @@ item-totals p text at {x} {xs} e o f =
     ap (λ (m : ℕ). totalCells p (chars (take (m - at) (drop at text)))) f ∙ ap (totalCells p) (item-chars text at x xs e)
     ∙ total-item p o (item-derived text at x xs e)
 
--- ---- what the scan's answer at an offset says
+-- ---- the answer of the cursor at an offset
 
 pub record ItemAt (text : List ℕ) (at : ℕ) (i : ScanItem) : Type 0 where
   pub item : Item
@@ -150,7 +151,7 @@ module _ (p : Policy) (text : List ℕ) (at : ℕ) where
     analysis-passthrough e = answer-is false (nonCanonicality p (h .item)) (sym (passthrough-no-finding p (h .item) (sym (h .kind-is) ∙ e)))
         refl
 
-    -- Any other item goes by the totals of its bytes.
+    -- Any other item is analysed by the totals of its bytes.
     module _ (o : i .kind ≢ Passthrough) (n : NonCanonicality) (e : n ≡ totalCells p (chars (take (i .end - at) (drop at text)))) where
       counts-are : n ≡ nonCanonicality p (h .item)
       counts-are = e ∙ item-totals p text at (h .items-are) (λ f. o (h .kind-is ∙ f)) (h .end-is)

@@ -1,5 +1,5 @@
--- The length of a replacement in characters and in bytes: as the item's, less the selectors removed, plus those added; and at
--- most four times the item's bytes.
+-- The length of a replacement in characters and in bytes: the item's, less the selectors removed, plus those added; and at most
+-- four times the item's bytes.
 use mathlib.Core.Path.{_≡_, refl, ap}
 use mathlib.Core.List.{List, [], _∷_}
 use Prim.Native.Nat.{ℕ, _+_, _*_, _≤_}

@@ -1,4 +1,4 @@
--- The laws of the rules and of replacements, and the theorems.
+-- The laws of the rules and of replacements, and the proofs of the statements.
 pub mod Examples
 pub mod Counts
 pub mod Rules

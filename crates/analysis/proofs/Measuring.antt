@@ -1,4 +1,4 @@
--- The totals and the length of a slice, cell by cell: what the loop that counts and measures goes by.
+-- The totals and the length of a slice, cell by cell: the laws that the loop of `measure_cells` uses.
 use mathlib.Core.Path.{_≡_, refl, ap, sym, _∙_, subst}
 use mathlib.Core.Logic.{⊎-elim}
 use mathlib.Core.Bool.{Bool, true, false}
@@ -53,7 +53,7 @@ use Rattle.analysis.proofs.Replacement.{remaining-none, render-cons, re
 use Rattle.analysis.proofs.Rules.{by-rules, outcome-no-entry, rule23}
 use Rattle.analysis.proofs.Sums.{capped-held, capped-more, whole-sum}
 
--- ---- a cell has at most one count more than selectors
+-- ---- the counts of a cell add up to at most one more than its selectors
 
 abbrev Few : (List Presentation → Outcome) → Type 0
 Few f = (s : List Presentation) → total (f s .counts) ≤ suc (length s)
@@ -97,7 +97,7 @@ few-6 BareToEmoji (q ∷ s) = omega arith
 pub few : (p : Policy) (c : ℕ) (k : Class) → Few (outcome p c k)
 few = by-rules Few few-1 few-23 few-4 few-5 few-6
 
--- ---- a length that is capped now and again is capped once
+-- ---- a length that is capped at each addition is the sum capped once
 
 pub capped-on : (m n : ℕ) → capped (capped m + n) ≡ capped (m + n)
 capped-on m n =
@@ -111,7 +111,7 @@ capped-on m n =
 capped-most : (n : ℕ) → capped n ≤ most
 capped-most n = ⊎-elim (λ h. omega (arith, capped-held n h)) (λ h. omega (arith, capped-more n h)) (le-or-lt n most)
 
--- ---- one character more
+-- ---- one more character
 
 slot-length : (o : Slot) → size width (map asSelector (chosen o [])) ≡ slotLength o
 slot-length bare = refl
@@ -124,7 +124,7 @@ slot-few (fixed q) = omega arith
 slot-few (decided d) = omega arith
 
 module _ (p : Policy) where
-  -- After the leading selectors the cells are counted, and the selectors are unsanctioned ..
+  -- The totals: the counts of the cells, and the leading selectors, which are unsanctioned.
   total-after : (t u : List ℕ) → split u ≡ ([], cells t) → totalCells p u ≡ countCells p (cells t)
   unfolding totalCells
   total-after t u e = ap (λ (a : List Presentation × List Cell). unsanctioned (length (a .0)) ⊕ countCells p (a .1)) e
@@ -134,7 +134,7 @@ module _ (p : Policy) where
   unfolding totalCells
   total-leading t u e = ap (λ (n : NonCanonicality). unsanctioned (length (leading t)) ⊕ n) (sym (total-after t u e))
 
-  -- .. of a cell its own counts and those of what stands after it.
+  -- The totals at a character that is no selector: the counts of its cell, and those of the text after it.
   pub total-char : (c : ℕ) (t u : List ℕ) → isSelector c ≡ false → split u ≡ ([], cells t)
       → totalCells p (c ∷ t) ≡ outcome p c (following (cells t)) (leading t) .counts ⊕ totalCells p u
   unfolding totalCells countCells
@@ -143,7 +143,7 @@ module _ (p : Policy) where
       ap (λ (a : List Presentation × List Cell). unsanctioned (length (a .0)) ⊕ countCells p (a .1)) (split-char c t e)
       ∙ empty-plus (o ⊕ countCells p (cells t)) ∙ ap (λ (n : NonCanonicality). o ⊕ n) (sym (total-after t u h))
 
-  -- The same for what is written.
+  -- The formatted characters: leading selectors are removed.
   format-leading : (t u : List ℕ) → split u ≡ ([], cells t) → formatCells p u ≡ formatCells p t
   unfolding formatCells
   format-leading t u e = ap (λ (a : List Presentation × List Cell). render p (a .1) []) e
@@ -161,15 +161,15 @@ module _ (p : Policy) where
       ∙ sym (format-leading t u h) in
       omega (arith, a, b, d, ap (size width) r)
 
--- ---- the loop: at each turn what is counted and measured, with what is left, gives the whole
+-- ---- the loop: at each turn, the counts and the length so far, with those of the rest, are those of the whole slice
 
 pub record Measuring (p : Policy) (text : List ℕ) (at : ℕ) (counts : NonCanonicality) (len : ℕ) : Type 0 where
   pub counts-same : totalCells p (chars text) ≡ counts ⊕ totalCells p (chars (drop at text))
   pub length-same : capped (size width (formatCells p (chars text))) ≡ capped (len + size width (formatCells p (chars (drop at text))))
-  -- There are no more counts than bytes.
+  -- The total of the counts is at most the number of bytes read.
   pub few-counts : total counts ≤ at
   pub held : len ≤ most
-  -- No selector leads what is left.
+  -- No selector leads the rest.
   pub none-leads : leading (chars (drop at text)) ≡ []
 
 -- The loop begins after the leading selectors.
@@ -189,7 +189,7 @@ measuring-begin {p} {text} {counts} r h e =
     }
 
 module _ {p : Policy} {text : List ℕ} {at : ℕ} {counts : NonCanonicality} {len : ℕ} (m : Measuring p text at counts len) where
-  -- Where no character stands, all is counted and measured.
+  -- Where no character begins, the whole slice is counted and measured.
   pub measuring-done : Stop text at → (counts ≡ totalCells p (chars text)) × (len ≡ capped (size width (formatCells p (chars text))))
   unfolding totalCells countCells formatCells render renew split
   measuring-done h = (
@@ -198,7 +198,7 @@ module _ {p : Policy} {text : List ℕ} {at : ℕ} {counts : NonCanonicality} {l
         ∙ capped-held len (m .held)),
   )
 
-  -- A cell more.
+  -- A turn that reads a cell.
   pub measuring-cell : {v w : ℕ} → Step text at v w → length text ≤ most → (o : Outcome) (end : ℕ)
       → o ≡ outcome p v (following (cells (chars (drop (at + w) text)))) (leading (chars (drop (at + w) text)))
       → end ≡ at + w + 3 * length (leading (chars (drop (at + w) text)))
@@ -231,7 +231,7 @@ module _ {p : Policy} {text : List ℕ} {at : ℕ} {counts : NonCanonicality} {l
         none-leads = ap (λ (x : List Presentation × List Cell). x .0) s;
       }
 
-  -- A character without a variation entry, and its selectors, which are unsanctioned.
+  -- A turn that reads a character without a variation entry, and its selectors, which are unsanctioned.
   pub measuring-plain : {v w : ℕ} → Step text at v w → length text ≤ most → hasVariationSequence v ≡ false → (end n : ℕ)
       → end ≡ at + w + 3 * length (leading (chars (drop (at + w) text))) → n ≡ (end - (at + w)) / 3
       → Measuring p text end (cappedSum counts (unsanctioned n)) (capped (len + w))

@@ -1,4 +1,4 @@
--- The rules ask only which selector is the first and how many there are; what each says by these numbers.
+-- The result of the rules depends only on the first selector and the number of selectors. Each rule, by these two.
 use mathlib.Core.Path.{_≡_, refl, ap}
 use mathlib.Core.Bool.{Bool, true, false, cond}
 use mathlib.Core.List.{List, [], _∷_}
@@ -34,7 +34,7 @@ use Rattle.analysis.specs.Rules.{
 use Rattle.analysis.proofs.Counts.{counts-path}
 use Rattle.analysis.proofs.Rules.{by-rules, rule23}
 
--- After a first selector only the number of the others counts.
+-- Of the selectors after the first, only the number matters.
 abbrev Numbers : (List Presentation → Outcome) → Type 0
 Numbers f = (q : Presentation) (s t : List Presentation) → length s ≡ length t → f (q ∷ s) ≡ f (q ∷ t)
 
@@ -70,9 +70,9 @@ unfolding runWith firstAsked
 by-numbers p c k [] = refl
 by-numbers p c k (q ∷ s) = numbers p c k q s _ (omega (arith, length-replicate (length (q ∷ s) - 1) q))
 
--- ---- what the rules say after a first selector, by the number of selectors
+-- ---- the result of each rule with a first selector, by the number of selectors
 
--- Counts beside the selectors after the first, which are unsanctioned.
+-- A record of counts, plus the selectors after the first, which are unsanctioned.
 after : (b c d e f g h : ℕ) (q : Presentation) (n : ℕ) → eight 0 b c d e f g h ⊕ unsanctioned (length (replicate (n - 1) q))
     ≡ eight (n - 1) b c d e f g h
 after b c d e f g h q n =

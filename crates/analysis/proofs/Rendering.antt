@@ -1,5 +1,5 @@
--- Cells written into a lent buffer, one after the other: the decisions as bytes, what is left to be written at an offset, and that
--- it is as long under all decisions.
+-- Writing cells into a lent buffer, one after the other: the decisions as bytes, the bytes still to be written at an offset, and
+-- that their length is the same under all decisions.
 use mathlib.Core.Path.{_≡_, refl, ap, ap₂, sym, _∙_}
 use mathlib.Core.Bool.{true, false}
 use mathlib.Core.List.{List, [], _∷_, _++_, map, append-assoc, append-nil}
@@ -39,7 +39,7 @@ use Rattle.analysis.proofs.Sums.{capped-held}
 
 -- ---- one character
 
--- With room for a scalar value, its bytes are put.
+-- If there is room for a scalar value, its bytes are written.
 module _ (v : ℕ) (o : List ℕ) (at : ℕ) (s : isScalar v ≡ true) (h : at + length (encode v) ≤ length o) (a : WriteChar)
     (e : a ≡ writeChar v o at) where
   answer-is : a ≡ Written (length (encode v))
@@ -86,7 +86,7 @@ later-drop : (ds : List ℕ) → laterDecisions (map meaning ds) ≡ map meaning
 later-drop [] = refl
 later-drop (d ∷ ds) = refl
 
--- Those left after a slot are those from the next unused index on.
+-- The decisions left after a slot are those from the next index on.
 remaining-drop : (o : Slot) (ds : List ℕ) (i : ℕ) → remaining o (map meaning (drop i ds)) ≡ map meaning (drop (i + decisionsUsed o) ds)
 remaining-drop bare ds i = ap (λ (n : ℕ). map meaning (drop n ds)) (sym (add-zero i))
 remaining-drop (fixed q) ds i = ap (λ (n : ℕ). map meaning (drop n ds)) (sym (add-zero i))
@@ -97,24 +97,24 @@ used-few bare = omega arith
 used-few (fixed q) = omega arith
 used-few (decided d) = omega arith
 
--- ---- what is left to be written
+-- ---- the bytes still to be written
 
 -- The bytes of the cells of a slice from an offset on, under the decisions from an index on.
 abbrev pub leftAt : Policy → List ℕ → List ℕ → ℕ → ℕ → List ℕ
 leftAt p text ds at i = encodeAll (render p (cells (chars (drop at text))) (map meaning (drop i ds)))
 
 module _ (p : Policy) (text ds : List ℕ) (at i : ℕ) where
-  -- Nothing where no character stands.
+  -- If no character begins at the offset, no bytes are still to be written.
   pub left-none : Stop text at → leftAt p text ds at i ≡ []
   unfolding split render renew encodeAll
   left-none h = ap (λ (t : List ℕ). encodeAll (render p (cells t) (map meaning (drop i ds)))) (h .chars-none)
 
-  -- The selectors that lead are passed.
+  -- Leading selectors are skipped.
   pub left-leading : {end : ℕ} → end ≡ at + 3 * length (leading (chars (drop at text))) → leftAt p text ds at i ≡ leftAt p text ds end i
   left-leading e = ap (λ (a : List Presentation × List Cell). encodeAll (render p (a .1) (map meaning (drop i ds))))
       (sym (split-at text at e))
 
-  -- Of a cell its character and what its slot holds, then what is left after the cell.
+  -- For a cell: its character and the selector that its slot holds, then the bytes for the cells after it.
   pub left-cell : {v w : ℕ} → Step text at v w → leading (chars (drop at text)) ≡ [] → (o : Outcome) (end : ℕ)
       → o ≡ outcome p v (following (cells (chars (drop (at + w) text)))) (leading (chars (drop (at + w) text)))
       → end ≡ at + w + 3 * length (leading (chars (drop (at + w) text)))
@@ -135,10 +135,10 @@ module _ (p : Policy) (text ds : List ℕ) (at i : ℕ) where
       ∙ sym (append-assoc (encode v) (encodeAll (map asSelector (chosen (o .slot) ms)))
       (leftAt p text ds end (i + decisionsUsed (o .slot))))
 
--- ---- its length
+-- ---- the length of these bytes
 
 module _ (p : Policy) (t : List ℕ) (ds : List Presentation) where
-  -- The length is the same under all decisions ..
+  -- The length is the same under all decisions.
   render-size : size width (render p (cells t) ds) ≡ size width (formatCells p t)
   unfolding formatCells render
   render-size =
@@ -150,7 +150,7 @@ module _ (p : Policy) (t : List ℕ) (ds : List Presentation) where
       let d = ap (size width) (strip-render p t []) in
       omega (arith, bytes-parts r, bytes-parts s, renew-balances p (cells t) ds, renew-balances p (cells t) [])
 
--- .. and for a slice within the limit it can be held.
+-- For a slice within the limit, the capped length is the length of the written cells.
 pub measured : (p : Policy) (raw : List ℕ) (ds : List Presentation) → length raw ≤ textLimit
     → capped (size width (formatCells p (chars raw))) ≡ length (encodeAll (render p (cells (chars raw)) ds))
 measured p raw ds h =

@@ -1,5 +1,5 @@
--- The renewal of cells: it has no count, keeps the characters, adds and removes selectors as counted, and changes nothing where
--- there is no count.
+-- The renewal of cells: it has no count, keeps the characters, adds and removes selectors as counted, and changes nothing if there
+-- is no count.
 use mathlib.Core.Path.{_≡_, refl, ap, sym, _∙_}
 use mathlib.Core.Bool.{true, false}
 use mathlib.Core.List.{List, [], _∷_, _++_, map}
@@ -37,7 +37,7 @@ use Rattle.analysis.proofs.RuleLaws.{balances, held, keeps, settles}
 
 -- ---- cells
 
--- Where no decision is left, none is left after a slot.
+-- If no decision is left before a slot, none is left after it.
 pub remaining-none : (o : Slot) → remaining o [] ≡ []
 remaining-none bare = refl
 remaining-none (fixed q) = refl
@@ -76,7 +76,7 @@ module _ (p : Policy) where
       ap (λ (ds : List Presentation). record { char = x .char; after = chosen o [] } ∷ renew p xs ds) (remaining-none o)
       ∙ (λ i. record { char = x .char; after = e i } ∷ h i)
 
-  -- Cells without a count are their own renewal.
+  -- Cells without a count are equal to their renewal.
   pub renew-quiet : (xs : List Cell) → total (countCells p xs) ≡ 0 → renew p xs [] ≡ xs
   unfolding countCells renew
   renew-quiet [] e = refl
@@ -119,9 +119,9 @@ module _ (p : Policy) where
   pub render-no-count : (t : List ℕ) (ds : List Presentation) → countCells p (cells (render p (cells t) ds)) ≡ empty
   render-no-count t ds = ap (λ (a : List Presentation × List Cell). countCells p (a .1)) (split-render t ds) ∙ count-renew (cells t) ds
 
-  -- ---- the first character and what stands after it
+  -- ---- the first character and the characters after it
 
-  -- What stands after the first character of links or units in the replacement.
+  -- The characters of the replacement after the first character of a links-only or emoji-headed item.
   unfoldable pub renewed : ℕ → List ℕ → List Presentation → List ℕ
   renewed c s ds =
       let o = outcome p c (following (cells s)) (leading s) .slot in
@@ -137,6 +137,6 @@ module _ (p : Policy) where
       let o = outcome p c (following (cells s)) (leading s) .slot in
       strip-selectors (chosen o ds) (render p (cells s) (remaining o ds)) ∙ strip-render s (remaining o ds)
 
-  -- It leads through the same places.
+  -- These characters lead to the same state of the scanner's automaton.
   pub renewed-walk : {a b : State} (c : ℕ) (s : List ℕ) (ds : List Presentation) → inner a ≡ true → Walk a s b → Walk a (renewed c s ds) b
   renewed-walk c s ds i w = same-walk s (renewed c s ds) i (sym (strip-renewed c s ds)) w

@@ -1,4 +1,5 @@
--- The calls that write a replacement: what each leaves by its tests, and that the bytes of a finding, written out, are its replacement.
+-- The calls that write a replacement: the result of each, by its tests, and that the written bytes of a finding are its
+-- replacement.
 use mathlib.Core.Path.{_≡_, refl, ap, sym, _∙_, subst}
 use mathlib.Core.Logic.{_≢_}
 use mathlib.Core.Bool.{Bool, true, false, cond, true≢false}
@@ -57,13 +58,13 @@ use Rattle.analysis.proofs.Units.{split-S}
 -- ---- writing out
 
 module _ (result out : List ℕ) (len : ℕ) (e : len ≡ length result) where
-  -- There is no room, and the buffer is as it was.
+  -- If the result does not fit, the buffer is as it was.
   pub out-short : length out < len → unwritten (Refused (OutputTooShort len)) out ≡ writeOut result out
   out-short h =
       let t = lt-leb (length result) (length out) (omega arith) in
       ap (λ (n : ℕ). unwritten (Refused (OutputTooShort n)) out) e ∙ simp t
 
-  -- There is room, and the result stands at the front.
+  -- If the result fits, it stands at the front of the buffer.
   pub out-written : (after : List ℕ) → len ≤ length out → after ≡ result ++ drop (length result) out
       → record { answer = Mended len; buffer = after } ≡ writeOut result out
   out-written after h b = let t = le-leb (length result) (length out) (omega arith) in (λ i. record { answer = Mended (e i); buffer = b i })
@@ -92,7 +93,7 @@ part text at end = take (end - at) (drop at text)
 pub part-within : (text : List ℕ) (at end : ℕ) → length (part text at end) ≤ length text
 part-within text at end = omega (arith, length-take (end - at) (drop at text), length-drop at text)
 
--- A part of a text within the limit is written.
+-- A part of a text within the limit is within the limit: the test of its length passes.
 pub part-written : (text out : List ℕ) (at end : ℕ) → length text ≤ textLimit → {a next : After MendAnswer ℕ} → a
     ≡ withinLimit (part text at end) out next → a ≡ next
 part-written text out at end l e = e ∙ sym (not-too-long (part text at end) out _ (omega (arith, part-within text at end)))
@@ -107,16 +108,16 @@ pub record FoundAt (p : Policy) (text : List ℕ) (at : ℕ) (f : Finding) : Typ
   pub end-is : f .end ≡ at + size width (item .chars)
   pub counts-are : f .counts ≡ nonCanonicality p item
 
--- Its cells, written out under decisions.
+-- The bytes of the finding's renewed cells under decisions.
 abbrev cellsWritten : Policy → List ℕ → ℕ → Finding → List Presentation → List ℕ
 cellsWritten p text at f ds = encodeAll (render p (cells (chars (part text at (f .end)))) ds)
 
--- The test of the decisions that it is to have.
+-- The test of the decisions for the finding.
 abbrev testOf : Finding → List ℕ → Option Refusal
 testOf f decisions = decisionsRefusal (f .counts .«presentation_decisions») decisions
 
 module _ (p : Policy) (text : List ℕ) (at : ℕ) where
-  -- The finding that starts at the offset, by whether an item does, and by the items from there on.
+  -- The finding that starts at the offset, by whether an item starts there, and by the items from there on.
   starting-by : {b : Bool} → startsAt at (scan text) ≡ b → {l : List Item} → items (chars (drop at text)) ≡ l
       → findingStarting p text at ≡ cond b (headFinding p l) none
   starting-by {b} s {l} i =
@@ -175,7 +176,7 @@ module _ (p : Policy) (text : List ℕ) (at : ℕ) where
       starts true s g = starting-by s refl ∙ go (items (chars (drop at text))) g
       starts false s g = starting-by s refl
 
-  -- ---- its bytes, written out
+  -- ---- the bytes of the finding's replacement
 
   rendered : {k : ScanKind} {t : List ℕ} → k ≢ Passthrough → Derives k t → (ds : List Presentation) → render p (cells t) ds
       ≡ replacementOf p k t ds
@@ -185,7 +186,7 @@ module _ (p : Policy) (text : List ℕ) (at : ℕ) where
   rendered n (emoji-headed v j l) ds = refl
   rendered n (passthrough h s) ds = absurd (n refl)
 
-  -- The cells of an item's bytes, written out, are its replacement.
+  -- The renewed cells of an item's bytes are its replacement.
   pub item-written : {x : Item} {xs : List Item} → items (chars (drop at text)) ≡ x ∷ xs → x .kind ≢ Passthrough → {end : ℕ} → end
       ≡ at + size width (x .chars)
       → (ds : List Presentation) → encodeAll (render p (cells (chars (part text at end))) ds) ≡ encodeAll (replacement p x ds)
@@ -223,7 +224,7 @@ text-refused text c e = refused-is (textRefusal text) (sym e ∙ c)
 pub text-passed : (text : List ℕ) {k : Check} → k ≡ checked (textRefusal text) → k ≡ Check.Passed → textRefusal text ≡ none
 text-passed text c e = passed-is (textRefusal text) (sym e ∙ c)
 
--- A text that passes is within the limit.
+-- A text that passes the tests is within the limit.
 pub text-within : (text : List ℕ) → textRefusal text ≡ none → length text ≤ textLimit
 text-within text e = go (leb (length text) textLimit) refl
   where
@@ -231,7 +232,7 @@ text-within text e = go (leb (length text) textLimit) refl
     go true l = leb-true (length text) textLimit l
     go false l = let z : _≡_ {A = Option Refusal} (some TextTooLong) none = sym (text-is text l refl) ∙ e in absurd (true≢false cc)
 
--- What comes after the text's tests, by their answer.
+-- The result of the call, by the answer of the text's tests.
 after-tests : (text out : List ℕ) {o : Option Refusal} (next : After MendAnswer ℕ) → textRefusal text ≡ o
     → orElse o (λ (r : Refusal). unwritten (Refused r) out) next
     ≡ orElse (textRefusal text) (λ (r : Refusal). unwritten (Refused r) out) next

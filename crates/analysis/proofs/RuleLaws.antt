@@ -1,4 +1,5 @@
--- Laws of the six rules: what a rule leaves has no count, a rule without a count leaves the selectors, and selectors add up.
+-- Laws of the six rules: the rules count nothing in their own result, a rule that counts nothing keeps the selectors, and the
+-- numbers of selectors before and after differ as counted.
 use mathlib.Core.Path.{_≡_, refl, ap}
 use mathlib.Core.Bool.{Bool, true, false}
 use mathlib.Core.List.{List, [], _∷_}
@@ -33,7 +34,7 @@ use Rattle.analysis.specs.Rules.{
 }
 use Rattle.analysis.proofs.Rules.{by-rules, rule23}
 
--- ---- a rule leaves no count
+-- ---- the rules count nothing in their own result
 
 abbrev Settles : (List Presentation → Outcome) → Type 0
 Settles f = (s ds : List Presentation) → f (chosen (f s .slot) ds) .counts ≡ empty
@@ -73,7 +74,7 @@ settles-6 BareToEmoji (q ∷ s) ds = refl
 pub settles : (p : Policy) (c : ℕ) (k : Class) → Settles (outcome p c k)
 settles = by-rules Settles settles-1 settles-23 settles-4 settles-5 settles-6
 
--- ---- a rule without a count leaves the selectors
+-- ---- a rule that counts nothing keeps the selectors
 
 abbrev Keeps : (List Presentation → Outcome) → Type 0
 Keeps f = (s : List Presentation) → total (f s .counts) ≡ 0 → chosen (f s .slot) [] ≡ s
@@ -124,14 +125,15 @@ keeps-6 BareToEmoji (q ∷ s) e = one-of q s (omega arith)
 pub keeps : (p : Policy) (c : ℕ) (k : Class) → Keeps (outcome p c k)
 keeps = by-rules Keeps keeps-1 keeps-23 keeps-4 keeps-5 keeps-6
 
--- ---- selectors add up, and the eighth count is one exactly where the slot is decided
+-- ---- the numbers of selectors differ as counted, and the eighth count is 1 exactly if the slot takes a decision
 
--- How many selectors a slot holds, and how many decisions it takes.
+-- The number of selectors that a slot holds.
 abbrev pub held : Slot → ℕ
 held bare = 0
 held (fixed q) = 1
 held (decided d) = 1
 
+-- The number of decisions that a slot takes.
 abbrev pub decisions : Slot → ℕ
 decisions bare = 0
 decisions (fixed q) = 0

@@ -1,4 +1,4 @@
--- Which of the six rules holds: `by-rules` takes a law of each rule to a law of `outcome`.
+-- Which of the six rules holds for a base: `by-rules` derives a law of `outcome` from a law of each rule.
 use mathlib.Core.Path.{_≡_, refl, ap, sym, _∙_, subst}
 use mathlib.Core.Logic.{_≢_}
 use mathlib.Core.Bool.{Bool, true, false, cond}
@@ -39,7 +39,7 @@ pub outcome-no-entry : (p : Policy) (c : ℕ) (k : Class) (s : List Presentation
 unfolding outcome
 outcome-no-entry p c k s e = simp e
 
--- What the rules after the first say, by the class.
+-- The result of rules 2 to 6, by the class of the next character.
 abbrev pub laterRules : Policy → ℕ → Class → List Presentation → Outcome
 laterRules p c selector s = rule6 (singletonRule p c false) s
 laterRules p c link s = rule6 (singletonRule p c false) s
@@ -62,7 +62,7 @@ outcome-entry p c keycap s e = simp e
 outcome-entry p c tag s e = simp e
 outcome-entry p c other s e = simp e
 
--- Before anything but a modifier or tags, the policy says.
+-- If the next character is neither a modifier nor a tag, rule 6 holds.
 pub by-policy : (p : Policy) (c : ℕ) (k : Class) (s : List Presentation) → hasVariationSequence c ≡ true → k ≢ modifier → k ≢ tag
     → outcome p c k s ≡ rule6 (singletonRule p c (byKeycap k)) s
 unfolding byKeycap
@@ -75,7 +75,7 @@ by-policy p c keycap s e m t = outcome-entry p c keycap s e
 by-policy p c tag s e m t = absurd (t refl)
 by-policy p c other s e m t = outcome-entry p c other s e
 
--- Without a modification after the base, its class makes no difference.
+-- If the next character is no modification, its class makes no difference.
 pub outcome-unmodified : (p : Policy) (c : ℕ) (k : Class) (s : List Presentation) → byModifier k ≡ false → byTags k ≡ false → byKeycap k
     ≡ false → outcome p c k s ≡ outcome p c other s
 unfolding outcome byModifier byTags byKeycap

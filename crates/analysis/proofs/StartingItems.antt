@@ -1,5 +1,5 @@
--- The finding that starts at an offset of a text: it is the item that a fresh scan from there gives, if an item of the text starts there
--- and is a finding; and what a cursor that walks from item to item learns of whether one does.
+-- The finding that starts at an offset of a text: if an item of the text starts there, it is the first item of a scan from the
+-- offset on, if that is a finding. A cursor that goes from item to item decides whether an item starts there.
 use mathlib.Core.Path.{_≡_, refl, ap, sym, _∙_, subst}
 use mathlib.Core.Bool.{Bool, true, false, cond, _||_}
 use mathlib.Core.List.{List, [], _∷_}
@@ -20,9 +20,9 @@ use Rattle.analysis.specs.Analysis.{isFinding}
 use Rattle.analysis.specs.Findings.{findingAt}
 use Rattle.analysis.specs.ItemAt.{findingStarting, startsAt}
 
--- ---- the items past an offset
+-- ---- the items after an offset
 
--- No finding past an offset starts there ..
+-- No finding after an offset starts at this offset.
 pub no-finding-past : (p : Policy) (o n : ℕ) (xs : List Item) → o < n → findingAt o (found (isFinding p) width n xs) ≡ none
 unfolding findingAt found
 no-finding-past p o n [] h = refl
@@ -35,7 +35,7 @@ no-finding-past p o n (x ∷ xs) h = go (isFinding p x) (no-finding-past p o (n 
     go true i = ap (λ (b : Bool). cond b (some x) (findingAt o F)) (ne-eqb n o (λ e. omega arith)) ∙ i
     go false i = i
 
--- .. and neither does an item.
+-- No item after an offset starts at this offset.
 no-item-past : (o n : ℕ) (xs : List Item) → o < n → startsAt o (spans n xs) ≡ false
 unfolding startsAt spans
 no-item-past o n [] h = refl
@@ -43,14 +43,14 @@ no-item-past o n (x ∷ xs) h =
     ap (λ (b : Bool). b || startsAt o (spans (n + size width (x .chars)) xs)) (ne-eqb n o (λ e. omega arith))
     ∙ no-item-past o (n + size width (x .chars)) xs (omega arith)
 
--- ---- a walk from item to item
+-- ---- from item to item
 
 or-none : (b : Bool) → (b || false) ≡ b
 or-none true = refl
 or-none false = refl
 
 module _ (text : List ℕ) (o at : ℕ) where
-  -- What the cursor's answer at an offset says of whether an item from there on starts at the other one.
+  -- Whether one of the items from the offset `at` on starts at the offset o, by the cursor's answer at `at`.
   abbrev pub Starting : ScanStep → Type 0
   Starting Step.End = startsAt o (scanFrom text at) ≡ false
   Starting (Step.Item x) =
@@ -79,7 +79,7 @@ module _ (text : List ℕ) (o at : ℕ) where
 -- ---- the finding that starts at an offset
 
 module _ (p : Policy) where
-  -- The first of the items, if it is a finding.
+  -- The first item, if it is a finding.
   abbrev pub headFinding : List Item → Option Item
   headFinding [] = none
   headFinding (x ∷ xs) = cond (isFinding p x) (some x) none

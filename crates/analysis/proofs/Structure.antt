@@ -1,4 +1,5 @@
--- The structure of an item, as it is made: its selector runs are selectors, and the class after a base is that of its first modification.
+-- The structure of an item: its selector runs contain only selectors, and the class of the character after a base and its selectors
+-- is that of the first modification.
 use mathlib.Core.Path.{_≡_, refl, ap, sym, _∙_, subst}
 use mathlib.Core.Bool.{Bool, true, false, cond, true≢false}
 use mathlib.Core.List.{List, [], _∷_, _++_, List·Memᴰ, List·Memᴰ·cases-cons, List·Memᴰ·not-nil}
@@ -92,7 +93,7 @@ follows : (c : ℕ) (t : List ℕ) (k : Class) → classOf c ≡ k → isSelecto
 unfolding following
 follows c t k e f = ap (λ (a : List Presentation × List Cell). following (a .1)) (split-char c t f) ∙ e
 
--- A list that begins with a character.
+-- A list whose first character is c.
 data Begins (c : ℕ) : List ℕ → Type 0 where
   begins : (t : List ℕ) → Begins c (c ∷ t)
 
@@ -102,7 +103,7 @@ runs-begin c s [] t = begins _
 runs-begin c [] (r ∷ rs) t = begins _
 runs-begin c (d ∷ s) (r ∷ rs) t = begins _
 
--- What the first modification begins with is of its class.
+-- The first character of the first modification has the class of that modification.
 abbrev FirstIs : List EmojiModification → Type 0
 FirstIs ms = following (cells (flattenModifications ms)) ≡ firstModification ms
 
@@ -120,7 +121,7 @@ tag-first c s ms e f = go ms
     go (EnclosingKeycap u ∷ ms) = at (runs-begin c s [] (flattenModifications (EnclosingKeycap u ∷ ms)))
     go (TagModifier rs ∷ ms) = at (runs-begin c s rs (flattenModifications ms))
 
--- A character of another class is no selector.
+-- A character of another class than selector is no selector.
 not-selector : (c : ℕ) (k : Class) → classOf c ≡ k → (selector ≡ k → ⊥) → isSelector c ≡ false
 not-selector c k e f = go (isSelector c) refl
   where
@@ -165,7 +166,7 @@ joined-made (s ∷ ss) j m = go (afterSelectors s) (joined-made ss j) m
     go [] h m = absurd (List·Memᴰ·not-nil m)
     go (c ∷ t) h m = ⊎-elim (λ e. subst (λ (i : ZwjJoinedEmoji). Made (i .emoji)) (sym e) (made c t)) h (List·Memᴰ·cases-cons m)
 
--- All units of a structure are so made.
+-- All units of a structure have these properties.
 abbrev pub AllMade : EmojiSequence → Type 0
 AllMade (linksOnly ls) = Unit {0}
 AllMade (emojiHeaded u js ls) = Made u × ((j : ZwjJoinedEmoji) → List·Memᴰ j js → Made (j .emoji))

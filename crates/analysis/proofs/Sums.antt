@@ -1,4 +1,5 @@
--- Counts as the code holds them: a number that can be held stays, and so does the sum of two counts whose totals can be held.
+-- Counts as the code holds them: a number up to the largest count is unchanged, and so is the sum of two records whose totals add
+-- up to at most that.
 use mathlib.Core.Path.{_≡_}
 use Prim.Native.Nat.{ℕ, _+_, _<_, _≤_}
 use native.Mathlib.Omega.{arith}

@@ -1,4 +1,5 @@
--- The cells of a link and of a unit: cells without a variation entry are counted by rule 1, and a base sees its first modification.
+-- The cells of a link and of a unit: cells without a variation entry are counted by rule 1, and the class after a base and its
+-- selectors is that of its first modification.
 use mathlib.Core.Path.{_≡_, refl, ap, ap₂, sym, _∙_, subst}
 use mathlib.Core.Bool.{Bool, true, false, cond, true≢false}
 use mathlib.Core.List.{List, [], _∷_, _++_, map}
@@ -72,7 +73,7 @@ split-S (selector-and {c = c} {s = s} e h) =
     let j = cells-selector c s e in
     (j .0 ∙ i .0, j .1 ∙ ap suc (i .1))
 
--- A character that is no selector, its selectors, and characters that do not begin with one.
+-- A character that is no selector, its selectors, and characters that do not begin with a selector.
 pub split-base : {s : List ℕ} (c : ℕ) (t : List ℕ) → isSelector c ≡ false → S s → leading t ≡ [] → split (c ∷ (s ++ t))
     ≡ ([], record { char = c; after = leading s } ∷ cells t)
 split-base {s} c t e h f =
@@ -87,7 +88,7 @@ leading-stops (at-char {c = c} {s = s} e) = ap (λ (a : List Presentation × Lis
 
 -- ---- cells of modifications
 
--- Cells that have no variation entry and are no links.
+-- Cells whose characters have no variation entry and are no links.
 pub data Entryless : List Cell → Type 0 where
   no-base : Entryless []
   without-entry : {x : Cell} {xs : List Cell} → hasVariationSequence (x .char) ≡ false → eqb (x .char) 0x200D ≡ false → Entryless xs
@@ -117,7 +118,7 @@ modification-cells (run-keycap {t = t} h) = modification-cell {c = 0x20E3} t (is
 modification-cells (run-tag {c = c} {t = t} e h) = modification-cell t (is-tag e) (tag-no-selector c e) (tag-no-link c e)
     (λ z. true≢false (cc)) (modification-cells h)
 
--- ---- what follows a unit: the end, or a link
+-- ---- after a unit: the end, or a link
 
 pub data Ends : List Cell → Type 0 where
   ends-none : Ends []
@@ -201,7 +202,7 @@ module _ (p : Policy) where
       (unit-outcome x h i)
       ∙ ap (λ (l : List ℕ). x .char ∷ (map asSelector (chosen o ds) ++ l)) (run-render ys (remaining o ds) h)
 
-  -- A unit alone.
+  -- A unit with no text after it.
   pub unit-alone : {ms : List Cell} (x : Cell) (ds : List Presentation) → Entryless ms → render p (x ∷ ms) ds
       ≡ x .char ∷ (map asSelector (chosen (outcomeAt p x ms .slot) ds) ++ charsOf ms)
   unfolding render renew

@@ -20,29 +20,29 @@ use Rattle.analysis.specs.declared.types.NonCanonicality.{NonCanonicalit
 
 -- ---- decisions
 
--- The decision for a base: the first that is left; a missing one means the default.
+-- The decision for a base: the first of the remaining decisions, or the default if none is left.
 abbrev pub decide : Presentation → List Presentation → Presentation
 decide d [] = d
 decide d (q ∷ ds) = q
 
--- What a slot holds under the decisions.
+-- The selectors that a slot holds under the decisions: none or one.
 abbrev pub chosen : Slot → List Presentation → List Presentation
 chosen bare ds = []
 chosen (fixed q) ds = q ∷ []
 chosen (decided d) ds = decide d ds ∷ []
 
--- The decisions that are left after a decided base.
+-- The decisions that are left after a base that takes one.
 abbrev pub laterDecisions : List Presentation → List Presentation
 laterDecisions [] = []
 laterDecisions (q ∷ ds) = ds
 
--- "Decisions are .. in text order": those left after a slot.
+-- "Decisions are .. in text order": the decisions that are left after a slot.
 abbrev pub remaining : Slot → List Presentation → List Presentation
 remaining bare ds = ds
 remaining (fixed q) ds = ds
 remaining (decided d) ds = laterDecisions ds
 
--- The class of what comes after a cell: the first modification, if one does. The end counts as `other`.
+-- The class of the character of the next cell, which is the first modification if one follows; `other` if no cell follows.
 unfoldable pub following : List Cell → Class
 following [] = other
 following (x ∷ xs) = classOf (x .char)
@@ -50,17 +50,17 @@ following (x ∷ xs) = classOf (x .char)
 module _ (p : Policy) where
   -- ---- counts
 
-  -- What the rules say of a cell before other cells. Only a single base has a variation entry, so for a link, a flag letter
+  -- The result of the rules for a cell before other cells. Only a single base has a variation entry, so for a link, a flag letter
   -- and a modification this is rule 1: "Selectors after links, flag letters and modifications are unsanctioned."
   abbrev pub outcomeAt : Cell → List Cell → Outcome
   outcomeAt x xs = outcome p (x .char) (following xs) (x .after)
 
-  -- The counts of cells.
+  -- The sum of the counts of cells.
   unfoldable pub countCells : List Cell → NonCanonicality
   countCells [] = empty
   countCells (x ∷ xs) = outcomeAt x xs .counts ⊕ countCells xs
 
-  -- The counts by the kind of an item and its characters.
+  -- The counts of an item, by its kind and its characters.
   unfoldable pub countsOf : ScanKind → List ℕ → NonCanonicality
   countsOf Passthrough t = empty
   countsOf UnsanctionedPresentationSelectors t = unsanctioned (length t)
@@ -77,18 +77,18 @@ module _ (p : Policy) where
 
   -- ---- replacement
 
-  -- Cells with the selectors that the rules and the decisions give them.
+  -- The cells with the selectors that the rules and the decisions give them.
   unfoldable pub renew : List Cell → List Presentation → List Cell
   renew [] ds = []
   renew (x ∷ xs) ds =
       let o = outcomeAt x xs .slot in
       record { char = x .char; after = chosen o ds } ∷ renew xs (remaining o ds)
 
-  -- The same, written out.
+  -- The characters of the renewed cells.
   unfoldable pub render : List Cell → List Presentation → List ℕ
   render xs ds = unsplit (renew xs ds)
 
-  -- The replacement by the kind of an item and its characters.
+  -- The replacement of an item, by its kind and its characters.
   unfoldable pub replacementOf : ScanKind → List ℕ → List Presentation → List ℕ
   replacementOf Passthrough t ds = t
   replacementOf UnsanctionedPresentationSelectors t ds = []
@@ -99,7 +99,7 @@ module _ (p : Policy) where
   unfoldable pub replacement : Item → List Presentation → List ℕ
   replacement x ds = replacementOf (x .kind) (x .chars) ds
 
-  -- Its replacement with every decision at its default.
+  -- The replacement of an item with every decision at its default.
   abbrev pub defaultReplacement : Item → List ℕ
   defaultReplacement x = replacement x []
 
@@ -111,36 +111,36 @@ pub record Choice : Type 0 where
   pub text : List ℕ
   pub emoji : List ℕ
 
--- The cells up to the next link: after a base, the modifications of its unit.
+-- The cells up to the next link: after a base, these are the modifications of its unit.
 unfoldable pub upToLink : List Cell → List Cell
 upToLink [] = []
 upToLink (x ∷ xs) = cond (eqb (x .char) 0x200D) [] (x ∷ upToLink xs)
 
--- The default of a decided slot, before the other defaults.
+-- The defaults, with the default of a decided slot in front.
 abbrev pub addDefault : Slot → List Presentation → List Presentation
 addDefault bare ds = ds
 addDefault (fixed q) ds = ds
 addDefault (decided d) ds = d ∷ ds
 
 module _ (p : Policy) where
-  -- The choice of a decided slot, whose unit is the cells, before the other choices.
+  -- The choices, with the choice of a decided slot in front. The cells are those of the slot's unit after the base.
   abbrev pub addChoice : Slot → List Cell → List Choice → List Choice
   addChoice bare unit l = l
   addChoice (fixed q) unit l = l
   addChoice (decided d) unit l =
       record { default = d; text = render p unit (Text ∷ []); emoji = render p unit (Emoji ∷ []) } ∷ l
 
-  -- The choices of cells: a decided base heads its unit, and a link ends it.
+  -- The choices of cells. A decided base is the first cell of its unit, and the next link ends the unit.
   unfoldable pub choicesOfCells : List Cell → List Choice
   choicesOfCells [] = []
   choicesOfCells (x ∷ xs) = addChoice (outcomeAt p x xs .slot) (x ∷ upToLink xs) (choicesOfCells xs)
 
-  -- The defaults of cells.
+  -- The defaults of the choices of cells.
   unfoldable pub defaultsOfCells : List Cell → List Presentation
   defaultsOfCells [] = []
   defaultsOfCells (x ∷ xs) = addDefault (outcomeAt p x xs .slot) (defaultsOfCells xs)
 
-  -- The choices by the kind of an item and its characters.
+  -- The choices of an item, by its kind and its characters.
   unfoldable pub choicesOf : ScanKind → List ℕ → List Choice
   choicesOf Passthrough t = []
   choicesOf UnsanctionedPresentationSelectors t = []
@@ -151,7 +151,7 @@ module _ (p : Policy) where
   unfoldable pub choices : Item → List Choice
   choices x = choicesOf (x .kind) (x .chars)
 
-  -- The default decisions by the kind of an item and its characters.
+  -- The default decisions of an item, by its kind and its characters.
   unfoldable pub defaultsOf : ScanKind → List ℕ → List Presentation
   defaultsOf Passthrough t = []
   defaultsOf UnsanctionedPresentationSelectors t = []

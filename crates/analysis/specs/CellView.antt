@@ -1,5 +1,6 @@
--- Formatting and totals (document 01, "Counts and finding", "Replacement and text") cell by cell: a character, the selectors after
--- it, and of the next cell only its character. That it is the same is crate formatter, specs/Theorems.antt, CellByCell.
+-- Formatting and totals cell by cell (document 01, "Counts and finding", "Replacement and text"). A cell is a character and the
+-- selectors after it; of the next cell, only its character matters. The results are those by items: crate formatter,
+-- specs/Theorems.antt, CellByCell.
 use mathlib.Core.List.{List, [], _∷_}
 use Prim.Native.Nat.{ℕ}
 use lib.ListN.{length}
@@ -13,22 +14,22 @@ use Rattle.analysis.specs.Counts.{_⊕_, unsanctioned}
 use Rattle.analysis.specs.Rules.{Slot, bare, decided, fixed}
 use Rattle.analysis.specs.declared.types.NonCanonicality.{NonCanonicality}
 
--- The class of the first character; `other` where there is none.
+-- The class of the first character; `other` if there is none.
 unfoldable pub classInFront : List ℕ → Class
 classInFront [] = other
 classInFront (c ∷ t) = classOf c
 
--- The bytes of the selector that a slot holds.
+-- The number of bytes of the selector that a slot holds; 0 if it holds none.
 abbrev pub slotLength : Slot → ℕ
 slotLength bare = 0
 slotLength (fixed q) = 3
 slotLength (decided d) = 3
 
 module _ (p : Policy) where
-  -- The formatted characters; the selectors before the first other character go.
+  -- The formatted characters. Selectors before the first other character are removed.
   unfoldable pub formatCells : List ℕ → List ℕ
   formatCells t = render p (cells t) []
 
-  -- The eight totals; the selectors before the first other character are unsanctioned.
+  -- The eight totals. Selectors before the first other character are unsanctioned.
   unfoldable pub totalCells : List ℕ → NonCanonicality
   totalCells t = unsanctioned (length (leading t)) ⊕ countCells p (cells t)

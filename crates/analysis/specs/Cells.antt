@@ -1,4 +1,5 @@
--- The cells of a list of characters: each character that is no selector, with the selectors after it: S of document 01, "Item".
+-- The cells of a list of characters. A cell is a character that is no selector, with the selectors after it (S of document 01,
+-- "Item").
 use mathlib.Core.Bool.{cond}
 use mathlib.Core.List.{List, [], _∷_, _++_, map}
 use Prim.Native.Nat.{ℕ}
@@ -8,12 +9,12 @@ use Rattle.unicode.specs.declared.presentation.FromSelector.the-variants.{NoSel
 use Rattle.unicode.specs.declared.presentation.Presentation.{Presentation}
 use Rattle.scanner.specs.Spans.{size}
 
--- A character that is no selector, and S after it (document 01, "Item"), as what the selectors ask for.
+-- A cell: its character, which is no selector, and the presentations that the selectors after it select.
 pub record Cell : Type 0 where
   pub char : ℕ
   pub after : List Presentation
 
--- One character more in front: a selector joins the leading ones, any other character takes these.
+-- One more character in front: a selector joins the leading selectors; any other character becomes a cell with them.
 unfoldable pub addChar : ℕ → FromSelector → List Presentation × List Cell → List Presentation × List Cell
 addChar c (Selector q) r = (q ∷ r .0, r .1)
 addChar c NoSelector r = ([], record { char = c; after = r .0 } ∷ r .1)
@@ -27,7 +28,7 @@ split (c ∷ t) = addChar c (fromSelector c) (split t)
 abbrev pub leading : List ℕ → List Presentation
 leading t = (split t) .0
 
--- The cells after them.
+-- The cells after the leading selectors.
 abbrev pub cells : List ℕ → List Cell
 cells t = (split t) .1
 

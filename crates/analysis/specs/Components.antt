@@ -1,5 +1,6 @@
--- Counts, replacement and choices by the nested structure of links and units, in document 01's words and as analysis.rs puts the
--- pieces together. They are those of specs/Analysis.antt: specs/Theorems.antt, CountsByStructure and the two after it.
+-- Counts, replacement and choices by the nested structure of links and units, in document 01's words and in the order of
+-- analysis.rs. They are those of specs/Analysis.antt: specs/Theorems.antt, CountsByStructure, ReplacementByStructure and
+-- ChoicesByStructure.
 use mathlib.Core.List.{List, [], _∷_, _++_}
 use Prim.Native.Nat.{ℕ}
 use lib.ListN.{length}
@@ -34,7 +35,7 @@ use Rattle.analysis.specs.declared.types.NonCanonicality.{NonCanonicalit
 
 -- ---- modifications
 
--- The class of the first modification; `other` without one.
+-- The class of the first modification; `other` if there is none.
 unfoldable pub firstModification : List EmojiModification → Class
 firstModification [] = other
 firstModification (EmojiModifier c s ∷ ms) = modifier
@@ -45,35 +46,35 @@ firstModification (TagModifier rs ∷ ms) = tag
 abbrev pub modificationCounts : List EmojiModification → NonCanonicality
 modificationCounts ms = unsanctioned (selectorCount (flattenModifications ms))
 
--- Modifications as a replacement has them: without selectors.
+-- The characters of modifications in a replacement: without selectors.
 abbrev pub modificationText : List EmojiModification → List ℕ
 modificationText ms = strip (flattenModifications ms)
 
 -- ---- pieces of a replacement
 
--- A piece: always the same characters, or one of a choice's two.
+-- A piece of a replacement: fixed characters, or one of a choice's two replacements.
 pub data Element : Type 0 where
   always : List ℕ → Element
   choice : Choice → Element
 
--- The choices among pieces.
+-- The choices in a list of pieces.
 unfoldable pub choicesIn : List Element → List Choice
 choicesIn [] = []
 choicesIn (always t ∷ es) = choicesIn es
 choicesIn (choice c ∷ es) = c ∷ choicesIn es
 
--- A choice's replacement for a decision.
+-- The replacement of a choice for a decision.
 abbrev pub optionOf : Choice → Presentation → List ℕ
 optionOf c Text = c .text
 optionOf c Emoji = c .emoji
 
--- The pieces one after the other, under decisions in text order; a missing one means the default.
+-- The pieces one after the other, under decisions in text order. A missing decision means the default.
 unfoldable pub assemble : List Element → List Presentation → List ℕ
 assemble [] ds = []
 assemble (always t ∷ es) ds = t ++ assemble es ds
 assemble (choice c ∷ es) ds = optionOf c (decide (c .default) ds) ++ assemble es (laterDecisions ds)
 
--- A single base, with what its slot says, and its modifications: the whole unit, for either decision.
+-- The piece for a single base, by its slot, with its modifications: the whole unit, for either decision.
 unfoldable pub baseElement : Slot → ℕ → List ℕ → Element
 baseElement bare c m = always (c ∷ m)
 baseElement (fixed q) c m = always (c ∷ asSelector q ∷ m)
@@ -103,7 +104,7 @@ module _ (p : Policy) where
   stemCounts (SingletonBase c s) ms = baseOutcome c s ms .counts ⊕ modificationCounts ms
   stemCounts (Flag a s b t) ms = unsanctioned (length s) ⊕ (unsanctioned (length t) ⊕ modificationCounts ms)
 
-  -- What is written of a stem and its modifications: of a flag, its letters.
+  -- The piece for a stem and its modifications; for a flag, its two letters and its modifications.
   unfoldable pub stemElement : EmojiStem → List EmojiModification → Element
   stemElement (SingletonBase c s) ms = baseElement (baseOutcome c s ms .slot) c (modificationText ms)
   stemElement (Flag a s b t) ms = always (a ∷ b ∷ modificationText ms)
@@ -112,7 +113,7 @@ module _ (p : Policy) where
   abbrev pub unitCounts : EmojiLike → NonCanonicality
   unitCounts u = stemCounts (u .stem) (u .modifiers)
 
-  -- The piece that a unit is.
+  -- The piece for a unit.
   abbrev pub unitElement : EmojiLike → Element
   unitElement u = stemElement (u .stem) (u .modifiers)
 
@@ -123,7 +124,7 @@ module _ (p : Policy) where
   joinedCounts [] = empty
   joinedCounts (j ∷ js) = unsanctioned (length (j .link .after)) ⊕ (unitCounts (j .emoji) ⊕ joinedCounts js)
 
-  -- Their pieces.
+  -- The pieces for the further units, each with its link.
   unfoldable pub joinedElements : List ZwjJoinedEmoji → List Element
   joinedElements [] = []
   joinedElements (j ∷ js) = always (0x200D ∷ []) ∷ unitElement (j .emoji) ∷ joinedElements js
@@ -133,7 +134,7 @@ module _ (p : Policy) where
   sequenceCounts (linksOnly ls) = linkCounts ls
   sequenceCounts (emojiHeaded u js ls) = unitCounts u ⊕ (joinedCounts js ⊕ linkCounts ls)
 
-  -- The pieces of its replacement.
+  -- The pieces of the replacement of a structure.
   unfoldable pub elements : EmojiSequence → List Element
   elements (linksOnly ls) = linkElements ls
   elements (emojiHeaded u js ls) = unitElement u ∷ (joinedElements js ++ linkElements ls)

@@ -1,4 +1,4 @@
--- The eight counts: none, one of each kind, the sum of two, and their totals (document 01, "Counts and finding").
+-- The eight counts: all 0, one of each kind, the sum of two, and totals (document 01, "Counts and finding").
 use mathlib.Core.Bool.{cond}
 use Prim.Native.Nat.{ℕ, _+_}
 use lib.Dec.{leb}
@@ -18,11 +18,11 @@ eight a b c d e f g h = record {
   «presentation_decisions» = h;
 }
 
--- No count.
+-- All eight counts are 0.
 abbrev pub empty : NonCanonicality
 empty = eight 0 0 0 0 0 0 0 0
 
--- So many unsanctioned selectors.
+-- n unsanctioned selectors.
 abbrev pub unsanctioned : ℕ → NonCanonicality
 unsanctioned n = eight n 0 0 0 0 0 0 0
 
@@ -55,7 +55,7 @@ abbrev pub decision : NonCanonicality
 decision = eight 0 0 0 0 0 0 0 1
 
 infixl 65 _⊕_
--- The sum of two, count by count.
+-- The sum of two records of counts, count by count.
 abbrev pub _⊕_ : NonCanonicality → NonCanonicality → NonCanonicality
 m ⊕ n =
     eight
@@ -78,7 +78,7 @@ removing n =
 abbrev pub adding : NonCanonicality → ℕ
 adding n = n .«tag_forced_presentations» + n .«presentation_decisions»
 
--- All eight together.
+-- The sum of all eight counts.
 abbrev pub total : NonCanonicality → ℕ
 total n = removing n + adding n
 
@@ -86,11 +86,12 @@ total n = removing n + adding n
 abbrev pub most : ℕ
 most = 18446744073709551615
 
--- A count as the code holds it: a greater one is the largest.
+-- A count as the code holds it: a number above the largest count becomes the largest count.
 unfoldable pub capped : ℕ → ℕ
 capped n = cond (leb n most) n most
 
--- The sum of two as the code holds it. For the counts of a text it is the sum: specs/Theorems.antt, SumsAreWhole.
+-- The sum of two records of counts as the code holds it. For the counts of a text it is the true sum: specs/Theorems.antt,
+-- SumsAreWhole.
 unfoldable pub cappedSum : NonCanonicality → NonCanonicality → NonCanonicality
 cappedSum m n =
     eight

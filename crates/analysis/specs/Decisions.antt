@@ -24,7 +24,7 @@ use Rattle.analysis.specs.declared.types.MendAnswer.the-variants.{Mended
 abbrev pub meaning : ℕ → Presentation
 meaning d = cond (eqb d 0) Text Emoji
 
--- "decision byte above 1 | 6 | index of the first": the first index is the number.
+-- "decision byte above 1 | 6 | index of the first": i is the index of the first byte of the list.
 unfoldable pub badDecision : ℕ → List ℕ → Option Refusal
 badDecision n [] = none
 badDecision n (d ∷ ds) = cond (leb d 1) (badDecision (suc n) ds) (some (BadDecision n))
@@ -38,17 +38,17 @@ unfoldable pub decisionsRefusal : ℕ → List ℕ → Option Refusal
 decisionsRefusal n decisions =
     cond (not (eqb (length decisions) n)) (some (WrongNumberOfDecisions n)) (badDecision 0 decisions)
 
--- How many decisions a slot takes.
+-- The number of decisions that a slot takes.
 abbrev pub decisionsUsed : Slot → ℕ
 decisionsUsed bare = 0
 decisionsUsed (fixed q) = 0
 decisionsUsed (decided d) = 1
 
--- The bytes of a character and of what its slot holds under the decisions.
+-- The bytes of a character and of the selector that its slot holds under the decisions.
 abbrev pub cellBytes : ℕ → Slot → List Presentation → List ℕ
 cellBytes c o ds = encode c ++ encodeAll (map asSelector (chosen o ds))
 
--- The bytes written, or the refusal.
+-- The answer's row of the refusal table: the number of bytes written, or the refusal.
 unfoldable pub mendRow : MendAnswer → RefusalRow
 mendRow (Mended n) = done n
 mendRow (Refused r) = refusalRow r
@@ -59,11 +59,12 @@ writeOut result out =
     cond (leb (length result) (length out)) (written (Mended (length result)) result out)
     (unwritten (Refused (OutputTooShort (length result))) out)
 
--- "text over 16,777,216 bytes | 1", or what comes next.
+-- "text over 16,777,216 bytes | 1"; otherwise the result of the later tests.
 abbrev pub withinLimit : List ℕ → List ℕ → After MendAnswer ℕ → After MendAnswer ℕ
 withinLimit text out next = cond (leb (length text) textLimit) next (unwritten (Refused TextTooLong) out)
 
--- Refusals 4, 5, 6 and 8 in this order, for the finding at the offset, the decisions, the text to be written and the output.
+-- Refusals 4, 5, 6 and 8, in this order, for the finding that starts at the offset, the decisions, the bytes to be written and the
+-- output.
 unfoldable pub judge : Policy → Option Item → List ℕ → List ℕ → List ℕ → After MendAnswer ℕ
 judge p none decisions result out = unwritten (Refused NoFinding) out
 judge p (some x) decisions result out =

@@ -1,4 +1,4 @@
--- The form in which examples of items under the default policy are stated.
+-- The form in which the examples of items under the default policy are stated.
 use mathlib.Core.List.{List, map}
 use Prim.Native.Nat.{ℕ}
 use Rattle.policy.specs.DefaultPolicy.{defaultPolicy}
@@ -12,7 +12,7 @@ pub record Analysed : Type 0 where
   pub counts : NonCanonicality
   pub replacement : List ℕ
 
--- The same as one line.
+-- A short form of this record.
 abbrev pub analysed : List ℕ → NonCanonicality → List ℕ → Analysed
 analysed t n r = record { chars = t; counts = n; replacement = r }
 

@@ -1,5 +1,5 @@
--- The findings of a text under a policy, in text order, with their starts in bytes, the one that starts at an offset, and the totals of
--- items (document 01, "Counts and finding", "Replacement and text").
+-- The findings of a text under a policy, in text order, each with its start in bytes; the finding that starts at an offset; and the
+-- totals of items (document 01, "Counts and finding", "Replacement and text").
 use mathlib.Core.Bool.{cond}
 use mathlib.Core.List.{List, [], _∷_}
 use mathlib.Core.Option.{Option, none, some}
@@ -14,16 +14,16 @@ use Rattle.analysis.specs.Analysis.{isFinding, nonCanonicality}
 use Rattle.analysis.specs.Counts.{_⊕_, empty}
 use Rattle.analysis.specs.declared.types.NonCanonicality.{NonCanonicality}
 
--- "A finding exists if some count is not 0": the items of a text from a byte offset on that are findings.
+-- "A finding exists if some count is not 0": the items of a text, from a byte offset on, that are findings.
 abbrev pub findingsFrom : Policy → List ℕ → ℕ → List Found
 findingsFrom p text at = found (isFinding p) width at (items (chars (drop at text)))
 
--- "Mending takes a finding's first offset": the finding that starts there, if one does.
+-- "Mending takes a finding's first offset": the finding that starts at this offset, if there is one.
 unfoldable pub findingAt : ℕ → List Found → Option Item
 findingAt offset [] = none
 findingAt offset (f ∷ fs) = cond (eqb (f .start) offset) (some (f .item)) (findingAt offset fs)
 
--- "A total is the sum of one count over the findings": all eight, of items.
+-- "A total is the sum of one count over the findings": all eight totals, summed over items.
 unfoldable pub totals : Policy → List Item → NonCanonicality
 totals p [] = empty
 totals p (x ∷ xs) = nonCanonicality p x ⊕ totals p xs

@@ -1,5 +1,6 @@
--- The item of a text at a byte offset under a policy: its analysis and the calls that write the replacement of the finding that starts
--- there (document 01, "Counts and finding": `analyze_scan_item`; "Replacement and text": `canonical_replacement_with_decisions`).
+-- The item of a text at a byte offset under a policy: its analysis, and the calls that write the replacement of the finding that
+-- starts at the offset (document 01, "Counts and finding": `analyze_scan_item`; "Replacement and text":
+-- `canonical_replacement_with_decisions`).
 use mathlib.Core.Bool.{Bool, false, cond, _||_}
 use mathlib.Core.List.{List, [], _∷_, map}
 use mathlib.Core.Option.{Option, none, some}
@@ -31,26 +32,30 @@ startsAt offset [] = false
 startsAt offset (x ∷ xs) = eqb (x .start) offset || startsAt offset xs
 
 module _ (p : Policy) where
-  -- The first of the items, the first standing at the offset: canonical, or a finding with its bytes and its counts; or none.
+  -- The analysis of the first item of a list, which starts at the offset: canonical, or a finding with its bytes and its counts; or
+  -- the end if the list is empty.
   unfoldable pub analysisOf : ℕ → List Item → ItemAnalysis
   analysisOf at [] = End
   analysisOf at (x ∷ xs) =
       let end = at + size width (x .chars) in
       cond (isFinding p x) (NonCanonical (record { start = at; end = end; counts = nonCanonicality p x })) (Canonical end)
 
-  -- The item of a text at a byte offset: the text ends at the first place, from the offset on, where no well-formed character begins.
+  -- The analysis of the item of a text at a byte offset. The text ends at the first offset, from there on, where no well-formed
+  -- character begins.
   unfoldable pub analysisAt : List ℕ → ℕ → ItemAnalysis
   analysisAt text at = analysisOf at (items (chars (drop at text)))
 
-  -- The item of the text, scanned from its beginning, that starts at an offset: an item that only reaches over it is not taken.
+  -- The analysis of the item that starts at an offset, among the items of the text scanned from its beginning. An item that only
+  -- contains the offset does not count.
   abbrev pub startingAnalysis : List ℕ → ℕ → ItemAnalysis
   startingAnalysis text offset = cond (startsAt offset (scan text)) (analysisAt text offset) End
 
-  -- The call that writes the cells of a slice under decisions: refusals 1 and 8 in this order.
+  -- The call that writes the cells of a slice under decisions: refusals 1 and 8, in this order.
   abbrev pub writeCells : List ℕ → List ℕ → List ℕ → After MendAnswer ℕ
   writeCells raw decisions out = withinLimit raw out (writeOut (encodeAll (render p (cells (chars raw)) (map meaning decisions))) out)
 
-  -- "no finding starts at the offset": the finding of the text, scanned from its beginning, that starts there, if one does.
+  -- "no finding starts at the offset": the finding that starts at an offset, among the items of the text scanned from its
+  -- beginning, if there is one.
   abbrev pub findingStarting : List ℕ → ℕ → Option Item
   findingStarting text offset = findingAt offset (findingsFrom p text 0)
 
@@ -59,20 +64,21 @@ module _ (p : Policy) where
   replacementBytes none ds = []
   replacementBytes (some x) ds = encodeAll (replacement p x ds)
 
-  -- The call that writes the replacement of the finding that starts at an offset, under decisions: refusals 1, 3, 4, 5, 6 and 8 in this
-  -- order.
+  -- The call that writes the replacement of the finding that starts at an offset, under decisions: refusals 1, 3, 4, 5, 6 and 8, in
+  -- this order.
   unfoldable pub replaceAt : List ℕ → ℕ → List ℕ → List ℕ → After MendAnswer ℕ
   replaceAt text offset decisions out =
       let x = findingStarting text offset in
       orElse (textRefusal text) (λ (r : Refusal). unwritten (Refused r) out)
       (judge p x decisions (replacementBytes x (map meaning decisions)) out)
 
-  -- The finding, if there is one, written with every decision at its default.
+  -- The call that writes the replacement of a finding with every decision at its default; refusal 4 if there is no finding.
   unfoldable pub writeFound : Option Item → List ℕ → After MendAnswer ℕ
   writeFound none out = unwritten (Refused NoFinding) out
   writeFound (some x) out = writeOut (encodeAll (replacement p x [])) out
 
-  -- The call that writes the replacement with every decision at its default: refusals 1, 3, 4 and 8 in this order.
+  -- The call that writes the replacement of the finding that starts at an offset, with every decision at its default: refusals 1,
+  -- 3, 4 and 8, in this order.
   unfoldable pub replaceByDefault : List ℕ → ℕ → List ℕ → After MendAnswer ℕ
   replaceByDefault text offset out =
       orElse (textRefusal text) (λ (r : Refusal). unwritten (Refused r) out) (writeFound (findingStarting text offset) out)

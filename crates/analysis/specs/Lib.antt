@@ -1,4 +1,5 @@
--- Counts, rules, replacements and choices: document 01, "Counts and finding", "Replacement and text".
+-- Definitions of counts, rules, replacements and choices (document 01, "Counts and finding", "Replacement and text"), and
+-- statements about them.
 pub mod Cells
 pub mod Counts
 pub mod Rules

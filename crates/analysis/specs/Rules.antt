@@ -1,4 +1,5 @@
--- The six rules for a single base, in document 01's order ("Counts and finding"): `outcome` is what the first rule that fits says.
+-- The six rules for a single base, in document 01's order ("Counts and finding"): `outcome` is the result of the first rule that
+-- fits.
 use mathlib.Core.Bool.{Bool, true, false, cond, not, _&&_}
 use mathlib.Core.List.{List, [], _∷_}
 use Prim.Native.Nat.{ℕ, _-_}
@@ -12,17 +13,9 @@ use Rattle.policy.specs.Policy.{singletonRule}
 use Rattle.policy.specs.declared.Policy.{Policy}
 use Rattle.policy.specs.declared.SingletonRule.{SingletonRule}
 use Rattle.policy.specs.declared.SingletonRule.the-variants.{BareToEmoji, BareToText, EmojiToBare, TextToBare}
+use Rattle.scanner.specs.Classes.{isClass}
 use Rattle.scanner.specs.declared.char_class.Class.{Class}
-use Rattle.scanner.specs.declared.char_class.Class.the-variants.{
-  Selector as selector,
-  Link as link,
-  Ri as ri,
-  Modifier as modifier,
-  Emoji as emoji,
-  Keycap as keycap,
-  Tag as tag,
-  Other as other,
-}
+use Rattle.scanner.specs.declared.char_class.Class.the-variants.{Modifier as modifier, Keycap as keycap, Tag as tag}
 use Rattle.analysis.specs.Counts.{
   _⊕_,
   additionalDefective,
@@ -35,18 +28,18 @@ use Rattle.analysis.specs.Counts.{
   tagRedundant,
   unsanctioned,
 }
--- What the rules say of a base: its counts, and its slot, which is what stands after it in the replacement: no selector (`bare`), this one
--- (`fixed`), or the one that a decision names, with this default (`decided`).
+-- The result of a rule for a base: its counts, and its slot. The slot says what follows the base in the replacement: no selector
+-- (`bare`), this selector (`fixed`), or the selector that a decision names, with this default (`decided`).
 pub use Rattle.analysis.specs.declared.singleton.Outcome.{Outcome}
 pub use Rattle.analysis.specs.declared.singleton.Slot.{Slot}
 pub use Rattle.analysis.specs.declared.singleton.Slot.the-variants.{Bare as bare, Fixed as fixed, Decided as decided}
 use Rattle.analysis.specs.declared.types.NonCanonicality.{NonCanonicality}
 
--- These counts and this slot.
+-- The result with these counts and this slot.
 abbrev pub gives : NonCanonicality → Slot → Outcome
 gives n s = record { counts = n; slot = s }
 
--- The counts m of a first FE0E, or n of a first FE0F, and the rest unsanctioned.
+-- The counts m if FE0E is first, n if FE0F is first; the other selectors are unsanctioned.
 unfoldable pub byFirst : NonCanonicality → NonCanonicality → List Presentation → NonCanonicality
 byFirst m n [] = empty
 byFirst m n (Text ∷ s) = m ⊕ unsanctioned (length s)
@@ -76,7 +69,7 @@ unfoldable pub rule5 : List Presentation → Outcome
 rule5 [] = gives tagForced (fixed Emoji)
 rule5 (q ∷ s) = gives (byFirst (tagConflicting ⊕ tagForced) empty (q ∷ s)) (fixed Emoji)
 
--- The bare side of `TextToBare` and of `EmojiToBare`.
+-- Whether the presentation is the bare side of `TextToBare` or `EmojiToBare`.
 unfoldable pub isBareSide : SingletonRule → Presentation → Bool
 isBareSide TextToBare Text = true
 isBareSide TextToBare Emoji = false
@@ -103,36 +96,15 @@ rule6 r (q ∷ s) =
 
 -- The first modification is a modifier.
 unfoldable pub byModifier : Class → Bool
-byModifier selector = false
-byModifier link = false
-byModifier ri = false
-byModifier modifier = true
-byModifier emoji = false
-byModifier keycap = false
-byModifier tag = false
-byModifier other = false
+byModifier = isClass modifier
 
 -- The first modification is tags.
 unfoldable pub byTags : Class → Bool
-byTags selector = false
-byTags link = false
-byTags ri = false
-byTags modifier = false
-byTags emoji = false
-byTags keycap = false
-byTags tag = true
-byTags other = false
+byTags = isClass tag
 
 -- The first modification is 20E3.
 unfoldable pub byKeycap : Class → Bool
-byKeycap selector = false
-byKeycap link = false
-byKeycap ri = false
-byKeycap modifier = false
-byKeycap emoji = false
-byKeycap keycap = true
-byKeycap tag = false
-byKeycap other = false
+byKeycap = isClass keycap
 
 -- "FE0E first"
 unfoldable pub textFirst : List Presentation → Bool
@@ -140,8 +112,8 @@ textFirst [] = false
 textFirst (Text ∷ s) = true
 textFirst (Emoji ∷ s) = false
 
--- "For a single base the first rule that fits holds": by the base, the class of what follows the base and its selectors, and the
--- selectors. Rule 6: "Policy, keycap sets if the first modification is 20E3."
+-- "For a single base the first rule that fits holds": by the policy, the base, the class of the character after the base and its
+-- selectors, and the selectors. Rule 6: "Policy, keycap sets if the first modification is 20E3."
 unfoldable pub outcome : Policy → ℕ → Class → List Presentation → Outcome
 outcome p c k s =
     cond (not (hasVariationSequence c)) (rule1 s)
@@ -153,13 +125,13 @@ outcome p c k s =
 
 -- ---- the selectors by numbers
 
--- The first of selectors, if there is one.
+-- The first selector, if there is one.
 unfoldable pub firstAsked : List Presentation → FromSelector
 firstAsked [] = NoSelector
 firstAsked (q ∷ s) = Selector q
 
--- Selectors of which the first and the number are known; a number of 0 after a first selector counts as 1. The rules ask for nothing
--- more: specs/Theorems.antt, RulesByNumbers.
+-- Selectors with this first one and this number; a number of 0 with a first selector counts as 1. The rules depend on nothing more:
+-- specs/Theorems.antt, RulesByNumbers.
 unfoldable pub runWith : FromSelector → ℕ → List Presentation
 runWith NoSelector n = []
 runWith (Selector q) n = q ∷ replicate (n - 1) q

@@ -1,4 +1,4 @@
--- What is claimed of rules, counts, replacements and choices. Each statement is proved in proofs/Claims.antt.
+-- Statements about rules, counts, replacements and choices. Each statement is proved in proofs/Claims.antt.
 use mathlib.Core.Path.{_≡_}
 use mathlib.Core.Logic.{_↔_, _≢_}
 use mathlib.Core.Bool.{true, false}
@@ -57,13 +57,13 @@ use Rattle.analysis.specs.Examples.{analysed, analysedItems}
 
 -- ---- the rules, case by case
 
--- 1: a base without a variation entry.
+-- Rule 1: a base without a variation entry.
 unfoldable pub WithoutEntry : Type 0
 WithoutEntry =
     (p : Policy) (c : ℕ) (k : Class) (s : List Presentation) → hasVariationSequence c ≡ false
     → outcome p c k s ≡ gives (unsanctioned (length s)) bare
 
--- 2 and 3: before a modifier.
+-- Rules 2 and 3: a base before a modifier.
 unfoldable pub BeforeModifier : Type 0
 BeforeModifier =
     (p : Policy) (c : ℕ) (s : List Presentation) → hasVariationSequence c ≡ true
@@ -72,7 +72,7 @@ BeforeModifier =
     × (isEmojiModifierBase c ≡ true → outcome p c modifier (Emoji ∷ s) ≡ gives (modifierDefective ⊕ unsanctioned (length s)) bare)
     × (isEmojiModifierBase c ≡ false → outcome p c modifier (Emoji ∷ s) ≡ gives (additionalDefective ⊕ unsanctioned (length s)) bare)
 
--- 4 and 5: before tags.
+-- Rules 4 and 5: a base before tags.
 unfoldable pub BeforeTags : Type 0
 BeforeTags =
     (p : Policy) (c : ℕ) (s : List Presentation) → hasVariationSequence c ≡ true
@@ -85,7 +85,7 @@ BeforeTags =
     × (outcome p c tag (Emoji ∷ s) ≡ gives (unsanctioned (length s)) (fixed Emoji))
     × (outcome p c tag (Text ∷ s) ≡ gives (tagConflicting ⊕ tagForced ⊕ unsanctioned (length s)) (fixed Emoji)))
 
--- 6: before anything else, and at the end; the keycap sets before 20E3.
+-- Rule 6: a base before any other character, or at the end. The keycap sets hold before 20E3.
 unfoldable pub ByPolicy : Type 0
 ByPolicy =
     (p : Policy) (c : ℕ) (k : Class) (s : List Presentation) → hasVariationSequence c ≡ true → k ≢ modifier → k ≢ tag
@@ -107,52 +107,52 @@ ByPolicy =
 
 -- ---- the rules and the sums by numbers
 
--- The rules ask only which selector is the first and how many there are.
+-- The result of the rules depends only on the first selector and the number of selectors.
 unfoldable pub RulesByNumbers : Type 0
 RulesByNumbers =
     (p : Policy) (c : ℕ) (k : Class) (s : List Presentation) → outcome p c k s ≡ outcome p c k (runWith (firstAsked s) (length s))
 
--- Where two totals together can be held, the sum that the code makes is the sum.
+-- If the totals of two records of counts add up to at most the largest count, the sum that the code computes is the true sum.
 unfoldable pub SumsAreWhole : Type 0
 SumsAreWhole = (m n : NonCanonicality) → total m + total n ≤ most → cappedSum m n ≡ m ⊕ n
 
--- ---- what the rules leave
+-- ---- the rules applied to their own result
 
--- A rule leaves no count: after a base that got what its rule says, under any decisions, the same rules count nothing.
+-- Applied to a base with the selector that its rule gives it, under any decisions, the rules count nothing.
 unfoldable pub RulesLeaveNoCount : Type 0
 RulesLeaveNoCount =
     (p : Policy) (c : ℕ) (k : Class) (s ds : List Presentation) → outcome p c k (chosen (outcome p c k s .slot) ds) .counts ≡ empty
 
--- A rule that counts nothing leaves the selectors as they are.
+-- If the rules count nothing, the replacement has the same selectors.
 unfoldable pub NoCountKeepsSelectors : Type 0
 NoCountKeepsSelectors =
     (p : Policy) (c : ℕ) (k : Class) (s : List Presentation) → outcome p c k s .counts ≡ empty → chosen (outcome p c k s .slot) [] ≡ s
 
 -- ---- counts and replacement
 
--- "A finding exists if some count is not 0": there is none exactly where all eight are 0.
+-- "A finding exists if some count is not 0": an item is no finding exactly if all its eight counts are 0.
 unfoldable pub NoFindingNoCount : Type 0
 NoFindingNoCount = (p : Policy) (x : Item) → (isFinding p x ≡ false) ↔ (nonCanonicality p x ≡ empty)
 
--- The replacement of an item, under any decisions, has no count: none of its items has.
+-- The replacement of an item, under any decisions, has no finding: all counts of its items are 0.
 unfoldable pub ReplacementHasNoCount : Type 0
 ReplacementHasNoCount =
     (p : Policy) (t : List ℕ) (x : Item) (ds : List Presentation) → List·Memᴰ x (items t)
     → (y : Item) → List·Memᴰ y (items (replacement p x ds)) → nonCanonicality p y ≡ empty
 
--- It has the item's characters other than selectors, in order.
+-- The replacement has the same characters other than selectors, in the same order.
 unfoldable pub ReplacementKeepsCharacters : Type 0
 ReplacementKeepsCharacters =
     (p : Policy) (t : List ℕ) (x : Item) (ds : List Presentation) → List·Memᴰ x (items t)
     → strip (replacement p x ds) ≡ strip (x .chars)
 
--- For links and units it is again one item, of the same kind.
+-- The replacement of a links-only or emoji-headed item is again one item of the same kind.
 unfoldable pub ReplacementIsOneItem : Type 0
 ReplacementIsOneItem =
     (p : Policy) (t : List ℕ) (x : Item) (ds : List Presentation) → List·Memᴰ x (items t) → Structured (x .kind)
     → items (replacement p x ds) ≡ item (x .kind) (replacement p x ds) ∷ []
 
--- There is no finding exactly where the default replacement is the item itself.
+-- An item is no finding exactly if its default replacement is the item itself.
 unfoldable pub NoFindingNoChange : Type 0
 NoFindingNoChange =
     (p : Policy) (t : List ℕ) (x : Item) → List·Memᴰ x (items t)
@@ -164,19 +164,19 @@ SelectorsAddUp =
     (p : Policy) (t : List ℕ) (x : Item) (ds : List Presentation) → List·Memᴰ x (items t)
     → selectorCount (replacement p x ds) + removing (nonCanonicality p x) ≡ selectorCount (x .chars) + adding (nonCanonicality p x)
 
--- So the length in characters is the item's, less the removing counts, plus the adding ones.
+-- The length of the replacement in characters is the item's, less the counts that remove, plus the counts that add.
 unfoldable pub ReplacementLength : Type 0
 ReplacementLength =
     (p : Policy) (t : List ℕ) (x : Item) (ds : List Presentation) → List·Memᴰ x (items t)
     → length (replacement p x ds) + removing (nonCanonicality p x) ≡ length (x .chars) + adding (nonCanonicality p x)
 
--- And in bytes, with 3 for each selector.
+-- The length of the replacement in bytes is the item's, less 3 for each selector removed, plus 3 for each selector added.
 unfoldable pub ReplacementBytes : Type 0
 ReplacementBytes =
     (p : Policy) (t : List ℕ) (x : Item) (ds : List Presentation) → List·Memᴰ x (items t)
     → size width (replacement p x ds) + 3 * removing (nonCanonicality p x) ≡ size width (x .chars) + 3 * adding (nonCanonicality p x)
 
--- It has at most four times the item's bytes.
+-- The replacement has at most four times the item's bytes.
 unfoldable pub AtMostFourTimes : Type 0
 AtMostFourTimes =
     (p : Policy) (t : List ℕ) (x : Item) (ds : List Presentation) → List·Memᴰ x (items t)
@@ -184,7 +184,7 @@ AtMostFourTimes =
 
 -- ---- choices
 
--- There are as many choices as the eighth count says.
+-- The number of choices is the eighth count.
 unfoldable pub ChoicesAreCounted : Type 0
 ChoicesAreCounted = (p : Policy) (x : Item) → length (choices p x) ≡ nonCanonicality p x .«presentation_decisions»
 
@@ -196,27 +196,27 @@ DefaultsAreChoices = (p : Policy) (x : Item) → defaultDecisions p x ≡ map (�
 unfoldable pub DefaultDecisionsReplace : Type 0
 DefaultDecisionsReplace = (p : Policy) (x : Item) → replacement p x (defaultDecisions p x) ≡ defaultReplacement p x
 
--- Walking the bytes of an item from 0, from each choice to the next, meets its choices: all of them, in order, and nothing else.
+-- A walk over the bytes of an item from offset 0, from each choice to the next, finds exactly the item's choices, in order.
 unfoldable pub ChoicesAreWalked : Type 0
 ChoicesAreWalked =
     (p : Policy) (raw : List ℕ) (x : Item) → chars raw ≡ x .chars → Structured (x .kind) → Meets p raw 0 (choices p x)
 
 -- ---- by the nested structure
 
--- The counts in document 01's own words: selectors after links, flag letters and modifications are unsanctioned, and a single base
--- goes by the rules with its first modification.
+-- The counts by the structure, in document 01's words: selectors after links, flag letters and modifications are unsanctioned, and
+-- a single base is counted by the rules with its first modification.
 unfoldable pub CountsByStructure : Type 0
 CountsByStructure =
     (p : Policy) (t : List ℕ) (x : Item) → List·Memᴰ x (items t) → Structured (x .kind)
     → nonCanonicality p x ≡ sequenceCounts p (structure (x .chars))
 
--- The replacement is put together from links and units, under any decisions.
+-- The replacement under any decisions is the pieces of links and units, one after the other.
 unfoldable pub ReplacementByStructure : Type 0
 ReplacementByStructure =
     (p : Policy) (t : List ℕ) (x : Item) (ds : List Presentation) → List·Memᴰ x (items t) → Structured (x .kind)
     → replacement p x ds ≡ assemble (elements p (structure (x .chars))) ds
 
--- The choices are the units with a decided base: a choice's two replacements are the whole unit under either decision.
+-- The choices are the units whose base takes a decision. A choice's two replacements are the whole unit under either decision.
 unfoldable pub ChoicesByStructure : Type 0
 ChoicesByStructure =
     (p : Policy) (t : List ℕ) (x : Item) → List·Memᴰ x (items t) → Structured (x .kind)
@@ -224,8 +224,8 @@ ChoicesByStructure =
 
 -- ---- examples; document 01's worked texts are in formatter, specs/Worked.antt
 
--- Texts for what the worked ones leave open: rule 1 before rule 3 (1F476 is a modifier base without an entry), rule 4, tag-forced alone,
--- and selectors after a link and after modifications.
+-- Examples beside the worked texts: rule 1 before rule 3 (1F476 is a modifier base without an entry), rule 4, tag-forced alone, and
+-- selectors after a link and after modifications.
 unfoldable pub RuleExamples : Type 0
 RuleExamples =
     (analysedItems (0x1F476 ∷ 0xFE0F ∷ 0x1F3FB ∷ [])
@@ -239,7 +239,7 @@ RuleExamples =
     × (analysedItems (0x31 ∷ 0xFE0F ∷ 0x20E3 ∷ 0xFE0F ∷ [])
     ≡ analysed (0x31 ∷ 0xFE0F ∷ 0x20E3 ∷ 0xFE0F ∷ []) (unsanctioned 1) (0x31 ∷ 0xFE0F ∷ 0x20E3 ∷ []) ∷ [])
 
--- A decision's two replacements are the whole unit, without the selectors of its modifications; each unit has its own.
+-- A choice's two replacements are the whole unit, without the selectors of its modifications; each unit has its own choice.
 unfoldable pub ChoiceExamples : Type 0
 ChoiceExamples =
     (choices defaultPolicy (item EmojiHeaded (0x31 ∷ 0x20E3 ∷ 0xFE0F ∷ []))

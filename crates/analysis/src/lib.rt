@@ -1,12 +1,12 @@
-// Counts, findings and replacements of items under a policy: the definitions, their laws, the types and the six rules. They are from
-// analysis.rs and types.rs of the crate evfmt; document 01, "Counts and finding", "Replacement and text". The crate replacing has the
-// functions that read an item from a text.
+// Counts, findings and replacements of items under a policy: the definitions, their laws, the types and the six rules. They come
+// from analysis.rs and types.rs of the crate evfmt; document 01, "Counts and finding", "Replacement and text". The crate replacing
+// has the functions that read an item from a text.
 pub mod singleton;
 pub mod types;
 
 use types::Finding;
 
-// What an item is under a policy: canonical, or a finding; or the text has ended.
+// The analysis of an item under a policy: it is canonical, or a finding; or the text has ended.
 pub enum ItemAnalysis {
     End,
     Canonical { end: usize },

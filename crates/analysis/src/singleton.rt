@@ -1,7 +1,8 @@
-// The six rules for a single base, in document 01's order ("Counts and finding"): analysis.rs of the crate evfmt,
-// `analyze_singleton_base_selectors` and what it calls. They are functions of numbers: the base, the class of what stands after
-// the base and its selectors, the first selector and how many there are.
-// `analyze_singleton_base_selectors` and `analyze_by_policy_bytes` equal `outcome` of specs/Rules.antt, the smaller functions its rules.
+// The six rules for a single base, in document 01's order ("Counts and finding"): `analyze_singleton_base_selectors` of analysis.rs
+// of the crate evfmt, and the functions that it calls. They take the base, the class of the character after the base and its
+// selectors, the first selector and the number of selectors.
+// `analyze_singleton_base_selectors` and `analyze_by_policy_bytes` equal `outcome` of specs/Rules.antt; each smaller function
+// equals one of its rules.
 ghost use mathlib.Core.Path.{_≡_};
 ghost use mathlib.Core.Bool.{cond, true};
 ghost use Prim.Native.Nat.{_-_};
@@ -31,20 +32,20 @@ use unicode::VariationSequenceIndex;
 use unicode::presentation::FromSelector;
 use unicode::presentation::Presentation;
 
-// What stands after a base: nothing, a selector, or the selector that is decided, with its default.
+// What follows a base in the replacement: no selector, this selector, or the selector that a decision names, with its default.
 pub enum Slot {
     Bare,
     Fixed(Presentation),
     Decided(Presentation),
 }
 
-// What a rule says of a base and its selectors.
+// The result of a rule for a base and its selectors.
 pub struct Outcome {
     pub counts: NonCanonicality,
     pub slot: Slot,
 }
 
-// How many selectors stand after the first.
+// The number of selectors after the first.
 fn rest_of(count: usize) -> usize
     ensures { λ r. ⌜ r ≡ count - 1 ⌝ }
 {
@@ -147,7 +148,7 @@ fn before_tags_emoji(first: FromSelector, count: usize) -> Outcome
     }
 }
 
-// The bare side of `TextToBare` and of `EmojiToBare`.
+// Whether the presentation is the bare side of `TextToBare` or `EmojiToBare`.
 fn is_bare_side(rule: SingletonRule, presentation: Presentation) -> bool
     ensures { λ r. ⌜ r ≡ isBareSide rule presentation ⌝ }
 {
@@ -165,7 +166,7 @@ fn is_bare_side(rule: SingletonRule, presentation: Presentation) -> bool
     }
 }
 
-// A bare base under a policy's rule: bare, or one decision.
+// The result for a base without a selector under a policy's rule: bare, or one decision.
 fn without_selector(rule: SingletonRule) -> Outcome
     ensures { λ r. ⌜ r ≡ withoutSelector rule ⌝ }
 {
@@ -206,7 +207,7 @@ fn before_tags(first: FromSelector, count: usize, is_emoji_default: bool) -> Out
     before_tags_emoji(first, count)
 }
 
-// Rule 6: by what the policy says of the base.
+// Rule 6: the policy's rule for the base.
 fn by_policy(first: FromSelector, count: usize, rule: SingletonRule) -> Outcome
     ensures { λ r. ⌜ r ≡ rule6 rule (runWith first count) ⌝ }
 {
@@ -229,7 +230,7 @@ fn by_policy(first: FromSelector, count: usize, rule: SingletonRule) -> Outcome
     }
 }
 
-// Whether a class is that of 20E3.
+// Whether the class is that of 20E3.
 pub fn is_keycap(class: Class) -> bool
     ensures { λ r. ⌜ r ≡ byKeycap class ⌝ }
 {
@@ -239,7 +240,7 @@ pub fn is_keycap(class: Class) -> bool
     }
 }
 
-// Rules 2 to 6, for a base with a variation entry, by what a policy says of it where this class follows.
+// Rules 2 to 6, for a base with a variation entry. `rule` is the policy's rule for the base before a character of class `next`.
 fn with_entry(
     base: u32,
     next: Class,
@@ -274,7 +275,7 @@ pub fn analyze_singleton_base_selectors(
     with_entry(base, next, first, count, rule)
 }
 
-// The same by a policy's bytes, which no call copies.
+// The same for a policy given as bytes, which are not copied.
 pub fn analyze_by_policy_bytes(
     policy: &[u8],
     base: u32,

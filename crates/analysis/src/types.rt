@@ -28,7 +28,8 @@ pub struct Finding {
     pub counts: NonCanonicality,
 }
 
-// A choice: the bytes of its unit, from start up to end, where the next choice is looked for, and its default.
+// A choice: the bytes of its unit, from start up to end, the offset at which the search for the next choice starts, and its
+// default.
 pub struct ReplacementChoice {
     pub start: usize,
     pub end: usize,
@@ -36,13 +37,13 @@ pub struct ReplacementChoice {
     pub default: Presentation,
 }
 
-// What a cursor over choices answers: the next choice, or that there is none.
+// The answer of a cursor over choices: the next choice, or that there is none.
 pub enum ChoiceStep {
     Choice(ReplacementChoice),
     End,
 }
 
-// What mending answers: so many bytes are written, or a refusal.
+// The answer of mending: the number of bytes written, or a refusal.
 pub enum MendAnswer {
     Mended { len: usize },
     Refused(Refusal),
@@ -51,7 +52,7 @@ pub enum MendAnswer {
 // The largest count that can be held.
 const MOST: usize = 18_446_744_073_709_551_615;
 
-// The sum of two counts, or the largest count where it is more.
+// The sum of two counts, or the largest count if the sum is greater.
 pub fn add_count(a: usize, b: usize) -> usize
     ensures { λ r. ⌜ r ≡ capped (a + b) ⌝ }
 {
@@ -62,14 +63,14 @@ pub fn add_count(a: usize, b: usize) -> usize
 }
 
 impl NonCanonicality {
-    // No count.
+    // All eight counts are 0.
     pub fn empty() -> Self
         ensures { λ r. ⌜ r ≡ empty ⌝ }
     {
         NonCanonicality::unsanctioned(0)
     }
 
-    // So many unsanctioned selectors.
+    // This number of unsanctioned selectors.
     pub fn unsanctioned(count: usize) -> Self
         ensures { λ r. ⌜ r ≡ unsanctioned count ⌝ }
     {
@@ -113,7 +114,7 @@ impl NonCanonicality {
         self.presentation_decisions == 0
     }
 
-    // The sum, count by count; a count that would pass the largest is the largest.
+    // The sum, count by count; a sum above the largest count becomes the largest count.
     pub fn add(self, rhs: Self) -> Self
         ensures { λ r. ⌜ r ≡ cappedSum self rhs ⌝ }
     {
@@ -152,7 +153,7 @@ impl NonCanonicality {
             ),
         }
     }
-    // Whether two findings' counts are equal.
+    // Whether two records of counts are equal.
     pub fn eq(self, rhs: Self) -> bool
         ensures { λ r. ⌜ (r ≡ true) ↔ (self ≡ rhs) ⌝ }
     {

@@ -1,4 +1,4 @@
--- One bit of a word, taken lowest first.
+-- The bits of a word, lowest bit first.
 use mathlib.Core.Path.{_≡_, refl, sym, ap, _∙_}
 use mathlib.Core.Bool.{true, false}
 use Prim.Native.Nat.{ℕ, zero, suc, _+_, _*_, _/_, _%_, _^_, _<_, _≤_}
@@ -12,7 +12,7 @@ use lib.Pow.{shr-shr}
 use borrow.Author.Tests.{eqb-false, eqb-true, eq-eqb}
 use Rattle.base.specs.Bits.{one}
 
--- the lowest bit, and the others: those of the half
+-- Bit 0 is the word mod 2. Bit k + 1 is bit k of half the word.
 pub low-bit : (w : ℕ) → one 0 w ≡ eqb (w % 2) 1
 unfolding one
 low-bit w = let e : w / 2 ^ 0 % 2 ≡ w % 2 = omega arith in ap (λ (n : ℕ). eqb n 1) e
@@ -28,7 +28,7 @@ zero-one k = ap (λ (n : ℕ). eqb (n % 2) 1) (zero-div (2 ^ k))
 doubled : (m n : ℕ) → n * 2 ^ suc m ≡ n * 2 ^ m * 2
 doubled m n = ap (λ (x : ℕ). n * x) (pow-suc 2 m) ∙ sym (mul-assoc n (2 ^ m) 2)
 
--- a bit below m is not changed by what stands from bit m on
+-- A bit below m does not depend on the bits from m on.
 pub low-bits : (m k b n : ℕ) → k < m → one k (b + n * 2 ^ m) ≡ one k b
 low-bits zero k b n h = absurd (not-suc-le-zero h)
 low-bits (suc m) zero b n h =
@@ -38,12 +38,12 @@ low-bits (suc m) (suc k) b n h =
     let e : (b + n * 2 ^ suc m) / 2 ≡ b / 2 + n * 2 ^ m = omega (arith, doubled m n) in
     next-bit k (b + n * 2 ^ suc m) ∙ ap (one k) e ∙ low-bits m k (b / 2) n (le-of-suc-le-suc h) ∙ sym (next-bit k b)
 
--- a bit from m on is a bit of what is left after m bits
+-- Bit m + k of a word is bit k of the word without its lowest m bits.
 pub shifted-bit : (m k w : ℕ) → one (m + k) w ≡ one k (w / 2 ^ m)
 unfolding one
 shifted-bit m k w = ap (λ (x : ℕ). eqb (x % 2) 1) (sym (shr-shr w m k))
 
--- where a mask has a one, AND leaves the bit
+-- Where the mask has a 1, AND keeps the bit.
 pub and-bit : (k a b : ℕ) → one k b ≡ true → one k (bitAnd a b) ≡ one k a
 unfolding one
 and-bit k a b h =
@@ -54,7 +54,7 @@ and-bit k a b h =
     let e : bitAnd x y % 2 ≡ x % 2 = omega (arith, and-step x y, min-eq-left le) in
     ap (λ (n : ℕ). eqb (n % 2) 1) (and-shr a b k) ∙ ap (λ (n : ℕ). eqb n 1) e
 
--- .. and where it has a zero, AND gives zero
+-- Where the mask has a 0, the bit of AND is 0.
 pub and-no-bit : (k a b : ℕ) → one k b ≡ false → one k (bitAnd a b) ≡ false
 unfolding one
 and-no-bit k a b h =
@@ -65,7 +65,7 @@ and-no-bit k a b h =
     let e : bitAnd x y % 2 ≡ 0 = omega (arith, and-step x y, min-eq-right le) in
     ap (λ (n : ℕ). eqb (n % 2) 1) (and-shr a b k) ∙ ap (λ (n : ℕ). eqb n 1) e
 
--- the bits below the lowest one are zero
+-- The bits below the lowest 1 are 0.
 even-below : (d t i : ℕ) → i < under d t → (d ≡ 0) × (i < suc t)
 even-below zero t i h = (refl, h)
 even-below (suc d) t i h = absurd (not-suc-le-zero h)
@@ -79,7 +79,7 @@ trailing-bit (suc k) n (suc i) h =
     next-bit i n
     ∙ trailing-bit k (n / 2) i (le-of-suc-le-suc (even-below (n % 2) (trailingZeros k (n / 2)) (suc i) h .1))
 
--- .. the lowest one is one
+-- The bit whose index is the number of trailing zeros is 1.
 pub trailing-one : (k n : ℕ) → trailingZeros k n < k → one (trailingZeros k n) n ≡ true
 unfolding trailingZeros
 trailing-one zero n h = absurd (not-suc-le-zero h)
@@ -91,7 +91,7 @@ trailing-one (suc k) n h = go (n % 2) refl h (trailing-one k (n / 2))
     go zero e l rest = next-bit (trailingZeros k (n / 2)) n ∙ rest (le-of-suc-le-suc l)
     go (suc d) e l rest = low-bit n ∙ eq-eqb (n % 2) 1 (omega arith)
 
--- .. and a word of k bits that has none is zero
+-- A word of k bits without a 1 is 0.
 pub trailing-all : (k n : ℕ) → n < 2 ^ k → k ≤ trailingZeros k n → n ≡ 0
 unfolding trailingZeros
 trailing-all zero n h e = omega arith

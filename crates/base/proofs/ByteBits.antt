@@ -1,4 +1,4 @@
--- The bits of a number that bytes make.
+-- The bits of the number that bytes encode.
 use mathlib.Core.Path.{_≡_, sym, ap, ap₂, _∙_}
 use mathlib.Core.Logic.{⊎-elim}
 use mathlib.Core.List.{List, [], _∷_}
@@ -10,7 +10,7 @@ use Rattle.base.specs.Words.{number}
 use Rattle.base.proofs.Bits.{low-bits, shifted-bit, zero-one}
 use Rattle.base.proofs.Tests.{le-or-lt}
 
--- bit k of the number that bytes make is bit k mod 8 of byte k / 8
+-- Bit k of the number that bytes encode is bit k mod 8 of byte k / 8.
 pub bit-of-bytes : (n k : ℕ) (bs : List ℕ) → ((j : ℕ) → getD bs j 0 < 256) → k < n * 8
     → one k (number (take n bs)) ≡ one (k % 8) (getD bs (k / 8) 0)
 unfolding number

@@ -5,7 +5,7 @@ use Rattle.base.specs.Output.{answerOf, bufferOf}
 use Rattle.base.specs.Answers.{writeRow}
 use Rattle.base.specs.Words.{wordBytes}
 use Rattle.base.specs.Theorems.{BytesOfNumber, NumberOfWord, AnswerRowsDistinct, RefusalRowsDistinct, WrittenOrRefused}
-use Rattle.base.proofs.Rows.{check-rows, list-rows, rows-tell, write-rows}
+use Rattle.base.proofs.Rows.{check-rows, list-rows, rows-distinct, write-rows}
 use Rattle.base.proofs.Words.{littleEndian-number, number-littleEndian}
 
 pub number-of-word : NumberOfWord
@@ -24,7 +24,7 @@ written-or-refused result out = (
 )
 
 pub refusal-rows-distinct : RefusalRowsDistinct
-refusal-rows-distinct = rows-tell
+refusal-rows-distinct = rows-distinct
 
 pub answer-rows-distinct : AnswerRowsDistinct
 unfolding AnswerRowsDistinct

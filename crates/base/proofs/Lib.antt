@@ -1,4 +1,4 @@
--- Laws that every layer shares: tests, words, bits, writing into a lent buffer, and tables of rows.
+-- Laws that every crate uses: tests, words, bits, writing into a lent buffer, and tables of rows.
 pub mod Tests
 pub mod Writer
 pub mod Words

@@ -1,4 +1,4 @@
--- Numbers as bytes, eight to each: how many bytes they are, and writing one number after the other.
+-- Numbers as bytes, eight bytes for each: the number of bytes, and a loop that writes one number after the other.
 use mathlib.Core.Path.{_≡_, refl, sym, ap, _∙_}
 use mathlib.Core.Bool.{cond}
 use mathlib.Core.List.{List, [], _∷_, _++_, append-assoc}
@@ -12,7 +12,7 @@ use Rattle.base.specs.Words.{bytesOf, hasRoom, wordBytes}
 use Rattle.base.proofs.Words.{length-wordBytes, word-put}
 use Rattle.base.proofs.Writer.{Writing, put, put-as, put-then, room}
 
--- eight bytes a word
+-- Each number has eight bytes.
 pub length-bytesOf : (ws : List ℕ) → length (bytesOf ws) ≡ length ws * 8
 unfolding bytesOf
 length-bytesOf [] = refl
@@ -20,12 +20,12 @@ length-bytesOf (w ∷ ws) =
     let e = length-bytesOf ws in
     omega (arith, length-append (wordBytes w) (bytesOf ws), length-wordBytes w)
 
--- one word more
+-- The bytes from number i on are the bytes of number i, then the bytes from number i + 1 on.
 pub bytesOf-drop : (ws : List ℕ) (i : ℕ) → i < length ws → bytesOf (drop i ws) ≡ wordBytes (getD ws i 0) ++ bytesOf (drop (i + 1) ws)
 unfolding bytesOf
 bytesOf-drop ws i h = ap bytesOf (drop-cons ws i 0 h) ∙ ap (λ (k : ℕ). wordBytes (getD ws i 0) ++ bytesOf (drop k ws)) (sym (add-one i))
 
--- words after words
+-- The bytes of two lists one after the other.
 pub bytesOf-append : (ws vs : List ℕ) → bytesOf (ws ++ vs) ≡ bytesOf ws ++ bytesOf vs
 unfolding bytesOf
 bytesOf-append [] vs = refl
@@ -39,7 +39,7 @@ pub put-both : {o o₁ o₂ : List ℕ} {s i r : ℕ} (ws vs : List ℕ) → Put
     → PutAt o s (bytesOf (ws ++ vs)) o₂ r
 put-both ws vs p q = put-as (bytesOf (ws ++ vs)) (sym (bytesOf-append ws vs)) (put-then p q)
 
--- a loop that writes words one after the other: there is room for the next, and it is written
+-- A loop that writes numbers one after the other: the next number fits, and writing it keeps the invariant.
 module _ (ws o₀ o : List ℕ) (start at i : ℕ) (h : i < length ws) (w : Writing (bytesOf ws) start o₀ (bytesOf (drop i ws)) o at) where
   pub word-room : at + 8 ≤ length o
   word-room =

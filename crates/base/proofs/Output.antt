@@ -1,4 +1,4 @@
--- The two outcomes of writing a result into a lent buffer.
+-- The two ways in which writing a result into a lent buffer can end.
 use mathlib.Core.Path.{_≡_, refl, ap, _∙_}
 use mathlib.Core.Bool.{Bool, cond}
 use mathlib.Core.List.{List, _++_}
@@ -12,7 +12,7 @@ use Rattle.base.specs.Output.{PutAt, Wrote, answerOf, bufferOf, roomFor}
 use Rattle.base.proofs.Answering.{answers}
 use Rattle.base.specs.declared.WriteAnswer.the-variants.{TooShort, Written}
 
--- there is room, and the result stands at the front
+-- The result fits, and the buffer has it at the front.
 pub wrote : {before after result : List ℕ} {n r : ℕ} → n ≡ length result → n ≤ length before → PutAt before 0 result after r
     → Wrote result before after (Written n)
 unfolding answerOf bufferOf
@@ -25,7 +25,7 @@ wrote {before} {after} {result} {n} e h p =
           ∙ simp t;
     }
 
--- there is none, and the buffer is as it was
+-- The result does not fit, and the buffer does not change.
 pub too-short : {before : List ℕ} {n : ℕ} (result : List ℕ) → n ≡ length result → length before < n
     → Wrote result before before (TooShort n)
 unfolding answerOf bufferOf
@@ -34,7 +34,7 @@ too-short {before} {n} result e h =
     let t = lt-leb (length result) (length before) l in
     record { answered = answers (ap TooShort e ∙ simp t); buffer = simp t }
 
--- what `write_bytes` ensures, where there is room
+-- The contract of `write_bytes` where the bytes fit.
 pub bytes-put : (o o′ : List ℕ) (at : ℕ) (xs : List ℕ) → at + length xs ≤ length o → o′ ≡ cond (roomFor xs o at) (sets o at xs) o
     → PutAt o at xs o′ (at + length xs)
 bytes-put o o′ at xs h e = record {

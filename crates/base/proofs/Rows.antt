@@ -1,5 +1,4 @@
--- A row of the table of refusals tells the refusal, its number leaves 0 and 255 to other answers, and the row of an answer tells the
--- answer.
+-- Different refusals have different rows, a refusal's number is never 0 or 255, and different answers have different rows.
 use mathlib.Core.Path.{_≡_, refl, ap, sym, _∙_}
 use mathlib.Core.Bool.{cond}
 use Prim.Native.Nat.{_≤_}
@@ -26,9 +25,9 @@ use Rattle.base.specs.declared.Refusal.the-variants.{
   WrongNumberOfDecisions,
 }
 
--- The refusal of a row.
-told : RefusalRow → Refusal
-told w =
+-- The refusal whose row is given.
+refusalOf : RefusalRow → Refusal
+refusalOf w =
     cond (eqb (w .number) 1) TextTooLong
     (cond (eqb (w .number) 2) NotAPolicy
     (cond (eqb (w .number) 3) (NotWellFormed (w .value))
@@ -37,22 +36,22 @@ told w =
     (cond (eqb (w .number) 6) (BadDecision (w .value))
     (cond (eqb (w .number) 7) (TableTooShort (w .value)) (OutputTooShort (w .value))))))))
 
-told-row : (r : Refusal) → told (refusalRow r) ≡ r
-unfolding told
-told-row TextTooLong = refl
-told-row NotAPolicy = refl
-told-row (NotWellFormed n) = refl
-told-row NoFinding = refl
-told-row (WrongNumberOfDecisions n) = refl
-told-row (BadDecision n) = refl
-told-row (TableTooShort n) = refl
-told-row (OutputTooShort n) = refl
+refusal-of-row : (r : Refusal) → refusalOf (refusalRow r) ≡ r
+unfolding refusalOf
+refusal-of-row TextTooLong = refl
+refusal-of-row NotAPolicy = refl
+refusal-of-row (NotWellFormed n) = refl
+refusal-of-row NoFinding = refl
+refusal-of-row (WrongNumberOfDecisions n) = refl
+refusal-of-row (BadDecision n) = refl
+refusal-of-row (TableTooShort n) = refl
+refusal-of-row (OutputTooShort n) = refl
 
-pub rows-tell : RefusalRowsDistinct
+pub rows-distinct : RefusalRowsDistinct
 unfolding RefusalRowsDistinct
-rows-tell r s e = sym (told-row r) ∙ ap told e ∙ told-row s
+rows-distinct r s e = sym (refusal-of-row r) ∙ ap refusalOf e ∙ refusal-of-row s
 
--- Every number is from 1 to 254.
+-- Every number is at least 1 and at most 254.
 pub refusal-numbers : (r : Refusal) → (1 ≤ refusalRow r .number) × (refusalRow r .number ≤ 254)
 refusal-numbers TextTooLong = (omega arith, omega arith)
 refusal-numbers NotAPolicy = (omega arith, omega arith)
@@ -63,7 +62,7 @@ refusal-numbers (BadDecision n) = (omega arith, omega arith)
 refusal-numbers (TableTooShort n) = (omega arith, omega arith)
 refusal-numbers (OutputTooShort n) = (omega arith, omega arith)
 
--- ---- rows of answers: a refusal has a number from 1 to 254, so none of a success or of nothing to do
+-- ---- rows of answers: a refusal's number is from 1 to 254, so it differs from 0 (success) and 255 (nothing)
 
 pub num : {r s : RefusalRow} → r ≡ s → r .number ≡ s .number
 num e = ap (λ (r : RefusalRow). r .number) e
@@ -73,7 +72,7 @@ val e = ap (λ (r : RefusalRow). r .value) e
 
 pub refusals : (r s : Refusal) → refusalRow r ≡ refusalRow s → r ≡ s
 unfolding RefusalRowsDistinct
-refusals = rows-tell
+refusals = rows-distinct
 
 pub check-rows : (a b : Check) → checkRow a ≡ checkRow b → a ≡ b
 unfolding checkRow

@@ -1,4 +1,4 @@
--- Rows as bytes: their lengths, and a table of bytes with or without room for them.
+-- Rows as bytes: their length, and a table of bytes that has or has not room for them.
 use mathlib.Core.Path.{_≡_, refl, ap, ap₂, sym, _∙_, subst}
 use mathlib.Core.Bool.{cond}
 use mathlib.Core.List.{List, [], _∷_, _++_, append-assoc}
@@ -27,13 +27,13 @@ module _ {A : Type 0} (numbers : A → List ℕ) (k : ℕ) (each : (x : A) → l
   -- ---- a table of bytes
 
   module _ (some-bytes : 0 < k) (rows : List A) (table : List ℕ) {n : ℕ} (e : n ≡ length rows) where
-    -- There are fewer places than rows.
+    -- A table with fewer places than rows is refused.
     pub rows-refused : length table / k < n → unwritten (Refused (TableTooShort n)) table ≡ fillTable numbers k rows table
     unfolding fillTable
     rows-refused h = ap (λ (m : ℕ). unwritten (Refused (TableTooShort m)) table) e
         ∙ simp (lt-leb (length rows) (length table / k) (omega arith))
 
-    -- There is a place for each, and so room for their bytes.
+    -- With a place for each row, the bytes of the rows fit into the table.
     pub rows-room : n ≤ length table / k → length (rowsBytes numbers rows) ≤ length table
     rows-room h = omega (arith, length-rows rows, le-div-iff-mul-le some-bytes .0 (subst (λ (m : ℕ). m ≤ length table / k) e h))
 
@@ -47,7 +47,7 @@ module _ {A : Type 0} (numbers : A → List ℕ) (k : ℕ) (each : (x : A) → l
         ap₂ (λ (m : ℕ) (o : List ℕ). record { answer = Listed m; buffer = o }) e w
         ∙ simp (le-leb (length rows) (length table / k) (omega arith))
 
-    -- What filling leaves, by the number of rows.
+    -- A table with room holds the rows' bytes at its front.
     pub filled : n * k ≤ length table → fillTable numbers k rows table
         ≡ record { answer = Listed n; buffer = rowsBytes numbers rows ++ drop (n * k) table }
     unfolding fillTable
@@ -78,7 +78,7 @@ module _ {A : Type 0} (numbers : A → List ℕ) where
         let e : suc n * k ≡ length b + n * k = omega (arith, each x, suc-mul n k) in
         ap (λ (m : ℕ). drop m (b ++ rowsBytes numbers xs)) e ∙ drop-append-add b (rowsBytes numbers xs) (n * k) ∙ rows-drop n xs
 
-    -- Without a row nothing is written.
+    -- Without rows, nothing is written.
     pub no-rows : 0 < k → (rows : List A) (table : List ℕ) {n : ℕ} → n ≡ length rows → n ≡ 0
         → record { answer = Listed n; buffer = table } ≡ fillTable numbers k rows table
     unfolding rowsBytes
@@ -90,7 +90,7 @@ module _ {A : Type 0} (numbers : A → List ℕ) where
 
 -- ---- a row
 
--- The numbers of a row that has room are written, and end where its bytes end.
+-- The numbers of a row that fits are written, and the row's bytes end after them.
 pub row-put : {ns ms : List ℕ} {k : ℕ} (o o′ : List ℕ) (at : ℕ) → ns ≡ ms → length (bytesOf ms) ≡ k → at + k ≤ length o
     → o′ ≡ cond (roomFor (bytesOf ns) o at) (sets o at (bytesOf ns)) o → PutAt o at (bytesOf ms) o′ (at + k)
 row-put {ns} {ms} {k} o o′ at e l h w =

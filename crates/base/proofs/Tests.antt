@@ -1,4 +1,4 @@
--- Tests and what they say: a conjunction, a disjunction, a comparison, a range.
+-- Boolean tests and the facts that they decide: conjunction, disjunction, comparison, range.
 use mathlib.Core.Path.{_≡_, refl, sym}
 use mathlib.Core.Logic.{_⊎_, inl, inr}
 use mathlib.Core.Bool.{Bool, true, false, Bool·beq, _&&_, _||_, true≢false}
@@ -30,12 +30,12 @@ pub both-false : (x y : Bool) → (x || y) ≡ false → (x ≡ false) × (y ≡
 both-false true y e = absurd (true≢false e)
 both-false false y e = (refl, e)
 
--- A test that cannot pass fails.
+-- A test that cannot be true is false.
 pub fails : (x : Bool) → (x ≡ true → ⊥) → x ≡ false
 fails true f = absurd (f refl)
 fails false f = refl
 
--- Two tests that pass together are equal.
+-- Two tests that imply each other are equal.
 pub same-test : (x y : Bool) → (x ≡ true → y ≡ true) → (y ≡ true → x ≡ true) → x ≡ y
 same-test true y f g = sym (f refl)
 same-test false true f g = g refl
@@ -60,7 +60,7 @@ le-or-lt m n = go (leb m n) refl
     go true e = inl (leb-true m n e)
     go false e = inr (leb-false m n e)
 
--- b is from lo to hi.
+-- The number b is at least lo and at most hi.
 pub record In (lo hi b : ℕ) : Type 0 where
   pub low : lo ≤ b
   pub high : b ≤ hi

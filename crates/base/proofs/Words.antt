@@ -14,7 +14,7 @@ use Rattle.base.proofs.Writer.{sets-append}
 use Rattle.base.specs.Output.{PutAt}
 use Rattle.base.specs.Words.{allBytes, hasRoom, littleEndian, number, wordBytes}
 
--- the bytes of a number that they have room for make that number
+-- Decoding the encoding of a number gives the number, if the bytes have room for it.
 pub number-littleEndian : (k x : ℕ) → x < 256 ^ k → number (littleEndian k x) ≡ x
 unfolding number littleEndian
 number-littleEndian zero x h = omega arith
@@ -23,7 +23,7 @@ number-littleEndian (suc k) x h =
     let e = number-littleEndian k (x / 256) (omega arith) in
     omega arith
 
--- bytes are those of the number that they make
+-- Encoding the number that bytes encode gives these bytes.
 pub littleEndian-number : (bs : List ℕ) → allBytes bs ≡ true → littleEndian (length bs) (number bs) ≡ bs
 unfolding number littleEndian allBytes
 littleEndian-number [] t = refl
@@ -34,7 +34,7 @@ littleEndian-number (b ∷ bs) t =
     let high : (b + 256 * number bs) / 256 ≡ number bs = omega arith in
     ap₂ (λ (x : ℕ) (y : ℕ). x ∷ littleEndian (length bs) y) low high ∙ ap (λ (l : List ℕ). b ∷ l) (littleEndian-number bs (p .1))
 
--- four bytes, and four more
+-- The number of four bytes, and the number of eight as two numbers of four.
 pub number-four : (xs : List ℕ) → number (take 4 xs) ≡ getD xs 0 0 + 256 * (getD xs 1 0 + 256 * (getD xs 2 0 + 256 * getD xs 3 0))
 unfolding number
 number-four [] = refl
@@ -57,14 +57,14 @@ number-eight (a ∷ b ∷ []) = omega arith
 number-eight (a ∷ b ∷ c ∷ []) = omega arith
 number-eight (a ∷ b ∷ c ∷ d ∷ xs) = omega arith
 
--- the lowest four bytes, and four more
+-- The eight bytes of a number are its lowest four bytes and its next four.
 pub word-halves : (x : ℕ) → wordBytes x ≡ littleEndian 4 x ++ littleEndian 4 (x / 0x100000000)
 unfolding wordBytes littleEndian
 word-halves x =
     let e : x / 256 / 256 / 256 / 256 ≡ x / 0x100000000 = omega arith in
     ap (λ (y : ℕ). x % 256 ∷ x / 256 % 256 ∷ x / 256 / 256 % 256 ∷ x / 256 / 256 / 256 % 256 ∷ littleEndian 4 y) e
 
--- two stores of four bytes are one of eight
+-- Two stores of four bytes are one store of eight.
 pub sets-word : (o : List ℕ) (at x : ℕ) → sets (sets o at (littleEndian 4 x)) (at + 4) (littleEndian 4 (x / 0x100000000))
     ≡ sets o at (wordBytes x)
 unfolding littleEndian
@@ -74,7 +74,7 @@ pub length-wordBytes : (x : ℕ) → length (wordBytes x) ≡ 8
 unfolding wordBytes littleEndian
 length-wordBytes x = refl
 
--- what `write_word` ensures, where there is room
+-- The contract of `write_word` where the eight bytes fit.
 pub word-put : (o o′ : List ℕ) (at x : ℕ) → at + 8 ≤ length o → o′ ≡ cond (hasRoom o at) (sets o at (wordBytes x)) o
     → PutAt o at (wordBytes x) o′ (at + 8)
 word-put o o′ at x h e = record {
@@ -82,7 +82,7 @@ word-put o o′ at x h e = record {
   bytes = e ∙ ap (λ (t : Bool). cond t (sets o at (wordBytes x)) o) (le-leb (at + 8) (length o) h);
 }
 
--- parts of bytes are bytes
+-- A part of a list of bytes is a list of bytes.
 pub allBytes-take : (n : ℕ) (bs : List ℕ) → allBytes bs ≡ true → allBytes (take n bs) ≡ true
 unfolding allBytes
 allBytes-take zero bs t = refl
@@ -102,7 +102,7 @@ unfolding allBytes
 bytes-all [] h = refl
 bytes-all (b ∷ bs) h = and-both (leb b 255) (allBytes bs) (le-leb b 255 (h 0)) (bytes-all bs (λ j. h (suc j)))
 
--- eight bytes of a list are those of the word that they make
+-- Eight bytes of a list are the encoding of the number that they encode.
 pub word-read : (bs : List ℕ) (i : ℕ) → allBytes bs ≡ true → i + 8 ≤ length bs → wordBytes (number (take 8 (drop i bs)))
     ≡ take 8 (drop i bs)
 unfolding wordBytes

@@ -1,6 +1,5 @@
--- A loop that writes a list piece by piece into a lent buffer, from a place on: its invariant, `Writing`, and the laws
--- that keep it. The loop begins by `begin`; a turn that writes nothing goes by `pass`, one that writes a piece by `room`
--- and `put`; `finish` says what was put.
+-- A loop that writes a list piece by piece into a lent buffer: its invariant `Writing`, and the laws that keep it. `begin` is the start
+-- of the loop. `pass` is a turn that writes nothing, and `room` and `put` are a turn that writes a piece. `finish` is the end.
 use mathlib.Core.Path.{_≡_, refl, sym, ap, ap₂, _∙_, subst}
 use mathlib.Core.List.{List, [], _∷_, _++_}
 use Prim.Native.Nat.{ℕ, suc, _+_, _-_, _<_, _≤_}
@@ -16,7 +15,8 @@ sets-append o j (x ∷ xs) ys =
     sets-append (set o j x) (suc j) xs ys
     ∙ ap (λ (n : ℕ). sets (sets (set o j x) (suc j) xs) n ys) (suc-add j (length xs) ∙ sym (add-suc j (length xs)))
 
--- the buffer was o₀ and is o; of the list all, which goes to the place from, rest is still to be written, at the place j
+-- The buffer was o₀ and is o. The list `all` is written from the offset `from` on; of it, `rest` is still to be written, at the offset
+-- j.
 pub record Writing (all : List ℕ) (from : ℕ) (o₀ rest o : List ℕ) (j : ℕ) : Type 0 where
   pub same : length o ≡ length o₀
   pub ahead : j + length rest ≡ from + length all
@@ -30,7 +30,7 @@ module _ (all : List ℕ) (from : ℕ) (o₀ : List ℕ) where
   pub pass : {o : List ℕ} {j : ℕ} (rest rest′ : List ℕ) → Writing all from o₀ rest o j → rest ≡ rest′ → Writing all from o₀ rest′ o j
   pass {o} {j} rest rest′ w e = subst (λ (r : List ℕ). Writing all from o₀ r o j) e w
 
-  -- the same buffer and place under other names
+  -- The invariant for an equal buffer and an equal offset.
   pub moved : {o o′ : List ℕ} {j j′ : ℕ} (rest : List ℕ) → o′ ≡ o → j′ ≡ j → Writing all from o₀ rest o j → Writing all from o₀ rest o′ j′
   moved {o} {o′} {j} {j′} rest p q w =
       subst (λ (b : List ℕ). Writing all from o₀ rest b j′) (sym p) (subst (λ (n : ℕ). Writing all from o₀ rest o n) (sym q) w)
@@ -52,7 +52,7 @@ module _ (all : List ℕ) (from : ℕ) (o₀ : List ℕ) where
         ∙ w .bytes;
   }
 
-  -- one byte
+  -- A turn that writes one byte: the byte fits, and writing it keeps the invariant.
   pub byte-room : {o : List ℕ} {j x : ℕ} (rest : List ℕ) {rest′ : List ℕ} → Writing all from o₀ rest o j → rest ≡ x ∷ rest′ → j < length o
   byte-room {x = x} rest {rest′} w e = omega (arith, room rest (x ∷ []) rest′ w e)
 
@@ -66,7 +66,7 @@ module _ (all : List ℕ) (from : ℕ) (o₀ : List ℕ) where
     bytes = ap (sets o j) (sym e) ∙ w .bytes;
   }
 
--- one list put after another
+-- Two writes, the second where the first ends, are one write.
 pub put-then : {o o₁ o₂ xs ys : List ℕ} {s i r : ℕ} → PutAt o s xs o₁ i → PutAt o₁ i ys o₂ r → PutAt o s (xs ++ ys) o₂ r
 put-then {o} {o₁} {o₂} {xs} {ys} {s} {i} {r} p q = record {
   ends = let e = p .ends in let f = q .ends in omega (arith, length-append xs ys);
@@ -74,20 +74,20 @@ put-then {o} {o₁} {o₂} {xs} {ys} {s} {i} {r} p q = record {
       ∙ sym (sets-append o s xs ys);
 }
 
--- the same list under another name
+-- A write of an equal list.
 pub put-as : {o o₁ xs : List ℕ} {s r : ℕ} (ys : List ℕ) → xs ≡ ys → PutAt o s xs o₁ r → PutAt o s ys o₁ r
 put-as {o} {o₁} {xs} {s} {r} ys e p = subst (λ (zs : List ℕ). PutAt o s zs o₁ r) e p
 
 -- ---- parts of a list
 
--- a beginning, and more of the list
+-- A part of the list written, and the next part after it.
 pub sets-more : (o : List ℕ) (s : ℕ) (b : List ℕ) (i k : ℕ) → i ≤ length b → sets (sets o s (take i b)) (s + i) (take k (drop i b))
     ≡ sets o s (take (i + k) b)
 sets-more o s b i k h =
     ap (λ (n : ℕ). sets (sets o s (take i b)) (s + n) (take k (drop i b))) (sym (length-take-le i b h))
     ∙ sym (sets-append o s (take i b) (take k (drop i b))) ∙ ap (sets o s) (sym (take-add i k b))
 
--- a list over one that is no longer
+-- A list written over a list that is not longer.
 pub sets-over : (o : List ℕ) (m : ℕ) (xs ys : List ℕ) → length xs ≤ length ys → m + length ys ≤ length o → sets (sets o m xs) m ys
     ≡ sets o m ys
 sets-over o m xs ys l h =
@@ -119,7 +119,7 @@ sets-over o m xs ys l h =
         ∙ ap (drop d) (ap (drop (m + length xs)) split ∙ drop-at front (drop (m + length xs) o) (m + length xs) front-length)
         ∙ drop-drop d (m + length xs) o ∙ ap (λ (n : ℕ). drop n o) (sym e)
 
--- the end of a list, of which some is written already
+-- The last part of the list written over bytes of which some are already written.
 pub sets-last : (o : List ℕ) (s : ℕ) (b : List ℕ) (i l : ℕ) → l ≤ i → i ≤ length b → s + length b ≤ length o
     → sets (sets o s (take i b)) (s + l) (drop l b) ≡ sets o s b
 sets-last o s b i l h k f =

@@ -3,6 +3,6 @@ use mathlib.Core.Bool.{Bool}
 use Prim.Native.Nat.{ℕ, _/_, _%_, _^_}
 use lib.Dec.{eqb}
 
--- bit k of a word is one
+-- Bit k of a word is 1. Bit 0 is the lowest.
 unfoldable pub one : ℕ → ℕ → Bool
 one k w = eqb (w / 2 ^ k % 2) 1

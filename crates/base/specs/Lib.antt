@@ -1,4 +1,4 @@
--- What every layer shares: ranges of numbers, numbers of eight bytes, bits of a word, texts in a row, document 01's
+-- Definitions that every crate uses: ranges of numbers, numbers of eight bytes, bits of a word, lists with separators, document 01's
 -- table of refusals, the rows of answers, results that are written into a lent buffer, and tables of rows of numbers.
 pub mod Ranges
 pub mod Words

@@ -1,4 +1,4 @@
--- The refusals of document 01's table ("Turned back"), and what a call leaves in a lent buffer.
+-- The refusals of document 01's table ("Turned back"), and the contents of a lent buffer after a call.
 use mathlib.Core.List.{List, [], _∷_, _++_}
 use mathlib.Core.Option.{Option, none, some, Option·getD}
 use Prim.Native.Nat.{ℕ}
@@ -19,13 +19,13 @@ use Rattle.base.specs.declared.Refusal.the-variants.{
 
 -- ---- the table
 
--- A row of document 01's table of refusals: "Number", and "Returned", which is none where the table says "nothing more".
+-- A row of document 01's table of refusals: "Number", and "Returned", which is `none` where the table says "nothing more".
 pub record TableRow : Type 0 where
   pub number : ℕ
   pub returned : Option ℕ
 
--- Document 01's table, row by row. The functions of src/refusals.rt are held to it, and all else that tells a refusal's number or value
--- is made of them.
+-- Document 01's table, row by row. The functions of src/refusals.rt equal it, and all other code gets a refusal's number and value from
+-- them.
 abbrev pub refusalTable : Refusal → TableRow
 refusalTable TextTooLong = record { number = 1; returned = none }
 refusalTable NotAPolicy = record { number = 2; returned = none }
@@ -36,21 +36,21 @@ refusalTable (BadDecision n) = record { number = 6; returned = some n }
 refusalTable (TableTooShort n) = record { number = 7; returned = some n }
 refusalTable (OutputTooShort n) = record { number = 8; returned = some n }
 
--- An answer's row as two numbers: the number, and what is returned with it, or 0.
+-- The row of an answer as two numbers: its number, and its value or 0.
 pub record RefusalRow : Type 0 where
   pub number : ℕ
   pub value : ℕ
 
--- The row of a refusal as two numbers; the value is 0 where the table says "nothing more".
+-- The row of a refusal as two numbers. The value is 0 where the table says "nothing more".
 abbrev pub refusalRow : Refusal → RefusalRow
 refusalRow r = record { number = refusalTable r .number; value = Option·getD (refusalTable r .returned) 0 }
 
--- A number, or none, as a list.
+-- An optional number as a list of one number or none.
 abbrev pub asList : Option ℕ → List ℕ
 asList none = []
 asList (some n) = n ∷ []
 
--- "Returned" of a refusal as a list: one number, or none where the table says "nothing more".
+-- "Returned" of a refusal as a list: one number, or the empty list where the table says "nothing more".
 abbrev pub returned : Refusal → List ℕ
 returned r = asList (refusalTable r .returned)
 
@@ -58,19 +58,19 @@ returned r = asList (refusalTable r .returned)
 abbrev pub textLimit : ℕ
 textLimit = 16777216
 
--- The answer to tests of which the first refusal, if there is one, is known.
+-- The answer to tests, from the first refusal among them.
 abbrev pub checked : Option Refusal → Check
 checked none = Passed
 checked (some r) = Refused r
 
--- ---- what a call leaves
+-- ---- the buffer after a call
 
--- An answer, and what the lent buffer or table holds after the call.
+-- An answer, and the contents of the lent buffer or table after the call.
 pub record After (R A : Type 0) : Type 0 where
   pub answer : R
   pub buffer : List A
 
--- "Left as it was: all buffers"
+-- A call that changes no buffer ("Left as it was: all buffers").
 abbrev pub unwritten : {R A : Type 0} → R → List A → After R A
 unwritten r out = record { answer = r; buffer = out }
 
@@ -78,7 +78,7 @@ unwritten r out = record { answer = r; buffer = out }
 abbrev pub written : {R A : Type 0} → R → List A → List A → After R A
 written r result out = record { answer = r; buffer = result ++ drop (length result) out }
 
--- A refusal if there is one, or what comes next.
+-- The refusal's answer if there is a refusal, or the answer of the next step.
 abbrev pub orElse : {B : Type 0} → Option Refusal → (Refusal → B) → B → B
 orElse (some r) refused next = refused r
 orElse none refused next = next

@@ -1,4 +1,5 @@
--- A table lent by the caller, as bytes: rows of numbers, and what filling it leaves (document 01, "Turned back", number 7).
+-- A table that the caller lends, as bytes: rows of numbers, and the table's contents after it is filled (document 01, "Turned back",
+-- number 7).
 use mathlib.Core.Bool.{cond}
 use mathlib.Core.List.{List, [], _∷_, _++_}
 use Prim.Native.Nat.{ℕ, _/_}
@@ -11,12 +12,13 @@ use Rattle.base.specs.declared.ListAnswer.the-variants.{Listed, Refused}
 use Rattle.base.specs.declared.Refusal.the-variants.{TableTooShort}
 
 module _ {A : Type 0} (numbers : A → List ℕ) where
-  -- "There .. a start, an end or a count is 8 bytes, lowest first": rows of numbers as bytes, one after the other.
+  -- Rows of numbers as bytes, one row after the other: "There .. a start, an end or a count is 8 bytes, lowest first".
   unfoldable pub rowsBytes : List A → List ℕ
   rowsBytes [] = []
   rowsBytes (x ∷ xs) = bytesOf (numbers x) ++ rowsBytes xs
 
-  -- Rows in a table of bytes, where a row has the given number of bytes. The table has as many places as whole rows fit: refusal 7.
+  -- Fills a table whose rows have the given number of bytes. The table has as many places as whole rows fit into it; with fewer
+  -- places than rows the answer is refusal 7.
   unfoldable pub fillTable : ℕ → List A → List ℕ → After ListAnswer ℕ
   fillTable bytes rows table =
       cond (leb (length rows) (length table / bytes)) (written (Listed (length rows)) (rowsBytes rows) table)

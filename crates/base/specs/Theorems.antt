@@ -1,5 +1,5 @@
--- A number and its eight bytes give each other back; a result is written or refused; the row of a refusal and of an
--- answer tells it.
+-- Encoding a number as bytes and decoding it are inverse; a result is written or refused; different refusals and different answers have
+-- different rows.
 use mathlib.Core.Path.{_≡_}
 use mathlib.Core.Bool.{true}
 use mathlib.Core.List.{List, _++_}
@@ -14,16 +14,16 @@ use Rattle.base.specs.declared.ListAnswer.{ListAnswer}
 use Rattle.base.specs.declared.WriteAnswer.{WriteAnswer}
 use Rattle.base.specs.Words.{allBytes, littleEndian, number, wordBytes}
 
--- The eight bytes of a number below 2 to the 64th make that number.
+-- The eight bytes of a number below 2 to the 64th encode that number.
 unfoldable pub NumberOfWord : Type 0
 NumberOfWord = (x : ℕ) → x < 2 ^ 64 → number (wordBytes x) ≡ x
 
--- Bytes are those of the number that they make.
+-- Bytes are the encoding of the number that they encode.
 unfoldable pub BytesOfNumber : Type 0
 BytesOfNumber = (bs : List ℕ) → allBytes bs ≡ true → littleEndian (length bs) (number bs) ≡ bs
 
--- A result is written at the front and nothing after it, or refused with document 01's number 8 and the length
--- wanted, and then the buffer is as it was.
+-- A result that fits is written at the front of the buffer, and the bytes after it do not change. A result that does not fit is refused
+-- with document 01's number 8 and the length wanted, and the buffer does not change.
 unfoldable pub WrittenOrRefused : Type 0
 WrittenOrRefused =
     (result out : List ℕ)
@@ -32,11 +32,11 @@ WrittenOrRefused =
     × (length out < length result
     → (writeRow (answerOf result out) ≡ record { number = 8; value = length result }) × (bufferOf result out ≡ out))
 
--- The row of the table tells the refusal: no two causes have the same number, and the value is returned whole.
+-- Different refusals have different rows: no two causes have the same number, and the row holds the value that is returned.
 unfoldable pub RefusalRowsDistinct : Type 0
 RefusalRowsDistinct = (r s : Refusal) → refusalRow r ≡ refusalRow s → r ≡ s
 
--- The row of an answer tells the answer: no two cases have the same number and value.
+-- Different answers of one type have different rows.
 unfoldable pub AnswerRowsDistinct : Type 0
 AnswerRowsDistinct =
     ((a b : Check) → checkRow a ≡ checkRow b → a ≡ b)

@@ -1,7 +1,7 @@
-// What every layer shares: the refusals of document 01's table, a bit of a word, a byte of a slice, and numbers of eight
-// bytes, lowest first (document 01: "There a policy word, a start, an end or a count is 8 bytes, lowest first").
-// `read_word` equals `number` of the eight bytes, `write_word` puts `wordBytes`, `write_numbers` puts `bytesOf`, and
-// `write_bytes` puts the bytes it is given.
+// The types and functions that every crate uses: the refusals of document 01's table, tests of one bit, reads of one
+// byte, and numbers of eight bytes (document 01: "There a policy word, a start, an end or a count is 8 bytes, lowest
+// first"). `read_word` returns `number` of eight bytes. `write_word` writes `wordBytes`, `write_numbers` writes
+// `bytesOf`, and `write_bytes` writes its argument.
 pub mod refusals;
 
 ghost use mathlib.Core.Path.{_≡_};
@@ -18,13 +18,14 @@ pub const WORD_BYTES: usize = 8;
 // "16,777,216 bytes pass, 16,777,217 don't."
 pub const TEXT_LIMIT: usize = 16_777_216;
 
-// The answer to writing a result into a lent buffer: how many bytes were written, or how many were wanted.
+// The answer to writing a result into a lent buffer: the number of bytes written, or the number of bytes needed.
 pub enum WriteAnswer {
     Written { len: usize },
     TooShort { wanted: usize },
 }
 
-// Why a call is turned back, with what is returned: a row of document 01's table. Its number and its value: refusals.rt.
+// The reason why a call is refused, with the value that is returned: a row of document 01's table. The functions in
+// refusals.rt give the number and the value.
 pub enum Refusal {
     TextTooLong,
     NotAPolicy,
@@ -36,26 +37,26 @@ pub enum Refusal {
     OutputTooShort { wanted: usize },
 }
 
-// What filling a table answers: how many places are filled, or a refusal.
+// The answer to filling a table: the number of rows written, or a refusal.
 pub enum ListAnswer {
     Listed { findings: usize },
     Refused(Refusal),
 }
 
-// The answer to tests that a call makes: all have passed, or the first refusal.
+// The answer to the tests of a call's arguments: all tests passed, or the first refusal.
 pub enum Check {
     Passed,
     Refused(Refusal),
 }
 
-// Whether bit i mod 64 of a word is one.
+// Tests whether bit i mod 64 of a word is 1.
 pub fn has_bit(w: u64, i: usize) -> bool
     ensures { λ r. ⌜ r ≡ one (i % 64) w ⌝ }
 {
     (w >> (i % 64)) % 2 == 1
 }
 
-// The byte i after the place at, or 0 where there is none.
+// Returns the byte at offset at + i, or 0 if the slice ends before it.
 pub fn byte_at(s: &[u8], at: usize, i: usize) -> u8
     ensures { λ r. ⌜ r ≡ getD (drop at (now (s .entry))) i 0 ⌝ }
 {
@@ -68,14 +69,14 @@ pub fn byte_at(s: &[u8], at: usize, i: usize) -> u8
     s[at + i]
 }
 
-// The same byte as a number of 64 bits.
+// Returns the byte at offset at + i as a number of 64 bits, or 0 if the slice ends before it.
 fn byte(s: &[u8], at: usize, i: usize) -> u64
     ensures { λ r. ⌜ (r ≡ getD (drop at (now (s .entry))) i 0) × (r ≤ 255) ⌝ }
 {
     byte_at(s, at, i) as u64
 }
 
-// The number that four bytes make.
+// Returns the number that four bytes encode, lowest byte first.
 fn half(s: &[u8], at: usize, i: usize) -> u64
     requires { ⌜ i ≤ 4 ⌝ }
     ensures { λ r. ⌜ (r ≡ number (take 4 (drop i (drop at (now (s .entry)))))) × (r ≤ 0xFFFFFFFF) ⌝ }
@@ -84,14 +85,14 @@ fn half(s: &[u8], at: usize, i: usize) -> u64
         + 256 * (byte(s, at, i + 1) + 256 * (byte(s, at, i + 2) + 256 * byte(s, at, i + 3)))
 }
 
-// The number that the eight bytes from a place on make; bytes after the end count as 0.
+// Returns the number that the eight bytes from the offset `at` encode. A byte after the end counts as 0.
 pub fn read_word(s: &[u8], at: usize) -> u64
     ensures { λ r. ⌜ r ≡ number (take 8 (drop at (now (s .entry)))) ⌝ }
 {
     half(s, at, 0) + 0x1_0000_0000 * half(s, at, 4)
 }
 
-// Puts the lowest four bytes of a number.
+// Stores the lowest four bytes of a number.
 fn put_half(out: &mut [u8], at: usize, x: u64)
     requires { ⌜ at + 4 ≤ length (now out) ⌝ }
     ensures { λ _. ⌜ now (out .exit) ≡ sets (now (out .entry)) at (littleEndian 4 x) ⌝ }
@@ -105,7 +106,7 @@ fn put_half(out: &mut [u8], at: usize, x: u64)
     out[at + 3] = (fourth % 256) as u8;
 }
 
-// Puts a number's eight bytes.
+// Stores the eight bytes of a number.
 fn put_word(out: &mut [u8], at: usize, x: u64)
     requires { ⌜ at + 8 ≤ length (now out) ⌝ }
     ensures { λ _. ⌜ now (out .exit) ≡ sets (now (out .entry)) at (wordBytes x) ⌝ }
@@ -114,7 +115,8 @@ fn put_word(out: &mut [u8], at: usize, x: u64)
     put_half(out, at + 4, x / 0x1_0000_0000);
 }
 
-// Writes a number's eight bytes at a place and answers true, or leaves the buffer where it has no room for them.
+// Writes the eight bytes of a number at an offset and returns true. Without room for them it returns false and changes
+// nothing.
 pub fn write_word(out: &mut [u8], at: usize, x: u64) -> bool
     ensures { λ r. ⌜ (r ≡ hasRoom (now (out .entry)) at)
         × (now (out .exit) ≡ cond (hasRoom (now (out .entry)) at) (sets (now (out .entry)) at (wordBytes x)) (now (out .entry))) ⌝ }
@@ -129,7 +131,7 @@ pub fn write_word(out: &mut [u8], at: usize, x: u64) -> bool
     true
 }
 
-// Puts bytes at a place, one by one.
+// Copies bytes to an offset, one by one.
 fn put_each(out: &mut [u8], start: usize, bytes: &[u8])
     requires { ⌜ start + length (now bytes) ≤ length (now out) ⌝ }
     ensures { λ _. ⌜ now (out .exit) ≡ sets (now (out .entry)) start (now (bytes .entry)) ⌝ }
@@ -143,7 +145,8 @@ fn put_each(out: &mut [u8], start: usize, bytes: &[u8])
     }
 }
 
-// Puts bytes at a place, eight at a time. The last eight end where the bytes end, so some of them may have been put.
+// Copies bytes to an offset, eight at a time. The last eight end where the bytes end, so they may overlap the eight
+// before them.
 fn put_bytes(out: &mut [u8], start: usize, bytes: &[u8])
     requires { ⌜ start + length (now bytes) ≤ length (now out) ⌝ }
     ensures { λ _. ⌜ now (out .exit) ≡ sets (now (out .entry)) start (now (bytes .entry)) ⌝ }
@@ -161,7 +164,7 @@ fn put_bytes(out: &mut [u8], start: usize, bytes: &[u8])
     put_word(out, start + last, read_word(bytes, last));
 }
 
-// Writes bytes at a place and answers true, or leaves the buffer where it has no room for them.
+// Writes bytes at an offset and returns true. Without room for them it returns false and changes nothing.
 pub fn write_bytes(out: &mut [u8], at: usize, bytes: &[u8]) -> bool
     ensures { λ r. ⌜ WritesAt (now (bytes .entry)) (now (out .entry)) at r (now (out .exit)) ⌝ }
 {
@@ -175,7 +178,7 @@ pub fn write_bytes(out: &mut [u8], at: usize, bytes: &[u8]) -> bool
     true
 }
 
-// Puts a number's eight bytes.
+// Stores the eight bytes of a `usize`.
 fn put_number(out: &mut [u8], at: usize, n: usize)
     requires { ⌜ at + 8 ≤ length (now out) ⌝ }
     ensures { λ _. ⌜ now (out .exit) ≡ sets (now (out .entry)) at (wordBytes n) ⌝ }
@@ -183,7 +186,7 @@ fn put_number(out: &mut [u8], at: usize, n: usize)
     put_word(out, at, n as u64);
 }
 
-// Puts numbers at a place, eight bytes each.
+// Stores numbers from an offset on, eight bytes each.
 fn put_numbers(out: &mut [u8], start: usize, numbers: &[usize])
     requires { ⌜ start + length (now numbers) * 8 ≤ length (now out) ⌝ }
     ensures { λ _. ⌜ now (out .exit) ≡ sets (now (out .entry)) start (bytesOf (now (numbers .entry))) ⌝ }
@@ -197,7 +200,8 @@ fn put_numbers(out: &mut [u8], start: usize, numbers: &[usize])
     }
 }
 
-// Writes numbers at a place, eight bytes each, and answers true, or leaves the buffer where it has no room for them.
+// Writes numbers at an offset, eight bytes each, and returns true. Without room for them it returns false and changes
+// nothing.
 pub fn write_numbers(out: &mut [u8], at: usize, numbers: &[usize]) -> bool
     ensures { λ r. ⌜ WritesAt (bytesOf (now (numbers .entry))) (now (out .entry)) at r (now (out .exit)) ⌝ }
 {

@@ -1,5 +1,6 @@
-// Document 01's table of refusals in code: the number of a refusal, its value, and whether a value is returned. The table
-// itself is `refusalTable` of specs/Refusals.antt; a refusal that is added there gets an arm in each function here.
+// Document 01's table of refusals in code: the number of a refusal, its value, and whether the table has a value for
+// it. The table itself is `refusalTable` in specs/Refusals.antt. A new row of that table needs a new arm in each
+// function of this file.
 ghost use mathlib.Core.Path.{_≡_};
 ghost use mathlib.Core.Bool.{cond};
 ghost use mathlib.Core.List.{[], _∷_};
@@ -7,7 +8,7 @@ ghost use Prim.Native.Nat.{_≤_};
 ghost use Rattle.base.specs.Refusals.{refusalRow, returned};
 use crate::Refusal;
 
-// The number of a refusal. It is at most 254, so that an answer word can tell it from 255, "nothing to do".
+// Returns the number of a refusal. It is at most 254: an answer word uses 255 for "nothing to do".
 pub fn refusal_number(refusal: Refusal) -> u64
     ensures { λ r. ⌜ (r ≡ refusalRow refusal .number) × (r ≤ 254) ⌝ }
 {
@@ -23,7 +24,7 @@ pub fn refusal_number(refusal: Refusal) -> u64
     }
 }
 
-// What is returned with a refusal, or 0.
+// Returns the value of a refusal, or 0 if the table says "nothing more".
 pub fn refusal_value(refusal: Refusal) -> usize
     ensures { λ r. ⌜ r ≡ refusalRow refusal .value ⌝ }
 {
@@ -39,7 +40,7 @@ pub fn refusal_value(refusal: Refusal) -> usize
     }
 }
 
-// Whether a value is returned with a refusal.
+// Tests whether the table has a value for a refusal.
 pub fn returns_value(refusal: Refusal) -> bool
     ensures { λ r. ⌜ returned refusal ≡ cond r (refusalRow refusal .value ∷ []) [] ⌝ }
 {

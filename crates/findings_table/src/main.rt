@@ -1,6 +1,6 @@
-// Lists the findings of each line of standard input, under the default policy, into a table of structs and into a table
-// of bytes, and holds the one table to the other, place by place. It writes how many lines there were, how many
-// findings, how many refusals, and in how many lines the two differ.
+// Compares two ways of listing findings. For each line of standard input it lists the findings under the default policy
+// into a table of structs and into a table of bytes, and compares the two tables place by place. It writes the number
+// of lines, of findings, of refusals, and of lines for which the two tables differ.
 ghost use Prim.Native.Nat.{_+_, _≤_};
 ghost use lib.ListN.{length};
 ghost use Rattle.formatter.specs.List.{rowBytes};
@@ -21,15 +21,15 @@ use policy::POLICY_BYTES;
 use std::num::wrapping_add_usize;
 use tilghorz::answer_word::list_word;
 
-// The longest input, and one byte more, so that a longer one is seen.
+// The length of the longest input. The buffer is one byte longer, so that the program notices a longer input.
 const INPUT_LIMIT: usize = 12_288;
 
 const INPUT_ROOM: usize = INPUT_LIMIT + 1;
 
-// As many bytes as a table of structs has room for.
+// The number of bytes of a table of `FEW` rows.
 const TABLE_BYTES: usize = FEW * ROW_BYTES;
 
-// What the lines so far came to.
+// The counts for the lines so far.
 struct Seen {
     lines: usize,
     findings: usize,
@@ -37,12 +37,12 @@ struct Seen {
     different: usize,
 }
 
-// A number as a word.
+// Converts a number to 64 bits.
 fn wide(n: usize) -> u64 {
     n as u64
 }
 
-// Whether the bytes from a place on are the row of a finding.
+// Tests whether the bytes from an offset on are the row of a finding.
 fn same_row(finding: Finding, bytes: &[u8], start: usize) -> bool
     requires { ⌜ start + rowBytes ≤ length (now bytes) ⌝ }
 {
@@ -57,7 +57,7 @@ fn same_row(finding: Finding, bytes: &[u8], start: usize) -> bool
     true
 }
 
-// Whether the two tables hold the same in every place, also after the findings.
+// Tests whether the two tables are equal in every place, also in the places after the findings.
 fn same_tables(findings: [Finding; FEW], bytes: &[u8; TABLE_BYTES]) -> bool {
     let mut k = 0;
     while k < FEW {
@@ -70,7 +70,7 @@ fn same_tables(findings: [Finding; FEW], bytes: &[u8; TABLE_BYTES]) -> bool {
     true
 }
 
-// Counts a line with its answer, and whether the two listings were the same.
+// Adds a line to the counts: its answer, and whether the two tables were equal.
 fn add_line(seen: Seen, answer: ListAnswer, same: bool) -> Seen {
     let mut next = seen;
     next.lines = wrapping_add_usize(seen.lines, 1);
@@ -100,7 +100,7 @@ fn list_line(line: &[u8], policy: &[u8], seen: Seen) -> Seen {
     add_line(seen, answer, same)
 }
 
-// Where the line ends that begins at a place.
+// Returns the end of the line that starts at an offset.
 fn line_end(message: &[u8], start: usize) -> usize
     requires { ⌜ start ≤ length (now message) ⌝ }
     ensures { λ r. ⌜ (start ≤ r) × (r ≤ length (now (message .entry))) ⌝ }
@@ -115,7 +115,7 @@ fn line_end(message: &[u8], start: usize) -> usize
     at
 }
 
-// Lists each line of a message.
+// Lists the findings of each line of a message.
 fn list_lines(message: &[u8], policy: &[u8]) -> Seen {
     let mut seen = Seen {
         lines: 0,
@@ -135,13 +135,13 @@ fn list_lines(message: &[u8], policy: &[u8]) -> Seen {
     seen
 }
 
-// Writes a number and what it counts.
+// Writes a number and the name of what it counts.
 fn say_count(n: usize, what: &[u8]) {
     io::print_decimal(STDOUT_FILENO, n as u64);
     io::write_all(STDOUT_FILENO, what);
 }
 
-// Lists each line, and writes what they came to.
+// Lists the findings of each line, and writes the counts.
 fn list_message(message: &[u8]) {
     let mut policy = [0u8; POLICY_BYTES];
     message_io::put_default_policy(&mut policy);
@@ -157,7 +157,7 @@ fn list_message(message: &[u8]) {
     say_count(different, b" different\n");
 }
 
-// Says that there is more than is read.
+// Writes that the input is longer than the limit.
 fn say_too_long() {
     io::write_all(libc::STDERR_FILENO, b"more than 12,288 bytes\n");
 }

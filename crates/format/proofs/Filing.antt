@@ -1,4 +1,4 @@
--- What is filed of a message and a buffer is the program's output, for each answer that formatting has.
+-- The filed text of the message and the buffer is the program's output, for each answer of formatting.
 use mathlib.Core.Path.{_≡_, refl, ap, sym, _∙_, subst}
 use mathlib.Core.Bool.{Bool, true, false, cond}
 use mathlib.Core.List.{List}
@@ -22,9 +22,9 @@ use Rattle.formatter.specs.declared.FormatAnswer.the-variants.{Changed, Refused
 use Rattle.message_io.specs.Lines.{refusalLine}
 use Rattle.message_io.proofs.Outputs.{passed, refused, too-long}
 use Rattle.message_io.proofs.Texts.{front}
-use Rattle.format.specs.Answers.{Answers, Told, messageLimit, outputOf, policy}
+use Rattle.format.specs.Output.{AnswerMeans, FormatsMessage, messageLimit, outputOf, policy}
 
--- A line that is written at the front of a buffer with room for it.
+-- A line that is written at the front of a buffer, if it fits.
 pub line-front : (o o′ xs : List ℕ) {line : List ℕ} {n : ℕ} → n ≡ length xs → n ≤ length o → xs ≡ line
     → o′ ≡ cond (roomFor xs o 0) (sets o 0 xs) o → take n o′ ≡ line
 line-front o o′ xs e h l w =
@@ -32,14 +32,14 @@ line-front o o′ xs e h l w =
     ap (λ (k : ℕ). take k o′) (e ∙ sym (zero-add (length xs))) ∙ front p (omega arith) .1 .0 ∙ l
 
 module _ (message : List ℕ) where
-  -- The intake's refusal, if there is one, and the formatted text.
+  -- The refusal of the tests, if there is one, and the formatted text.
   abbrev intakes : Option Refusal
   intakes = intakeRefusal message policy
 
   abbrev result : List ℕ
   result = formatted message policy
 
-  -- The front of the buffer.
+  -- The filed text of a changed message is the front of the buffer.
   front-filed : (out : List ℕ) (n : ℕ) → filedText message out true n ≡ take n out
   unfolding filedText
   front-filed out n = go (leb n (length out)) refl
@@ -53,22 +53,22 @@ module _ (message : List ℕ) where
   unfolding outputOf
   long-filed after n h e = front-filed after n ∙ e ∙ too-long messageLimit message intakes result h
 
-  module _ {before told-in : List ℕ} {a : FormatAnswer} (s : Answers message before a told-in) (h : length message ≤ messageLimit) where
-    pub unchanged-filed : a ≡ Unchanged → filedText message told-in false 0 ≡ outputOf message
+  module _ {before after : List ℕ} {a : FormatAnswer} (s : FormatsMessage message before a after) (h : length message ≤ messageLimit) where
+    pub unchanged-filed : a ≡ Unchanged → filedText message after false 0 ≡ outputOf message
     unfolding filedText outputOf
     unchanged-filed e =
-        let t = subst (λ (a : FormatAnswer). Told message a told-in) e (s .told) in
+        let t = subst (λ (a : FormatAnswer). AnswerMeans message a after) e (s .meaning) in
         t .1 ∙ passed messageLimit message intakes result h (t .0)
 
-    pub changed-filed : {n : ℕ} → a ≡ Changed n → filedText message told-in true n ≡ outputOf message
+    pub changed-filed : {n : ℕ} → a ≡ Changed n → filedText message after true n ≡ outputOf message
     unfolding outputOf
     changed-filed {n} e =
-        let t = subst (λ (a : FormatAnswer). Told message a told-in) e (s .told) in
-        front-filed told-in n ∙ t .1 ∙ passed messageLimit message intakes result h (t .0)
+        let t = subst (λ (a : FormatAnswer). AnswerMeans message a after) e (s .meaning) in
+        front-filed after n ∙ t .1 ∙ passed messageLimit message intakes result h (t .0)
 
     pub refused-filed : {r : Refusal} (after : List ℕ) (n : ℕ) → a ≡ Refused r → take n after ≡ refusalLine r
         → filedText message after true n ≡ outputOf message
     unfolding outputOf
     refused-filed after n e l =
-        let t = subst (λ (a : FormatAnswer). Told message a told-in) e (s .told) in
+        let t = subst (λ (a : FormatAnswer). AnswerMeans message a after) e (s .meaning) in
         front-filed after n ∙ l ∙ refused messageLimit message intakes result h t

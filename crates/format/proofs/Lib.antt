@@ -1,3 +1,3 @@
--- Formatting a message never lacks room, and its answer tells the output.
+-- The formatted text always fits into the buffer, and the answer decides the output.
 pub mod Rooms
 pub mod Filing

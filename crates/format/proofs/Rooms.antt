@@ -1,5 +1,5 @@
--- A formatted text has at most four times the message's length, so formatting into an output of that length is never refused for
--- want of room.
+-- A formatted text is at most four times as long as the message. So formatting into a buffer of that length is never refused with
+-- number 8.
 use mathlib.Core.Path.{_≡_, refl, sym, ap, _∙_, subst}
 use mathlib.Core.Bool.{Bool, true, false}
 use mathlib.Core.List.{List}
@@ -19,12 +19,12 @@ use Rattle.formatter.proofs.FormattedClaim.{formatted-claim}
 use Rattle.formatter.proofs.Formatting.{format-is, formatTests, same-true}
 use Rattle.formatter.proofs.Outcomes.{comes-first}
 use Rattle.formatter.proofs.Passing.{passed-accepted}
-use Rattle.format.specs.Answers.{Told, policy}
+use Rattle.format.specs.Output.{AnswerMeans, policy}
 
 module _ (message : List ℕ) where
-  -- What a call leaves is an answer.
+  -- The answer of a call has its meaning.
   abbrev pub IsAnswer : After FormatAnswer ℕ → Type 0
-  IsAnswer a = Told message (a .answer) (a .buffer)
+  IsAnswer a = AnswerMeans message (a .answer) (a .buffer)
 
   tested : (out : List ℕ) (same : Bool) → intakeRefusal message policy ≡ none → sameBytes (formatted message policy) message ≡ same
       → IsAnswer (formatTests same true (formatted message policy) out)

@@ -1,2 +1,2 @@
--- What the program `format` writes, and what it relies on: formatting a message has one of three answers, and never lacks room.
-pub mod Answers
+-- The output of the program `format`, and the contract of formatting a message into a buffer that is long enough.
+pub mod Output

@@ -1,12 +1,13 @@
-// Formats the message on standard input under the default policy, and writes the filed text to standard output (document 01,
-// "Programs"). On a refusal it writes the refusal's line, and nothing else. What it writes is decided by `output_of`, which equals
-// `outputOf` of specs/Answers.antt; the functions after it read the message, call that, and write the bytes that it tells.
+// Formats the message on standard input under the default policy, and writes the filed text to standard output
+// (document 01, "Programs"). On a refusal it writes the refusal's line, and nothing else. `output_of` decides all bytes
+// of the output; it equals `outputOf` of specs/Output.antt. The functions after it read the message, call `output_of`,
+// and write the bytes.
 ghost use mathlib.Core.Path.{_≡_};
 ghost use Prim.Native.Nat.{_+_, _*_, _≤_};
 ghost use lib.ListN.{length, take};
 ghost use Rattle.message_io.specs.Lines.{refusalLine};
 ghost use Rattle.formatter.specs.Filed.{filedText};
-ghost use Rattle.format.specs.Answers.{Answers, messageLimit, outputOf};
+ghost use Rattle.format.specs.Output.{FormatsMessage, messageLimit, outputOf};
 use base::Refusal;
 use formatter::FormatAnswer;
 use formatter::filed::filed_text;
@@ -19,19 +20,19 @@ use policy::POLICY_BYTES;
 // "Programs read at most 12,288 bytes under the default policy; more gives `refused 1`."
 const MESSAGE_LIMIT: usize = 12_288;
 
-// One byte more, so that a longer message is seen.
+// The buffer is one byte longer than the limit, so that the program notices a longer message.
 const MESSAGE_ROOM: usize = MESSAGE_LIMIT + 1;
 
 // "Formatted text is at most 4 times the input."
 const OUTPUT_ROOM: usize = 4 * MESSAGE_LIMIT;
 
-// What is to be written: the message's own bytes, or the buffer's front of so many.
+// The bytes to write: the message itself, or the first `len` bytes of the buffer.
 struct Output {
     in_buffer: bool,
     len: usize,
 }
 
-// Puts the line of a refusal at the front of a buffer that has room for every line.
+// Writes the line of a refusal at the front of a buffer that is long enough for every line.
 fn put_refusal(out: &mut [u8], refusal: Refusal) -> usize
     requires { ⌜ 210 ≤ length (now out) ⌝ }
     ensures { λ r. ⌜ take r (now (out .exit)) ≡ refusalLine refusal ⌝ }
@@ -42,18 +43,18 @@ fn put_refusal(out: &mut [u8], refusal: Refusal) -> usize
     len
 }
 
-// Formats a message under the default policy, into an output that has room for every formatted text: it is never refused for want
-// of room.
+// Formats a message under the default policy, into a buffer that is long enough for every formatted text. So refusal 8
+// is no answer.
 fn format_message(message: &[u8], out: &mut [u8]) -> FormatAnswer
     requires { ⌜ 4 * length (now message) ≤ length (now out) ⌝ }
-    ensures { λ r. ⌜ Answers (now (message .entry)) (now (out .entry)) r (now (out .exit)) ⌝ }
+    ensures { λ r. ⌜ FormatsMessage (now (message .entry)) (now (out .entry)) r (now (out .exit)) ⌝ }
 {
     let mut policy = [0u8; POLICY_BYTES];
     message_io::put_default_policy(&mut policy);
     format_text(message, &policy, out)
 }
 
-// The output of a message: its filed text, or the line of a refusal.
+// Returns the output for a message: its filed text, or the line of a refusal.
 fn output_of(message: &[u8], out: &mut [u8]) -> Output
     requires { ⌜ 4 * messageLimit ≤ length (now out) ⌝ }
     ensures { λ r. ⌜ filedText (now (message .entry)) (now (out .exit)) (r .«in_buffer») (r .len) ≡ outputOf (now (message .entry)) ⌝ }
@@ -84,7 +85,7 @@ fn output_of(message: &[u8], out: &mut [u8]) -> Output
     }
 }
 
-// Writes the output of a message to standard output, and says so where that fails.
+// Writes the output for a message to standard output. If that fails, the program ends with an error message.
 fn say_output(message: &[u8]) {
     let mut out = [0u8; OUTPUT_ROOM];
     let Output { in_buffer, len } = output_of(message, &mut out);
@@ -94,8 +95,8 @@ fn say_output(message: &[u8]) {
     }
 }
 
-// Reads a message, into a buffer of one byte more than the limit, and writes its output. Of a message that is too long the buffer holds
-// the front, which is over the limit too.
+// Reads a message into a buffer that is one byte longer than the limit, and writes the output. For a message that is
+// too long, the full buffer is over the limit too.
 fn format_input(buf: &mut [u8])
     requires { ⌜ length (now buf) ≡ messageLimit + 1 ⌝ }
 {

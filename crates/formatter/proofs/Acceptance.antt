@@ -1,4 +1,4 @@
--- Acceptance and refusals of a call on the book, in document 01's words.
+-- A call on the book is accepted exactly as document 01 says, and else gets the first refusal that fits.
 use mathlib.Core.Path.{_≡_, refl, ap, sym, _∙_, subst}
 use mathlib.Core.Logic.{_↔_}
 use mathlib.Core.Bool.{Bool, true, false, true≢false}
@@ -42,7 +42,7 @@ module _ (policy : List ℕ) (ok : isPolicy policy ≡ true) where
   abbrev P : Policy
   P = policyOf policy
 
-  -- ---- acceptance and refusals, in document 01's words
+  -- ---- acceptance and refusals
 
   opening-of : (es : List Entry) (o : OpenFinding) → InRow policy es → List·Memᴰ o (openFindings policy es)
       → openFindingAt (place o) (openFindings policy es) ≡ some o

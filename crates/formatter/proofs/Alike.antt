@@ -1,11 +1,9 @@
--- Lists of mendings with the same members.
+-- Lists of mendings that have the same members: `Alike` is an equivalence, and lists can be joined and reordered.
 use mathlib.Core.Path.{_≡_, sym, subst}
 use mathlib.Core.Logic.{_↔_, _⊎_, inl, inr}
 use mathlib.Core.List.{List, [], _∷_, _++_, append-assoc, List·Memᴰ, List·Memᴰ·append-cases, Memᴰ·append-left, Memᴰ·append-right}
 use Rattle.formatter.specs.Book.{Mending}
 use Rattle.formatter.specs.Demand3.{Alike}
-
--- ---- lists with the same members
 
 pub alike-refl : (k : List Mending) → Alike k k
 alike-refl k m = ((λ h. h), (λ h. h))
@@ -48,7 +46,7 @@ alike-swap k l m = ((λ h. within m l k .1 (go (within m k l .0 h))), (λ h. wit
     back (inl h) = inr h
     back (inr h) = inl h
 
--- One in the middle may stand first.
+-- An element from the middle can be moved to the front.
 pub alike-move : (a : Mending) (k l : List Mending) → Alike (a ∷ (k ++ l)) (k ++ a ∷ l)
 alike-move a k l =
     alike-trans (alike-of (sym (append-assoc (a ∷ []) k l)))

@@ -1,5 +1,5 @@
--- The characters of a book's text: those of the first text but for selectors, whose number follows from the counts, and at most four times
--- as many bytes.
+-- The characters of a book's text: apart from selectors they are those of the first text, the number of selectors follows from the counts,
+-- and the text has at most four times as many bytes.
 use mathlib.Core.Path.{_≡_, refl, ap, sym, _∙_, subst}
 use mathlib.Core.Bool.{Bool, true, false, cond, _&&_, _||_, false≢true}
 use mathlib.Core.List.{List, [], _∷_, _++_}
@@ -45,7 +45,7 @@ selector-scalar c e = go (eqb c 0xFE0E) (eqb c 0xFE0F) refl refl e
     go false true f g e = subst (λ (n : ℕ). isScalar n ≡ true) (sym (eqb-true c 0xFE0F g)) refl
     go false false f g e = absurd (false≢true e)
 
--- Selectors are scalar values, so the other characters say whether all are.
+-- All characters are scalar values exactly if all but the selectors are.
 scalar-strip : (t : List ℕ) → allScalar t ≡ allScalar (strip t)
 unfolding allScalar strip
 scalar-strip [] = refl
@@ -92,7 +92,7 @@ module _ (p : Policy) where
         size-book es h,
       )
 
-  -- The selectors of a book's text.
+  -- The number of selectors of a book's text.
   pub balance-book : (es : List Entry) → Each Derived (itemsOf es)
       → selectorCount (bookChars p es) + removing (totals p (mendedItems es))
       ≡ selectorCount (join (itemsOf es)) + adding (totals p (mendedItems es))

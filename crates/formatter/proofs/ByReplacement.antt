@@ -1,4 +1,4 @@
--- Mending beside the call that writes the replacement alone: the same finding, the same tests before the output's, the same bytes.
+-- Mending and the call that writes a replacement alone agree: on the finding, on the tests before that of the output, and on the bytes.
 use mathlib.Core.Path.{_≡_, refl, ap, sym, _∙_}
 use mathlib.Core.Bool.{Bool, true, false, cond}
 use mathlib.Core.Option.{Option, none, some}
@@ -31,16 +31,16 @@ use Rattle.formatter.specs.Theorems.{MendsByReplacement, MendsTestAlike}
 use Rattle.formatter.proofs.Judging.{mended-written}
 use Rattle.formatter.proofs.Passing.{intake-is}
 
--- ---- what a success writes
+-- ---- what a successful call writes
 
--- A call that succeeds has passed the tests that come first.
+-- A successful call has passed the first tests.
 passed-tests : (o : Option Refusal) (out : List ℕ) (next : After MendAnswer ℕ) {n : ℕ}
     → orElse o (λ (r : Refusal). unwritten (Refused r) out) next .answer ≡ Mended n
     → orElse o (λ (r : Refusal). unwritten (Refused r) out) next ≡ next
 passed-tests none out next e = refl
 passed-tests (some r) out next e = let z : _≡_ {A = ℕ} 0 1 = cc in absurd (omega arith)
 
--- Its front is what was to be written.
+-- The front of a successful call's buffer is the text that it had to write.
 front-written : (p : Policy) (x : Option Item) (ds r out : List ℕ) {n : ℕ} {a : After MendAnswer ℕ}
     → a ≡ judge p x ds r out → a .answer ≡ Mended n → take n (a .buffer) ≡ r
 front-written p x ds r out {n} {a} j e =
@@ -68,14 +68,14 @@ by-replacement text policy offset decisions out room x n m f e g =
 
 -- ---- the tests
 
--- Under a policy the tests that come first are the text's.
+-- If the policy is accepted, the first tests are those of the text.
 text-tests : (text policy : List ℕ) → isPolicy policy ≡ true → intakeRefusal text policy ≡ textRefusal text
 text-tests text policy q =
     intake-is text policy {a = leb (length text) textLimit} {f = eqb (validUpTo text) (length text)} refl q refl
     ∙ sym (text-is text refl refl)
 
 module _ (p : Policy) (r : Refusal) (h : refusalTable r .number ≤ 6) where
-  -- A refusal that is not that of the output does not depend on what is to be written, nor on the output.
+  -- A refusal other than 8 does not depend on the output, nor on the text to be written.
   judged-alike : (x : Option Item) (ds a b out room : List ℕ) → judge p x ds a out .answer ≡ Refused r
       → judge p x ds b room .answer ≡ Refused r
   unfolding judge

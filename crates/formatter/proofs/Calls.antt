@@ -1,4 +1,4 @@
--- A call on a book's text and the same call on the book come to the same, and leave the next book's text.
+-- A call on a book's text has the outcome of the same call on the book, and the text after it is that of the next book.
 use mathlib.Core.Path.{_≡_, refl, ap, sym, _∙_, subst}
 use mathlib.Core.Bool.{Bool, true, false, cond, true≢false}
 use mathlib.Core.Option.{Option, none, some}
@@ -43,7 +43,7 @@ next-kept b (Mended n) o e = absurd (true≢false e)
 next-kept b (Refused r) o e = refl
 
 module _ (policy : List ℕ) where
-  -- A text that is accepted passes the tests 1, 2 and 3.
+  -- An accepted text passes the tests 1, 2 and 3.
   pub pass-intake : (b : List ℕ) → Accepted policy b → intakeRefusal b policy ≡ none
   pass-intake b h =
       intake-is b policy (le-leb (length b) 16777216 (h .short)) (h .is-policy)
@@ -52,14 +52,14 @@ module _ (policy : List ℕ) where
   abbrev P : Policy
   P = policyOf policy
 
-  -- A book whose items stand in a row, of characters.
+  -- The items of a book are as the grammar says, and each continues where the last one ended.
   pub record InRow (es : List Entry) : Type 0 where
     pub row : Chain plain (itemsOf es)
     pub derived : Each Derived (itemsOf es)
     pub scalar : allScalar (join (itemsOf es)) ≡ true
     pub full : Filled (itemsOf es)
 
-  -- And whose first text is short, with only findings mended.
+  -- Also, the book's first text is within the limit of a list, and only findings are mended.
   pub record Sound (es : List Entry) : Type 0 where
     pub base : InRow es
     pub small : length (encodeAll (join (itemsOf es))) ≤ 4194304
@@ -83,7 +83,7 @@ module _ (policy : List ℕ) where
           formed-book es (h .base);
     }
 
-    -- The findings of the book's text are the open ones.
+    -- The findings of the book's text are the open findings.
     pub findings-book : (es : List Entry) → InRow es → findings (bookText policy es) policy ≡ openFound P 0 es
     unfolding findings
     findings-book es h = ap (λ (t : List ℕ). found (isFinding P) width 0 (items t)) (decoded-book es h) ∙ mending P es (h .row)
@@ -168,7 +168,7 @@ module _ (policy : List ℕ) where
       full = subst (λ (l : List Item). Filled l) (sym e) (h .full);
     }
 
-    -- What an accepted call finds.
+    -- An accepted call finds an open finding, and its decisions and its output pass the tests.
     pub found-at : (es : List Entry) (c : Call) → mends policy es c ≡ true
         → Passes P (findingAt (c .offset) (map atPlace (openFindings policy es))) (c .decisions) (bookText policy (marked policy es c))
         (c .out)

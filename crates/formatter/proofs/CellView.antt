@@ -1,5 +1,5 @@
--- The formatted text and the totals of a text are those of its cells: what holds of items in a row (crate analysis, CellsOfItems) holds of
--- a text's items.
+-- The formatted text and the totals of a text can be computed from its cells. `CellsOfItems` of the crate analysis says so for a chain of
+-- items, and the items of a text are one.
 use mathlib.Core.Path.{_≡_, refl, ap, sym, _∙_}
 use mathlib.Core.Bool.{Bool, true, false, cond}
 use mathlib.Core.List.{List, [], _∷_, _++_}
@@ -26,9 +26,7 @@ use Rattle.formatter.proofs.Marks.{foundTotals}
 use Rattle.analysis.proofs.CellsOfItems.{by-cells, cellSum, cellText, render-outs, replaceAll, total-cells}
 
 module _ (p : Policy) where
-  -- ---- of a text
-
-  -- Items that are no findings are their own replacements, and add nothing to the totals.
+  -- Formatting items is replacing all of them by default, since an item that is no finding is its own replacement.
   format-replaces : {q : State} {xs : List Item} → Chain q xs → formatItems p xs ≡ replaceAll p xs
   unfolding formatItems
   format-replaces done = refl

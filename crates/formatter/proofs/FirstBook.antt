@@ -1,4 +1,4 @@
--- The first book of a text: nothing is mended in it, and its text is that text.
+-- The first book of a text: no item is mended, and the book's text is the text itself.
 use mathlib.Core.Path.{_≡_, refl, ap, sym, _∙_, subst}
 use mathlib.Core.List.{List, [], _∷_, map, List·Memᴰ, List·Memᴰ·head, List·Memᴰ·tail}
 use Prim.Native.Nat.{ℕ, _+_, _≤_}
@@ -32,8 +32,6 @@ each-of Q (x ∷ l) h = and-each (h x (List·Memᴰ·head refl)) (each-of Q l (�
 module _ (policy : List ℕ) where
   abbrev P : Policy
   P = policyOf policy
-
-  -- ---- the first book
 
   pub whole : (b : List ℕ) → Accepted policy b → encodeAll (chars b) ≡ b
   whole b a = encodeAll-chars b (well-formed-whole (a .well-formed))

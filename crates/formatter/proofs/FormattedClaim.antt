@@ -1,4 +1,4 @@
--- The claim on a formatted text.
+-- The proof of the claim on a formatted text (`FormattedClaim` of specs/Demand3.antt).
 use mathlib.Core.Path.{_≡_, refl, ap, sym, _∙_, subst}
 use mathlib.Core.Bool.{Bool, true, false}
 use mathlib.Core.List.{List, [], map}
@@ -58,7 +58,7 @@ module _ (policy : List ℕ) where
 
   -- ---- formatted texts
 
-  -- A text without a finding is its own formatted text, and the call says so.
+  -- A text without a finding is its own formatted text.
   same-none : (b : List ℕ) → Accepted policy b → findings b policy ≡ [] → formatted b policy ≡ b
   same-none b a e = sym (format-as policy b)
       ∙ ap encodeAll (format-none P 0 (items (chars b)) (sym (first-found policy b) ∙ e) ∙ tiling (chars b)) ∙ whole policy b a
@@ -144,7 +144,7 @@ module _ (policy : List ℕ) where
         format-is policy b out a ∙ ap (λ (q : Bool). formatTests q (leb (length F) (length out)) F out) (not-same h)
         ∙ ap (λ (r : Bool). formatTests false r F out) e
 
-    -- A formatted text has the same bytes when it is formatted again.
+    -- Formatting a formatted text changes nothing.
     again-all : formatted F policy ≡ F
     again-all =
         sym (format-as policy F) ∙ ap encodeAll

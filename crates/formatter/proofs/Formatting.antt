@@ -1,4 +1,4 @@
--- Formatting is the book with every finding mended by default; a text without a finding is its own formatted text.
+-- The formatted text is the text of the book with every finding mended by default. A text without a finding is its own formatted text.
 use mathlib.Core.Path.{_≡_, refl, ap, sym, _∙_}
 use mathlib.Core.Bool.{Bool, true, false, cond, _&&_, false≢true}
 use mathlib.Core.Option.{Option}
@@ -47,7 +47,7 @@ same-self (c ∷ s) = ap (λ (b : Bool). b && sameBytes s s) (eq-eqb c c refl) �
 
 -- ---- the call
 
--- The tests of formatting that are left after the intake, by their answers.
+-- The outcome of formatting after the intake, by the answers of its two tests.
 abbrev pub formatTests : Bool → Bool → List ℕ → List ℕ → After FormatAnswer ℕ
 formatTests same fits r out =
     cond same (unwritten Unchanged out)
@@ -67,10 +67,10 @@ says-unchanged true fits r out e = refl
 says-unchanged false true r out e = let z : _≡_ {A = ℕ} 0 1 = cc in absurd (omega arith)
 says-unchanged false false r out e = let z : _≡_ {A = ℕ} 0 1 = cc in absurd (omega arith)
 
--- ---- items written out
+-- ---- formatted items
 
 module _ (p : Policy) where
-  -- A text without a finding is left as it is.
+  -- Formatting leaves items without a finding as they are.
   pub format-none : (n : ℕ) (xs : List Item) → found (isFinding p) width n xs ≡ [] → formatItems p xs ≡ join xs
   unfolding found formatItems
   format-none n [] e = refl
@@ -122,7 +122,7 @@ module _ (p : Policy) where
       go true e = record { is-finding = e; as-many = default-number p x }
       go false e = tt
 
-  -- A book with nothing open, all mended by default.
+  -- If no finding of a book is open and all are mended by default, the book's text is the formatted text.
   pub default-book : (n : ℕ) {es : List Entry} → openFound p n es ≡ [] → Rights p es
       → Each (λ (e : Entry). ByDefault p (e .mark) (e .item)) es → bookChars p es ≡ formatItems p (itemsOf es)
   unfolding openFound bookChars formatItems

@@ -1,4 +1,4 @@
--- What the tests of a mending call come to, and that the book's test of a call is the same.
+-- The tests 5, 6 and 8 of a mending call: what a call that passes them writes, and that the book's test of a call is the same.
 use mathlib.Core.Path.{_≡_, refl, ap, sym, _∙_}
 use mathlib.Core.Bool.{Bool, true, false, cond, not, _&&_, true≢false, false≢true}
 use mathlib.Core.Option.{Option, none, some}
@@ -52,7 +52,7 @@ none-bad n no-more = refl
 none-bad n (and-each {x = d} {xs = ds} h hs) =
     ap (λ (b : Bool). cond b (badDecision (suc n) ds) (some (BadDecision n))) (le-leb d 1 h) ∙ none-bad (suc n) hs
 
--- The first decision above 1 stands after those that are not.
+-- There is a decision above 1, and all decisions before it are 0 or 1.
 pub record Bad (n : ℕ) (ds : List ℕ) (r : Refusal) : Type 0 where
   pub before : List ℕ
   pub bad : ℕ
@@ -94,7 +94,7 @@ pub record Passes (p : Policy) (o : Option Item) (ds r out : List ℕ) : Type 0 
   pub valid : Each (λ (d : ℕ). d ≤ 1) ds
   pub fits : length r ≤ length out
 
--- The tests 5, 6 and 8 by their answers.
+-- The outcome of a call, by the answers of the tests 5, 6 and 8.
 abbrev pub tested : Bool → ℕ → Option Refusal → Bool → List ℕ → List ℕ → After MendAnswer ℕ
 tested a n q b r out =
     orElse (cond (not a) (some (WrongNumberOfDecisions n)) q) (λ (f : Refusal). unwritten (Refused f) out)
@@ -130,12 +130,12 @@ module _ (p : Policy) where
       go true (some i) b f g h e = absurd (false≢true e)
       go false q b f g h e = absurd (false≢true e)
 
-  -- What an accepted call writes is the text that was handed in.
+  -- An accepted call writes the text `r`.
   pub mended-written : (o : Option Item) (ds r out : List ℕ) → isMended (judge p o ds r out .answer) ≡ true → judge p o ds r out
       ≡ written (Mended (length r)) r out
   mended-written o ds r out e = passes-written (mended-passes o ds r out e)
 
-  -- A refused call leaves the buffer.
+  -- A refused call leaves its buffer as it was.
   pub refused-kept : (o : Option Item) (ds r out : List ℕ) → isMended (judge p o ds r out .answer) ≡ false → judge p o ds r out .buffer
       ≡ out
   unfolding judge decisionsRefusal
@@ -180,7 +180,7 @@ binary-none n (d ∷ ds) = go (leb d 1) (binary-none (suc n) ds)
     go false h = refl
 
 module _ (policy : List ℕ) where
-  -- The tests of a call on the book.
+  -- The outcome of a call on the book, by the tests.
   abbrev pub bookOutcome : List Entry → Call → After MendAnswer ℕ
   bookOutcome es c =
       judge (policyOf policy) (findingAt (c .offset) (map atPlace (openFindings policy es))) (c .decisions)
@@ -204,7 +204,7 @@ module _ (policy : List ℕ) where
       go true (some r) b n = refl
       go false q b n = refl
 
-  -- A call mends by the book exactly when it is accepted by the tests.
+  -- The book says that a call mends exactly if the tests accept the call.
   pub mends-is : (es : List Entry) (c : Call) → mends policy es c ≡ isMended (bookOutcome es c .answer)
   mends-is es c =
       mends-at es c (openFindingAt (c .offset) (openFindings policy es))

@@ -1,4 +1,4 @@
--- The claim on a list of mending calls.
+-- The proof of the claim on a list of mending calls (`ListClaim` of specs/Demand3.antt).
 use mathlib.Core.Path.{_≡_, ap, sym, _∙_, subst}
 use mathlib.Core.Bool.{Bool, true, false, cond}
 use mathlib.Core.List.{List, [], _∷_, _++_, append-nil, map, List·Memᴰ}

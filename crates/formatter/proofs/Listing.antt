@@ -1,4 +1,4 @@
--- Listing a book's text gives the open findings, each as it was seen in the first text.
+-- Listing a book's text gives the open findings, and each has the same bytes, counts and choices as in the first text.
 use mathlib.Core.Path.{_≡_, refl, ap, sym, _∙_}
 use mathlib.Core.Logic.{_⊎_, inl, inr}
 use mathlib.Core.Bool.{Bool, true, false, cond, _&&_}
@@ -66,7 +66,7 @@ use Rattle.formatter.proofs.Splicing.{openings-are}
 
 -- ---- rows
 
--- The tests of listing that are left after the intake, by the rows.
+-- The outcome of listing after the intake, by the rows and the table.
 abbrev pub listRows : List Finding → List Finding → After ListAnswer Finding
 listRows rows table =
     cond (leb (length rows) (length table)) (written (Listed (length rows)) rows table)
@@ -105,7 +105,7 @@ row-open p (o ∷ os) =
     (map atPlace os)) (size-width (o .item .chars))
     ∙ ap (λ (l : List Finding). openRow p o ∷ l) (row-open p os)
 
--- ---- what is seen of a finding
+-- ---- the bytes, counts and choices of a finding
 
 module _ (p : Policy) where
   abbrev plainly : Found → Seen
@@ -127,7 +127,7 @@ module _ (p : Policy) where
   longer-length : (A s : List ℕ) (n : ℕ) → length A ≡ n → length (A ++ encodeAll s) ≡ n + size width s
   longer-length A s n e = omega (arith, length-append A (encodeAll s), size-width s)
 
-  -- At its place in the book's text.
+  -- The bytes of an open finding stand at its place in the book's text.
   seen-now : (A : List ℕ) (n : ℕ) (es : List Entry) → length A ≡ n → map (seen p (A ++ encodeAll (bookChars p es))) (openFound p n es)
       ≡ map plainly (openFound p n es)
   unfolding openFound bookChars
@@ -157,7 +157,7 @@ module _ (p : Policy) where
       go untouched false ih = tail (x .chars) ih
       go (mended ds) f ih = tail (replacement p x ds) ih
 
-  -- At its start in the first text.
+  -- The bytes of an open finding stand at its start in the first text.
   seen-first : (A : List ℕ) (n t k : ℕ) (es : List Entry) → length A ≡ n
       → map (seen p (A ++ encodeAll (join (itemsOf es)))) (map atFirst (openFindingsFrom p n t k es))
       ≡ map plainly (map atFirst (openFindingsFrom p n t k es))
@@ -195,7 +195,7 @@ module _ (p : Policy) where
   plainly-same [] = refl
   plainly-same (o ∷ os) = ap (λ (ys : List Seen). plainly (atPlace o) ∷ ys) (plainly-same os)
 
-  -- An open finding was a finding.
+  -- An open finding is a finding of the first text.
   pub first-finding : (n t k : ℕ) (es : List Entry) (o : OpenFinding) → List·Memᴰ o (openFindingsFrom p n t k es)
       → List·Memᴰ (atFirst o) (found (isFinding p) width n (itemsOf es))
   unfolding openFindingsFrom found

@@ -1,4 +1,5 @@
--- What an accepted call does to the book: one open finding fewer, totals kept, and what is mended is a finding with its decisions.
+-- What an accepted call does to the book: one finding fewer is open, the totals of open and mended findings together stay, and the mended
+-- item is a finding with valid decisions.
 use mathlib.Core.Path.{_≡_, refl, ap, sym, _∙_}
 use mathlib.Core.Bool.{Bool, true, false, cond, _&&_, false≢true}
 use mathlib.Core.Option.{some}
@@ -25,12 +26,12 @@ use Rattle.formatter.proofs.Splicing.{markAt}
 abbrev pub Rights : Policy → List Entry → Type 0
 Rights p es = Each (λ (e : Entry). ValidMark p (e .mark) (e .item)) es
 
--- The totals of found items.
+-- The totals of a list of findings.
 abbrev pub foundTotals : Policy → List Found → NonCanonicality
 foundTotals p fs = totals p (map (λ (f : Found). f .item) fs)
 
 module _ (p : Policy) where
-  -- How many findings are open.
+  -- The number of open findings.
   abbrev pub opens : List Entry → ℕ
   opens [] = 0
   opens (e ∷ es) = cond (isOpen (e .mark) && isFinding p (e .item)) (suc (opens es)) (opens es)
@@ -75,7 +76,7 @@ module _ (p : Policy) where
           ∙ ap (λ (c : NonCanonicality). nonCanonicality p x ⊕ c) i
       go (mended ds) false f r i = absurd (false≢true (sym f ∙ r .is-finding))
 
-  -- An accepted call mends one.
+  -- After an accepted call, one finding fewer is open.
   pub opens-mark : (n o : ℕ) (ds : List Presentation) (es : List Entry) (x : Item) → findingAt o (openFound p n es) ≡ some x → opens es
       ≡ suc (opens (markAt p n o ds es))
   unfolding openFound markAt findingAt
@@ -109,7 +110,7 @@ module _ (p : Policy) where
       go untouched false q k f j ih h = ih h ∙ ap suc (sym (unwritten untouched false k f))
       go (mended d) f q k g j ih h = ih h ∙ ap suc (sym (unwritten (mended d) f k g))
 
-  -- What it mends is a finding, with as many decisions as it wants.
+  -- An accepted call keeps the property that only findings are mended, each under as many decisions as it wants.
   pub right-mark : (n o : ℕ) (ds : List Presentation) {es : List Entry} (x : Item) → findingAt o (openFound p n es) ≡ some x → length ds
       ≡ wanted p x
       → Rights p es → Rights p (markAt p n o ds es)

@@ -1,4 +1,4 @@
--- A text in which some items are exchanged for their replacements has the other findings, and no others.
+-- If some findings of a text are exchanged for their replacements, the findings of the new text are exactly the others.
 use mathlib.Core.Path.{_≡_, refl, ap, sym, _∙_, subst}
 use mathlib.Core.Logic.{inl, inr}
 use mathlib.Core.Bool.{true, false, cond, _&&_}
@@ -27,7 +27,7 @@ use Rattle.analysis.proofs.Replacement.{renewed, renewed-walk}
 use Rattle.formatter.specs.Book.{Entry, Mark, bookChars, entryChars, isOpen, itemsOf, mended, untouched}
 use Rattle.formatter.proofs.Replacements.{replacement-cons, replacement-plain, replacement-selectors}
 
--- An item is read by the grammar.
+-- The grammar derives an item's characters.
 abbrev pub Derived : Item → Type 0
 Derived x = Derives (x .kind) (x .chars)
 
@@ -39,7 +39,7 @@ module _ (p : Policy) where
       let later = openFound (n + size width (entryChars p (e .mark) (e .item))) es in
       cond (isOpen (e .mark) && isFinding p (e .item)) (record { start = n; item = e .item } ∷ later) later
 
-  -- ---- the items after mending, passthrough cut small
+  -- ---- the items after mending, with passthrough split into characters
 
   abbrev replaced : Item → List Presentation → Item
   replaced x ds = record { kind = x .kind; chars = replacement p x ds }

@@ -1,4 +1,4 @@
--- The order of calls does not matter: what is mended determines the book's text. And the place of an open finding is that of no other.
+-- The order of calls does not matter, since the mendings determine the book's text. No two open findings have the same place.
 use mathlib.Core.Path.{_≡_, refl, ap, sym, _∙_, subst}
 use mathlib.Core.Logic.{_⊎_, inl, inr}
 use mathlib.Core.Bool.{Bool, true, false, cond, _&&_}
@@ -40,7 +40,7 @@ use Rattle.formatter.specs.Demand3.{Alike, Each, and-each, mendedFrom, n
 use Rattle.formatter.proofs.Alike.{alike-join, alike-move, alike-of, alike-refl, alike-trans}
 
 module _ (p : Policy) where
-  -- An accepted call adds what it names.
+  -- A call adds the mending of the open finding at its offset to the mendings of the book.
   pub log-mark : (n t k o : ℕ) (ds : List Presentation) (es : List Entry)
       → Alike (mendedFrom n (markFrom p n t k o ds es)) (mendingOf ds (openFindingAt o (openFindingsFrom p n t k es)) ++ mendedFrom n es)
   unfolding mendedFrom markFrom openFindingAt openFindingsFrom
@@ -130,7 +130,7 @@ module _ (p : Policy) where
       go untouched false ih h = let i = ih (n + S) (t + 0) (k + 0) (omega arith) h in omega arith
       go (mended d) f ih h = let i = ih (n + S) (t + size width (replacement p (e .item) d)) (k + S) (omega arith) h in omega arith
 
-  -- The place of an open finding is that of no other.
+  -- No other open finding has the same place, so that a search by the place finds it.
   pub opening-place : (n t k : ℕ) (es : List Entry) (x : OpenFinding) → k ≤ n + t → Filled (itemsOf es)
       → List·Memᴰ x (openFindingsFrom p n t k es) → openFindingAt (place x) (openFindingsFrom p n t k es) ≡ some x
   unfolding openFindingsFrom openFindingAt
@@ -168,7 +168,7 @@ module _ (p : Policy) where
       go untouched false ih h = ih (n + S) (t + 0) (k + 0) (omega arith) h
       go (mended d) f ih h = ih (n + S) (t + size width (replacement p (e .item) d)) (k + S) (omega arith) h
 
-  -- A place and the bytes taken before it are the start in the first text and the replacements put before it.
+  -- The place of an open finding plus the bytes taken before it is its start in the first text plus the replacements put before it.
   pub places-add : (n t k : ℕ) (es : List Entry) → k ≤ n → Each (λ (o : OpenFinding). place o + o .taken ≡ o .was + o .put)
       (openFindingsFrom p n t k es)
   unfolding openFindingsFrom
@@ -228,7 +228,7 @@ module _ (p : Policy) where
       pair : List Presentation → Mending
       pair d = record { start = n; decisions = d }
 
-      -- A later start is no earlier one.
+      -- No finding of a later entry starts at n.
       later : {A : Type 0} (gs : List Entry) (m : Mending) → m .start ≡ n → List·Memᴰ m (mendedFrom N gs) → A
       later gs m i h = let z = from-start N gs m h in absurd (omega (arith, ap (size width) l, width-some c))
 
@@ -260,12 +260,12 @@ module _ (p : Policy) where
           ∙ ap (λ (d : List Presentation). replacement p (f .item) d ++ bookChars p es) j
           ∙ ap (λ (r : List ℕ). replacement p (f .item) g ++ r) (ih (tails d g h))
 
-  -- Books of the same items, alike in what is mended, have the same text.
+  -- Two books with the same items and the same mendings have the same text.
   pub same-chars : (es fs : List Entry) → itemsOf es ≡ itemsOf fs → Filled (itemsOf es) → Alike (mendedFrom 0 es) (mendedFrom 0 fs)
       → bookChars p es ≡ bookChars p fs
   same-chars es fs e h a = twin-chars 0 (twins es fs e h) a
 
--- What is found at an offset is an open finding there.
+-- `x` is one of the open findings, and its place is the offset.
 pub record Hit (o : ℕ) (os : List OpenFinding) (x : OpenFinding) : Type 0 where
   pub among : List·Memᴰ x os
   pub there : place x ≡ o

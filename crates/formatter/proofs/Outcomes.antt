@@ -1,4 +1,4 @@
--- The tests of a text and a policy in their order, and the filed text.
+-- The order of the tests of a text and a policy, and the filed text.
 use mathlib.Core.Path.{_≡_, refl, ap, sym, _∙_}
 use mathlib.Core.Bool.{Bool, true, false, cond}
 use mathlib.Core.Option.{Option, some}
@@ -63,7 +63,7 @@ comes-first text policy r e =
           (judge p x ds (exchanged text p offset (map meaning ds) x) out)) e),
     )
 
--- A text within the limit, and the policy fits: what the number of its well-formed bytes says.
+-- The text is within the limit and the policy is accepted: the length n of the longest well-formed beginning decides.
 module _ (text policy : List ℕ) (short : length text ≤ textLimit) (fit : isPolicy policy ≡ true) {n : ℕ} (e : n ≡ validUpTo text) where
   pub all-well-formed : n ≡ length text → Accepted policy text
   all-well-formed l = record { short = short; is-policy = fit; well-formed = whole-well-formed text (sym e ∙ l) }
@@ -72,7 +72,7 @@ module _ (text policy : List ℕ) (short : length text ≤ textLimit) (fit : isP
   not-well-formed l = intake-is text policy (le-leb (length text) textLimit short) fit (ne-eqb _ _ (λ f. l (e ∙ f)))
       ∙ ap (λ (k : ℕ). some (NotWellFormed k)) (sym e)
 
--- What is filed, by the answers of the tests.
+-- The filed text, by the answers of formatting's tests.
 filed-tests : (same fits : Bool) (text r out : List ℕ) (len : ℕ) → (same ≡ true → r ≡ text)
     → (formatTests same fits r out .answer ≡ Format.Changed len → filedText text (formatTests same fits r out .buffer) true len ≡ r)
     × (formatTests same fits r out .answer ≡ Format.Unchanged → filedText text (formatTests same fits r out .buffer) false len ≡ r)

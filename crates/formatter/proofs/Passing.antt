@@ -1,4 +1,4 @@
--- The intake's tests by their answers, what its answer says of a text, and what is read of a policy.
+-- The intake by the answers of its tests, what its answer says of a text, and the policy that is read.
 use mathlib.Core.Path.{_≡_, refl, ap, sym, _∙_}
 use mathlib.Core.Bool.{Bool, true, false, cond, not}
 use mathlib.Core.List.{List}
@@ -23,7 +23,7 @@ use Rattle.formatter.specs.Intake.{intakeRefusal}
 
 -- ---- the tests
 
--- The refusal by the answers of the three tests, with the refusal of the policy.
+-- The refusal of the intake, by the answers of the three tests and the refusal of the policy.
 abbrev pub byTests : Bool → Bool → Bool → Refusal → List ℕ → Option Refusal
 byTests short fit formed fault text =
     cond (not short) (some TextTooLong)
@@ -45,7 +45,7 @@ pub no-policy : (text policy : List ℕ) → length text ≤ textLimit → isPol
     → intakeRefusal text policy ≡ some (policyFault policy)
 no-policy text policy h p = intake-is text policy (le-leb (length text) textLimit h) p refl
 
--- The refusal of a policy is that of the tests.
+-- If the text is within the limit, a refusal of the policy is the refusal of the intake.
 pub policy-first : (text policy : List ℕ) (r : Refusal) → length text ≤ textLimit → policyRefusal policy ≡ some r
     → intakeRefusal text policy ≡ some r
 policy-first text policy r h e =
@@ -54,7 +54,7 @@ policy-first text policy r h e =
 
 -- ---- the well-formed bytes
 
--- The bytes from an offset on, as a part of the text.
+-- The well-formed beginning of the text from an offset on, which the code takes as a part of the text.
 pub rest-valid : (text : List ℕ) (at : ℕ) {n : ℕ} → n ≡ validUpTo (take (length text - at) (drop at text)) → n ≡ validUpTo (drop at text)
 rest-valid text at e = e ∙ ap validUpTo (take-all (length text - at) (drop at text) (omega (arith, length-drop at text)))
 
@@ -71,7 +71,7 @@ checked-passed (some r) e = cc
 some-none : (r : Refusal) → _≡_ {A = Option Refusal} (some r) none → ⊥
 some-none r e = let z : _≡_ {A = ℕ} 0 1 = cc in omega arith
 
--- A text that passes is accepted.
+-- A text that passes the intake is accepted.
 pub passed-accepted : (text policy : List ℕ) → intakeRefusal text policy ≡ none → Accepted policy text
 passed-accepted text policy e = go (leb (length text) textLimit) (isPolicy policy) (eqb (validUpTo text) (length text)) refl refl refl
   where

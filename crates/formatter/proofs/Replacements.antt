@@ -1,4 +1,4 @@
--- The laws of counts and replacements that the claim on a list rests on, said of an item.
+-- The laws of counts and replacements that the claim on a list uses, stated for one item.
 use mathlib.Core.Path.{_≡_, ap, _∙_}
 use mathlib.Core.Logic.{⊎-elim}
 use mathlib.Core.Bool.{true}
@@ -41,23 +41,23 @@ module _ (p : Policy) where
       ⊎-elim (λ e. replacement-at p x ds LinksOnly e) (λ e. replacement-at p x ds EmojiHeaded e) o
       ∙ ap (λ (t : List ℕ). render p (cells t) ds) l ∙ render-cons p c s ds (inner-no-selector c i)
 
-  -- Its characters other than selectors are the item's.
+  -- A replacement has the item's characters, apart from selectors.
   pub keeps-others : (x : Item) (ds : List Presentation) → Derives (x .kind) (x .chars) → strip (replacement p x ds) ≡ strip (x .chars)
   unfolding replacement
   keeps-others x ds d = strip-of p d ds
 
-  -- It has the item's selectors, less the removing counts, plus the adding ones.
+  -- The number of a replacement's selectors is that of the item's, less the removing counts, plus the adding ones.
   pub balances : (x : Item) (ds : List Presentation) → Derives (x .kind) (x .chars)
       → selectorCount (replacement p x ds) + removing (nonCanonicality p x) ≡ selectorCount (x .chars) + adding (nonCanonicality p x)
   unfolding replacement nonCanonicality
   balances x ds d = balance-of p d ds
 
-  -- It is at most four times as long.
+  -- A replacement is at most four times as long as the item.
   pub four-times : (x : Item) (ds : List Presentation) → Derives (x .kind) (x .chars)
       → size width (replacement p x ds) ≤ 4 * size width (x .chars)
   unfolding replacement
   four-times x ds d = Lengths.four-times p d ds
 
-  -- There are as many default decisions as the eighth count.
+  -- The number of default decisions is the eighth count.
   pub default-number : (x : Item) → length (defaultDecisions p x) ≡ nonCanonicality p x .«presentation_decisions»
   default-number x = ap length (decisions-defaults p x) ∙ length-map (choices p x) (λ (c : Choice). c .default) ∙ choices-counted p x

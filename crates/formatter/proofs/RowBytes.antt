@@ -1,4 +1,4 @@
--- Rows as bytes: their lengths, a table of bytes with or without room for them, and that it is the table of rows.
+-- Rows as bytes: their lengths, a table of bytes with or without room for them, and that it agrees with the table of rows.
 use mathlib.Core.Path.{_≡_, refl, ap, sym, _∙_}
 use mathlib.Core.Bool.{Bool, true, false, cond}
 use mathlib.Core.List.{List, _++_, append-assoc, map}
@@ -47,7 +47,7 @@ list-passed text policy table e =
     sym (ap (λ (o : Option Refusal). orElse o (λ (r : Refusal). unwritten (Refused r) table)
     (fillTable rowNumbers rowBytes (map (findingRow (policyOf policy)) (findings text policy)) table)) e)
 
--- Listing items, by the answer of the text's tests.
+-- The outcome of listing items, by the refusal of the text.
 pub items-by : (text table : List ℕ) {o : Option Refusal} → textRefusal text ≡ o
     → orElse o (λ (r : Refusal). unwritten (Refused r) table) (fillTable itemNumbers itemBytes (scan text) table) ≡ listItems text table
 unfolding listItems
@@ -55,9 +55,9 @@ items-by text table e =
     sym (ap (λ (o : Option Refusal). orElse o (λ (r : Refusal). unwritten (Refused r) table)
     (fillTable itemNumbers itemBytes (scan text) table)) e)
 
--- ---- the same as the table of rows
+-- ---- the table of bytes agrees with the table of rows
 
--- What listing leaves in a table of rows, as bytes, with further bytes after the last place.
+-- The outcome of listing into a table of rows, as the outcome for their bytes with further bytes after them.
 abbrev asBytesAnd : List ℕ → After ListAnswer Finding → After ListAnswer ℕ
 asBytesAnd rest a = record { answer = a .answer; buffer = rowsBytes rowNumbers (a .buffer) ++ rest }
 

@@ -1,4 +1,4 @@
--- A list of calls on a text and the same list on its book: the texts, the numbers and what is mended agree.
+-- A list of calls on a text agrees with the same list on its book: on the texts, on the number of accepted calls and on the mendings.
 use mathlib.Core.Path.{_≡_, refl, ap, sym, _∙_}
 use mathlib.Core.Bool.{Bool, true, false, cond}
 use mathlib.Core.List.{List, [], _∷_, _++_, append-assoc, map}
@@ -78,7 +78,7 @@ module _ (policy : List ℕ) (ok : isPolicy policy ≡ true) where
       add true n m k e = omega arith
       add false n m k e = e
 
-  -- What the book's accepted calls mend is what is mended in it.
+  -- After one call, the mendings of the book are those before it, with that of the call if it was accepted.
   step-log : (es : List Entry) (c : Call) (b : Bool)
       → Alike (mendedFrom 0 (cond b (marked policy es c) es))
       (cond b (mendingOf (map meaning (c .decisions)) (openFindingAt (c .offset) (openFindings policy es))) [] ++ mendedFrom 0 es)
@@ -104,7 +104,7 @@ module _ (policy : List ℕ) (ok : isPolicy policy ≡ true) where
       (alike-trans (alike-of (sym (append-assoc r a m)))
       (alike-trans (alike-join (r ++ a) (a ++ r) m m (alike-swap r a) (alike-refl m)) (alike-of (ap (λ (l : List Mending). l ++ m) e)))))
 
-  -- ---- lists joined
+  -- ---- a list made of two
 
   pub book-append : (es : List Entry) (cs ds : List Call) → bookAfter policy es (cs ++ ds) ≡ bookAfter policy (bookAfter policy es cs) ds
   unfolding bookAfter

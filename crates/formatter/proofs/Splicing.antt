@@ -1,4 +1,4 @@
--- Places as the book walks them, and the bytes that a call on the book's text exchanges.
+-- The places of open findings as offsets in the book's text, and the bytes that a call exchanges there.
 use mathlib.Core.Path.{_≡_, refl, ap, sym, _∙_, subst}
 use mathlib.Core.Bool.{Bool, true, false, cond, _&&_}
 use mathlib.Core.Option.{some}
@@ -47,7 +47,7 @@ module _ (p : Policy) where
   fresh-chars [] = refl
   fresh-chars (x ∷ xs) = ap (λ (l : List ℕ). x .chars ++ l) (fresh-chars xs)
 
-  -- The open finding at a place is mended, places told as the book is walked.
+  -- The entries, with the open finding at the offset o of the book's text marked as mended. The first entry starts at the offset n there.
   unfoldable pub markAt : ℕ → ℕ → List Presentation → List Entry → List Entry
   markAt n o ds [] = []
   markAt n o ds (e ∷ es) =
@@ -156,7 +156,7 @@ module _ (p : Policy) where
       go untouched w false q j ih h = unmarked untouched w (later untouched ih h)
       go (mended d) w f q j ih h = unmarked (mended d) w (later (mended d) ih h)
 
-  -- ---- places as document 01 words them
+  -- ---- these offsets are the places as document 01 defines them
 
   pub openings-are : (n t k : ℕ) (es : List Entry) → k ≤ n + t → map atPlace (openFindingsFrom p n t k es) ≡ openFound p (placed n t k) es
   unfolding openFindingsFrom openFound

@@ -1,4 +1,4 @@
--- A walk over the items of a text: what the analysis and the cursor answer at an offset, and the findings and items from there on.
+-- A walk over the items of a text: what the answer of the analysis or of the cursor at an offset says of the findings and items from there.
 use mathlib.Core.Path.{_≡_, refl, ap, sym, _∙_, subst}
 use mathlib.Core.Bool.{Bool, true, false, cond}
 use mathlib.Core.List.{List, [], _∷_, map}
@@ -23,13 +23,13 @@ use Rattle.scanner.proofs.ItemAt.{ItemAt, item-at}
 
 -- ---- the item at an offset
 
--- The span of an item at an offset.
+-- The span of an item that starts at an offset.
 abbrev pub spanAt : ℕ → Item → ScanItem
 spanAt at x = record { start = at; end = at + size width (x .chars); kind = x .kind; «tags_complete» = tagsComplete (x .kind) (x .chars) }
 
 -- ---- the analysis at an offset
 
--- The end of an item at an offset lies after it, and in the text.
+-- The end of an item lies after its start, and inside the text.
 pub record Ahead (text : List ℕ) (at end : ℕ) : Type 0 where
   pub some : at < end
   pub room : end ≤ length text
@@ -39,7 +39,7 @@ abbrev pub rowsFrom : Policy → List ℕ → ℕ → List Finding
 rowsFrom p text at = map (findingRow p) (findingsFrom p text at)
 
 module _ (p : Policy) (text : List ℕ) (at : ℕ) where
-  -- What an answer says of the findings from here on.
+  -- What an answer of the analysis says of the findings from the offset on.
   abbrev pub Says : ItemAnalysis → Type 0
   Says End = findingsFrom p text at ≡ []
   Says (Canonical end) = Ahead text at end × (findingsFrom p text at ≡ findingsFrom p text end)
@@ -81,7 +81,7 @@ module _ (p : Policy) (text : List ℕ) (at : ℕ) where
   unfolding analysisAt
   analysis-says e = subst Says (sym e) (says-of (items (chars (drop at text))) refl)
 
--- Where no character begins there is no finding.
+-- Where no character begins, no finding starts.
 pub none-found : (p : Policy) (text : List ℕ) (start : ℕ) → chars (drop start text) ≡ [] → findingsFrom p text start ≡ []
 unfolding items found
 none-found p text start e = ap (λ (t : List ℕ). found (isFinding p) width start (items t)) e
@@ -89,7 +89,7 @@ none-found p text start e = ap (λ (t : List ℕ). found (isFinding p) width sta
 -- ---- the items from an offset on
 
 module _ (text : List ℕ) (at : ℕ) where
-  -- What the cursor's answer says of the items from here on.
+  -- What an answer of the cursor says of the items from the offset on.
   abbrev pub Goes : ScanStep → Type 0
   Goes Step.End = scanFrom text at ≡ []
   Goes (Step.Item x) = Ahead text at (x .end) × (scanFrom text at ≡ x ∷ scanFrom text (x .end))

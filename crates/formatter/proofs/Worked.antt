@@ -1,4 +1,4 @@
--- The worked texts and lists, by computation.
+-- The proofs of the worked texts and lists: the checker computes them.
 use mathlib.Core.Path.{refl}
 use native.Mathlib.Omega.{arith}
 use Rattle.base.specs.Words.{bytesOf, littleEndian, number, wordBytes}

@@ -1,4 +1,4 @@
--- The book of a list of mending calls, and what a call does to it (document 01, "Mending in sequence"; "book" is its term).
+-- The book of a list of mending calls, and what a call does to it (document 01, "Mending in sequence"; "book" is document 01's term).
 use mathlib.Core.Bool.{Bool, true, false, cond, _&&_}
 use mathlib.Core.List.{List, [], _∷_, _++_, map}
 use mathlib.Core.Option.{Option, none, some}
@@ -25,15 +25,15 @@ pub record Entry : Type 0 where
   pub item : Item
   pub mark : Mark
 
--- The items of the first text.
+-- The items of a book, without their marks: those of the first text.
 abbrev pub itemsOf : List Entry → List Item
 itemsOf es = map (λ (e : Entry). e .item) es
 
--- At first all are open.
+-- The entries of a list of items that are all open.
 abbrev pub fresh : List Item → List Entry
 fresh xs = map (λ (x : Item). record { item = x; mark = untouched }) xs
 
--- A mark says that its item is open.
+-- Whether a mark says that its item is open.
 abbrev pub isOpen : Mark → Bool
 isOpen untouched = true
 isOpen (mended ds) = false
@@ -51,7 +51,7 @@ module _ (p : Policy) where
 
 -- ---- open findings
 
--- An open finding: its start in the first text, the lengths of the replacements before it, and those of the bytes they took.
+-- An open finding: its start in the first text, the length of all replacements before it, and the length of the bytes that they took.
 pub record OpenFinding : Type 0 where
   pub was : ℕ
   pub put : ℕ
@@ -59,7 +59,8 @@ pub record OpenFinding : Type 0 where
   pub item : Item
 
 -- "An open finding's place is its start in the first text, plus the lengths of the replacements before it, less those of the
--- bytes they took." Those bytes stand before it in the first text, so this never stops at 0: `ListClaim`, `places`.
+-- bytes they took." Those bytes stand before it in the first text, so that the subtraction is never cut off at 0 (`places` of `ListClaim`
+-- in Demand3.antt).
 abbrev pub placed : ℕ → ℕ → ℕ → ℕ
 placed was put taken = was + put - taken
 
@@ -67,15 +68,15 @@ placed was put taken = was + put - taken
 abbrev pub place : OpenFinding → ℕ
 place o = placed (o .was) (o .put) (o .taken)
 
--- The finding at its start in the first text.
+-- An open finding as a finding of the first text.
 abbrev pub atFirst : OpenFinding → Found
 atFirst o = record { start = o .was; item = o .item }
 
--- The finding at its place.
+-- An open finding as a finding of the book's text.
 abbrev pub atPlace : OpenFinding → Found
 atPlace o = record { start = place o; item = o .item }
 
--- A length that counts for a mended finding only.
+-- A length that counts only if the mark is that of a mended finding.
 abbrev pub ifMended : Mark → ℕ → ℕ
 ifMended untouched n = 0
 ifMended (mended ds) n = n
@@ -86,22 +87,23 @@ openFindingAt offset [] = none
 openFindingAt offset (o ∷ os) = cond (eqb (place o) offset) (some o) (openFindingAt offset os)
 
 module _ (p : Policy) where
-  -- The lengths of the replacements put before and by an entry.
+  -- The length of all replacements before the end of an entry.
   abbrev pub putBy : ℕ → Entry → ℕ
   putBy put e = put + ifMended (e .mark) (size width (entryChars p (e .mark) (e .item)))
 
-  -- The lengths of the bytes that they took.
+  -- The length of the bytes that all replacements before the end of an entry took.
   abbrev pub takenBy : ℕ → Entry → ℕ
   takenBy taken e = taken + ifMended (e .mark) (size width (e .item .chars))
 
-  -- The open findings among entries, the first entry starting at the number in the first text.
+  -- The open findings among entries. The first entry starts at the offset `was` of the first text; the replacements before it have the
+  -- length `put`, and took bytes of the length `taken`.
   unfoldable pub openFindingsFrom : ℕ → ℕ → ℕ → List Entry → List OpenFinding
   openFindingsFrom was put taken [] = []
   openFindingsFrom was put taken (e ∷ es) =
       let later = openFindingsFrom (was + size width (e .item .chars)) (putBy put e) (takenBy taken e) es in
       cond (isOpen (e .mark) && isFinding p (e .item)) (record { was = was; put = put; taken = taken; item = e .item } ∷ later) later
 
-  -- The entries with the open finding whose place is the offset mended.
+  -- The entries, with the open finding whose place is the offset marked as mended.
   unfoldable pub markFrom : ℕ → ℕ → ℕ → ℕ → List Presentation → List Entry → List Entry
   markFrom was put taken offset ds [] = []
   markFrom was put taken offset ds (e ∷ es) =
@@ -116,12 +118,12 @@ unfoldable pub allBinary : List ℕ → Bool
 allBinary [] = true
 allBinary (d ∷ ds) = leb d 1 && allBinary ds
 
--- A finding by its start in the first text, with decisions.
+-- A mending: a finding, by its start in the first text, and the decisions.
 pub record Mending : Type 0 where
   pub start : ℕ
   pub decisions : List Presentation
 
--- What a call mends if it is accepted.
+-- What an accepted call mends, by the open finding at its offset.
 abbrev pub mendingOf : List Presentation → Option OpenFinding → List Mending
 mendingOf ds none = []
 mendingOf ds (some o) = record { start = o .was; decisions = ds } ∷ []
@@ -144,22 +146,22 @@ module _ (policy : List ℕ) where
   marked es c = markFrom (policyOf policy) 0 0 0 (c .offset) (map meaning (c .decisions)) es
 
   -- ".. its decisions are valid (as many as the finding's eighth count, each 0 or 1) and its output holds the book's text after
-  -- this", of the open finding at the call's offset.
+  -- this": whether this holds for a call and the open finding at its offset, if there is one.
   unfoldable pub mendsAt : List Entry → Call → Option OpenFinding → Bool
   mendsAt es c none = false
   mendsAt es c (some o) =
       eqb (length (c .decisions)) (nonCanonicality (policyOf policy) (o .item) .«presentation_decisions»)
       && (allBinary (c .decisions) && leb (length (bookText (marked es c))) (length (c .out)))
 
-  -- "A call mends an open finding if its offset is that finding's place", and this holds.
+  -- "A call mends an open finding if its offset is that finding's place", and if `mendsAt` holds.
   abbrev pub mends : List Entry → Call → Bool
   mends es c = mendsAt es c (openFindingAt (c .offset) (openFindings es))
 
-  -- "Any other call leaves the book as it is".
+  -- The book after a call. "Any other call leaves the book as it is".
   abbrev pub bookStep : List Entry → Call → List Entry
   bookStep es c = cond (mends es c) (marked es c) es
 
-  -- The book after a list.
+  -- The book after a list of calls.
   unfoldable pub bookAfter : List Entry → List Call → List Entry
   bookAfter es [] = es
   bookAfter es (c ∷ cs) = bookAfter (bookStep es c) cs

@@ -1,8 +1,8 @@
--- Demand 3: one claim about a list of mending calls as a whole, `ListClaim`, and the same of a formatted text, `FormattedClaim` (document
+-- Demand 3: one claim about a list of mending calls as a whole, `ListClaim`, and one about a formatted text, `FormattedClaim` (document
 -- 01, "Mending in sequence").
--- It is about the code: `mend`, `listBytes`, `list` and `format` here are the definitions that the contracts of src/mend.rt, src/list.rt,
--- src/table.rt and
--- src/format.rt cite for the answer and the buffer of every call; there is no second model of a call.
+-- Both are about the code. `format`, `listBytes`, `list` and `mend` are the definitions that the contracts of `format_text`, `list_findings`,
+-- `list_into_table` and `mend` cite for the answer and the buffer of every call (crates formatting, listing and mending). There is no
+-- second model of a call.
 use mathlib.Core.Path.{_≡_}
 use mathlib.Core.Logic.{_↔_}
 use mathlib.Core.Bool.{Bool, true, false, cond}
@@ -56,22 +56,22 @@ use Rattle.base.specs.declared.Refusal.the-variants.{BadDecision, NoFinding, Ou
 
 -- ---- words of the claim
 
--- Every one of a list is as said.
+-- Every element of a list has a property.
 pub data Each {A : Type 0} (P : A → Type 0) : List A → Type 0 where
   no-more : Each P []
   and-each : {x : A} {xs : List A} → P x → Each P xs → Each P (x ∷ xs)
 
--- A call is accepted.
+-- Whether the answer says that the call was accepted.
 abbrev pub isMended : MendAnswer → Bool
 isMended (Mended n) = true
 isMended (Refused r) = false
 
--- How many calls were accepted.
+-- The number of accepted calls.
 abbrev pub acceptedCalls : List (After MendAnswer ℕ) → ℕ
 acceptedCalls [] = 0
 acceptedCalls (a ∷ l) = cond (isMended (a .answer)) (suc (acceptedCalls l)) (acceptedCalls l)
 
--- What is said of a mended finding, before others; an open one adds nothing.
+-- The list `others`, with an element put before it if the mark is that of a mended finding.
 abbrev pub onlyMended : {A : Type 0} → Mark → (List Presentation → A) → List A → List A
 onlyMended untouched say others = others
 onlyMended (mended ds) say others = say ds ∷ others
@@ -81,49 +81,49 @@ abbrev pub mendedItems : List Entry → List Item
 mendedItems [] = []
 mendedItems (e ∷ es) = onlyMended (e .mark) (λ (ds : List Presentation). e .item) (mendedItems es)
 
--- The mended findings by their starts in the first text, with their decisions; the first entry starts at the number.
+-- The mended findings, by their starts in the first text, with their decisions. The first entry starts at the offset `n`.
 unfoldable pub mendedFrom : ℕ → List Entry → List Mending
 mendedFrom n [] = []
 mendedFrom n (e ∷ es) =
     onlyMended (e .mark) (λ (ds : List Presentation). record { start = n; decisions = ds })
     (mendedFrom (n + size width (e .item .chars)) es)
 
--- Alike but for order and repetition.
+-- Two lists have the same members, whatever the order and however often each occurs.
 abbrev pub Alike : List Mending → List Mending → Type 0
 Alike k l = (m : Mending) → List·Memᴰ m k ↔ List·Memᴰ m l
 
--- A call of a list, and the calls before it.
+-- The call `c` of the list `cs` comes directly after the calls `before`.
 pub record CallAfter (cs before : List Call) (c : Call) : Type 0 where
   pub after : List Call
   pub whole : cs ≡ before ++ c ∷ after
 
--- What a reader of a text sees of a finding: its bytes there, its counts, its choices.
+-- What can be seen of a finding in a text: its bytes there, its counts and its choices.
 pub record Seen : Type 0 where
   pub bytesThere : List ℕ
   pub counts : NonCanonicality
   pub choices : List Choice
 
 module _ (p : Policy) where
-  -- What is mended is a finding, with as many decisions as it wants.
+  -- The item is a finding, and there are as many decisions as it wants.
   pub record ValidMending (x : Item) (ds : List Presentation) : Type 0 where
     pub is-finding : isFinding p x ≡ true
     pub as-many : length ds ≡ nonCanonicality p x .«presentation_decisions»
 
-  -- The same of a mark: an open item may be any.
+  -- A mended item is a finding, mended under as many decisions as it wants. An open item may be any item.
   abbrev pub ValidMark : Mark → Item → Type 0
   ValidMark untouched x = Unit {0}
   ValidMark (mended ds) x = ValidMending x ds
 
-  -- What is mended is mended by its default decisions.
+  -- A mended item is mended under its default decisions.
   abbrev pub ByDefault : Mark → Item → Type 0
   ByDefault untouched x = Unit {0}
   ByDefault (mended ds) x = ds ≡ defaultDecisions p x
 
-  -- The book in which all findings are mended by their default decisions.
+  -- The book in which all findings are mended under their default decisions.
   abbrev pub allMended : List Item → List Entry
   allMended xs = map (λ (x : Item). record { item = x; mark = cond (isFinding p x) (mended (defaultDecisions p x)) untouched }) xs
 
-  -- What is seen of a finding in a text.
+  -- What can be seen of a given finding in a text.
   abbrev pub seen : List ℕ → Found → Seen
   seen text f = record {
     bytesThere = take (length (encodeAll (f .item .chars))) (drop (f .start) text);
@@ -136,18 +136,18 @@ module _ (p : Policy) where
   openRow o = record { start = place o; end = place o + length (encodeAll (o .item .chars)); counts = nonCanonicality p (o .item) }
 
 module _ (policy : List ℕ) where
-  -- A text that passes the tests 1, 2 and 3.
+  -- The text and the policy pass the tests 1, 2 and 3.
   pub record Accepted (text : List ℕ) : Type 0 where
     pub short : length text ≤ 16777216
     pub is-policy : isPolicy policy ≡ true
     pub well-formed : WellFormed text
 
-  -- An open finding has the call's offset for its place.
+  -- The call's offset is the place of an open finding.
   pub record OpenAt (es : List Entry) (c : Call) (o : OpenFinding) : Type 0 where
     pub is-open : List·Memᴰ o (openFindings policy es)
     pub there : c .offset ≡ place o
 
-  -- "as many as the finding's eighth count"
+  -- A call has decisions "as many as the finding's eighth count".
   abbrev pub AsMany : Call → OpenFinding → Type 0
   AsMany c o = length (c .decisions) ≡ nonCanonicality (policyOf policy) (o .item) .«presentation_decisions»
 
@@ -160,7 +160,7 @@ module _ (policy : List ℕ) where
     pub valid : Each (λ (d : ℕ). d ≤ 1) (c .decisions)
     pub room : length (bookText policy (marked policy es c)) ≤ length (c .out)
 
-  -- "the first refusal below that fits", with what is returned.
+  -- "the first refusal below that fits", with the value that it returns.
   pub data FirstRefusal (es : List Entry) (c : Call) : MendAnswer → Type 0 where
     no-finding : ((o : OpenFinding) → OpenAt es c o → ⊥) → FirstRefusal es c (Refused NoFinding)
     few-or-many : (o : OpenFinding) → OpenAt es c o → (AsMany c o → ⊥)
@@ -184,19 +184,19 @@ module _ (policy : List ℕ) where
     abbrev pub book : List Call → List Entry
     book cs = bookAfter policy (firstBook policy first) cs
 
-    -- The text after them.
+    -- The text after the calls of a list.
     abbrev pub text : List Call → List ℕ
     text cs = textAfter first policy cs
 
-    -- The findings that are open after them.
+    -- The findings that are open after the calls of a list.
     abbrev pub open-after : List Call → List OpenFinding
     open-after cs = openFindings policy (book cs)
 
-    -- The findings that its accepted calls mend, with their decisions.
+    -- The findings that the accepted calls of a list mend, with their decisions.
     abbrev pub given : List Call → List Mending
     given cs = mendings first (firstBook policy first) cs
 
-    -- What a call after other calls leaves.
+    -- The outcome of a call after other calls: its answer and its buffer.
     abbrev pub callOutcome : List Call → Call → After MendAnswer ℕ
     callOutcome before c = mend (text before) policy (c .offset) (c .decisions) (c .out)
 
@@ -207,28 +207,28 @@ module _ (policy : List ℕ) where
     -- ---- the claim on a list
 
     pub record ListClaim (cs : List Call) : Type 0 where
-      -- A call is accepted exactly when it names an open finding, with valid decisions and room.
+      -- A call is accepted exactly when its offset is the place of an open finding, its decisions are valid and its output has room.
       pub accepted : (before : List Call) (c : Call) → CallAfter cs before c → (isMended (callOutcome before c .answer) ≡ true)
           ↔ MendsOpenFinding (book before) c
-      -- It writes the book's text after it at the front, and leaves the bytes after.
+      -- An accepted call writes the book's new text at the front of its output, and leaves the bytes after that as they were.
       pub writes : (before : List Call) (c : Call) → CallAfter cs before c → isMended (callOutcome before c .answer) ≡ true
           → callOutcome before c ≡ record {
             answer = Mended (length (text (before ++ c ∷ [])));
             buffer = text (before ++ c ∷ []) ++ drop (length (text (before ++ c ∷ []))) (c .out);
           }
-      -- Any other call gets the first refusal that fits; its buffer, the book and the text stay as they were.
+      -- Any other call is answered with the first refusal that fits. Its buffer, the book and the text stay as they were.
       pub turned-back : (before : List Call) (c : Call) → CallAfter cs before c → isMended (callOutcome before c .answer) ≡ false
           → FirstRefusal (book before) c (callOutcome before c .answer) × (callOutcome before c .buffer ≡ c .out)
           × (book (before ++ c ∷ []) ≡ book before) × (text (before ++ c ∷ []) ≡ text before)
-      -- After it the text is the first one with only the mended findings replaced, under the decisions given.
+      -- After the list, the text is the first one with exactly the mended findings replaced, under the decisions given.
       pub at-first : bookText policy (firstBook policy first) ≡ first
       pub after : text cs ≡ bookText policy (book cs)
       pub same-items : itemsOf (book cs) ≡ items (chars first)
       pub only-findings : Each (λ (e : Entry). ValidMark (policyOf policy) (e .mark) (e .item)) (book cs)
       pub as-given : Alike (mendedFrom 0 (book cs)) (given cs)
-      -- A place and the bytes taken before it are the start in the first text and the replacements put before it.
+      -- The place of an open finding plus the bytes taken before it is its start in the first text plus the replacements put before it.
       pub places : Each (λ (o : OpenFinding). place o + o .taken ≡ o .was + o .put) (open-after cs)
-      -- Listing with room gives exactly the open findings; without room, their number.
+      -- Listing into a table with room gives exactly the open findings. Without room it gives their number.
       pub listed : (table : List Finding) → length (open-after cs) ≤ length table
           → list (text cs) policy table ≡ record {
             answer = Listing.Listed (length (open-after cs));
@@ -236,7 +236,7 @@ module _ (policy : List ℕ) where
           }
       pub unlisted : (table : List Finding) → length table < length (open-after cs)
           → list (text cs) policy table ≡ record { answer = Listing.Refused (TableTooShort (length (open-after cs))); buffer = table }
-      -- The same into any table of bytes: their rows' bytes at the front, the bytes after them as they were.
+      -- Listing into a table of bytes with room writes the bytes of the open findings' rows at the front, and leaves the bytes after them.
       pub listed-bytes : (table : List ℕ) → length (open-after cs) * rowBytes ≤ length table
           → listBytes (text cs) policy table ≡ record {
             answer = Listing.Listed (length (open-after cs));
@@ -245,32 +245,33 @@ module _ (policy : List ℕ) where
           }
       pub unlisted-bytes : (table : List ℕ) → length table < length (open-after cs) * rowBytes
           → listBytes (text cs) policy table ≡ record { answer = Listing.Refused (TableTooShort (length (open-after cs))); buffer = table }
+      -- Each open finding is a finding of the first text.
       pub were-findings : (o : OpenFinding) → List·Memᴰ o (open-after cs) → List·Memᴰ (atFirst o) (findings first policy)
-      -- Their bytes, counts and choices are as at first.
+      -- The open findings have the same bytes, counts and choices as in the first text.
       pub unaltered : map (seen (policyOf policy) (text cs)) (findings (text cs) policy)
           ≡ map (seen (policyOf policy) first) (map atFirst (open-after cs))
-      -- Each of the eight totals is that at first less the mended findings' own.
+      -- Each of the eight totals is that of the first text, less the counts of the mended findings.
       pub eight-totals : textTotals (text cs) policy ⊕ mendedCounts cs ≡ textTotals first policy
-      -- The accepted calls number the findings at first less those open.
+      -- The number of accepted calls is the number of findings in the first text, less the number of open findings.
       pub number : acceptedCalls (outcomes first policy cs) + length (open-after cs) ≡ length (findings first policy)
-      -- Lists alike in the findings that their accepted calls mend and in the decisions end in the same text, whatever the order.
+      -- Two lists whose accepted calls mend the same findings under the same decisions end in the same text, whatever the order.
       pub any-order : (ds : List Call) → Alike (given cs) (given ds) → text cs ≡ text ds
-      -- With all mended no finding is left.
+      -- Once all findings are mended, the text has no finding.
       pub none-left : open-after cs ≡ [] → findings (text cs) policy ≡ []
-      -- And default decisions give the formatted text.
+      -- Once all findings are mended under their default decisions, the text is the formatted text.
       pub by-default : open-after cs ≡ [] → Each (λ (e : Entry). ByDefault (policyOf policy) (e .mark) (e .item)) (book cs)
           → text cs ≡ formatted first policy
-      -- The selectors number those in the first text, less the mended findings' six removing counts, plus their two adding ones.
+      -- The number of selectors is that of the first text, less the six removing counts of the mended findings, plus their two adding ones.
       pub selectors-number : selectorCount (chars (text cs)) + removing (mendedCounts cs)
           ≡ selectorCount (chars first) + adding (mendedCounts cs)
-      -- All other characters stand in their old order.
+      -- All other characters are the same, in the same order.
       pub others : strip (chars (text cs)) ≡ strip (chars first)
-      -- No text of the list passes 16,777,216 bytes; each is accepted.
+      -- The text before each call is accepted: none is longer than 16,777,216 bytes.
       pub bounded : (before later : List Call) → cs ≡ before ++ later → Accepted (text before)
 
-    -- ---- the same of a formatted text, whatever its length, with all findings
+    -- ---- the claim on a formatted text, whatever its length
 
-    -- The first text's book with all findings mended by default.
+    -- The first text's book, with all findings mended under their default decisions.
     abbrev pub mendedAll : List Entry
     mendedAll = allMended (policyOf policy) (items (chars first))
 
@@ -279,11 +280,11 @@ module _ (policy : List ℕ) where
     result = formatted first policy
 
     pub record FormattedClaim : Type 0 where
-      -- It is the first text with all findings replaced, under the default decisions.
+      -- The formatted text is the first text with all findings replaced, under the default decisions.
       pub at-first : bookText policy (firstBook policy first) ≡ first
       pub after : result ≡ bookText policy mendedAll
       pub well-formed : WellFormed result
-      -- No finding is left, of whatever length the text is, and formatting again changes nothing.
+      -- The formatted text has no finding, whatever its length, and formatting it again changes nothing.
       pub none-left : findings result policy ≡ []
       pub none-listed : (table : List Finding) → length result ≤ 16777216 → list result policy table
           ≡ record { answer = Listing.Listed 0; buffer = table }
@@ -292,18 +293,19 @@ module _ (policy : List ℕ) where
       pub again : formatted result policy ≡ result
       pub again-unchanged : (out : List ℕ) → length result ≤ 16777216 → format result policy out
           ≡ record { answer = Format.Unchanged; buffer = out }
-      -- Each of the eight totals is that at first less all findings' own.
+      -- Each of the eight totals is that of the first text, less the counts of all findings.
       pub eight-totals : textTotals result policy ⊕ totals (policyOf policy) (mendedItems mendedAll) ≡ textTotals first policy
-      -- The selectors number those in the first text, less all findings' six removing counts, plus their two adding ones.
+      -- The number of selectors is that of the first text, less the six removing counts of all findings, plus their two adding ones.
       pub selectors-number : selectorCount (chars result) + removing (textTotals first policy)
           ≡ selectorCount (chars first) + adding (textTotals first policy)
-      -- All other characters stand in their old order.
+      -- All other characters are the same, in the same order.
       pub others : strip (chars result) ≡ strip (chars first)
       -- "Formatted text is at most 4 times the input."
       pub four-times : length result ≤ 4 * length first
       -- A text is its own formatted text exactly when it has no finding.
       pub no-change : (result ≡ first) ↔ (findings first policy ≡ [])
-      -- The call says so, writes nothing and never gives 8; else it writes the text, or gives 8 with its length.
+      -- For a text without a finding the call answers "unchanged", writes nothing and never gives 8. For any other text it writes the
+      -- formatted text, or gives 8 with its length if the output is too short.
       pub unchanged-said : (out : List ℕ) → (format first policy out .answer ≡ Format.Unchanged) ↔ (findings first policy ≡ [])
       pub unchanged-kept : (out : List ℕ) → findings first policy ≡ [] → format first policy out
           ≡ record { answer = Format.Unchanged; buffer = out }

@@ -1,4 +1,4 @@
--- The filed text (document 01, "Replacement and text"; "filed text" is its term).
+-- The filed text (document 01, "Replacement and text"; "filed text" is document 01's term).
 use mathlib.Core.Bool.{Bool, cond}
 use mathlib.Core.List.{List}
 use Prim.Native.Nat.{ℕ}

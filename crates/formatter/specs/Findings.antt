@@ -1,5 +1,5 @@
--- The findings and the totals of a text, by its bytes and the policy's, and the row of a finding (document 01, "Counts and finding");
--- crate analysis, specs/Findings.antt, has the findings from an offset on.
+-- The findings and the totals of a text, by its bytes and the policy's, and the row of a finding (document 01, "Counts and finding").
+-- crates/analysis/specs/Findings.antt has the findings from an offset on.
 use mathlib.Core.List.{List, map}
 use Prim.Native.Nat.{ℕ, _+_}
 use Rattle.policy.specs.PolicyBytes.{policyOf}

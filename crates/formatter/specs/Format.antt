@@ -17,7 +17,7 @@ use Rattle.formatter.specs.declared.FormatAnswer.the-variants.{Changed, 
 use Rattle.base.specs.declared.Refusal.{Refusal}
 use Rattle.base.specs.declared.Refusal.the-variants.{OutputTooShort}
 
--- Items written out: each finding as its replacement with every decision at its default, any other item as it is.
+-- The characters of the formatted items: each finding is written as its replacement under default decisions, any other item as it is.
 unfoldable pub formatItems : Policy → List Item → List ℕ
 formatItems p [] = []
 formatItems p (x ∷ xs) = cond (isFinding p x) (defaultReplacement p x) (x .chars) ++ formatItems p xs
@@ -26,20 +26,20 @@ formatItems p (x ∷ xs) = cond (isFinding p x) (defaultReplacement p x) (x .cha
 unfoldable pub formatted : List ℕ → List ℕ → List ℕ
 formatted text policy = encodeAll (formatItems (policyOf policy) (items (chars text)))
 
--- Two texts have the same bytes.
+-- Whether two texts have the same bytes.
 unfoldable pub sameBytes : List ℕ → List ℕ → Bool
 sameBytes [] [] = true
 sameBytes [] (b ∷ t) = false
 sameBytes (a ∷ s) [] = false
 sameBytes (a ∷ s) (b ∷ t) = eqb a b && sameBytes s t
 
--- Nothing to do, the bytes written, or the refusal.
+-- The row of an answer: nothing to do, done with the number of bytes written, or the refusal.
 unfoldable pub formatRow : FormatAnswer → RefusalRow
 formatRow Unchanged = nothing
 formatRow (Changed n) = done n
 formatRow (Refused r) = refusalRow r
 
--- The call: refusals 1, 2, 3 and 8 in this order. "Formatting a text that needs no change says so, writes nothing and never
+-- The outcome of the call, with refusals 1, 2, 3 and 8 in this order. "Formatting a text that needs no change says so, writes nothing and never
 -- gives 8."
 unfoldable pub format : List ℕ → List ℕ → List ℕ → After FormatAnswer ℕ
 format text policy out =

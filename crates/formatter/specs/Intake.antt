@@ -19,7 +19,8 @@ listLimit = 4194304
 
 -- ---- tests of a text and a policy
 
--- "Tested in this order": text over the limit, 1; no policy, by the refusal of its bytes; text not well-formed, 3. None where all pass.
+-- "Tested in this order": the text is over the limit (1), the policy is refused (2), the text is not well-formed (3). `none` where all
+-- three tests pass.
 unfoldable pub intakeRefusal : List ℕ → List ℕ → Option Refusal
 intakeRefusal text policy =
     cond (not (leb (length text) textLimit)) (some TextTooLong)

@@ -1,4 +1,5 @@
--- Listing: the whole outcome of the call, `list` (document 01, "Counts and finding", "Turned back").
+-- Listing: the whole outcome of each call, `list` and `listBytes` for findings and `listItems` for items (document 01, "Counts and finding",
+-- "Turned back").
 use mathlib.Core.Bool.{cond}
 use mathlib.Core.List.{List, [], _∷_, map}
 use Prim.Native.Nat.{ℕ}
@@ -19,7 +20,7 @@ use Rattle.base.specs.declared.ListAnswer.the-variants.{Listed, Refused}
 use Rattle.base.specs.declared.Refusal.{Refusal}
 use Rattle.base.specs.declared.Refusal.the-variants.{TableTooShort}
 
--- "The findings are listed in text order into a table lent by the caller": refusals 1, 2, 3 and 7 in this order.
+-- "The findings are listed in text order into a table lent by the caller", with refusals 1, 2, 3 and 7 in this order.
 unfoldable pub list : List ℕ → List ℕ → List Finding → After ListAnswer Finding
 list text policy table =
     let rows = map (findingRow (policyOf policy)) (findings text policy) in
@@ -46,12 +47,12 @@ countNumbers n =
 unfoldable pub rowNumbers : Finding → List ℕ
 rowNumbers f = f .start ∷ f .end ∷ countNumbers (f .counts)
 
--- The bytes of a row: eight for each of its ten numbers.
+-- The number of bytes of a row: eight for each of its ten numbers.
 abbrev pub rowBytes : ℕ
 rowBytes = 80
 
--- The call on a table of bytes: the rows of `list` as bytes, and its refusals in their order. Where the table's bytes are whole rows, and
--- after them fewer bytes than a row has, the two leave the same: specs/Theorems.antt, ListedAsBytes.
+-- The call on a table of bytes: the rows of `list` as bytes, and its refusals in their order. The theorem `ListedAsBytes` of
+-- specs/Theorems.antt says that `list` and `listBytes` agree.
 unfoldable pub listBytes : List ℕ → List ℕ → List ℕ → After ListAnswer ℕ
 listBytes text policy table =
     orElse (intakeRefusal text policy) (λ (r : Refusal). unwritten (Refused r) table)
@@ -63,11 +64,11 @@ listBytes text policy table =
 unfoldable pub itemNumbers : ScanItem → List ℕ
 itemNumbers x = x .start ∷ x .end ∷ kindNumber (x .kind) ∷ cond (x .«tags_complete») 1 0 ∷ []
 
--- The bytes of an item's row: eight for each of its four numbers.
+-- The number of bytes of an item's row: eight for each of its four numbers.
 abbrev pub itemBytes : ℕ
 itemBytes = 32
 
--- Listing the items of a text into a table of bytes (added, as listing findings is): refusals 1, 3 and 7 in this order.
+-- Listing the items of a text into a table of bytes, with refusals 1, 3 and 7 in this order. The crate evfmt has no such call.
 unfoldable pub listItems : List ℕ → List ℕ → After ListAnswer ℕ
 listItems text table =
     orElse (textRefusal text) (λ (r : Refusal). unwritten (Refused r) table) (fillTable itemNumbers itemBytes (scan text) table)

@@ -1,5 +1,4 @@
--- Mending: the whole outcome of the call, `mend`, and a list of such calls, each reading what the last accepted one wrote (document 01,
--- "Replacement and text", "Mending in sequence").
+-- Mending: the whole outcome of the call, `mend`, and of a list of such calls (document 01, "Replacement and text", "Mending in sequence").
 use mathlib.Core.List.{List, [], _∷_, _++_, map}
 use mathlib.Core.Option.{Option, none, some}
 use Prim.Native.Nat.{ℕ, _+_}
@@ -27,7 +26,7 @@ exchanged text p offset ds none = text
 exchanged text p offset ds (some x) =
     take offset text ++ encodeAll (replacement p x ds) ++ drop (offset + length (encodeAll (x .chars))) text
 
--- The call: refusals 1, 2, 3, 4, 5, 6 and 8 in this order.
+-- The outcome of the call, with refusals 1, 2, 3, 4, 5, 6 and 8 in this order.
 unfoldable pub mend : List ℕ → List ℕ → ℕ → List ℕ → List ℕ → After MendAnswer ℕ
 mend text policy offset decisions out =
     let p = policyOf policy in
@@ -37,31 +36,31 @@ mend text policy offset decisions out =
 
 -- ---- a list of calls
 
--- What a call of a list brings: "each call's offset, decisions", and its output as it was before.
+-- A call of a list: "each call's offset, decisions", and its output as it was before the call.
 pub record Call : Type 0 where
   pub offset : ℕ
   pub decisions : List ℕ
   pub out : List ℕ
 
--- A call of a list on a text.
+-- The outcome of a call of a list on a text.
 abbrev pub mendCall : List ℕ → List ℕ → Call → After MendAnswer ℕ
 mendCall text policy c = mend text policy (c .offset) (c .decisions) (c .out)
 
--- What the next call reads: the front that an accepted call wrote, or the same text again.
+-- The text that the next call reads, by a call's answer and buffer: what an accepted call wrote, or the same text after a refusal.
 abbrev pub nextFrom : List ℕ → MendAnswer → List ℕ → List ℕ
 nextFrom text (Mended n) out = take n out
 nextFrom text (Refused r) out = text
 
--- The same, of what the call left.
+-- The text that the next call reads, by a call's outcome.
 abbrev pub nextText : List ℕ → After MendAnswer ℕ → List ℕ
 nextText text a = nextFrom text (a .answer) (a .buffer)
 
--- "Each call reads the text that the last accepted one wrote, or the first text before that": the text after a list.
+-- The text after a list: "Each call reads the text that the last accepted one wrote, or the first text before that".
 unfoldable pub textAfter : List ℕ → List ℕ → List Call → List ℕ
 textAfter text policy [] = text
 textAfter text policy (c ∷ cs) = textAfter (nextText text (mendCall text policy c)) policy cs
 
--- What each call of a list leaves.
+-- The outcomes of the calls of a list.
 unfoldable pub outcomes : List ℕ → List ℕ → List Call → List (After MendAnswer ℕ)
 outcomes text policy [] = []
 outcomes text policy (c ∷ cs) = mendCall text policy c ∷ outcomes (nextText text (mendCall text policy c)) policy cs

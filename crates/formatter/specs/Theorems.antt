@@ -41,7 +41,7 @@ IntakeInOrder =
     ≡ some (NotWellFormed (validUpTo text)))
     × (Accepted policy text → intakeRefusal text policy ≡ none)
 
--- Each call gives such a refusal before any other, and then leaves its buffer or table as it was.
+-- Each call gives the refusal of the intake before any other, and then leaves its buffer or table as it was.
 unfoldable pub IntakeComesFirst : Type 0
 IntakeComesFirst =
     (text policy : List ℕ) (r : Refusal) → intakeRefusal text policy ≡ some r
@@ -52,8 +52,8 @@ IntakeComesFirst =
 
 -- ---- mending and the replacement alone
 
--- "Mending .. writes the whole text with that replacement": where both succeed, what mending puts between the bytes before the finding and
--- those after it is what `canonical_replacement_with_decisions` writes.
+-- "Mending .. writes the whole text with that replacement": where both calls succeed, mending writes the bytes before the finding, what
+-- `canonical_replacement_with_decisions` writes, and the bytes after the finding.
 unfoldable pub MendsByReplacement : Type 0
 MendsByReplacement =
     (text policy : List ℕ) (offset : ℕ) (decisions out room : List ℕ) (x : Item) (n m : ℕ)
@@ -64,7 +64,7 @@ MendsByReplacement =
     ≡ take offset text ++ take m (replaceAt (policyOf policy) text offset decisions room .buffer)
     ++ drop (offset + length (encodeAll (x .chars))) text
 
--- Under an accepted policy the two are turned back alike by each test before that of the output.
+-- Under an accepted policy, mending and `canonical_replacement_with_decisions` give the same refusals 1 to 6.
 unfoldable pub MendsTestAlike : Type 0
 MendsTestAlike =
     (text policy : List ℕ) (offset : ℕ) (decisions out room : List ℕ) (r : Refusal) → isPolicy policy ≡ true → refusalTable r .number ≤ 6
@@ -73,7 +73,7 @@ MendsTestAlike =
 
 -- ---- listing
 
--- A finding with another number in each place: start 9, end 10, and the counts 1 to 8 in document 01's order.
+-- A finding whose numbers are all different: start 9, end 10, and the counts 1 to 8 in document 01's order.
 abbrev pub numberedFinding : Finding
 numberedFinding = record {
   start = 9;
@@ -95,16 +95,17 @@ abbrev pub lowByte : ℕ → List ℕ
 lowByte n = n ∷ 0 ∷ 0 ∷ 0 ∷ 0 ∷ 0 ∷ 0 ∷ 0 ∷ []
 
 -- "A listed finding is its start, its end and the eight counts", in the order "unsanctioned, modifier-defective, additional-defective,
--- tag-conflicting, tag-forced, tag-redundant, policy-redundant, decisions": the numbers of such a row, and its bytes.
+-- tag-conflicting, tag-forced, tag-redundant, policy-redundant, decisions". The statement gives the numbers of `numberedFinding`'s row, and
+-- its bytes.
 unfoldable pub ColumnsInOrder : Type 0
 ColumnsInOrder =
     (rowNumbers numberedFinding ≡ 9 ∷ 10 ∷ 1 ∷ 2 ∷ 3 ∷ 4 ∷ 5 ∷ 6 ∷ 7 ∷ 8 ∷ [])
     × (bytesOf (rowNumbers numberedFinding)
     ≡ lowByte 9 ++ lowByte 10 ++ lowByte 1 ++ lowByte 2 ++ lowByte 3 ++ lowByte 4 ++ lowByte 5 ++ lowByte 6 ++ lowByte 7 ++ lowByte 8)
 
--- Listing into a table of bytes that are rows, and fewer bytes after them than a row has, leaves the bytes of the rows that listing
--- into the table of those rows leaves, and the bytes after. What listing leaves in any table of bytes: `listed-bytes` and
--- `unlisted-bytes` of `ListClaim`.
+-- Listing into a table of bytes does the same as listing into a table of rows: if the table has the bytes of some rows, and fewer bytes
+-- after them than a row has, it then has the bytes of the rows that `list` leaves, and the bytes after them are the same.
+-- `listed-bytes` and `unlisted-bytes` of `ListClaim` say what listing leaves in any table of bytes.
 unfoldable pub ListedAsBytes : Type 0
 ListedAsBytes =
     (text policy : List ℕ) (table : List Finding) (rest : List ℕ) → length rest < rowBytes
@@ -128,11 +129,11 @@ FiledIsFormatted =
 unfoldable pub EveryList : Type 0
 EveryList = (policy first : List ℕ) → Accepted policy first → length first ≤ listLimit → (calls : List Call) → ListClaim policy first calls
 
--- The same of a formatted text, for every accepted text: among it that formatting again changes nothing (`again`).
+-- The claim on a formatted text, for every accepted text. It says, among other things, that formatting again changes nothing (`again`).
 unfoldable pub EveryFormattedText : Type 0
 EveryFormattedText = (policy first : List ℕ) → Accepted policy first → FormattedClaim policy first
 
--- Cell by cell: formatting a text and adding up its counts go by its cells, each with the next cell's character in view.
+-- Formatting a text and adding up its counts can go cell by cell; for each cell only the next cell's character is needed.
 unfoldable pub CellByCell : Type 0
 CellByCell =
     (text policy : List ℕ)

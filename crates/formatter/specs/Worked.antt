@@ -37,24 +37,24 @@ use Rattle.base.specs.declared.Refusal.the-variants.{
 
 -- ---- worked texts
 
--- "Worked texts, default policy": its bytes, as a call takes them.
+-- "Worked texts, default policy": the bytes of the default policy.
 unfoldable pub theDefault : List ℕ
 theDefault = policyBytes defaultPolicy
 
--- The output that the worked texts are given.
+-- The output buffer of the calls on the worked texts.
 abbrev pub room : List ℕ
 room = 7 ∷ 7 ∷ 7 ∷ 7 ∷ 7 ∷ 7 ∷ 7 ∷ 7 ∷ 7 ∷ 7 ∷ 7 ∷ 7 ∷ []
 
--- A row of a table.
+-- A row of a table, by its start, its end and its counts.
 abbrev pub finding : ℕ → ℕ → NonCanonicality → Finding
 finding start end n = record { start = start; end = end; counts = n }
 
--- A row that nothing was written to.
+-- A row of the tables before a call.
 abbrev pub blank : Finding
 blank = finding 0 0 empty
 
--- A worked text: its characters, the starts and ends of its items, what formatting it leaves, what listing it leaves, and its
--- eight totals.
+-- A worked text: its characters, the starts and ends of its items, the outcomes of formatting it and of listing its findings, and its eight
+-- totals.
 pub record WorkedText : Type 0 where
   pub text : List ℕ
   pub items : List (ℕ × ℕ)
@@ -62,7 +62,7 @@ pub record WorkedText : Type 0 where
   pub listing : After ListAnswer Finding
   pub totals : NonCanonicality
 
--- What the definitions make of the characters.
+-- What the definitions give for a text of these characters.
 unfoldable pub workedText : List ℕ → WorkedText
 workedText t = record {
   text = t;
@@ -72,7 +72,7 @@ workedText t = record {
   totals = textTotals (encodeAll t) theDefault;
 }
 
--- A text that is one item and one finding, up to the byte, becomes the other under formatting.
+-- The worked text `t` is one item that ends at the offset `end`. It is a finding with the counts `n`, and formatting makes `r` of it.
 abbrev pub becomes : List ℕ → ℕ → List ℕ → NonCanonicality → WorkedText
 becomes t end r n = record {
   text = t;
@@ -82,7 +82,7 @@ becomes t end r n = record {
   totals = n;
 }
 
--- A text of such items that is unchanged.
+-- The worked text `t` has items with these starts and ends, and formatting does not change it.
 abbrev pub stays : List ℕ → List (ℕ × ℕ) → WorkedText
 stays t spans = record {
   text = t;
@@ -121,8 +121,8 @@ workedTable =
     ∷ stays (0x231A ∷ 0x200D ∷ 0x200D ∷ 0x231A ∷ []) ((0, 9) ∷ (9, 12) ∷ [])
     ∷ []
 
--- "The starred ones, as one table of the definitions under one theorem": the texts are as the table says, through the definitions of
--- items and of the calls. Programs check 13 and 14.
+-- "The starred ones, as one table of the definitions under one theorem": the definitions of items and of the calls give what the table
+-- says. Programs check texts 13 and 14.
 unfoldable pub WorkedTexts : Type 0
 WorkedTexts = map workedText (map (λ (w : WorkedText). w .text) workedTable) ≡ workedTable
 
@@ -132,13 +132,13 @@ WorkedTexts = map workedText (map (λ (w : WorkedText). w .text) workedTable) �
 abbrev pub exampleBytes : List ℕ
 exampleBytes = 0x31 ∷ 0xEF ∷ 0xB8 ∷ 0x8E ∷ 0x20 ∷ 0xE2 ∷ 0x9D ∷ 0xA4 ∷ []
 
--- Its two rows.
+-- The two rows of the example.
 abbrev pub exampleRows : List Finding
 exampleRows = finding 0 4 (eight 0 0 0 0 0 0 1 0) ∷ finding 5 8 (eight 0 0 0 0 0 0 0 1) ∷ []
 
--- The example gives its two rows and its totals, by listing, formatting and mending. Its replacements alone: that at 0; at 1, inside the
--- first item, no finding starts; that at 5, decided and by default; and the text with a byte after it that begins no character is
--- turned back.
+-- Listing, formatting and mending the example give its two rows, its totals and its formatted and mended texts. The calls that write a
+-- replacement alone: one at 0; one at 1, inside the first item, where no finding starts; one at 5, with a decision and by default. The
+-- example with a further byte that begins no character is refused.
 unfoldable pub ExampleCalls : Type 0
 ExampleCalls =
     (list exampleBytes theDefault (blank ∷ blank ∷ blank ∷ []) ≡ record { answer = Listed 2; buffer = exampleRows ++ blank ∷ [] })
@@ -161,11 +161,11 @@ ExampleCalls =
 
 -- ---- a worked list
 
--- A call of a list.
+-- A call of a list, by its offset, its decisions and its output.
 abbrev pub call : ℕ → List ℕ → List ℕ → Call
 call offset decisions out = record { offset = offset; decisions = decisions; out = out }
 
--- What a call leaves.
+-- The outcome of a call.
 abbrev pub leaves : MendAnswer → List ℕ → After MendAnswer ℕ
 leaves a out = record { answer = a; buffer = out }
 
@@ -177,8 +177,8 @@ twoFindings = 0xEF ∷ 0xB8 ∷ 0x8F ∷ 0xE2 ∷ 0x9D ∷ 0xA4 ∷ []
 abbrev pub six : List ℕ
 six = 9 ∷ 9 ∷ 9 ∷ 9 ∷ 9 ∷ 9 ∷ []
 
--- No finding at the offset; a decision too few; a decision byte of 2; no room; the first, at 0; the second, now at 0 too; the
--- second again, which is mended.
+-- Seven calls. Four are refused: no finding at the offset, one decision too few, a decision byte of 2, no room. The fifth mends the first
+-- finding, at 0. The sixth mends the second, which is now at 0 too. The seventh is refused, since that one is mended.
 unfoldable pub workedCalls : List Call
 workedCalls =
     call 1 [] six
@@ -190,7 +190,8 @@ workedCalls =
     ∷ call 0 (0 ∷ []) six
     ∷ []
 
--- What each call of this list leaves, the text after it, and the second finding's places: 3 at first, 0 once the first is mended.
+-- The outcome of each call of this list, the text after it, and the places of the open findings: 0 and 3 at first, 0 once the first finding
+-- is mended, and none at the end.
 unfoldable pub WorkedList : Type 0
 WorkedList =
     (outcomes twoFindings theDefault workedCalls
@@ -207,6 +208,6 @@ WorkedList =
     × (map place (openFindings theDefault (bookAfter theDefault (firstBook theDefault twoFindings) (call 0 [] six ∷ []))) ≡ 0 ∷ [])
     × (map place (openFindings theDefault (bookAfter theDefault (firstBook theDefault twoFindings) workedCalls)) ≡ [])
 
--- The claim on a list holds of this one: its premises do, so that it is no claim about nothing.
+-- The claim on a list holds for this list, and so do its premises: the claim is not about nothing.
 unfoldable pub WorkedListClaimed : Type 0
 WorkedListClaimed = Accepted theDefault twoFindings × (length twoFindings ≤ listLimit) × ListClaim theDefault twoFindings workedCalls

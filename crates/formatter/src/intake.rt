@@ -1,6 +1,6 @@
-// The tests of a text and a policy that come first in every call (document 01, "Turned back", numbers 1, 2 and 3).
-// `intake` equals `intakeRefusal` of specs/Intake.antt. Formatting, listing and mending see the third in a pass that they make anyway
-// (format.rt, list.rt, mend.rt). The tests of a text alone are the crate scanner's (text_check.rt).
+// The three tests of a text and a policy that every call makes first (document 01, "Turned back", numbers 1, 2 and 3).
+// `intake` equals `intakeRefusal` of specs/Intake.antt. Formatting, listing and mending make the third test during their pass over the text
+// (src/lib.rt of the crates formatting, listing and mending). The tests of a text alone are in crates/scanner/src/text_check.rt.
 ghost use Rattle.base.specs.Answers.{Answers, checkRow};
 ghost use Rattle.base.specs.Refusals.{checked};
 ghost use Rattle.formatter.specs.Intake.{intakeRefusal};
@@ -10,7 +10,7 @@ use base::TEXT_LIMIT;
 use policy::policy_bytes::is_policy;
 use policy::policy_bytes::policy_refusal;
 
-// The bytes of a text and of a policy: all three tests have passed, or the first refusal.
+// Tests the bytes of a text and of a policy, and gives the first refusal if there is one.
 pub fn intake(text: &[u8], policy: &[u8]) -> Check
     ensures { λ r. ⌜ Answers checkRow (checked (intakeRefusal (now (text .entry)) (now (policy .entry)))) r ⌝ }
 {

@@ -1,4 +1,5 @@
--- Formatting an accepted text by its cells: it is unchanged exactly where its cells have no count, and else what the cells write.
+-- Formatting an accepted text by its cells: the text is unchanged exactly if the rules count nothing; else the formatted text is
+-- that of its cells.
 use mathlib.Core.Path.{_≡_, refl, ap, sym, _∙_}
 use mathlib.Core.Bool.{Bool, true, false, cond, not, false≢true}
 use mathlib.Core.List.{List, [], _∷_}
@@ -35,7 +36,7 @@ use Rattle.formatter.proofs.FormattedClaim.{formatted-claim}
 use Rattle.formatter.proofs.Formatting.{format-is, formatTests, same-self, same-true}
 use Rattle.formatter.proofs.Marks.{foundTotals}
 
--- Findings whose counts add up to 0 are none.
+-- If the counts of all findings add up to 0, there is no finding.
 none-counted : (p : Policy) (n : ℕ) (xs : List Item) → total (foundTotals p (found (isFinding p) width n xs)) ≡ 0
     → found (isFinding p) width n xs ≡ []
 unfolding found totals
@@ -53,7 +54,7 @@ none-counted p n (x ∷ xs) e = go (eqb (total (nonCanonicality p x)) 0) refl e 
         let z : total (nonCanonicality p x) ≡ 0 = omega arith in
         absurd (false≢true (sym f ∙ eq-eqb (total (nonCanonicality p x)) 0 z))
 
--- What writing answers, as formatting answers it.
+-- The answer of `writeOut` as an answer of formatting.
 abbrev pub answerAs : MendAnswer → FormatAnswer
 answerAs (Mend.Mended n) = Changed n
 answerAs (Mend.Refused r) = Refused r
@@ -75,7 +76,7 @@ module _ (policy text : List ℕ) (a : Accepted policy text) where
   unfolding findings
   none-found e = none-counted P 0 (items (chars text)) (ap total counted ∙ e)
 
-  -- No change is needed exactly where the cells have no count.
+  -- The text needs no change exactly if the counts of its cells add up to 0.
   same-cells : sameBytes F text ≡ eqb (total (totalCells P (chars text))) 0
   unfolding totals
   same-cells = go (sameBytes F text) (eqb (total (totalCells P (chars text))) 0) refl refl
@@ -107,11 +108,11 @@ module _ (policy text : List ℕ) (a : Accepted policy text) where
       ≡ format text policy out
   format-unchanged out e = sym (test-same out true e)
 
-  -- The formatted text by its cells.
+  -- The written cells are the formatted text.
   cells-are : formattedFrom P text 0 ≡ F
   cells-are = sym (cell-view text policy .0)
 
-  -- Another text is written where it fits.
+  -- A formatted text that differs from the text is refused if the output is too short.
   pub format-short : (out : List ℕ) (n : ℕ) → eqb (total (totalCells P (chars text))) 0 ≡ false → n ≡ length (formattedFrom P text 0)
       → length out < n
       → unwritten (Refused (OutputTooShort n)) out ≡ format text policy out

@@ -1,4 +1,4 @@
--- Going through a text from change to change: what is measured and written, with what is left, is the whole.
+-- Going through a text from change to change: what is measured or written so far, together with the rest, is the whole formatted text.
 use mathlib.Core.Path.{_≡_, refl, ap, ap₂, sym, _∙_}
 use mathlib.Core.Bool.{Bool, true, false}
 use mathlib.Core.List.{List, [], _∷_, _++_, append-assoc}
@@ -30,14 +30,14 @@ use Rattle.text_pass.specs.Changes.{NextChange, formattedFrom, selectorBytes, t
 use Rattle.text_pass.specs.declared.Change.{Change}
 
 module _ (p : Policy) (text : List ℕ) where
-  -- The formatted text is at most four times as long.
+  -- The formatted text is at most four times as long as the text.
   pub four-times-at : (at : ℕ) → length (formattedFrom p text at) ≤ 4 * length (drop at text)
   unfolding formatCells
   four-times-at at =
       let t = chars (drop at text) in
       omega (arith, size-width (formatCells p t), render-bytes p t [], size-chars (drop at text), validUpTo-le (drop at text))
 
-  -- At the end nothing is left.
+  -- Where no character begins, nothing is left to write.
   pub none-left : (at : ℕ) → chars (drop at text) ≡ [] → formattedFrom p text at ≡ []
   unfolding formatCells split render renew encodeAll
   none-left at e = ap (λ (t : List ℕ). encodeAll (formatCells p t)) e
@@ -46,7 +46,7 @@ module _ (p : Policy) (text : List ℕ) where
   unfolding totalCells split countCells
   none-counted at e = ap (λ (t : List ℕ). total (totalCells p t)) e
 
-  -- What both cases of the next change say.
+  -- What the answer of `next_change` says, whether a change is present or not.
   pub record Passed (from : ℕ) (c : Change) : Type 0 where
     pub on : from ≤ c .start
     pub after : c .start ≤ c .end
@@ -62,31 +62,31 @@ module _ (p : Policy) (text : List ℕ) where
       go : (b : Bool) → c .present ≡ b → Passed from c
       go true m =
           let x = h .0 m in
-          record { on = x .on; after = x .after; inside = x .inside l; formatted = x .formatted; valid = x .valid }
+          record { on = x .on; after = x .after; inside = x .advances .inside l; formatted = x .formatted; valid = x .advances .valid }
       go false m =
           let x = h .1 m in
           let s = x .stays in
           record {
-            on = omega (arith, s .on, x .all-kept);
-            after = omega (arith, x .all-kept);
-            inside = s .inside l;
+            on = omega (arith, s .advances .on, x .start-is-end);
+            after = omega (arith, x .start-is-end);
+            inside = s .advances .inside l;
             formatted =
-                s .formatted ∙ ap (λ (n : ℕ). take (n - from) (drop from text) ++ formattedFrom p text (c .end)) (sym (x .all-kept))
+                s .formatted ∙ ap (λ (n : ℕ). take (n - from) (drop from text) ++ formattedFrom p text (c .end)) (sym (x .start-is-end))
                 ∙ ap (λ (f : FromSelector). take (c .start - from) (drop from text) ++ (selectorBytes f ++ formattedFrom p text (c .end)))
                 (sym (x .no-selector));
-            valid = s .valid;
+            valid = s .advances .valid;
           }
 
   kept-length : {from : ℕ} {c : Change} → Passed from c → length (take (c .start - from) (drop from text)) ≡ c .start - from
   kept-length {from} {c} h = length-take-le (c .start - from) (drop from text)
       (omega (arith, length-drop from text, h .on, h .after, h .inside))
 
-  -- A change brings the end nearer, ..
+  -- The end of a change is nearer to the end of the text.
   pub passed-less : {from : ℕ} {c : Change} → from ≤ length text → NextChange p text from c → c .present ≡ true
       → length text - c .end < length text - from
   passed-less l h m = omega (arith, h .0 m .moves, passed l h .inside)
 
-  -- .. and these bytes.
+  -- The length of the formatted text, by the bytes before a change, the change's selector and the rest.
   pub passed-length : {from : ℕ} {c : Change} → Passed from c
       → length (formattedFrom p text from) ≡ (c .start - from) + length (selectorBytes (c .selector)) + length
       (formattedFrom p text (c .end))
@@ -119,7 +119,7 @@ module _ (p : Policy) (text : List ℕ) where
           valid = omega (arith, s .valid, x .valid, x .on, x .after);
         }
 
-  -- The survey of the whole text.
+  -- When the survey ends, its numbers are those of the whole text.
   module _ {at len : ℕ} (s : Surveying at len) (e : chars (drop at text) ≡ []) where
     pub survey-valid : at ≡ validUpTo text
     survey-valid =
@@ -138,7 +138,7 @@ module _ (p : Policy) (text : List ℕ) where
     pub first-end : c .present ≡ false → c .end ≡ validUpTo text
     first-end m = survey-valid (survey-on survey-begin h refl) (h .1 m .ends)
 
-    -- Where there is a change, something is counted.
+    -- If there is a change, the rules count something.
     pub first-counted : c .present ≡ true → eqb (totalFrom p text 0) 0 ≡ false
     first-counted m = ne-eqb (totalFrom p text 0) 0 (λ z. omega (arith, h .0 m .counted))
 
@@ -147,7 +147,7 @@ module _ (p : Policy) (text : List ℕ) where
 
   -- ---- two changes in a row
 
-  -- What is well-formed after the second tells how much of the text is, and without one more it is all up to its end.
+  -- The length of the longest well-formed beginning, by the second answer of `next_change`.
   module _ {c d : Change} (h : NextChange p text 0 c) (k : NextChange p text (c .end) d) where
     pub second-inside : d .end ≤ length text
     second-inside = passed (first-inside h) k .inside
@@ -162,7 +162,7 @@ module _ (p : Policy) (text : List ℕ) where
 
   -- ---- writing
 
-  -- What goes out for a change: the bytes before it, and its selector.
+  -- The bytes that are written for a change: those before it, and its selector.
   abbrev pub changeBytes : ℕ → Change → List ℕ
   changeBytes at c = take (c .start - at) (drop at text) ++ selectorBytes (c .selector)
 
@@ -170,7 +170,7 @@ module _ (p : Policy) (text : List ℕ) where
   change-formatted {at} {c} h = h .formatted
       ∙ sym (append-assoc (take (c .start - at) (drop at text)) (selectorBytes (c .selector)) (formattedFrom p text (c .end)))
 
-  -- From before a change to after it.
+  -- The output has room for a change, and the invariant `Writing` holds again once the change is written.
   module _ {all o₀ o : List ℕ} {from at to : ℕ} {c : Change} (w : Writing all from o₀ (formattedFrom p text at) o to)
       (h : Passed at c) where
     pub change-room : to + (c .start - at) + length (selectorBytes (c .selector)) ≤ length o

@@ -1,6 +1,6 @@
 // Formatting a text: `format_text` of formatter.rs of the crate evfmt; document 01, "Replacement and text", "Turned back".
-// The text is gone through from change to change (crate text_pass) and written on the way; only for an output that may be too short it is
-// measured before. `format_text` equals `format` of specs/Format.antt.
+// `format_text` goes through the text from change to change (crate text_pass) and writes the formatted text on the way. Only if the output
+// may be too short, it first measures the formatted text. `format_text` equals `format` of crates/formatter/specs/Format.antt.
 ghost use mathlib.Core.Path.{_≡_};
 ghost use mathlib.Core.Bool.{true, false};
 ghost use mathlib.Core.List.{[], _∷_, _++_};
@@ -11,9 +11,10 @@ ghost use Rattle.base.specs.Output.{PutAt};
 ghost use Rattle.base.specs.Refusals.{textLimit};
 ghost use Rattle.utf8.specs.Rfc3629.{validUpTo};
 ghost use Rattle.unicode.specs.declared.presentation.FromSelector.the-variants.{Selector};
-ghost use Rattle.policy.specs.PolicyBytes.{isPolicy, policyOf};
+ghost use Rattle.policy.specs.PolicyBytes.{policyOf};
 ghost use Rattle.text_pass.specs.Changes.{NextChange, formattedFrom, selectorBytes};
 ghost use Rattle.formatter.specs.Format.{format, formatRow};
+ghost use Rattle.formatting.specs.FirstChange.{FirstChange};
 use base::Refusal;
 use base::TEXT_LIMIT;
 use formatter::FormatAnswer;
@@ -28,14 +29,13 @@ use unicode::presentation::Presentation;
 // A formatted text has at most four times the bytes of the text.
 const MOST_TIMES: usize = 4;
 
-// What goes before writing into an output that may be too short: the length of the longest well-formed beginning, and its length when
-// formatted.
+// The result of measuring a text: the length of its longest well-formed beginning, and the length of that beginning when formatted.
 struct Survey {
     valid_up_to: usize,
     len: usize,
 }
 
-// The bytes of a selector, if there is one.
+// The number of bytes of a selector; `NoSelector` has none.
 fn selector_len(selector: FromSelector) -> usize
     ensures { λ r. ⌜ r ≡ length (selectorBytes selector) ⌝ }
 {
@@ -45,7 +45,7 @@ fn selector_len(selector: FromSelector) -> usize
     }
 }
 
-// Measures a text within the limit, from its first change on.
+// Measures a text that is within the limit. The caller knows its first change.
 fn survey_text(text: &[u8], policy: &[u8], first: Change) -> Survey
     requires { ⌜ (length (now text) ≤ textLimit) × NextChange (policyOf (now policy)) (now text) 0 first ⌝ }
     ensures valid { λ r. ⌜ r .«valid_up_to» ≡ validUpTo (now (text .entry)) ⌝ }
@@ -68,7 +68,7 @@ fn survey_text(text: &[u8], policy: &[u8], first: Change) -> Survey
     }
 }
 
-// Puts the bytes of a text from one offset up to another, for which there is room, and says where they end.
+// Puts the bytes of a text between two offsets into the output, which has room for them, and returns where they end there.
 fn put_part(text: &[u8], from: usize, to: usize, out: &mut [u8], at: usize) -> usize
     requires { ⌜ (from ≤ to) × (to ≤ length (now text)) × (at + (to - from) ≤ length (now out)) ⌝ }
     ensures { λ r. ⌜ PutAt (now (out .entry)) at (take (to - from) (drop from (now (text .entry)))) (now (out .exit)) r ⌝ }
@@ -87,7 +87,7 @@ fn last_byte(presentation: Presentation) -> u8
     }
 }
 
-// Puts a selector, if there is one, for which there is room, and says where it ends.
+// Puts a selector into the output, which has room for it, and returns where it ends there. `NoSelector` puts nothing.
 fn put_selector(out: &mut [u8], at: usize, selector: FromSelector) -> usize
     requires { ⌜ at + length (selectorBytes selector) ≤ length (now out) ⌝ }
     ensures { λ r. ⌜ PutAt (now (out .entry)) at (selectorBytes selector) (now (out .exit)) r ⌝ }
@@ -103,8 +103,8 @@ fn put_selector(out: &mut [u8], at: usize, selector: FromSelector) -> usize
     }
 }
 
-// Puts the bytes of a text from an offset up to a change, and the selector that stands there then, for which there is room, and says
-// where they end.
+// Puts the bytes of a text from an offset up to the start of a change, and the change's selector, into the output, which has room for them.
+// It returns where they end there.
 fn put_change(text: &[u8], from: usize, change: Change, out: &mut [u8], at: usize) -> usize
     requires { ⌜ (from ≤ change .start) × (change .start ≤ length (now text))
         × (at + (change .start - from) + length (selectorBytes (change .selector)) ≤ length (now out)) ⌝ }
@@ -116,7 +116,8 @@ fn put_change(text: &[u8], from: usize, change: Change, out: &mut [u8], at: usiz
     put_selector(out, end, selector)
 }
 
-// Puts the formatted text from an offset on, for which there is room; the next change from there on is known.
+// Puts what formatting makes of the text from an offset on into the output, which has room for it. The caller knows the next change from
+// the offset on.
 fn put_changes(
     text: &[u8],
     policy: &[u8],
@@ -143,10 +144,9 @@ fn put_changes(
     }
 }
 
-// Formats a text that has a change, of which the first is known, into an output that may be too short: it is measured before.
+// Formats a text into an output that may be too short: it measures the formatted text before it writes. The caller knows the first change.
 fn format_measured(text: &[u8], policy: &[u8], first: Change, out: &mut [u8]) -> FormatAnswer
-    requires { ⌜ (length (now text) ≤ textLimit) × (isPolicy (now policy) ≡ true) × NextChange (policyOf (now policy)) (now text) 0 first
-        × (first .present ≡ true) ⌝ }
+    requires { ⌜ FirstChange (now text) (now policy) first ⌝ }
     ensures { λ r. ⌜ record { answer = r; buffer = now (out .exit) } ≡ format (now (text .entry)) (now (policy .entry)) (now (out .entry)) ⌝ }
 {
     let Survey { valid_up_to, len } = survey_text(text, policy, first);
@@ -160,7 +160,8 @@ fn format_measured(text: &[u8], policy: &[u8], first: Change, out: &mut [u8]) ->
     FormatAnswer::Changed { len }
 }
 
-// Up to where a text is well-formed, by a change that was found: without one more the search came to the end of what is.
+// The length of the longest well-formed beginning of a text, by the answer of `next_change`. If no change is present, that is where the
+// search ended.
 fn valid_after(text: &[u8], change: Change) -> usize
     requires { ⌜ change .end ≤ length (now text) ⌝ }
     ensures { λ r. ⌜ (change .present ≡ true → r ≡ change .end + validUpTo (drop (change .end) (now (text .entry))))
@@ -173,11 +174,10 @@ fn valid_after(text: &[u8], change: Change) -> usize
     end + utf8::valid_up_to(&text[end..])
 }
 
-// Formats a text that has a change, of which the first is known, into an output that has room for every formatted text. The second one
-// is asked for before anything is written: most messages have none, and then it is known that the rest is well-formed.
+// Formats a text into an output that has room for every formatted text of its length. The caller knows the first change. Before the
+// function writes, it looks for the second one: most messages have none, and then the search has tested the rest of the text too.
 fn format_at_once(text: &[u8], policy: &[u8], first: Change, out: &mut [u8]) -> FormatAnswer
-    requires { ⌜ (length (now text) ≤ textLimit) × (isPolicy (now policy) ≡ true) × NextChange (policyOf (now policy)) (now text) 0 first
-        × (first .present ≡ true) × (4 * length (now text) ≤ length (now out)) ⌝ }
+    requires { ⌜ FirstChange (now text) (now policy) first × (4 * length (now text) ≤ length (now out)) ⌝ }
     ensures { λ r. ⌜ record { answer = r; buffer = now (out .exit) } ≡ format (now (text .entry)) (now (policy .entry)) (now (out .entry)) ⌝ }
 {
     let end = first.end;
@@ -192,7 +192,7 @@ fn format_at_once(text: &[u8], policy: &[u8], first: Change, out: &mut [u8]) -> 
     }
 }
 
-// Writes the formatted text at the front of the output, if it is another text and fits.
+// Formats a text: writes the formatted text at the front of the output, if it differs from the text and fits.
 pub fn format_text(text: &[u8], policy: &[u8], out: &mut [u8]) -> FormatAnswer
     ensures { λ r. ⌜ EndsAs formatRow (format (now (text .entry)) (now (policy .entry)) (now (out .entry))) r (now (out .exit)) ⌝ }
 {

@@ -1,5 +1,4 @@
--- The rows of items that a scanner hands out, put one after the other: where the loop stands, what a turn does to that, and when it is
--- over.
+-- The rows of the items that a scanner gives, put one after the other: the invariant of the loop, and what each turn does to it.
 use mathlib.Core.Path.{_≡_, refl, sym, ap, _∙_}
 use mathlib.Core.Bool.{Bool, true, false, cond, true≢false}
 use mathlib.Core.List.{List, [], _++_}
@@ -12,13 +11,13 @@ use Rattle.base.proofs.Writer.{Writing, begin, finish, put, room}
 use Rattle.scanner.specs.Spans.{scan, scanAt, scanFrom}
 use Rattle.scanner.specs.declared.ScanStep.{ScanStep}
 use Rattle.scanner.specs.declared.ScanStep.the-variants as Step
-use Rattle.text_scanner.specs.Scanner.{after}
+use Rattle.text_scanner.specs.Scanner.{offsetAfterStep}
 use Rattle.formatter.specs.List.{itemNumbers}
 use Rattle.formatter.proofs.Steps.{cursor-goes}
 use Rattle.listing.specs.Items.{isItem, stepBytes}
 
--- The scanner stands at the offset o, the next row goes to the place `to` of the table zs, which was ys, and `more` says that the scanner
--- has not said the end.
+-- The invariant: the scanner is at the offset o, the next row goes to the offset `to` of the table zs, which was ys at first, and the
+-- scanner has given the end of the text if `more` is false.
 pub record Going (t ys : List ℕ) (o to : ℕ) (zs : List ℕ) (more : Bool) : Type 0 where
   pub within : o ≤ length t
   pub writing : Writing (rowsBytes itemNumbers (scan t)) 0 ys (rowsBytes itemNumbers (scanFrom t o)) zs to
@@ -32,7 +31,7 @@ going-begin t ys h = record {
   over = λ e. absurd (true≢false e);
 }
 
--- What is left: the bytes, and the call that says the end.
+-- The measure: the bytes after the offset, and 1 for the call that gives the end.
 abbrev pub left : List ℕ → ℕ → Bool → ℕ
 left t o more = length t - o + cond more 1 0
 
@@ -43,10 +42,10 @@ module _ {t ys : List ℕ} {o to : ℕ} {zs : List ℕ} {more : Bool} (g : Going
   abbrev rest : ℕ → List ℕ
   rest n = rowsBytes itemNumbers (scanFrom t n)
 
-  -- The rows from here on are that of the answer, and those after it.
-  parts : (s : ScanStep) → s ≡ scanAt t o → (after s o ≤ length t) × (rest o ≡ stepBytes s ++ rest (after s o))
-      × (isItem s ≡ false → scanFrom t (after s o) ≡ [])
-      × (left t (after s o) (isItem s) < left t o true)
+  -- The rows from the offset on are the row of the scanner's answer, and the rows after it.
+  parts : (s : ScanStep) → s ≡ scanAt t o → (offsetAfterStep s o ≤ length t) × (rest o ≡ stepBytes s ++ rest (offsetAfterStep s o))
+      × (isItem s ≡ false → scanFrom t (offsetAfterStep s o) ≡ [])
+      × (left t (offsetAfterStep s o) (isItem s) < left t o true)
   unfolding rowsBytes
   parts (Step.Item x) e =
       let h = cursor-goes t o e in
@@ -54,19 +53,19 @@ module _ {t ys : List ℕ} {o to : ℕ} {zs : List ℕ} {more : Bool} (g : Going
   parts Step.End e = let h = cursor-goes t o e in (g .within, refl, λ f. h, omega arith)
 
   pub going-room : (s : ScanStep) → s ≡ scanAt t o → to + length (stepBytes s) ≤ length zs
-  going-room s e = room all 0 ys (rest o) (stepBytes s) (rest (after s o)) (g .writing) (parts s e .1)
+  going-room s e = room all 0 ys (rest o) (stepBytes s) (rest (offsetAfterStep s o)) (g .writing) (parts s e .1)
 
   pub going-on : (s : ScanStep) → s ≡ scanAt t o → {zs′ : List ℕ} {to′ : ℕ} {more′ : Bool} → PutAt zs to (stepBytes s) zs′ to′
       → more′ ≡ isItem s
-      → Going t ys (after s o) to′ zs′ more′
+      → Going t ys (offsetAfterStep s o) to′ zs′ more′
   going-on s e p m = record {
     within = parts s e .0;
-    writing = put all 0 ys (rest o) (rest (after s o)) (g .writing) p (parts s e .1);
+    writing = put all 0 ys (rest o) (rest (offsetAfterStep s o)) (g .writing) p (parts s e .1);
     over = λ f. parts s e .2 (sym m ∙ f);
   }
 
   pub going-nearer : (s : ScanStep) → s ≡ scanAt t o → more ≡ true → {more′ : Bool} → more′ ≡ isItem s
-      → left t (after s o) more′ < left t o more
+      → left t (offsetAfterStep s o) more′ < left t o more
   going-nearer s e f m = rw (f, m) (parts s e .3)
 
   pub going-done : more ≡ false → PutAt ys 0 all zs to

@@ -1,4 +1,4 @@
--- What the next finding says of the findings from an offset on: how many there are, the first of them with its row, or that there is none.
+-- What the answer of `next_finding` says of the findings from an offset on: their number, or the first of them with its row.
 use mathlib.Core.Path.{_≡_, refl, ap, ap₂, sym, _∙_}
 use mathlib.Core.Bool.{Bool, true, false}
 use mathlib.Core.List.{List, [], _∷_, map}
@@ -18,7 +18,7 @@ use Rattle.text_pass.specs.declared.findings.FindingSpan.{FindingSpan}
 use Rattle.text_pass.proofs.Passing.{finds-here, finds-room, finds-some, left-length}
 use Rattle.formatter.proofs.Steps.{Ahead, none-found, rowsFrom}
 
--- ---- all of them, which start before the end of the text
+-- ---- the limit is the end of the text: all findings are passed
 
 module _ {p : Policy} {text : List ℕ} {r : FindingSpan} (n : NextFinding p text (length text) 0 r) where
   none-more : chars (drop (r .start) text) ≡ []
@@ -29,18 +29,18 @@ module _ {p : Policy} {text : List ℕ} {r : FindingSpan} (n : NextFinding p tex
       go false e = n .2 e .0
 
   pub all-counted : r .passed ≡ length (findingsFrom p text 0)
-  all-counted = omega (arith, left-length (n .0 .left), ap length (none-found p text (r .start) none-more))
+  all-counted = omega (arith, left-length (n .0 .skips), ap length (none-found p text (r .start) none-more))
 
   pub all-valid : r .start ≡ validUpTo text
-  all-valid = omega (arith, n .0 .valid, size-chars (drop (r .start) text), ap (size width) none-more)
+  all-valid = omega (arith, n .0 .advances .valid, size-chars (drop (r .start) text), ap (size width) none-more)
 
--- ---- there is one
+-- ---- a finding is present
 
 module _ {p : Policy} {text : List ℕ} {start end : ℕ} (f : Finds p text start end) where
   pub finds-ahead : Ahead text start end
   finds-ahead = record { some = finds-some f; room = finds-room f }
 
--- Its row is its start, its end and its counts.
+-- The row of a finding is its start, its end and its counts.
 pub finds-row : {p : Policy} {text : List ℕ} {start end : ℕ} {n : NonCanonicality} → Counted p text start end n
     → rowsFrom p text start ≡ record { start = start; end = end; counts = n } ∷ rowsFrom p text end
 unfolding findingRow
@@ -51,9 +51,9 @@ finds-row {p} {text} {start} {end} f =
 
 module _ {p : Policy} {text : List ℕ} {from start end : ℕ} (a : NoFindingBetween p text from start) (f : Finds p text start end) where
   pub next-ahead : Ahead text from end
-  next-ahead = let h = finds-ahead f in let o = a .on in let s = h .some in record { some = omega arith; room = h .room }
+  next-ahead = let h = finds-ahead f in let o = a .advances .on in let s = h .some in record { some = omega arith; room = h .room }
 
--- The rows from an offset on, before which there is none from another on.
+-- If no finding starts between two offsets, the rows from the first on are those from the second on.
 pub next-row : {p : Policy} {text : List ℕ} {from start : ℕ} {rows : List Finding} → NoFindingBetween p text from start
     → rowsFrom p text start ≡ rows → rowsFrom p text from ≡ rows
 next-row {p} a e = ap (map (findingRow p)) (a .same) ∙ e

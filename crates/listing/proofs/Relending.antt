@@ -1,4 +1,4 @@
--- A `&κ mut [T]` that is lent again for a lifetime κ′ of a call, and comes back. It says nothing of the crate.
+-- A `&κ mut [T]` that is lent again for the lifetime κ′ of a call, and comes back. These laws hold for every crate.
 use mathlib.Core.Path.{_≡_, refl, sym, ap, subst, _∙_}
 use Prim.Native.Nat.{ℕ}
 use mathlib.Core.List.{List, [], _∷_}

@@ -1,5 +1,5 @@
--- Storing findings one by one: the findings after the first, the table after so many turns, and that what was decided
--- beforehand comes to `list`.
+-- Storing findings one by one: the findings after the first, the table after k turns, and that a plan, when it is carried out, gives the
+-- outcome `list`.
 use mathlib.Core.Path.{_≡_, refl, ap, sym, _∙_, subst}
 use mathlib.Core.Bool.{Bool, true, false, cond}
 use mathlib.Core.List.{List, [], _∷_, _++_, map}
@@ -64,7 +64,7 @@ module _ (p : Policy) (text : List ℕ) where
 
 -- ---- the table
 
--- A table with the first k of the rows at its front.
+-- A table with the first k rows at its front.
 abbrev pub stored : List Finding → List Finding → ℕ → List Finding
 stored rows table k = take k rows ++ drop k table
 
@@ -78,7 +78,7 @@ stored-more (x ∷ xs) [] k d held room = absurd (not-suc-le-zero room)
 stored-more (x ∷ xs) (y ∷ ys) zero d held room = refl
 stored-more (x ∷ xs) (y ∷ ys) (suc k) d held room = ap (λ (l : List Finding). x ∷ l) (stored-more xs ys k d (omega arith) (omega arith))
 
--- A turn stores the finding that comes next, and goes on at its end.
+-- A turn stores the next finding, and the next turn starts at its end.
 pub turn : (p : Policy) (text : List ℕ) (rows table : List Finding) (k at : ℕ) (r : Finding) → rowsFrom p text at ≡ drop k rows
     → k < length rows → k < length table
     → r ≡ firstFinding p text at → (set (stored rows table k) k r ≡ stored rows table (k + 1))
@@ -92,13 +92,13 @@ turn p text rows table k at r here held room e =
           ∙ ap (λ (n : ℕ). drop n rows) (sym (add-one k)),
     )
 
--- ---- what is decided beforehand
+-- ---- the plan
 
 -- The rows of a text's findings.
 abbrev pub rowsOf : List ℕ → List ℕ → List Finding
 rowsOf text policy = map (findingRow (policyOf policy)) (findings text policy)
 
--- The plan by the answers of the tests.
+-- The plan, by the answers of the tests.
 abbrev planBy : Option Refusal → Bool → ℕ → Policy → ListingPlan
 planBy o fits n p =
     let plan : ℕ → ListAnswer → ListingPlan = λ places answer. record { places = places; policy = p; answer = answer } in
@@ -120,7 +120,7 @@ module _ (text policy : List ℕ) (room : ℕ) {p : Policy} (same : p ≡ policy
     pub plan-all : n ≤ room → planBy none true n p ≡ listingPlan text policy room
     plan-all l = plan-is passed (le-leb (length (rowsOf text policy)) room (omega (arith, counted))) counted
 
--- What a plan comes to: as many findings as are there and have room, and with them stored the outcome is `list`.
+-- What the loop needs of a plan: it stores no more findings than there are and have room, and once they are stored, the outcome is `list`.
 pub record Planned (text policy : List ℕ) (table : List Finding) (plan : ListingPlan) : Type 0 where
   pub held : plan .places ≤ length (rowsFrom (plan .policy) text 0)
   pub room : plan .places ≤ length table
@@ -131,7 +131,7 @@ module _ (text policy : List ℕ) (table : List Finding) where
   abbrev rows : List Finding
   rows = rowsOf text policy
 
-  -- The outcome by the answers of the tests.
+  -- The outcome of `list`, by the answers of the tests.
   abbrev listBy : Option Refusal → Bool → After ListAnswer Finding
   listBy o fits = orElse o (λ (r : Refusal). unwritten (Refused r) table)
       (cond fits (written (Listed (length rows)) rows table) (unwritten (Refused (TableTooShort (length rows))) table))

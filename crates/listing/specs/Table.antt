@@ -1,5 +1,5 @@
--- Listing into a table of findings, step by step: what is decided beforehand, and each finding from an offset on
--- (document 01, "Counts and finding", "Turned back"). The whole outcome of the call is `list` of List.antt.
+-- Contracts of helper functions: listing findings step by step (document 01, "Counts and finding", "Turned back"). The whole outcomes of the
+-- calls are `listBytes` and `list` of crates/formatter/specs/List.antt; `fewFindings` is the outcome of `list` on a table of eight places.
 use mathlib.Core.Bool.{cond}
 use mathlib.Core.List.{List, [], _∷_, map}
 use Prim.Native.Nat.{ℕ}
@@ -21,20 +21,24 @@ use Rattle.base.specs.declared.ListAnswer.the-variants.{Listed, Refused}
 use Rattle.listing.specs.declared.table.FewFindings.{FewFindings}
 use Rattle.listing.specs.declared.table.ListingPlan.{ListingPlan}
 
--- No finding: empty, at an offset.
+-- The rows of all findings of a text, by its bytes and the policy's.
+abbrev pub findingRows : List ℕ → List ℕ → List Finding
+findingRows text policy = map (findingRow (policyOf policy)) (findingsFrom (policyOf policy) text 0)
+
+-- An empty finding at an offset: it stands for "no finding".
 abbrev pub noFinding : ℕ → Finding
 noFinding at = record { start = at; end = at; counts = empty }
 
--- The first of a list of findings, or another where there is none.
+-- The first finding of a list, or the finding `none` if the list is empty.
 abbrev pub firstOr : Finding → List Finding → Finding
 firstOr none [] = none
 firstOr none (f ∷ fs) = f
 
--- "in text order": the first finding from an offset on.
+-- "in text order": the first finding from an offset on, or an empty one at the offset if there is none.
 unfoldable pub firstFinding : Policy → List ℕ → ℕ → Finding
 firstFinding p text at = firstOr (noFinding at) (map (findingRow p) (findingsFrom p text at))
 
--- Refusals 1, 2, 3 and 7 in this order, each of which stores nothing; else every finding is stored.
+-- What is stored in a table of `room` places: nothing if there is a refusal, which are 1, 2, 3 and 7 in this order; else every finding.
 unfoldable pub listingPlan : List ℕ → List ℕ → ℕ → ListingPlan
 listingPlan text policy room =
     let n = length (map (findingRow (policyOf policy)) (findings text policy)) in
@@ -42,7 +46,7 @@ listingPlan text policy room =
     orElse (intakeRefusal text policy) (λ (r : Refusal). plan 0 (Refused r))
     (cond (leb n room) (plan n (Listed n)) (plan 0 (Refused (TableTooShort n))))
 
--- Listing into a table of eight places that hold no finding: the answer, and the table after the call.
+-- The answer of listing into a table of eight empty findings, and the table after the call.
 unfoldable pub fewFindings : List ℕ → List ℕ → FewFindings
 fewFindings text policy =
     let after = list text policy (replicate 8 (noFinding 0)) in

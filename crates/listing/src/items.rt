@@ -1,6 +1,6 @@
-// Listing the items of a text into a table lent by the caller, as lib.rt lists findings. A row is four numbers of 8 bytes, lowest
-// first: start, end, kind, and whether the tags are complete. The rows are those of the items that a `Scanner` hands out.
-// `list_items` equals `listItems` of specs/List.antt of formatter.
+// Listing the items of a text into a table lent by the caller, as lib.rt lists findings. A row is four numbers of 8 bytes each, lowest
+// byte first: start, end, kind, and whether the tags are complete. A `Scanner` gives the items.
+// `list_items` equals `listItems` of crates/formatter/specs/List.antt.
 ghost use mathlib.Core.Path.{_≡_};
 ghost use mathlib.Core.Bool.{cond};
 ghost use Prim.Native.Nat.{_+_, _≤_};
@@ -22,12 +22,13 @@ use scanner::text_check::check_text;
 use text_scanner::Scanner;
 use text_scanner::next;
 
-// The numbers of a row, and its bytes.
+// How many numbers a row has.
 const ROW_NUMBERS: usize = 4;
 
+// How many bytes a row has.
 const ROW_BYTES: usize = ROW_NUMBERS * WORD_BYTES;
 
-// How many items there are.
+// Counts the items of a text.
 fn count_items(text: &[u8]) -> usize
     ensures { λ r. ⌜ r ≡ length (scan (now (text .entry))) ⌝ }
 {
@@ -50,7 +51,7 @@ fn flag_number(flag: bool) -> usize
     0
 }
 
-// Puts the row of an item, for which there is room.
+// Puts the row of an item into the table, which has room for it, and returns where it ends.
 fn put_item(table: &mut [u8], start: usize, item: ScanItem) -> usize
     requires { ⌜ start + itemBytes ≤ length (now table) ⌝ }
     ensures { λ r. ⌜ PutAt (now (table .entry)) start (bytesOf (itemNumbers item)) (now (table .exit)) r ⌝ }
@@ -63,13 +64,13 @@ fn put_item(table: &mut [u8], start: usize, item: ScanItem) -> usize
     start + ROW_BYTES
 }
 
-// Where the next row goes, and whether the scanner has not said the end.
+// Where the next row goes, and whether the scanner may have more items.
 struct PutRows {
     to: usize,
     more: bool,
 }
 
-// Puts the row of an answer's item, for which there is room; at the end nothing.
+// Puts the row of the item that the scanner gave into the table, which has room for it. At the end of the text it puts nothing.
 fn put_step(table: &mut [u8], to: usize, step: ScanStep) -> PutRows
     requires { ⌜ to + length (stepBytes step) ≤ length (now table) ⌝ }
     ensures { λ r. ⌜ (PutAt (now (table .entry)) to (stepBytes step) (now (table .exit)) (r .to)) × (r .more ≡ isItem step) ⌝ }
@@ -86,7 +87,7 @@ fn put_step(table: &mut [u8], to: usize, step: ScanStep) -> PutRows
     }
 }
 
-// Puts the row of each item, for which there is room: a scanner hands the items out, up to the end.
+// Puts the row of each item into the table, which has room for all, and returns where the last one ends. A scanner gives the items.
 fn put_items(text: &[u8], table: &mut [u8]) -> usize
     requires { ⌜ length (rowsBytes itemNumbers (scan (now text))) ≤ length (now table) ⌝ }
     ensures { λ r. ⌜ PutAt (now (table .entry)) 0 (rowsBytes itemNumbers (scan (now (text .entry)))) (now (table .exit)) r ⌝ }
@@ -100,7 +101,7 @@ fn put_items(text: &[u8], table: &mut [u8]) -> usize
     rows.to
 }
 
-// Lists the items of a text, if the table has a place for each.
+// Lists the items of a text, if the table has room for all.
 pub fn list_items(text: &[u8], table: &mut [u8]) -> ListAnswer
     ensures { λ r. ⌜ EndsAs listRow (listItems (now (text .entry)) (now (table .entry))) r (now (table .exit)) ⌝ }
 {

@@ -1,13 +1,11 @@
-// Listing the findings of a text into a table lent by the caller (document 01, "Counts and finding", "Turned back"). A row is ten
-// numbers of 8 bytes, lowest first: start, end and the eight counts. The text is gone through from finding to finding (crate text_pass):
-// once
-// to count them, and once more to write them where there are some and all fit.
-// `list_findings` equals `listBytes` of specs/List.antt.
+// Listing the findings of a text into a table lent by the caller (document 01, "Counts and finding", "Turned back"). A row is ten numbers of
+// 8 bytes each, lowest byte first: start, end and the eight counts. `list_findings` goes through the text from finding to finding (crate
+// text_pass): once to count the findings, and once more to write their rows, if there are any and all fit.
+// `list_findings` equals `listBytes` of crates/formatter/specs/List.antt.
 pub mod items;
 pub mod table;
 
 ghost use mathlib.Core.Path.{_≡_};
-ghost use mathlib.Core.List.{map};
 ghost use Prim.Native.Nat.{_+_, _*_, _≤_};
 ghost use lib.ListN.{length};
 ghost use Rattle.base.specs.Tables.{fillTable, rowsBytes};
@@ -17,8 +15,8 @@ ghost use Rattle.base.specs.Words.{bytesOf};
 ghost use Rattle.utf8.specs.Rfc3629.{validUpTo};
 ghost use Rattle.policy.specs.PolicyBytes.{policyOf};
 ghost use Rattle.analysis.specs.Findings.{findingsFrom};
-ghost use Rattle.formatter.specs.Findings.{findingRow};
 ghost use Rattle.formatter.specs.List.{listBytes, rowBytes, rowNumbers};
+ghost use Rattle.listing.specs.Table.{findingRows};
 use analysis::types::Finding;
 use base::ListAnswer;
 use base::Refusal;
@@ -29,18 +27,19 @@ use policy::policy_bytes::policy_refusal;
 use text_pass::findings::FindingSpan;
 use text_pass::findings::next_finding;
 
-// The numbers of a row, and its bytes.
+// How many numbers a row has.
 pub const ROW_NUMBERS: usize = 10;
 
+// How many bytes a row has.
 pub const ROW_BYTES: usize = ROW_NUMBERS * WORD_BYTES;
 
-// How many findings there are, and the length of the longest well-formed beginning.
+// The number of findings of a text, and the length of its longest well-formed beginning.
 pub(crate) struct FindingCount {
     pub(crate) findings: usize,
     pub(crate) valid_up_to: usize,
 }
 
-// Counts the findings: all of them start before the end of the text.
+// Counts the findings of a text. With the end of the text as its limit, `next_finding` passes all of them.
 pub(crate) fn count_findings(text: &[u8], policy: &[u8]) -> FindingCount
     ensures findings { λ r. ⌜ r .findings ≡ length (findingsFrom (policyOf (now (policy .entry))) (now (text .entry)) 0) ⌝ }
     ensures valid { λ r. ⌜ r .«valid_up_to» ≡ validUpTo (now (text .entry)) ⌝ }
@@ -77,7 +76,7 @@ pub fn row_numbers(finding: Finding) -> [usize; ROW_NUMBERS]
     ]
 }
 
-// Puts the row of a finding, for which there is room.
+// Puts the row of a finding into the table, which has room for it, and returns where it ends.
 fn put_row(table: &mut [u8], start: usize, finding: Finding) -> usize
     requires { ⌜ start + rowBytes ≤ length (now table) ⌝ }
     ensures { λ r. ⌜ PutAt (now (table .entry)) start (bytesOf (rowNumbers finding)) (now (table .exit)) r ⌝ }
@@ -87,13 +86,11 @@ fn put_row(table: &mut [u8], start: usize, finding: Finding) -> usize
     start + ROW_BYTES
 }
 
-// Puts the row of each finding, for which there is room.
+// Puts the row of each finding into the table, which has room for all, and returns where the last one ends.
 fn put_findings(text: &[u8], policy: &[u8], table: &mut [u8]) -> usize
-    requires { ⌜ length (rowsBytes rowNumbers
-        (map (findingRow (policyOf (now policy))) (findingsFrom (policyOf (now policy)) (now text) 0))) ≤ length (now table) ⌝ }
-    ensures { λ r. ⌜ PutAt (now (table .entry)) 0
-        (rowsBytes rowNumbers (map (findingRow (policyOf (now (policy .entry))))
-        (findingsFrom (policyOf (now (policy .entry))) (now (text .entry)) 0))) (now (table .exit)) r ⌝ }
+    requires { ⌜ length (rowsBytes rowNumbers (findingRows (now text) (now policy))) ≤ length (now table) ⌝ }
+    ensures { λ r. ⌜ PutAt (now (table .entry)) 0 (rowsBytes rowNumbers (findingRows (now (text .entry)) (now (policy .entry))))
+        (now (table .exit)) r ⌝ }
 {
     let mut at = 0;
     let mut to = 0;
@@ -113,13 +110,11 @@ fn put_findings(text: &[u8], policy: &[u8], table: &mut [u8]) -> usize
     }
 }
 
-// Lists the findings, of which there are so many, if the table has a place for each.
+// Lists the findings of a text, if the table has room for all. `findings` is their number.
 fn fill_table(text: &[u8], policy: &[u8], findings: usize, table: &mut [u8]) -> ListAnswer
     requires { ⌜ findings ≡ length (findingsFrom (policyOf (now policy)) (now text) 0) ⌝ }
     ensures { λ r. ⌜ record { answer = r; buffer = now (table .exit) }
-        ≡ fillTable rowNumbers rowBytes
-        (map (findingRow (policyOf (now (policy .entry)))) (findingsFrom (policyOf (now (policy .entry))) (now (text .entry)) 0))
-        (now (table .entry)) ⌝ }
+        ≡ fillTable rowNumbers rowBytes (findingRows (now (text .entry)) (now (policy .entry))) (now (table .entry)) ⌝ }
 {
     if findings == 0 {
         return ListAnswer::Listed { findings };
@@ -131,7 +126,7 @@ fn fill_table(text: &[u8], policy: &[u8], findings: usize, table: &mut [u8]) -> 
     ListAnswer::Listed { findings }
 }
 
-// Lists the findings of a text under a policy, by their bytes.
+// Lists the findings of a text under a policy. The text and the policy are given as bytes.
 pub fn list_findings(text: &[u8], policy: &[u8], table: &mut [u8]) -> ListAnswer
     ensures { λ r. ⌜ EndsAs listRow (listBytes (now (text .entry)) (now (policy .entry)) (now (table .entry))) r (now (table .exit)) ⌝ }
 {

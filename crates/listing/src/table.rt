@@ -1,7 +1,7 @@
-// Listing the findings of a text into a table of structs (document 01, "Counts and finding": "The findings are listed in
-// text order into a table lent by the caller"). What is listed is decided beforehand (`plan_listing`), and each finding
-// comes by value (`first_finding`): `list_into_table` only stores them. It equals `list` of specs/List.antt, to which
-// `ListedAsBytes` ties the table of bytes.
+// Listing the findings of a text into a table of structs (document 01, "Counts and finding": "The findings are listed in text order into a
+// table lent by the caller"). `plan_listing` decides what is listed, and `first_finding` returns each finding by value: `list_into_table`
+// only stores them. It equals `list` of crates/formatter/specs/List.antt. The theorem `ListedAsBytes` of crates/formatter/specs/Theorems.antt
+// says that the table of bytes of lib.rt agrees with it.
 ghost use mathlib.Core.Path.{_≡_};
 ghost use Rattle.base.specs.Answers.{EndsAs, listRow};
 ghost use Rattle.formatter.specs.List.{list};
@@ -19,23 +19,23 @@ use policy::Policy;
 use policy::ReadPolicy;
 use replacing::analyze_scan_item;
 
-// How many findings are few.
+// The number of places in the table of `list_few`.
 pub const FEW: usize = 8;
 
-// What listing into a table is to do: how many findings it stores, under which policy, and what it answers.
+// What `list_into_table` is to do: how many findings it stores, under which policy, and what it answers.
 struct ListingPlan {
     places: usize,
     policy: Policy,
     answer: ListAnswer,
 }
 
-// The findings of a text that has few of them, at the front of a table by value.
+// The answer of `list_few`, and its table with the findings at the front.
 pub struct FewFindings {
     pub answer: ListAnswer,
     pub findings: [Finding; FEW],
 }
 
-// No finding: empty, at an offset.
+// An empty finding at an offset: it stands for "no finding".
 fn no_finding(at: usize) -> Finding
     ensures { λ r. ⌜ r ≡ noFinding at ⌝ }
 {
@@ -47,7 +47,7 @@ fn no_finding(at: usize) -> Finding
     }
 }
 
-// The first finding from an offset on, or none there.
+// The first finding from an offset on, or an empty one at the offset if there is none.
 fn first_finding(text: &[u8], start: usize, policy: Policy) -> Finding
     ensures { λ r. ⌜ r ≡ firstFinding policy (now (text .entry)) start ⌝ }
 {
@@ -67,7 +67,7 @@ fn first_finding(text: &[u8], start: usize, policy: Policy) -> Finding
     }
 }
 
-// All findings where the tests pass and the table has a place for each, and none where the answer is a refusal.
+// Decides what is stored: all findings, if the tests pass and the table has a place for each; else none, and the answer is a refusal.
 fn plan_listing(text: &[u8], policy: &[u8], room: usize) -> ListingPlan
     ensures { λ r. ⌜ r ≡ listingPlan (now (text .entry)) (now (policy .entry)) room ⌝ }
 {
@@ -103,7 +103,7 @@ fn plan_listing(text: &[u8], policy: &[u8], room: usize) -> ListingPlan
     }
 }
 
-// Lists the findings of a text under a policy, by its bytes: each is stored in the table at its place.
+// Lists the findings of a text under a policy: stores them in the table in text order. The policy is given as bytes.
 pub fn list_into_table(text: &[u8], policy: &[u8], table: &mut [Finding]) -> ListAnswer
     ensures { λ r. ⌜ EndsAs listRow (list (now (text .entry)) (now (policy .entry)) (now (table .entry))) r (now (table .exit)) ⌝ }
 {
@@ -119,7 +119,7 @@ pub fn list_into_table(text: &[u8], policy: &[u8], table: &mut [Finding]) -> Lis
     plan.answer
 }
 
-// The answer and the table, handed on by value.
+// Puts an answer and a table together.
 fn few_findings(answer: ListAnswer, findings: [Finding; FEW]) -> FewFindings
     ensures { λ r. ⌜ r ≡ record { answer = answer; findings = findings } ⌝ }
 {

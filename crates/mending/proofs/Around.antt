@@ -1,4 +1,4 @@
--- Bytes put into a lent buffer around a part, and then into that part.
+-- Bytes are put into a lent buffer before and after a part of it, and then into that part.
 use mathlib.Core.Path.{_≡_, ap, ap₂, sym, _∙_}
 use mathlib.Core.List.{List, _++_, append-assoc}
 use Prim.Native.Nat.{ℕ, _+_, _≤_}
@@ -7,7 +7,8 @@ use native.Mathlib.Omega.{arith}
 use lib.ListN.{drop, length, length-append, take}
 use lib.Seq.{drop-at, drop-drop, length-sets, length-take-le, sets, sets-eq, take-append-le, take-at, take-take}
 
--- Bytes a and c put into a buffer, with room for b between them, and b put there: the three in a row, and the rest as it was.
+-- If a and c are put into a buffer with room for b between them, and then b is put there, the buffer has a, b and c in a row, and the rest is
+-- as it was.
 module _ (a b c o : List ℕ) {m n : ℕ} (la : length a ≡ m) (lb : length b ≡ n) (h : m + n + length c ≤ length o) where
   abbrev A : List ℕ
   A = sets o 0 a

@@ -1,4 +1,4 @@
--- A mending call by its parts: the text that is put together, and the tests of the decisions for the finding at the offset.
+-- A mending call by its parts: the text that it writes, and the tests of the decisions for the finding at the offset.
 use mathlib.Core.Path.{_≡_, refl, ap, ap₂, sym, _∙_}
 use mathlib.Core.List.{List, [], _∷_, _++_, append-nil, map}
 use mathlib.Core.Option.{Option, none, some}
@@ -32,13 +32,13 @@ use Rattle.analysis.proofs.Replacing.{item-written, out-short, out-written, par
 use Rattle.formatter.specs.Demand3.{Accepted}
 use Rattle.formatter.specs.Findings.{findings}
 use Rattle.formatter.specs.Mend.{exchanged, mend}
-use Rattle.mending.specs.Parts.{Starts, cellsWritten}
+use Rattle.mending.specs.Parts.{Starts, cellsWritten, withCellsWritten}
 use Rattle.mending.proofs.Around.{between}
 use Rattle.formatter.proofs.Calls.{pass-intake}
 
--- ---- the text that is put together
+-- ---- the text that is written
 
--- A part's cells are written in at most four times the text's bytes.
+-- The bytes written for the cells of a part are at most four times as many as the text has.
 pub cells-few : (p : Policy) (text : List ℕ) (start end : ℕ) (ds : List Presentation)
     → length (cellsWritten p text start end ds) ≤ 4 * length text
 cells-few p text start end ds =
@@ -46,14 +46,14 @@ cells-few p text start end ds =
     let t = chars raw in
     omega (arith, render-bytes p t ds, size-width (render p (cells t) ds), size-chars raw, validUpTo-le raw, part-within text start end)
 
--- The text with the cells from start up to end written in their place, in n bytes.
+-- The text, with the part from start up to end exchanged for its written cells, which have n bytes.
 module _ (p : Policy) (text : List ℕ) (start : ℕ) (decisions : List ℕ) {end n : ℕ} (s : start ≤ end) (e : end ≤ length text)
     (h : length text ≤ textLimit) (g : n ≡ length (cellsWritten p text start end (map meaning decisions))) (out : List ℕ) where
   abbrev B : List ℕ
   B = cellsWritten p text start end (map meaning decisions)
 
   abbrev R : List ℕ
-  R = take start text ++ B ++ drop end text
+  R = withCellsWritten p text start end (map meaning decisions)
 
   start-length : length (take start text) ≡ start
   start-length = length-take-le start text (omega arith)
@@ -71,7 +71,7 @@ module _ (p : Policy) (text : List ℕ) (start : ℕ) (decisions : List ℕ) {en
       → unwritten (Refused (OutputTooShort (start + n + (length text - end)))) out ≡ writeOut R out
   exchange-short l = out-short R out _ wanted-is l
 
-  -- In a part of their length they are all that is left.
+  -- Written into a buffer of their own length, the cells fill it.
   part-filled : (a : List ℕ) → length a ≡ n → writeOut B a .buffer ≡ B
   part-filled a l =
       let t = le-leb (length B) (length a) (omega arith) in
@@ -79,7 +79,7 @@ module _ (p : Policy) (text : List ℕ) (start : ℕ) (decisions : List ℕ) {en
       ∙ append-nil B in
       sym (simp t) ∙ b
 
-  -- The bytes around them are put, and they into the part between them.
+  -- The bytes before and after the part are put into the output, and the cells are written between them.
   pub exchange-written : start + n + (length text - end) ≤ length out → {k : ℕ} → k ≡ n
       → {o : List ℕ} → o ≡ sets (sets out 0 (take start text)) (start + n) (drop end text)
       → {w : MendAnswer} {b : List ℕ} → record { answer = w; buffer = b }
@@ -98,7 +98,7 @@ module _ (p : Policy) (text : List ℕ) (start : ℕ) (decisions : List ℕ) {en
       ∙ ap (λ (o : List ℕ). take start o ++ (B ++ drop n (drop start o))) c ∙ z in
       out-written R out _ wanted-is _ l v
 
-  -- Written in none, they leave what was put around them.
+  -- If the written cells have no bytes, the output has only the bytes before and after the part.
   pub exchange-nothing : n ≡ 0 → start + n + (length text - end) ≤ length out → {o : List ℕ} → o
       ≡ sets (sets out 0 (take start text)) (start + n) (drop end text)
       → record { answer = Mended (start + n + (length text - end)); buffer = o } ≡ writeOut R out
@@ -123,7 +123,7 @@ module _ (policy text : List ℕ) (acc : Accepted policy text) (offset : ℕ) (d
   abbrev ds : List Presentation
   ds = map meaning decisions
 
-  -- The call after the intake, by the finding at the offset.
+  -- The outcome of the call after the intake, by the finding at the offset.
   mend-by : {x : Option Item} → findingAt offset (findingsFrom P text 0) ≡ x
       → (out : List ℕ) → mend text policy offset decisions out ≡ judge P x decisions (exchanged text P offset ds x) out
   unfolding mend findings
@@ -138,12 +138,12 @@ module _ (policy text : List ℕ) (acc : Accepted policy text) (offset : ℕ) (d
   unfolding judge
   mend-nothing e out = sym (mend-by e out)
 
-  -- A finding starts at the offset, and ends at end; its bytes have these counts, and the decisions are tested for them.
+  -- A finding starts at the offset and ends at `end`. The counts of its bytes decide how many decisions it wants.
   pub mend-tested : {end : ℕ} → Starts P text offset end → {q : Policy} → q ≡ P → {n : NonCanonicality} → n
       ≡ totalCells q (chars (part text offset end))
       → {t : Option Refusal} → decisionsRefusal (n .«presentation_decisions») decisions ≡ t → (out : List ℕ) {a : After MendAnswer ℕ}
       → a ≡ orElse t (λ (r : Refusal). unwritten (Refused r) out)
-      (writeOut (take offset text ++ cellsWritten q text offset end ds ++ drop end text) out)
+      (writeOut (withCellsWritten q text offset end ds) out)
       → a ≡ mend text policy offset decisions out
   unfolding judge
   mend-tested {end} s {q} r {n} c {t} d out e =

@@ -1,4 +1,4 @@
--- The finding that starts at an offset: the first one that does not start before it, or none.
+-- The finding that starts at an offset, if there is one, is the first that does not start before the offset.
 use mathlib.Core.Path.{_≡_, refl, ap, sym, _∙_}
 use mathlib.Core.Bool.{Bool, true, false, cond, true≢false}
 use mathlib.Core.List.{List}
@@ -20,7 +20,7 @@ use Rattle.text_pass.proofs.Passing.{finds-here}
 use Rattle.analysis.proofs.StartingItems.{no-finding-past}
 use Rattle.formatter.proofs.Steps.{none-found}
 
--- No finding that is passed starts at the limit.
+-- Findings before the limit o do not change which finding starts at o.
 left-at : (o : ℕ) {n : ℕ} {fs gs : List Found} → SkipsFindings o fs n gs → findingAt o fs ≡ findingAt o gs
 unfolding findingAt
 left-at o none-skipped = refl
@@ -29,7 +29,7 @@ left-at o (one-skipped {f} {fs} h a) = ap (λ (b : Bool). cond b (some (f .item)
 
 module _ {p : Policy} {text : List ℕ} where
   module _ (o : ℕ) {start end : ℕ} (h : Finds p text start end) where
-    -- The finding at the offset, by whether this is it.
+    -- The finding at the offset o is this one if it starts there, else one of the findings after it.
     finding-by : {b : Bool} → eqb start o ≡ b → findingAt o (findingsFrom p text start)
         ≡ cond b (some (h .item)) (findingAt o (findingsFrom p text end))
     unfolding findingAt
@@ -50,23 +50,16 @@ module _ {p : Policy} {text : List ℕ} where
   -- The next finding that does not start before the offset.
   module _ (o : ℕ) {r : FindingSpan} (n : NextFinding p text o 0 r) where
     next-same : findingAt o (findingsFrom p text 0) ≡ findingAt o (findingsFrom p text (r .start))
-    next-same = left-at o (n .0 .left)
+    next-same = left-at o (n .0 .skips)
 
-    -- There is none.
-    pub none-further : r .present ≡ false → FindingStarting p text o r
+    -- No finding is present.
+    pub none-further : r .present ≡ false → FindingStarting p text o (record { end = r .end; present = false })
     unfolding findingAt
-    none-further m = (λ t. absurd (true≢false (sym t ∙ m)), λ _. next-same ∙ ap (findingAt o) (none-found p text (r .start) (n .2 m .0)))
+    none-further m = (λ t. absurd (true≢false (sym t)), λ _. next-same ∙ ap (findingAt o) (none-found p text (r .start) (n .2 m .0)))
 
-    -- There is one, at the offset or after it.
+    -- A finding is present, at the offset or after it.
     pub none-before : r .present ≡ true
-        → FindingStarting p text o (record {
-          start = r .start;
-          end = r .end;
-          counts = r .counts;
-          present = eqb (r .start) o;
-          passed =
-              r .passed;
-        })
+        → FindingStarting p text o (record { end = r .end; present = eqb (r .start) o })
     none-before m = (
       λ t. starts-here o (n .1 m .1 .finds) (eqb-true (r .start) o t) next-same,
       λ f. next-same ∙ no-finding-past p o (r .start) (items (chars (drop (r .start) text)))
@@ -74,4 +67,4 @@ module _ {p : Policy} {text : List ℕ} where
     )
 
     pub next-valid : r .start + validUpTo (drop (r .start) text) ≡ validUpTo text
-    next-valid = let v = n .0 .valid in omega arith
+    next-valid = let v = n .0 .advances .valid in omega arith

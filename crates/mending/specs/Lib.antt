@@ -1,2 +1,2 @@
--- The contracts of the functions that mending calls.
+-- Contracts of helper functions: the parts of a mending call.
 pub mod Parts

@@ -1,7 +1,7 @@
--- The contracts of the functions that mending calls. The whole outcome of the call is `mend` of the crate formatter, specs/Mend.antt.
+-- Contracts of helper functions: the parts of a mending call. The whole outcome of the call is `mend` of crates/formatter/specs/Mend.antt.
 use mathlib.Core.Path.{_≡_}
 use mathlib.Core.Bool.{true, false}
-use mathlib.Core.List.{List}
+use mathlib.Core.List.{List, _++_}
 use mathlib.Core.Option.{none, some}
 use Prim.Native.Nat.{ℕ, _-_}
 use lib.ListN.{drop, take}
@@ -12,18 +12,22 @@ use Rattle.analysis.specs.Analysis.{render}
 use Rattle.analysis.specs.Cells.{cells}
 use Rattle.analysis.specs.Findings.{findingAt, findingsFrom}
 use Rattle.text_pass.specs.Findings.{Finds}
-use Rattle.text_pass.specs.declared.findings.FindingSpan.{FindingSpan}
+use Rattle.mending.specs.declared.FindingStart.{FindingStart}
 
--- The finding that starts at an offset, up to its end ..
+-- A finding starts at the offset and ends at `end`; it is the one that `findingAt` finds among the findings of the text.
 pub record Starts (p : Policy) (text : List ℕ) (offset end : ℕ) : Type 0 where
   pub finds : Finds p text offset end
   pub found : findingAt offset (findingsFrom p text 0) ≡ some (finds .item)
 
--- .. or that none does.
-abbrev pub FindingStarting : Policy → List ℕ → ℕ → FindingSpan → Type 0
+-- If a finding is present, it starts at the offset and ends at `end`. If not, no finding of the text starts there.
+abbrev pub FindingStarting : Policy → List ℕ → ℕ → FindingStart → Type 0
 FindingStarting p text offset r =
     (r .present ≡ true → Starts p text offset (r .end)) × (r .present ≡ false → findingAt offset (findingsFrom p text 0) ≡ none)
 
--- The cells of a text from an offset up to another, written with the selectors that the rules and the decisions give them.
+-- The bytes that are written for the cells of a text between two offsets: each cell has the selector that the rules and the decisions give.
 abbrev pub cellsWritten : Policy → List ℕ → ℕ → ℕ → List Presentation → List ℕ
 cellsWritten p text start end ds = encodeAll (render p (cells (chars (take (end - start) (drop start text)))) ds)
+
+-- The whole text, with the bytes between two offsets exchanged for what is written for their cells.
+abbrev pub withCellsWritten : Policy → List ℕ → ℕ → ℕ → List Presentation → List ℕ
+withCellsWritten p text start end ds = take start text ++ cellsWritten p text start end ds ++ drop end text

@@ -1,7 +1,7 @@
-// Mending one finding of a text (document 01, "Replacement and text", "Turned back"): the whole text is written with the finding's
-// replacement in its place, once every test has passed. `mend` equals `mend` of specs/Mend.antt.
+// Mending one finding of a text (document 01, "Replacement and text", "Turned back"): once every test has passed, `mend` writes the whole
+// text, with the finding exchanged for its replacement. `mend` equals `mend` of crates/formatter/specs/Mend.antt.
 ghost use mathlib.Core.Path.{_≡_};
-ghost use mathlib.Core.List.{_++_, map};
+ghost use mathlib.Core.List.{map};
 ghost use Prim.Native.Nat.{_+_, _-_, _≤_};
 ghost use lib.ListN.{drop, length, take};
 ghost use lib.Seq.{sets};
@@ -12,7 +12,7 @@ ghost use Rattle.policy.specs.PolicyBytes.{policyOf};
 ghost use Rattle.analysis.specs.Decisions.{meaning, mendRow, writeOut};
 ghost use Rattle.formatter.specs.Demand3.{Accepted};
 ghost use Rattle.formatter.specs.Mend.{mend};
-ghost use Rattle.mending.specs.Parts.{FindingStarting, Starts, cellsWritten};
+ghost use Rattle.mending.specs.Parts.{FindingStarting, Starts, cellsWritten, withCellsWritten};
 use analysis::types::MendAnswer;
 use base::Check;
 use base::Refusal;
@@ -25,43 +25,34 @@ use replacing::decisions::check_decisions;
 use replacing::measure::Measure;
 use replacing::measure::measure_cells;
 use replacing::render::write_cells;
-use text_pass::findings::FindingSpan;
 use text_pass::findings::next_finding;
 
-// The finding of a text that starts at an offset; an item may start before it and reach over it. Up to where the search ends the text is
-// well-formed.
-fn finding_starting(text: &[u8], policy: &[u8], offset: usize) -> FindingSpan
+// Whether a finding starts at a given offset, and where the search for it ended: at the end of the finding that it found, there or later,
+// or at the end of the longest well-formed beginning. Up to `end` the text is well-formed.
+struct FindingStart {
+    end: usize,
+    present: bool,
+}
+
+// Looks for a finding that starts at an offset. There is none if an item starts before the offset and ends after it.
+fn finding_starting(text: &[u8], policy: &[u8], offset: usize) -> FindingStart
     ensures starts { λ r. ⌜ FindingStarting (policyOf (now (policy .entry))) (now (text .entry)) offset r ⌝ }
     ensures valid { λ r. ⌜ (r .end ≤ length (now (text .entry)))
         × (r .end + validUpTo (drop (r .end) (now (text .entry))) ≡ validUpTo (now (text .entry))) ⌝ }
 {
-    let FindingSpan {
-        start,
-        end,
-        counts,
-        present,
-        passed,
-    } = next_finding(text, policy, offset, 0);
-    if !present {
-        return FindingSpan {
-            start,
+    let next = next_finding(text, policy, offset, 0);
+    let end = next.end;
+    if !next.present {
+        return FindingStart {
             end,
-            counts,
-            present,
-            passed,
+            present: false,
         };
     }
-    let there = start == offset;
-    FindingSpan {
-        start,
-        end,
-        counts,
-        present: there,
-        passed,
-    }
+    let present = next.start == offset;
+    FindingStart { end, present }
 }
 
-// Puts the bytes before an item and those after it, with room for so many bytes between them.
+// Puts the bytes of a text before `start` and those from `end` on into the output, with `len` bytes between them.
 fn put_around(text: &[u8], start: usize, end: usize, len: usize, out: &mut [u8])
     requires { ⌜ (start ≤ end) × (end ≤ length (now text)) × (start + len + (length (now text) - end) ≤ length (now out)) ⌝ }
     ensures { λ _. ⌜ now (out .exit) ≡ sets (sets (now (out .entry)) 0 (take start (now (text .entry)))) (start + len)
@@ -71,8 +62,8 @@ fn put_around(text: &[u8], start: usize, end: usize, len: usize, out: &mut [u8])
     base::write_bytes(out, start + len, &text[end..]);
 }
 
-// Writes the text with the cells from start up to end, which are written in so many bytes, in their place, if there is room. Selectors
-// alone are written in none.
+// Writes the text, with the bytes from `start` up to `end` exchanged for their cells written under the decisions, if the output has room.
+// The written cells have `len` bytes; a run of selectors has no cells, and `len` is 0.
 fn exchange(
     text: &[u8],
     start: usize,
@@ -85,9 +76,7 @@ fn exchange(
     requires { ⌜ (start ≤ end) × (end ≤ length (now text)) × (length (now text) ≤ textLimit)
         × (len ≡ length (cellsWritten policy (now text) start end (map meaning (now decisions)))) ⌝ }
     ensures { λ r. ⌜ record { answer = r; buffer = now (out .exit) }
-        ≡ writeOut (take start (now (text .entry))
-        ++ cellsWritten policy (now (text .entry)) start end (map meaning (now (decisions .entry))) ++ drop end (now (text .entry)))
-        (now (out .entry)) ⌝ }
+        ≡ writeOut (withCellsWritten policy (now (text .entry)) start end (map meaning (now (decisions .entry)))) (now (out .entry)) ⌝ }
 {
     let stop = start + len;
     let wanted = stop + (text.len() - end);
@@ -102,7 +91,7 @@ fn exchange(
     MendAnswer::Mended { len: wanted }
 }
 
-// Writes an accepted text with the finding from the offset up to end replaced under the decisions, if they are valid and there is room.
+// Mends the finding from `offset` up to `end` of an accepted text, if the decisions are valid and the output has room.
 fn mend_finding(
     text: &[u8],
     policy: &[u8],
@@ -126,7 +115,7 @@ fn mend_finding(
     exchange(text, offset, end, len, accepted_policy, decisions, out)
 }
 
-// Writes the text with the finding that starts at the offset replaced under the decisions.
+// Mends the finding that starts at the offset: writes the text, with the finding exchanged for its replacement under the decisions.
 pub fn mend(
     text: &[u8],
     policy: &[u8],
@@ -143,13 +132,7 @@ pub fn mend(
     if !is_policy(policy) {
         return MendAnswer::Refused(policy_refusal(policy));
     }
-    let FindingSpan {
-        start: _,
-        end,
-        counts: _,
-        present,
-        passed: _,
-    } = finding_starting(text, policy, offset);
+    let FindingStart { end, present } = finding_starting(text, policy, offset);
     let valid_up_to = end + utf8::valid_up_to(&text[end..]);
     if valid_up_to != text.len() {
         return MendAnswer::Refused(Refusal::NotWellFormed { valid_up_to });

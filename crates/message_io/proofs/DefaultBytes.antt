@@ -1,4 +1,4 @@
--- A buffer of 192 bytes is filled by the bytes of the default policy.
+-- The bytes of the default policy fill a buffer of 192 bytes.
 use mathlib.Core.Path.{_≡_, refl, ap, _∙_, subst}
 use mathlib.Core.Bool.{Bool, cond}
 use mathlib.Core.List.{List, _++_, append-nil}
@@ -14,7 +14,7 @@ use Rattle.policy.specs.DefaultPolicy.{bareAsText, bareAsTextKeycap, defaultPol
 use Rattle.policy.specs.PolicyBytes.{keyWords, policyBytes, policyWords}
 use Rattle.policy.specs.declared.Policy.{Policy}
 
--- a result as long as the buffer is all of it
+-- A result as long as the buffer is the whole buffer after the call.
 filled : {o o′ r : List ℕ} {a : WriteAnswer} → length r ≡ length o → Wrote r o o′ a → o′ ≡ r
 unfolding bufferOf
 filled {o} {o′} {r} e w =

@@ -1,4 +1,4 @@
--- Decimal digits: those that `io::decimal` gives are the definition's, and they make the number.
+-- Decimal digits: the digits that `io::decimal` writes are those of the definition, and they encode the number.
 use mathlib.Core.Path.{_≡_, refl, sym, ap, ap₂, _∙_, subst}
 use mathlib.Core.Bool.{Bool, true, false, cond}
 use mathlib.Core.Logic.{_⊎_, inl, inr}
@@ -13,7 +13,7 @@ use Rattle.io.specs.Digits.{Fewest, digits, glyph}
 use Rattle.message_io.specs.Lines.{decimal, decimalBy}
 use Rattle.message_io.specs.Theorems.{digitsNumber}
 
--- a last digit
+-- The last digit.
 last : (n : ℕ) → glyph (n % 10) ≡ 48 + n % 10
 last n = simp (lt-ltb (n % 10) 10 (omega arith))
 
@@ -48,7 +48,7 @@ by-fuel (suc fuel) (suc (suc k)) n h f =
     (by-fuel fuel (suc k) (n / 10) (omega arith)
     (omega arith, omega arith, λ w. subst (λ (m : ℕ). 10 ^ m ≤ n / 10) (sym (less k)) (omega arith))) (last n))
 
--- 20 digits hold every number of 64 bits
+-- 20 digits are enough for every number of 64 bits.
 many : (i : ℕ) → 100000000000000000000 ≤ 10 ^ (i + 20)
 many zero = omega arith
 many (suc i) = subst (λ (m : ℕ). 100000000000000000000 ≤ 10 ^ m) (sym (suc-add i 20)) (omega (arith, many i))
@@ -67,9 +67,9 @@ pub decimal-digits : (k n : ℕ) → Fewest 10 1 n k → digits 10 k n ≡ decim
 unfolding decimal
 decimal-digits k n f = by-fuel n k n (omega arith) f
 
--- ---- the digits make the number
+-- ---- the digits encode the number
 
--- a last digit
+-- One more digit at the end.
 after : (m : ℕ) (xs : List ℕ) (d : ℕ) → digitsNumber m (xs ++ (d ∷ [])) ≡ 10 * digitsNumber m xs + (d - 48)
 unfolding digitsNumber
 after m [] d = refl

@@ -1,4 +1,4 @@
--- The laws that the functions' proofs cite, and the claims.
+-- The laws that the functions' proofs use, and the proofs of the statements.
 pub mod Digits
 pub mod Reading
 pub mod Texts

@@ -1,4 +1,4 @@
--- The lines of small numbers are short: six bytes for each number.
+-- The length of a line of small numbers: at most six bytes for each number.
 use mathlib.Core.Path.{_≡_, ap, _∙_}
 use mathlib.Core.Bool.{Bool, true, false, cond}
 use mathlib.Core.List.{List, [], _∷_, _++_, map}
@@ -11,7 +11,7 @@ use Rattle.base.specs.Texts.{parted}
 use Rattle.message_io.specs.Lines.{withBlanks, decimal, decimalBy, findingLine, line, totalLine}
 use Rattle.message_io.proofs.Texts.{blanks}
 
--- The sum of numbers.
+-- The sum of a list of numbers.
 abbrev pub sum : List ℕ → ℕ
 sum [] = 0
 sum (n ∷ ns) = n + sum ns
@@ -49,7 +49,7 @@ unfolding findingLine
 finding-length n ns h =
     omega (arith, line-length (decimal n) (map decimal ns), five-digits n (omega arith), blanks-length ns (omega arith))
 
--- The word `total` has five letters.
+-- The line of the totals: the word `total` has five letters.
 pub total-length : (ns : List ℕ) → sum ns < 100000 → length (totalLine ns) ≤ 6 * suc (length ns)
 unfolding totalLine
 total-length ns h =

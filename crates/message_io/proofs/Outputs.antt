@@ -1,4 +1,4 @@
--- The three cases of what a program writes: a message over the limit, one that is refused, and the program's own result.
+-- The three cases of a program's output: a message over the limit, a refusal, and the program's own result.
 use mathlib.Core.Path.{_≡_, ap, sym, _∙_}
 use mathlib.Core.Bool.{Bool, cond}
 use mathlib.Core.List.{List}

@@ -1,4 +1,4 @@
--- Bytes that are put into a buffer leave what stands before and after them as it was.
+-- Storing bytes in a buffer does not change the bytes before and after them.
 use mathlib.Core.Path.{_≡_, sym, ap, _∙_}
 use mathlib.Core.Bool.{cond}
 use mathlib.Core.List.{List, _++_, append-assoc}
@@ -9,7 +9,7 @@ use lib.Seq.{drop-at, drop-drop, length-take-le, sets, sets-eq, take-at}
 use Rattle.base.specs.Output.{roomFor}
 use Rattle.base.proofs.Output.{bytes-put}
 
--- one piece of n bytes
+-- One piece of n bytes.
 pub around-piece : (o o′ xs : List ℕ) (at : ℕ) {n : ℕ} → n ≡ length xs → at + n ≤ length o
     → o′ ≡ cond (roomFor xs o at) (sets o at xs) o → (take at o′ ≡ take at o) × (drop (at + n) o′ ≡ drop (at + n) o)
 around-piece o o′ xs at {n} e h w =
@@ -21,7 +21,7 @@ around-piece o o′ xs at {n} e h w =
     let d = ap (drop (at + length xs)) p ∙ drop-at (front ++ xs) rest (at + length xs) (omega (arith, f, length-append front xs)) in
     (ap (take at) (p ∙ append-assoc front xs rest) ∙ take-at front (xs ++ rest) at f, rw e d)
 
--- one piece more
+-- One more piece after others.
 pub after-pieces : (o o₁ o₂ : List ℕ) (at n : ℕ) → drop at o₁ ≡ drop at o → drop (at + n) o₂ ≡ drop (at + n) o₁
     → drop (at + n) o₂ ≡ drop (at + n) o
 after-pieces o o₁ o₂ at n e f = f ∙ sym (drop-drop n at o₁) ∙ ap (drop n) e ∙ drop-drop n at o

@@ -1,4 +1,4 @@
--- Lines as they are put, piece by piece.
+-- Lines, written piece by piece.
 use mathlib.Core.Path.{_≡_, refl, sym, ap, _∙_}
 use mathlib.Core.List.{List, [], _∷_, _++_, append-assoc, append-nil, map}
 use Prim.Native.Nat.{ℕ, zero, suc, _+_, _<_, _≤_}
@@ -12,7 +12,7 @@ use Rattle.base.specs.Texts.{parted}
 use Rattle.base.proofs.Writer.{put-as, put-then}
 use Rattle.message_io.specs.Lines.{withBlanks, decimal, line}
 
--- a line is its first text, and the others after blanks
+-- A line is its first text, and the others with a blank before each.
 pub blanks : (t : List ℕ) (ts : List (List ℕ)) → parted 0x20 (t ∷ ts) ≡ t ++ withBlanks ts
 unfolding parted withBlanks
 blanks t [] = sym (append-nil t)
@@ -24,7 +24,7 @@ unfolding line
 line-put {t = t} ts p q s =
     put-as (parted 0x20 (t ∷ ts) ++ (0x0A ∷ [])) (ap (λ (xs : List ℕ). xs ++ (0x0A ∷ [])) (sym (blanks t ts))) (put-then (put-then p q) s)
 
--- what is put at the front of a buffer is its front, and what is after it is as it was
+-- Bytes that are written at the front of a buffer are its front, and the bytes after them are unchanged.
 pub front : {o o′ xs : List ℕ} {r : ℕ} → PutAt o 0 xs o′ r → r ≤ length o → Counts r o′ × ((take r o′ ≡ xs) × (drop r o′ ≡ drop r o))
 front {o} {o′} {xs} {r} p h =
     let e : r ≡ length xs = p .ends ∙ zero-add (length xs) in
@@ -35,7 +35,7 @@ front {o} {o′} {xs} {r} p h =
     ap (λ (k : ℕ). drop k o′) e ∙ ap (drop (length xs)) b ∙ drop-append-seam xs (drop (length xs) o) ∙ ap (λ (k : ℕ). drop k o) (sym e) in
     ((omega (arith, ap length (p .bytes), length-sets o 0 xs), e ∙ ap length (sym t)), (t, d))
 
--- one number more
+-- One more number.
 pub numbers-next : (i : ℕ) (ns : List ℕ) → i < length ns
     → withBlanks (map decimal (take (suc i) ns)) ≡ withBlanks (map decimal (take i ns)) ++ (0x20 ∷ decimal (getD ns i 0))
 unfolding withBlanks
@@ -48,7 +48,7 @@ numbers-next (suc i) (n ∷ ns) h =
     ap (λ (xs : List ℕ). 0x20 ∷ (decimal n ++ xs)) (numbers-next i ns (omega arith))
     ∙ ap (λ (xs : List ℕ). 0x20 ∷ xs) (sym (append-assoc (decimal n) m x))
 
--- what is returned with a refusal: a number, or nothing; 21 bytes have room for it
+-- The value of a refusal: a number, for which 21 bytes are enough, or nothing.
 pub value-put : {o o₁ : List ℕ} {s r n : ℕ} (ns : List ℕ) → ns ≡ n ∷ [] → PutAt o s (0x20 ∷ decimal n) o₁ r × (r ≤ s + 21)
     → PutAt o s (withBlanks (map decimal ns)) o₁ r × (r ≤ s + 21)
 unfolding withBlanks

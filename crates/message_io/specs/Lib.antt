@@ -1,4 +1,4 @@
--- What the two programs share: a message that is read, and the lines that are written (document 01, "Programs").
+-- Definitions for the two programs: reading a message, and the lines that they write (document 01, "Programs").
 pub mod Message
 pub mod Lines
 pub mod Theorems

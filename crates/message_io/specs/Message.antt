@@ -1,5 +1,5 @@
--- A message that is read from standard input, into a buffer that it must not fill (document 01, "Programs": each program reads up to a
--- limit, and "more gives `refused 1`").
+-- Reading a message from standard input into a buffer. Document 01, "Programs": each program reads up to a limit, and "more gives
+-- `refused 1`". The limit is one less than the buffer's length.
 use mathlib.Core.Path.{_≡_}
 use mathlib.Core.List.{List}
 use Prim.Native.Nat.{ℕ, _+_, _-_, _<_, _≤_}
@@ -9,23 +9,25 @@ use Rattle.message_io.specs.declared.Ending.{Ending}
 use Rattle.message_io.specs.declared.Ending.the-variants.{TooLong, Whole}
 use Rattle.message_io.specs.declared.Ending.the-variants as Ending
 use Rattle.message_io.specs.declared.Message.{Message}
-use Rattle.message_io.specs.declared.Turn.{Turn}
-use Rattle.message_io.specs.declared.Turn.the-variants.{Ended, Failed, More}
+use Rattle.message_io.specs.declared.ReadResult.{ReadResult}
+use Rattle.message_io.specs.declared.ReadResult.the-variants.{Ended, Failed, More}
 
--- How many bytes count: of a whole message those that were put, so that the bytes from there on are as they were; of one that is too
--- long, or whose reading failed, none.
-abbrev pub Told : Ending → ℕ → List ℕ → List ℕ → Type 0
-Told Whole n before after = drop n after ≡ drop n before
-Told TooLong n before after = n ≡ 0
-Told Ending.Failed n before after = n ≡ 0
+-- The length n of a message, by the way in which reading ended. For a whole message, the bytes of the buffer after the first n are
+-- unchanged. For a message that is too long or could not be read, n is 0.
+abbrev pub ReadLength : Ending → ℕ → List ℕ → List ℕ → Type 0
+ReadLength Whole n before after = drop n after ≡ drop n before
+ReadLength TooLong n before after = n ≡ 0
+ReadLength Ending.Failed n before after = n ≡ 0
 
--- The message is the front of the buffer. It is no longer than the limit, which is one less than the buffer's length.
-abbrev pub Fits : List ℕ → Message → List ℕ → Type 0
-Fits before m after = Counts (m .len) after × (m .len ≤ length after - 1) × Told (m .ending) (m .len) before after
+-- Contract of reading a message: it is the front of the buffer, and its length is at most the limit.
+abbrev pub ReadsMessage : List ℕ → Message → List ℕ → Type 0
+ReadsMessage before m after = Counts (m .len) after × (m .len ≤ length after - 1) × ReadLength (m .ending) (m .len) before after
 
--- What one read from a place on leaves: if it gave bytes, then at least one and no more than there is room for, and every byte before
--- and after these is as it was.
-abbrev pub Reads : List ℕ → ℕ → Turn → List ℕ → Type 0
+-- ---- contracts of helper functions
+
+-- Contract of one read at an offset. If it gave n bytes, n is at least 1, the bytes fit, and every byte before and after them is
+-- unchanged.
+abbrev pub Reads : List ℕ → ℕ → ReadResult → List ℕ → Type 0
 Reads before from Failed after = after ≡ before
 Reads before from Ended after = after ≡ before
 Reads before from (More n) after =

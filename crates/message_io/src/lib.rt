@@ -1,5 +1,6 @@
-// What the programs share: a message read from standard input, the default policy as bytes, and the lines that they write
-// (document 01, "Programs"). How long a message may be is the program's to say, by the length of the buffer that it lends.
+// Functions of the programs: reading a message from standard input, the bytes of the default policy, and the lines that
+// the programs write (document 01, "Programs"). A program sets the limit of a message by the length of the buffer that
+// it lends.
 pub mod line;
 
 ghost use mathlib.Core.Path.{_≡_};
@@ -7,57 +8,57 @@ ghost use Prim.Native.Nat.{_+_, _<_, _≤_};
 ghost use lib.ListN.{length};
 ghost use Rattle.policy.specs.DefaultPolicy.{defaultPolicy};
 ghost use Rattle.policy.specs.PolicyBytes.{policyBytes};
-ghost use Rattle.message_io.specs.Message.{Fits, Reads};
+ghost use Rattle.message_io.specs.Message.{ReadsMessage, Reads};
 use policy::POLICY_BYTES;
 use policy::Policy;
 
-// How reading ended: at the message's end, with a full buffer, or at a read that failed.
+// The way in which reading ended: at the end of the message, with a full buffer, or with an error.
 pub enum Ending {
     Whole,
     TooLong,
     Failed,
 }
 
-// What was read: a whole message of `len` bytes, or no byte of one.
+// The result of reading a message. `len` is the length of a whole message, or 0.
 pub struct Message {
     pub ending: Ending,
     pub len: usize,
 }
 
-// What one read gives: a failure, the end, or a number of bytes.
-enum Turn {
+// The result of one read: an error, the end, or a number of bytes.
+enum ReadResult {
     Failed,
     Ended,
     More { count: usize },
 }
 
-// The smaller of two numbers.
+// Returns a number that is at most each of two numbers.
 fn least(a: usize, b: usize) -> usize
     ensures { λ r. ⌜ (r ≤ a) × (r ≤ b) ⌝ }
 {
     if a < b { a } else { b }
 }
 
-// Reads once, into a piece, and puts what was read into the buffer from a place on. It does not read into the buffer itself: no
-// contract says what stands after the bytes read in a buffer that `libc::read` was lent.
-fn read_piece(buf: &mut [u8], from: usize, piece: &mut [u8]) -> Turn
+// Reads once into `piece`, and copies the bytes that were read to an offset of the buffer. It does not read into the
+// buffer itself, since the contract of `libc::read` does not say that the bytes after those read stay unchanged.
+fn read_piece(buf: &mut [u8], from: usize, piece: &mut [u8]) -> ReadResult
     requires { ⌜ from + length (now piece) ≤ length (now buf) ⌝ }
     ensures { λ r. ⌜ Reads (now (buf .entry)) from r (now (buf .exit)) ⌝ }
 {
     let got = libc::read(libc::STDIN_FILENO, piece);
     if got < 0 {
-        return Turn::Failed;
+        return ReadResult::Failed;
     }
     let count = io::count(got, piece);
     if count == 0 {
-        return Turn::Ended;
+        return ReadResult::Ended;
     }
     base::write_bytes(buf, from, &piece[..count]);
-    Turn::More { count }
+    ReadResult::More { count }
 }
 
-// Reads once, no more bytes than there is room for from a place on, and puts them there.
-fn read_some(buf: &mut [u8], from: usize) -> Turn
+// Reads once, at most as many bytes as fit into the buffer from an offset on, and stores them there.
+fn read_some(buf: &mut [u8], from: usize) -> ReadResult
     requires { ⌜ from < length (now buf) ⌝ }
     ensures { λ r. ⌜ Reads (now (buf .entry)) from r (now (buf .exit)) ⌝ }
 {
@@ -66,27 +67,27 @@ fn read_some(buf: &mut [u8], from: usize) -> Turn
     read_piece(buf, from, &mut piece[..room])
 }
 
-// Reads a message to its end, into a buffer that it must not fill: the longest message has one byte fewer than the buffer. A read that
-// gives fewer bytes than there is room for is not taken for the end, and neither is one that fails.
+// Reads a message to its end into a buffer. The longest message has one byte less than the buffer. A read of fewer
+// bytes than fit is not the end of the message, and neither is an error.
 pub fn read_message(buf: &mut [u8]) -> Message
-    ensures { λ r. ⌜ Fits (now (buf .entry)) r (now (buf .exit)) ⌝ }
+    ensures { λ r. ⌜ ReadsMessage (now (buf .entry)) r (now (buf .exit)) ⌝ }
 {
     let mut len = 0;
     while len < buf.len() {
         match read_some(buf, len) {
-            Turn::Failed => {
+            ReadResult::Failed => {
                 return Message {
                     ending: Ending::Failed,
                     len: 0,
                 };
             }
-            Turn::Ended => {
+            ReadResult::Ended => {
                 return Message {
                     ending: Ending::Whole,
                     len,
                 };
             }
-            Turn::More { count } => {
+            ReadResult::More { count } => {
                 len += count;
             }
         }
@@ -97,7 +98,7 @@ pub fn read_message(buf: &mut [u8]) -> Message
     }
 }
 
-// Puts the bytes of the default policy. That they are 192 is said as well, since lending them as a slice asks for it.
+// Writes the bytes of the default policy. The first `ensures` lets a caller lend the array as a slice of 192 bytes.
 pub fn put_default_policy(out: &mut [u8; POLICY_BYTES])
     ensures { λ _. ⌜ length (now (out .exit)) ≡ 192 ⌝ }
     ensures { λ _. ⌜ now (out .exit) ≡ policyBytes defaultPolicy ⌝ }

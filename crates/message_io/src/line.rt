@@ -1,5 +1,6 @@
-// The lines that the programs write (document 01, "Programs"): of a finding, of the totals, of a refusal. Each is put at the front
-// of a lent buffer that has room for every such line, and equals its definition in specs/Lines.antt.
+// The lines that the programs write (document 01, "Programs"): for a finding, for the totals, for a refusal. Each
+// function writes a line at the front of a lent buffer that is long enough for every line, and equals a definition in
+// specs/Lines.antt.
 ghost use mathlib.Core.Path.{_≡_};
 ghost use mathlib.Core.List.{_∷_, map};
 ghost use Prim.Native.Nat.{_+_, _*_, _≤_};
@@ -13,10 +14,10 @@ use base::refusals::refusal_number;
 use base::refusals::refusal_value;
 use base::refusals::returns_value;
 
-// The most bytes of a line, with its 0A: ten numbers of up to 20 digits, each with a blank or the line's end after it.
+// The length of the longest line, with its 0A: ten numbers of up to 20 digits, with a blank or the 0A after each.
 pub const LINE_ROOM: usize = 210;
 
-// Puts bytes at a place, for which there is room, and says where they end.
+// Writes bytes that fit at an offset, and returns the offset after them.
 fn put_bytes(out: &mut [u8], start: usize, bytes: &[u8]) -> usize
     requires { ⌜ start + length (now bytes) ≤ length (now out) ⌝ }
     ensures { λ r. ⌜ PutAt (now (out .entry)) start (now (bytes .entry)) (now (out .exit)) r ⌝ }
@@ -25,7 +26,7 @@ fn put_bytes(out: &mut [u8], start: usize, bytes: &[u8]) -> usize
     start + bytes.len()
 }
 
-// Puts a number's digits.
+// Writes the digits of a number.
 fn put_decimal(out: &mut [u8], start: usize, n: usize) -> usize
     requires { ⌜ start + 20 ≤ length (now out) ⌝ }
     ensures { λ r. ⌜ PutAt (now (out .entry)) start (decimal n) (now (out .exit)) r × (r ≤ start + 20) ⌝ }
@@ -35,7 +36,7 @@ fn put_decimal(out: &mut [u8], start: usize, n: usize) -> usize
     put_bytes(out, start, &digits[..k])
 }
 
-// Puts a blank and a number.
+// Writes a blank and a number.
 fn put_number(out: &mut [u8], start: usize, n: usize) -> usize
     requires { ⌜ start + 21 ≤ length (now out) ⌝ }
     ensures { λ r. ⌜ PutAt (now (out .entry)) start (0x20 ∷ decimal n) (now (out .exit)) r × (r ≤ start + 21) ⌝ }
@@ -44,7 +45,7 @@ fn put_number(out: &mut [u8], start: usize, n: usize) -> usize
     put_decimal(out, at, n)
 }
 
-// Puts each number after a blank.
+// Writes each number with a blank before it.
 fn put_numbers(out: &mut [u8], start: usize, numbers: &[usize]) -> usize
     requires { ⌜ start + 21 * length (now numbers) ≤ length (now out) ⌝ }
     ensures { λ r. ⌜ PutAt (now (out .entry)) start (withBlanks (map decimal (now (numbers .entry)))) (now (out .exit)) r
@@ -59,7 +60,7 @@ fn put_numbers(out: &mut [u8], start: usize, numbers: &[usize]) -> usize
     at
 }
 
-// Puts the line of a finding, by its start, its end and its eight counts, and answers its length.
+// Writes the line of a finding: its start, its end and its eight counts. Returns the line's length.
 pub fn finding_line(
     start: usize,
     end: usize,
@@ -76,7 +77,7 @@ pub fn finding_line(
     put_bytes(out, at, b"\n")
 }
 
-// Puts the line of the eight totals, and answers its length.
+// Writes the line of the eight totals. Returns the line's length.
 pub fn total_line(numbers: &[usize; 8], out: &mut [u8; LINE_ROOM]) -> usize
     ensures { λ r. ⌜ Counts r (now (out .exit)) ⌝ }
     ensures { λ r. ⌜ take r (now (out .exit)) ≡ totalLine (now (numbers .entry)) ⌝ }
@@ -87,7 +88,7 @@ pub fn total_line(numbers: &[usize; 8], out: &mut [u8; LINE_ROOM]) -> usize
     put_bytes(out, at, b"\n")
 }
 
-// Puts what is returned with a refusal, after a blank, if anything is.
+// Writes a blank and the value of a refusal, if it has one.
 fn put_returned(out: &mut [u8], start: usize, refusal: Refusal) -> usize
     requires { ⌜ start + 21 ≤ length (now out) ⌝ }
     ensures { λ r. ⌜ PutAt (now (out .entry)) start (withBlanks (map decimal (returned refusal))) (now (out .exit)) r × (r ≤ start + 21) ⌝ }
@@ -98,7 +99,7 @@ fn put_returned(out: &mut [u8], start: usize, refusal: Refusal) -> usize
     start
 }
 
-// Puts the line of a refusal, and answers its length. That it is at most 210 is said for a caller that copies it.
+// Writes the line of a refusal. Returns the line's length, which is at most 210.
 pub fn refusal_line(refusal: Refusal, out: &mut [u8; LINE_ROOM]) -> usize
     ensures { λ r. ⌜ Counts r (now (out .exit)) ⌝ }
     ensures { λ r. ⌜ r ≤ 210 ⌝ }

@@ -1,4 +1,4 @@
--- A word's size and its bits.
+-- The size of a word and its bits.
 use mathlib.Core.Path.{_≡_, ap, subst}
 use mathlib.Core.Logic.{⊎-elim}
 use mathlib.Core.Bool.{false}
@@ -11,12 +11,12 @@ use borrow.Author.Tests.{eqb-false}
 use Rattle.base.proofs.Tests.{le-or-lt}
 use Rattle.base.specs.Bits.{one}
 
--- a word below 2 to the n has no one from bit n on
+-- A word below 2 to the n has no one from bit n on.
 pub high-bits : (n k w : ℕ) → w < 2 ^ n → n ≤ k → one k w ≡ false
 unfolding one
 high-bits n k w h l = ap (λ (x : ℕ). eqb (x % 2) 1) (div-eq-of-lt {n = w} {m = 2 ^ k} (omega (arith, pow-mono l)))
 
--- a word below 2 to the m + 1 whose bit m is 0 is below 2 to the m
+-- A word below 2 to the m + 1 whose bit m is 0 is below 2 to the m.
 one-bit-less : (m w : ℕ) → w < 2 ^ (1 + m) → one m w ≡ false → w < 2 ^ m
 unfolding one
 one-bit-less m w h f =
@@ -31,7 +31,7 @@ one-bit-less m w h f =
     absurd (not-one q))
     (λ l. l) (le-or-lt (2 ^ m) w)
 
--- a word below 2 to the n + j whose bits from n on are all 0 is below 2 to the n
+-- A word below 2 to the n + j whose bits from n on are all 0 is below 2 to the n.
 pub low-word : (j n w : ℕ) → w < 2 ^ (n + j) → ((k : ℕ) → n ≤ k → k < n + j → one k w ≡ false) → w < 2 ^ n
 low-word zero n w h f = subst (λ (k : ℕ). w < 2 ^ k) (add-zero n) h
 low-word (suc j) n w h f =

@@ -1,4 +1,4 @@
--- What a policy says of a base by its entry, and of the ASCII keys, and where that stands in its bytes.
+-- The policy's rule for a base by its entry, the ASCII keys, and the bytes that hold both.
 use mathlib.Core.Path.{_≡_, refl, sym, ap, ap₂, _∙_}
 use mathlib.Core.Logic.{_⊎_, inl, inr, ⊎-elim}
 use mathlib.Core.Bool.{Bool, true, false, Bool·beq, cond, not, _&&_, _||_}
@@ -28,7 +28,7 @@ use Rattle.policy.specs.declared.Policy.{Policy}
 use Rattle.policy.specs.declared.SingletonRule.the-variants.{EmojiToBare, TextToBare}
 use Rattle.policy.proofs.ByteBits.{low-ones}
 
--- a key set holds a base where it holds the base's entry
+-- A key set holds a base exactly if it holds the base's entry.
 pub holds-by-entry : (s : PolicyKeySet) (c i : ℕ) (keycap : Bool) → variationSequenceIndex c ≡ Index.At i
     → holdsBase s c keycap ≡ holdsEntry s i keycap
 unfolding holdsBase holdsEntry contains memberAt
@@ -41,7 +41,7 @@ unfolding singletonRule entryRule
 rule-by-entry p c i keycap e =
     ap₂ ruleOf (holds-by-entry (p .«prefer_bare») c i keycap e) (holds-by-entry (p .«bare_as_text») c i keycap e)
 
--- the sets of the bytes that a base is asked of
+-- The rule for an entry from the two sets in the bytes.
 pub rule-by-sets : (bs : List ℕ) (i start : ℕ) (keycap : Bool) → start ≡ cond keycap 48 0
     → ruleOf (member i (wordsFrom wordCount start bs)) (member i (wordsFrom wordCount (96 + start) bs))
     ≡ entryRule (policyOf bs) i keycap
@@ -51,7 +51,7 @@ rule-by-sets bs i start false e =
 rule-by-sets bs i start true e =
     ap (λ (at : ℕ). ruleOf (member i (wordsFrom 6 at bs)) (member i (wordsFrom 6 (96 + at) bs))) e
 
--- the ASCII entries are the first twelve
+-- The ASCII entries are the first twelve.
 first-entries : allBelow entryCount (λ (i : ℕ). Bool·beq (isAscii (getD variationEntries i 0)) (ltb i 12)) ≡ true
 unfolding allBelow entryCount variationEntries
 first-entries = refl
@@ -61,7 +61,7 @@ ascii-entry i h =
     beq-so (isAscii (getD variationEntries i 0)) (ltb i 12)
     (all-below entryCount (λ (i : ℕ). Bool·beq (isAscii (getD variationEntries i 0)) (ltb i 12)) first-entries i h)
 
--- a test of the ASCII entries is a test of the first twelve
+-- A test of the ASCII entries is a test of the first twelve entries.
 abbrev asciiTest : (ℕ → Bool) → ℕ → Bool
 asciiTest p i = not (isAscii (getD variationEntries i 0)) || p i
 
@@ -75,7 +75,7 @@ ascii-below p =
     ⊎-elim (λ (h : 12 ≤ i). ap (λ (b : Bool). not b || p i) (ascii-entry i l ∙ le-ltb i 12 h))
     (λ h. ap (λ (b : Bool). not b || p i) (ascii-entry i l ∙ lt-ltb i 12 h) ∙ all-below 12 p t i h) (le-or-lt 12 i)))
 
--- so the ASCII keys are the lowest twelve bits of the first word
+-- So the ASCII keys are the lowest twelve bits of the first word.
 first-bits : (bs : List ℕ)
     → allBelow 12 (ordinary (policyOf bs .«prefer_bare»)) ≡ eqb (number (take 8 (drop 0 bs)) % 4096) 4095
 unfolding allBelow member policyOf wordsFrom wordCount entryCount variationEntries
@@ -85,7 +85,7 @@ ascii-keys-word : (bs : List ℕ) → asciiKeysBare bs ≡ eqb (number (take 8 (
 unfolding asciiKeysBare
 ascii-keys-word bs = ascii-below (ordinary (policyOf bs .«prefer_bare»)) ∙ first-bits bs
 
--- .. which are those of its first byte and half of its second
+-- These are the bits of the first byte and the lowest four bits of the second.
 pub ascii-keys-bytes : (bs : List ℕ) (a b : ℕ) → a ≡ getD (drop 0 bs) 0 0 → b ≡ getD (drop 0 bs) 1 0 → a < 256
     → asciiKeysBare bs ≡ (eqb a 0xFF && eqb (b % 16) 0xF)
 ascii-keys-bytes bs a b p q h =
@@ -100,7 +100,7 @@ ascii-keys-bytes bs a b p q h =
     let s = both-true (eqb a 0xFF) (eqb (b % 16) 0xF) t in
     eq-eqb w 4095 (omega (arith, eqb-true a 0xFF (s .0), eqb-true (b % 16) 0xF (s .1))))
 
--- where the ASCII keys are bare, `prefer_bare` holds each ASCII base
+-- If all ASCII keys prefer bare, `prefer_bare` holds each ASCII base.
 pub ascii-base-bare : (bs : List ℕ) → asciiKeysBare bs ≡ true → (c : ℕ) → c ≤ 0x7F → hasVariationSequence c ≡ true
     → holdsBase (policyOf bs .«prefer_bare») c false ≡ true
 unfolding asciiKeysBare holdsEntry isAt
@@ -116,7 +116,7 @@ ascii-base-bare bs t c l h = go (variationSequenceIndex c) refl (sym (has-index 
         ∙ all-below entryCount (asciiTest (ordinary (policyOf bs .«prefer_bare»))) t i (p .0)
     go Index.NoEntry e a = cc
 
--- .. and its rule is one of the two whose result is bare
+-- Then the rule for an ASCII base is one of the two rules whose result is bare.
 pub ascii-rule-bare : (bs : List ℕ) → asciiKeysBare bs ≡ true → (c : ℕ) → c ≤ 0x7F → hasVariationSequence c ≡ true
     → (singletonRule (policyOf bs) c false ≡ TextToBare) ⊎ (singletonRule (policyOf bs) c false ≡ EmojiToBare)
 unfolding singletonRule ruleOf

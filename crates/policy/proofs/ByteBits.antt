@@ -1,4 +1,4 @@
--- The entries of a set by the bytes that hold it, and the lowest bits of a word.
+-- The entries of a set from its bytes, and the lowest bits of a word.
 use mathlib.Core.Path.{_≡_, sym, ap, ap₂, _∙_}
 use mathlib.Core.Bool.{true, not}
 use mathlib.Core.List.{List}
@@ -20,7 +20,7 @@ use Rattle.policy_key_set.proofs.Bits.{bits-determine, not-one}
 use Rattle.policy.specs.PolicyBytes.{wordsFrom}
 use Rattle.policy.proofs.Bytes.{getD-wordsFrom}
 
--- entry i of a set is bit i mod 8 of the byte i / 8 after the place where the set's bytes begin
+-- Entry i of a set is bit i mod 8 of byte i / 8 of the set.
 pub member-of-bytes : (n at i : ℕ) (bs : List ℕ) → ((j : ℕ) → getD bs j 0 < 256) → i < n * 64
     → member i (wordsFrom n at bs) ≡ one (i % 8) (getD (drop at bs) (i / 8) 0)
 unfolding member
@@ -34,7 +34,7 @@ member-of-bytes n at i bs f h =
     ∙ ap₂ one same-bit
     (getD-drop start bs (i % 64 / 8) 0 ∙ ap (λ (j : ℕ). getD bs j 0) same-byte ∙ sym (getD-drop at bs (i / 8) 0))
 
--- the lowest n bits are all one exactly where the rest modulo 2 to the n is the largest
+-- The lowest n bits of a word are all 1 exactly if the word mod 2 to the n is 2 to the n less 1.
 pub low-ones : (n w : ℕ) → allBelow n (λ (k : ℕ). one k w) ≡ eqb (w % 2 ^ n) (2 ^ n - 1)
 low-ones n w =
     same-test (allBelow n (λ (k : ℕ). one k w)) (eqb (w % 2 ^ n) (2 ^ n - 1))

@@ -1,4 +1,4 @@
--- Words and the bytes that they stand in.
+-- Words and their bytes.
 use mathlib.Core.Path.{_≡_, refl, ap, _∙_}
 use mathlib.Core.List.{List}
 use Prim.Native.Nat.{ℕ, zero, suc, _+_, _*_, _<_}
@@ -15,7 +15,7 @@ unfolding wordsFrom
 length-wordsFrom zero at bs = refl
 length-wordsFrom (suc n) at bs = ap suc (length-wordsFrom n (at + 8) bs)
 
--- word k stands in the eight bytes from 8 k on
+-- Word k is encoded by the eight bytes from 8 k on.
 pub getD-wordsFrom : (n at : ℕ) (bs : List ℕ) (k : ℕ) → k < n → getD (wordsFrom n at bs) k 0 ≡ number (take 8 (drop (at + k * 8) bs))
 unfolding wordsFrom
 getD-wordsFrom zero at bs k h = absurd (not-suc-le-zero h)
@@ -24,7 +24,7 @@ getD-wordsFrom (suc n) at bs (suc k) h =
     let e : at + 8 + k * 8 ≡ at + suc k * 8 = omega arith in
     getD-wordsFrom n (at + 8) bs k (le-of-suc-le-suc h) ∙ ap (λ (i : ℕ). number (take 8 (drop i bs))) e
 
--- four sets of words, as a policy
+-- The policy made of four sets.
 pub policy-made : (a b c d : CharSet) (bs : List ℕ) → a .bits ≡ setOf 0 bs .bits → b .bits ≡ setOf 1 bs .bits → c .bits ≡ setOf 2 bs .bits
     → d .bits ≡ setOf 3 bs .bits
     → _≡_ {A = Policy} (record {

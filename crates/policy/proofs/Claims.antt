@@ -17,9 +17,9 @@ use Rattle.unicode.proofs.Claims.{no-index-no-entry}
 use Rattle.base.specs.declared.Refusal.the-variants.{NotAPolicy}
 use Rattle.base.specs.Bits.{one}
 use Rattle.policy_key_set.specs.Sets.{allBelow, contains, entryCount, member, memberAt, wordCount}
-use Rattle.policy_key_set.specs.KeySets.{isAscii, rightWords}
+use Rattle.policy_key_set.specs.KeySets.{isAscii, wordsMatchRule}
 use Rattle.policy_key_set.proofs.Contains.{contains-chars}
-use Rattle.policy_key_set.proofs.Entries.{right-words}
+use Rattle.policy_key_set.proofs.Entries.{matching-words-hold}
 use Rattle.policy.specs.Policy.{holdsBase, ruleOf, singletonRule}
 use Rattle.policy.specs.DefaultPolicy.{bareAsText, bareAsTextKeycap, defaultPolicy, preferBare, preferBareKeycap}
 use Rattle.policy.specs.PolicyBytes.{
@@ -50,43 +50,43 @@ use Rattle.policy.specs.Theorems.{
 }
 use Rattle.policy.proofs.ByEntry.{ascii-rule-bare, rule-by-entry}
 use Rattle.policy.proofs.Equal.{equal-policy-same, equal-rule-same, same-policy-equal, same-rule-equal}
-use Rattle.policy.proofs.RoundTrips.{Sixes, append-below, many-words, read-words, same-words, sixes-of, words-of, write-words}
+use Rattle.policy.proofs.RoundTrips.{SixWordSets, append-below, many-words, read-words, same-words, six-words-of, words-of, write-words}
 use Rattle.policy.proofs.Refusals.{passed-policy, policy-passes, policy-refused, refused-policy}
 use Rattle.policy.proofs.Unused.{refused-by, refused-for}
 
--- what each of the default policy's sets holds, by one computed test
-holds-prefer-bare : rightWords (λ (c : ℕ). isAscii c || isEmojiDefault c) preferBare ≡ true
-unfolding rightWords allBelow member one entryCount isEmojiDefault isEmojiPresentation hasVariationSequence inRanges Tables·member
+-- The entries of each set of the default policy, by one computed test for each.
+holds-prefer-bare : wordsMatchRule (λ (c : ℕ). isAscii c || isEmojiDefault c) preferBare ≡ true
+unfolding wordsMatchRule allBelow member one entryCount isEmojiDefault isEmojiPresentation hasVariationSequence inRanges Tables·member
     emojiPresentationRanges variationEntries preferBare
 holds-prefer-bare = refl
 
-holds-prefer-bare-keycap : rightWords (λ (c : ℕ). false) preferBareKeycap ≡ true
-unfolding rightWords allBelow member one entryCount variationEntries preferBareKeycap
+holds-prefer-bare-keycap : wordsMatchRule (λ (c : ℕ). false) preferBareKeycap ≡ true
+unfolding wordsMatchRule allBelow member one entryCount variationEntries preferBareKeycap
 holds-prefer-bare-keycap = refl
 
-holds-bare-as-text : rightWords isTextDefault bareAsText ≡ true
-unfolding rightWords allBelow member one entryCount isTextDefault isEmojiPresentation hasVariationSequence inRanges Tables·member
+holds-bare-as-text : wordsMatchRule isTextDefault bareAsText ≡ true
+unfolding wordsMatchRule allBelow member one entryCount isTextDefault isEmojiPresentation hasVariationSequence inRanges Tables·member
     emojiPresentationRanges variationEntries bareAsText
 holds-bare-as-text = refl
 
-holds-bare-as-text-keycap : rightWords (λ (c : ℕ). true) bareAsTextKeycap ≡ true
-unfolding rightWords allBelow member one entryCount variationEntries bareAsTextKeycap
+holds-bare-as-text-keycap : wordsMatchRule (λ (c : ℕ). true) bareAsTextKeycap ≡ true
+unfolding wordsMatchRule allBelow member one entryCount variationEntries bareAsTextKeycap
 holds-bare-as-text-keycap = refl
 
 pub default-policy-holds : DefaultPolicyHolds
 unfolding DefaultPolicyHolds defaultPolicy
 default-policy-holds = (
   record {
-    ordinary-keys = right-words (λ (c : ℕ). isAscii c || isEmojiDefault c) preferBare holds-prefer-bare;
-    keycap-keys = right-words (λ (c : ℕ). false) preferBareKeycap holds-prefer-bare-keycap;
+    ordinary-keys = matching-words-hold (λ (c : ℕ). isAscii c || isEmojiDefault c) preferBare holds-prefer-bare;
+    keycap-keys = matching-words-hold (λ (c : ℕ). false) preferBareKeycap holds-prefer-bare-keycap;
   },
   record {
-    ordinary-keys = right-words isTextDefault bareAsText holds-bare-as-text;
-    keycap-keys = right-words (λ (c : ℕ). true) bareAsTextKeycap holds-bare-as-text-keycap;
+    ordinary-keys = matching-words-hold isTextDefault bareAsText holds-bare-as-text;
+    keycap-keys = matching-words-hold (λ (c : ℕ). true) bareAsTextKeycap holds-bare-as-text-keycap;
   },
 )
 
--- what a policy says where its sets answer as the default ones do
+-- The rule for the default policy's sets.
 default-rule : (e a : Bool) → ruleOf (a || e) (not e) ≡ cond e EmojiToBare (cond a TextToBare BareToText)
 unfolding ruleOf
 default-rule true true = refl
@@ -97,8 +97,8 @@ default-rule false false = refl
 pub default-rules : DefaultRules
 unfolding DefaultRules DefaultPolicyHolds singletonRule holdsBase ruleOf defaultPolicy isTextDefault isEmojiDefault
 default-rules c h =
-    let in-both : (p : ℕ → Bool) (ws : List ℕ) → rightWords p ws ≡ true → contains c ws ≡ p c =
-    (λ p ws t. contains-chars p ws (right-words p ws t) c ∙ ap (λ (b : Bool). b && p c) h) in
+    let in-both : (p : ℕ → Bool) (ws : List ℕ) → wordsMatchRule p ws ≡ true → contains c ws ≡ p c =
+    (λ p ws t. contains-chars p ws (matching-words-hold p ws t) c ∙ ap (λ (b : Bool). b && p c) h) in
     let text : isTextDefault c ≡ not (isEmojiDefault c) =
     ap (λ (b : Bool). b && not (isEmojiPresentation c)) h ∙ ap (λ (b : Bool). not (b && isEmojiPresentation c)) (sym h) in (
       ap₂ ruleOf (in-both (λ (x : ℕ). isAscii x || isEmojiDefault x) preferBare holds-prefer-bare)
@@ -108,7 +108,7 @@ default-rules c h =
           (in-both (λ (x : ℕ). true) bareAsTextKeycap holds-bare-as-text-keycap),
     )
 
--- a character without an entry is in no set
+-- A character that is no variation entry is in no set.
 in-none : (c : ℕ) (ws : List ℕ) → hasVariationSequence c ≡ false → contains c ws ≡ false
 unfolding contains memberAt NoIndexNoEntry
 in-none c ws h = ap (λ (r : VariationSequenceIndex). memberAt r ws) (no-index-no-entry c .1 h)
@@ -127,18 +127,18 @@ pub ascii-bases-bare : AsciiBasesBare
 unfolding AsciiBasesBare
 ascii-bases-bare bs t c a h = ascii-rule-bare bs t c (omega (arith, ltb-true c 0x80 a)) h
 
-sixes : (p : Policy) → PolicyValue p → Sixes p
+six-word-sets : (p : Policy) → PolicyValue p → SixWordSets p
 unfolding wordCount entryCount variationEntries
-sixes p v = record {
-  first = v .prefer-bare .as-many;
-  second = v .prefer-bare-keycap .as-many;
-  third = v .bare-as-text .as-many;
-  fourth = v .bare-as-text-keycap .as-many;
+six-word-sets p v = record {
+  first = v .prefer-bare .word-count;
+  second = v .prefer-bare-keycap .word-count;
+  third = v .bare-as-text .word-count;
+  fourth = v .bare-as-text-keycap .word-count;
 }
 
 pub same-words-same-policy : SameWordsSamePolicy
 unfolding SameWordsSamePolicy
-same-words-same-policy p q v w e = same-words p q (sixes p v) (sixes q w) e
+same-words-same-policy p q v w e = same-words p q (six-word-sets p v) (six-word-sets q w) e
 
 pub same-policy-means : SamePolicyMeans
 unfolding SamePolicyMeans
@@ -162,9 +162,9 @@ pub read-written : ReadWritten
 unfolding ReadWritten isPolicy policyBytes wordCount entryCount variationEntries
 read-written p v =
     let ws = policyWords p in
-    let many = many-words p (sixes p v) in
+    let many = many-words p (six-word-sets p v) in
     let read : wordsFrom 24 0 (bytesOf ws) ≡ ws = ap (λ (n : ℕ). wordsFrom n 0 (bytesOf ws)) (sym many) ∙ read-words ws (words-below p v) in
-    let back : policyOf (bytesOf ws) ≡ p = same-words (policyOf (bytesOf ws)) p (sixes-of (bytesOf ws)) (sixes p v)
+    let back : policyOf (bytesOf ws) ≡ p = same-words (policyOf (bytesOf ws)) p (six-words-of (bytesOf ws)) (six-word-sets p v)
     (words-of (bytesOf ws) ∙ read) in
     let long : length (bytesOf ws) ≡ 192 = omega (arith, length-bytesOf ws) in
     (back, ap₂ _&&_ (eq-eqb (length (bytesOf ws)) 192 long) (ap noUnusedBits back))

@@ -1,4 +1,4 @@
--- When two policies, or two rules, are equal.
+-- Equality of policies, and of rules.
 use mathlib.Core.Path.{_≡_, refl, sym, ap, _∙_, subst}
 use mathlib.Core.Logic.{⊎-elim}
 use mathlib.Core.Bool.{Bool, true, false, not, _||_}
@@ -23,13 +23,13 @@ use Rattle.policy.proofs.Unused.{unused}
 
 -- ---- sets
 
--- Past the entries nothing is held.
+-- After the entries, a set without unused bits has no member.
 none-past : {ws : List ℕ} → SetValue ws → noUnusedBit ws ≡ true → (i : ℕ) → entryCount ≤ i → member i ws ≡ false
 unfolding noUnusedBit
 none-past {ws} v e i h = ⊎-elim past inside (le-or-lt (wordCount * 64) i)
   where
     past : wordCount * 64 ≤ i → member i ws ≡ false
-    past l = member-past ws i (omega (arith, v .as-many))
+    past l = member-past ws i (omega (arith, v .word-count))
 
     test : ℕ → Bool
     test k = ltb k entryCount || not (member k ws)
@@ -40,7 +40,7 @@ none-past {ws} v e i h = ⊎-elim past inside (le-or-lt (wordCount * 64) i)
 same-set : {ws vs : List ℕ} → SetValue ws → SetValue vs → noUnusedBit ws ≡ true → noUnusedBit vs ≡ true → sameEntries ws vs ≡ true → ws ≡ vs
 unfolding SameEntriesMeans
 same-set {ws} {vs} v w e f t =
-    members-determine ws vs (v .as-many ∙ sym (w .as-many)) (v .words) (w .words)
+    members-determine ws vs (v .word-count ∙ sym (w .word-count)) (v .words) (w .words)
     (λ i. ⊎-elim (λ h. none-past v e i h ∙ sym (none-past w f i h)) (λ h. same-entries-means ws vs .0 t i h) (le-or-lt entryCount i))
 
 self-set : (ws : List ℕ) → sameEntries ws ws ≡ true

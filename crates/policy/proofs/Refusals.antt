@@ -1,4 +1,4 @@
--- The refusal of bytes that are handed in as a policy: by the test whether they are one.
+-- The refusal of bytes that are given as a policy, by the test `isPolicy`.
 use mathlib.Core.Path.{_≡_, refl, ap}
 use mathlib.Core.Bool.{Bool, true, false, cond}
 use mathlib.Core.List.{List}
@@ -36,7 +36,7 @@ module _ (bs : List ℕ) where
   unfolding policyRefusal
   refused-policy r e = test-failed (policyFault bs) r (isPolicy bs) e
 
-  -- It returns nothing more.
+  -- The refusal's value is 0, since the table says "nothing more".
   pub fault-value : refusalRow (policyFault bs) .value ≡ 0
   unfolding policyFault
   fault-value = refl

@@ -1,4 +1,4 @@
--- Words that are written and read, and bytes that are read and written.
+-- Reading written words gives the words, and writing read bytes gives the bytes.
 use mathlib.Core.Path.{_≡_, refl, sym, ap, ap₂, _∙_}
 use mathlib.Core.Bool.{true}
 use mathlib.Core.List.{List, [], _∷_, _++_}
@@ -16,7 +16,7 @@ use Rattle.policy.specs.PolicyBytes.{keyWords, policyOf, policyWords, wo
 use Rattle.policy.specs.declared.Policy.{Policy}
 use Rattle.policy.proofs.Bytes.{length-wordsFrom}
 
--- the words from a place on are those of the bytes from there on
+-- The words from an offset on are the words of the bytes from that offset on.
 pub wordsFrom-drop : (n at : ℕ) (bs : List ℕ) → wordsFrom n at bs ≡ wordsFrom n 0 (drop at bs)
 unfolding wordsFrom
 wordsFrom-drop zero at bs = refl
@@ -24,7 +24,7 @@ wordsFrom-drop (suc n) at bs =
     ap (λ (ws : List ℕ). number (take 8 (drop at bs)) ∷ ws)
     (wordsFrom-drop n (at + 8) bs ∙ ap (wordsFrom n 0) (sym (drop-drop 8 at bs)) ∙ sym (wordsFrom-drop n 8 (drop at bs)))
 
--- words after words
+-- The first m words, and the next n.
 pub wordsFrom-append : (m n at : ℕ) (bs : List ℕ) → wordsFrom (m + n) at bs ≡ wordsFrom m at bs ++ wordsFrom n (at + m * 8) bs
 unfolding wordsFrom
 wordsFrom-append zero n at bs =
@@ -36,7 +36,7 @@ wordsFrom-append (suc m) n at bs =
     ∙ ap (λ (ws : List ℕ). number (take 8 (drop at bs)) ∷ ws)
     (wordsFrom-append m n (at + 8) bs ∙ ap (λ (i : ℕ). wordsFrom m (at + 8) bs ++ wordsFrom n i bs) e)
 
--- words of 64 bits are read back from their bytes
+-- Reading the bytes of 64-bit words gives the words.
 pub read-words : (ws : List ℕ) → ((k : ℕ) → getD ws k 0 < 2 ^ 64) → wordsFrom (length ws) 0 (bytesOf ws) ≡ ws
 unfolding wordsFrom bytesOf wordBytes
 read-words [] h = refl
@@ -47,7 +47,7 @@ read-words (w ∷ ws) h =
     (wordsFrom-drop (length ws) 8 (wordBytes w ++ bytesOf ws) ∙ ap (wordsFrom (length ws) 0) (drop-at (wordBytes w) (bytesOf ws) 8 eight)
     ∙ read-words ws (λ k. h (suc k)))
 
--- bytes are written back from their words
+-- Writing the words of bytes gives the bytes.
 pub write-words : (n : ℕ) (bs : List ℕ) → length bs ≡ n * 8 → allBytes bs ≡ true → bytesOf (wordsFrom n 0 bs) ≡ bs
 unfolding wordsFrom bytesOf wordBytes
 write-words zero [] e t = refl
@@ -57,20 +57,20 @@ write-words (suc n) bs e t =
     (ap bytesOf (wordsFrom-drop n 8 bs) ∙ write-words n (drop 8 bs) (omega (arith, length-drop 8 bs)) (allBytes-drop 8 bs t))
     ∙ take-append-drop 8 bs
 
--- two lists of equal first lengths are equal part by part
+-- If two concatenations are equal and their first parts have the same length, the parts are equal.
 pub append-split : (a b c d : List ℕ) → length a ≡ length c → a ++ b ≡ c ++ d → (a ≡ c) × (b ≡ d)
 append-split a b c d l e = (
   sym (take-at a b (length a) refl) ∙ ap (take (length a)) e ∙ take-at c d (length a) (sym l),
   sym (drop-at a b (length a) refl) ∙ ap (drop (length a)) e ∙ drop-at c d (length a) (sym l),
 )
 
--- a bound of the elements of two lists bounds those of both
+-- A bound of the elements of two lists bounds the elements of their concatenation.
 pub append-below : (n : ℕ) (a b : List ℕ) → ((k : ℕ) → getD a k 0 < n) → ((k : ℕ) → getD b k 0 < n) → (k : ℕ) → getD (a ++ b) k 0 < n
 append-below n [] b f g k = g k
 append-below n (x ∷ a) b f g zero = f zero
 append-below n (x ∷ a) b f g (suc k) = append-below n a b (λ i. f (suc i)) g k
 
--- policies with the same words in each set are equal
+-- Policies with the same words in each set are equal.
 pub same-policy : (p q : Policy) → p .«prefer_bare» .chars .bits ≡ q .«prefer_bare» .chars .bits
     → p .«prefer_bare» .«keycap_chars» .bits ≡ q .«prefer_bare» .«keycap_chars» .bits
     → p .«bare_as_text» .chars .bits ≡ q .«bare_as_text» .chars .bits
@@ -89,14 +89,14 @@ same-policy p q e f g h = made (as-set e) (as-set f) (as-set g) (as-set h)
         (record { «prefer_bare» = record { chars = x; «keycap_chars» = y }; «bare_as_text» = record { chars = z; «keycap_chars» = w } })
     made e f g h = cc
 
--- each of the four sets has six words
-pub record Sixes (p : Policy) : Type 0 where
+-- Each of the four sets has six words.
+pub record SixWordSets (p : Policy) : Type 0 where
   pub first : length (p .«prefer_bare» .chars .bits) ≡ 6
   pub second : length (p .«prefer_bare» .«keycap_chars» .bits) ≡ 6
   pub third : length (p .«bare_as_text» .chars .bits) ≡ 6
   pub fourth : length (p .«bare_as_text» .«keycap_chars» .bits) ≡ 6
 
-pub same-words : (p q : Policy) → Sixes p → Sixes q → policyWords p ≡ policyWords q → p ≡ q
+pub same-words : (p q : Policy) → SixWordSets p → SixWordSets q → policyWords p ≡ policyWords q → p ≡ q
 unfolding policyWords keyWords
 same-words p q s t e =
     let a = p .«prefer_bare» .chars .bits in
@@ -116,14 +116,14 @@ same-words p q s t e =
     let r = append-split c d z w (s .third ∙ sym (t .third)) (both .1) in
     same-policy p q (l .0) (l .1) (r .0) (r .1)
 
-pub many-words : (p : Policy) → Sixes p → length (policyWords p) ≡ 24
+pub many-words : (p : Policy) → SixWordSets p → length (policyWords p) ≡ 24
 unfolding policyWords keyWords
 many-words p s = simp length-append (omega arith)
 
--- the policy that bytes say has their words, six in each set
-pub sixes-of : (bs : List ℕ) → Sixes (policyOf bs)
+-- The policy that bytes encode has six words in each set.
+pub six-words-of : (bs : List ℕ) → SixWordSets (policyOf bs)
 unfolding policyOf wordCount entryCount variationEntries
-sixes-of bs = record {
+six-words-of bs = record {
   first = length-wordsFrom 6 0 bs;
   second = length-wordsFrom 6 48 bs;
   third = length-wordsFrom 6 96 bs;

@@ -1,4 +1,4 @@
--- The unused bits of a set: all of them stand in its last word. Bytes are no policy for their length or for such a bit.
+-- The unused bits of a set are all in its last word. Bytes are not a policy because of their length, or because of such a bit.
 use mathlib.Core.Path.{_≡_, refl, sym, ap, ap₂, _∙_}
 use mathlib.Core.Logic.{_⊎_, inl, inr, ⊎-elim}
 use mathlib.Core.Bool.{Bool, true, false, not, _&&_, _||_, true≢false}
@@ -26,7 +26,7 @@ use Rattle.policy.specs.PolicyBytes.{
 }
 use Rattle.policy.proofs.Bounds.{high-bits, low-word}
 
--- a bit that is no entry's, and a test of it
+-- The test of a bit that belongs to no entry.
 pub unused : (n i : ℕ) (b : Bool) → n ≤ i → (ltb i n || not b) ≡ not b
 unused n i b h = simp (le-ltb i n h)
 
@@ -61,7 +61,7 @@ module _ (n last : ℕ) (ws : List ℕ) (h : last * 64 ≤ n) where
       ap entryTest (sym e) ∙ at-last (i - last * 64) (omega arith) ∙ all-below 64 lastTest t (i - last * 64) (omega arith))
       (λ m. used n i (member i ws) m) (le-or-lt n i)))
 
--- the bits from u on are 0 in a word of 64 bits exactly when it is at most 2 to the u less 1
+-- In a word of 64 bits, the bits from u on are 0 exactly when the word is at most 2 to the u less 1.
 pub small-word : (n base u w : ℕ) → base + u ≡ n → u ≤ 64 → w < 2 ^ 64
     → allBelow 64 (λ (k : ℕ). ltb (base + k) n || not (one k w)) ≡ leb w (2 ^ u - 1)
 small-word n base u w e l h =
@@ -81,9 +81,9 @@ small-word n base u w e l h =
     test : ℕ → Bool
     test k = ltb (base + k) n || not (one k w)
 
--- ---- bytes that are no policy
+-- ---- bytes that are not a policy
 
--- a number below n that fails a test
+-- A number below n that fails a test.
 record Fails (n : ℕ) (p : ℕ → Bool) : Type 0 where
   at : ℕ
   below : at < n
@@ -127,7 +127,7 @@ one-unused ws u = go (noUnusedBit ws) refl
     go true e = sym (sym (unused entryCount (u .bit) (member (u .bit) ws) (u .no-entry) ∙ ap not (u .is-one))
         ∙ all-below (wordCount * 64) test e (u .bit) (u .in-words))
 
--- one of four sets
+-- If not all of four tests pass, one of them fails.
 one-of : (a b c d : Bool) → ((a && b) && (c && d)) ≡ false → (a ≡ false) ⊎ ((b ≡ false) ⊎ ((c ≡ false) ⊎ (d ≡ false)))
 one-of false b c d e = inl refl
 one-of true false c d e = inr (inl refl)
@@ -135,7 +135,7 @@ one-of true true false d e = inr (inr (inl refl))
 one-of true true true d e = inr (inr (inr e))
 
 module _ (bs : List ℕ) where
-  -- whether a set has no unused bit
+  -- Set k has no unused bit.
   abbrev clean : ℕ → Bool
   clean k = noUnusedBit (setOf k bs .bits)
 

@@ -1,4 +1,4 @@
--- Policies: what they say of a base, their bytes, and the default policy.
+-- Policies: their rule for a base, their bytes, and the default policy.
 pub mod Policy
 pub mod DefaultPolicy
 pub mod PolicyBytes

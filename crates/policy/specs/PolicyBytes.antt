@@ -1,5 +1,5 @@
--- A policy as bytes: document 01, "A policy is 4W words: prefer_bare ordinary, prefer_bare keycap, then bare_as_text
--- likewise", a word being 8 bytes, lowest first; and the test of a policy handed in (refusal 2).
+-- A policy as bytes: document 01, "A policy is 4W words: prefer_bare ordinary, prefer_bare keycap, then bare_as_text likewise". A word
+-- is 8 bytes, lowest byte first. The test of such bytes is `isPolicy` (refusal 2).
 use mathlib.Core.Path.{_≡_}
 use mathlib.Core.Bool.{Bool, true, cond, _&&_, _||_, not}
 use mathlib.Core.List.{List, [], _∷_, _++_}
@@ -18,7 +18,7 @@ use Rattle.policy_key_set.specs.declared.PolicyKeySet.{PolicyKeySet}
 use Rattle.policy.specs.declared.Policy.{Policy}
 use Rattle.policy.specs.declared.ReadPolicy.{ReadPolicy}
 
--- the words of a key set, ordinary first, and of a policy, `prefer_bare` first
+-- The words of a key set, its ordinary set first; the words of a policy, `prefer_bare` first; and the bytes of a policy.
 unfoldable pub keyWords : PolicyKeySet → List ℕ
 keyWords s = s .chars .bits ++ s .«keycap_chars» .bits
 
@@ -28,12 +28,12 @@ policyWords p = keyWords (p .«prefer_bare») ++ keyWords (p .«bare_as_text»)
 unfoldable pub policyBytes : Policy → List ℕ
 policyBytes p = bytesOf (policyWords p)
 
--- so many words, the first being the eight bytes from a place on
+-- The words that bytes encode from an offset on. The first argument is the number of words.
 unfoldable pub wordsFrom : ℕ → ℕ → List ℕ → List ℕ
 wordsFrom zero at bs = []
 wordsFrom (suc n) at bs = number (take 8 (drop at bs)) ∷ wordsFrom n (at + 8) bs
 
--- set k of a policy's bytes, and the policy
+-- Set k of the policy that bytes encode, and the policy that they encode.
 abbrev pub setOf : ℕ → List ℕ → CharSet
 setOf k bs = record { bits = wordsFrom wordCount (k * (wordCount * 8)) bs }
 
@@ -43,7 +43,7 @@ policyOf bs = record {
   «bare_as_text» = record { chars = setOf 2 bs; «keycap_chars» = setOf 3 bs };
 }
 
--- no bit after the last entry is one
+-- Every bit of the words after the last entry is 0; and this for the four sets of a policy.
 unfoldable pub noUnusedBit : List ℕ → Bool
 noUnusedBit ws = allBelow (wordCount * 64) (λ (i : ℕ). ltb i entryCount || not (member i ws))
 
@@ -52,44 +52,44 @@ noUnusedBits p =
     (noUnusedBit (p .«prefer_bare» .chars .bits) && noUnusedBit (p .«prefer_bare» .«keycap_chars» .bits))
     && (noUnusedBit (p .«bare_as_text» .chars .bits) && noUnusedBit (p .«bare_as_text» .«keycap_chars» .bits))
 
--- bytes are a policy: 4W words, and no unused bit set. "policy not 4W words, or an unused bit set" is refusal 2
+-- The bytes are a policy: 4W words, and no unused bit set. "policy not 4W words, or an unused bit set" is refusal 2.
 unfoldable pub isPolicy : List ℕ → Bool
 isPolicy bs = eqb (length bs) (4 * (wordCount * 8)) && noUnusedBits (policyOf bs)
 
--- the refusal of bytes that are no policy: number 2
+-- The refusal of bytes that are not a policy: number 2.
 unfoldable pub policyFault : List ℕ → Refusal
 policyFault bs = NotAPolicy
 
--- what is wrong with bytes that are handed in as a policy, or nothing
+-- The refusal of bytes that are given as a policy, or `none` if they are one.
 unfoldable pub policyRefusal : List ℕ → Option Refusal
 policyRefusal bs = cond (isPolicy bs) none (some (policyFault bs))
 
--- what reading a policy answers
+-- The result of reading a policy.
 unfoldable pub readPolicy : List ℕ → ReadPolicy
 readPolicy bs = record { accepted = isPolicy bs; policy = policyOf bs }
 
--- a one among the unused bits of a set: a bit of its W words that is no entry's
+-- The set has a 1 among its unused bits: a bit of its W words that belongs to no entry.
 pub record UnusedOne (ws : List ℕ) : Type 0 where
   pub bit : ℕ
   pub no-entry : entryCount ≤ bit
   pub in-words : bit < wordCount * 64
   pub is-one : member bit ws ≡ true
 
--- "policy not 4W words, or an unused bit set", in one of the four sets
+-- The bytes are not a policy: "policy not 4W words, or an unused bit set", in one of the four sets.
 pub data NoPolicy (bs : List ℕ) : Type 0 where
   not-4W-words : (length bs ≡ 4 * (wordCount * 8) → ⊥) → NoPolicy bs
   unused-bit : (k : ℕ) → k < 4 → UnusedOne (setOf k bs .bits) → NoPolicy bs
 
--- the policy that bytes say has every ASCII entry among the ordinary keys of `prefer_bare`. Then such a base, where it
--- has no selector and rule 6 holds, stays as it is: `AsciiBasesBare`
+-- The ordinary keys of `prefer_bare` contain every ASCII entry, in the policy that the bytes encode. Then an ASCII base without a
+-- selector, to which rule 6 applies, does not change: `AsciiBasesBare`.
 unfoldable pub asciiKeysBare : List ℕ → Bool
 asciiKeysBare bs =
     allBelow entryCount
     (λ (i : ℕ). not (isAscii (getD variationEntries i 0)) || ordinary (policyOf bs .«prefer_bare») i)
 
--- what every value of the type is: W words of 64 bits in each of the four sets
+-- The property that every value of the type `Policy` has: each of its four sets has W words of 64 bits.
 pub record SetValue (ws : List ℕ) : Type 0 where
-  pub as-many : length ws ≡ wordCount
+  pub word-count : length ws ≡ wordCount
   pub words : (k : ℕ) → getD ws k 0 < 2 ^ 64
 
 pub record PolicyValue (p : Policy) : Type 0 where

@@ -1,4 +1,4 @@
--- What is claimed of policies. The proofs are in proofs/Claims.antt.
+-- Statements about policies. The proofs are in proofs/Claims.antt.
 use mathlib.Core.Path.{_≡_}
 use mathlib.Core.Logic.{_↔_, _⊎_}
 use mathlib.Core.Bool.{Bool, true, false, cond, _||_}
@@ -30,34 +30,34 @@ use Rattle.policy.specs.declared.Policy.{Policy}
 use Rattle.policy.specs.declared.SingletonRule.{SingletonRule}
 use Rattle.policy.specs.declared.SingletonRule.the-variants.{BareToEmoji, BareToText, EmojiToBare, TextToBare}
 
--- The default policy: of the ordinary keys the ASCII entries and the emoji defaults prefer bare, and the text defaults
--- are text when bare; no keycap key prefers bare, and every one is text when bare.
+-- The default policy. Among the ordinary keys, the ASCII entries and the emoji defaults prefer bare, and the text defaults are text
+-- when bare. No keycap key prefers bare, and every keycap key is text when bare.
 unfoldable pub DefaultPolicyHolds : Type 0
 DefaultPolicyHolds =
     HoldsKeys (λ (i : ℕ). isAscii (getD variationEntries i 0) || isEmojiDefault (getD variationEntries i 0)) (λ (i : ℕ). false)
     (defaultPolicy .«prefer_bare»)
     × HoldsKeys (λ (i : ℕ). isTextDefault (getD variationEntries i 0)) (λ (i : ℕ). true) (defaultPolicy .«bare_as_text»)
 
--- So it says of a variation entry: an emoji default loses FE0F, an ASCII base loses FE0E, any other gets FE0E when bare;
--- before 20E3 every base gets FE0E when bare.
+-- The default policy's rules for a variation entry. As an ordinary base, an emoji default loses FE0F, an ASCII base loses FE0E, and any
+-- other base gets FE0E when bare. As a keycap base, every entry gets FE0E when bare.
 unfoldable pub DefaultRules : Type 0
 DefaultRules =
     (c : ℕ) → hasVariationSequence c ≡ true
     → (singletonRule defaultPolicy c false ≡ cond (isEmojiDefault c) EmojiToBare (cond (isAscii c) TextToBare BareToText))
     × (singletonRule defaultPolicy c true ≡ BareToText)
 
--- A base without a variation entry is in no set.
+-- A base that is no variation entry is in no set, so its rule is BareToEmoji.
 unfoldable pub RuleWithoutEntry : Type 0
 RuleWithoutEntry =
     (p : Policy) (c : ℕ) (keycap : Bool) → hasVariationSequence c ≡ false → singletonRule p c keycap ≡ BareToEmoji
 
--- The rule for a base is that for its entry.
+-- The rule for a base is the rule for its entry.
 unfoldable pub RuleByEntry : Type 0
 RuleByEntry =
     (p : Policy) (c i : ℕ) (keycap : Bool) → variationSequenceIndex c ≡ At i
     → singletonRule p c keycap ≡ entryRule p i keycap
 
--- Where the ASCII keys are bare, the rule for each ASCII base is one of the two whose result is bare.
+-- If all ASCII keys prefer bare, the rule for each ASCII base is one of the two rules whose result is bare.
 unfoldable pub AsciiBasesBare : Type 0
 AsciiBasesBare =
     (bs : List ℕ) → asciiKeysBare bs ≡ true → (c : ℕ) → isAscii c ≡ true → hasVariationSequence c ≡ true
@@ -67,7 +67,7 @@ AsciiBasesBare =
 unfoldable pub SameWordsSamePolicy : Type 0
 SameWordsSamePolicy = (p q : Policy) → PolicyValue p → PolicyValue q → policyWords p ≡ policyWords q → p ≡ q
 
--- `eq` of policies without an unused bit, and of rules, answers whether the two are equal.
+-- `eq` tests equality: of policies without unused bits, and of rules.
 unfoldable pub SamePolicyMeans : Type 0
 SamePolicyMeans =
     (p q : Policy) → PolicyValue p → PolicyValue q → noUnusedBits p ≡ true → noUnusedBits q ≡ true
@@ -76,17 +76,17 @@ SamePolicyMeans =
 unfoldable pub SameRuleMeans : Type 0
 SameRuleMeans = (a b : SingletonRule) → (sameRule a b ≡ true) ↔ (a ≡ b)
 
--- Reading the written words gives the policy, and it is accepted exactly when it has no unused bit.
+-- Reading the bytes of a policy gives the policy. The bytes are accepted exactly when it has no unused bit.
 unfoldable pub ReadWritten : Type 0
 ReadWritten =
     (p : Policy) → PolicyValue p → (policyOf (policyBytes p) ≡ p) × (isPolicy (policyBytes p) ≡ noUnusedBits p)
 
--- Writing what was read gives the bytes.
+-- Writing the policy that was read gives the bytes.
 unfoldable pub WriteRead : Type 0
 WriteRead =
     (bs : List ℕ) → allBytes bs ≡ true → length bs ≡ 4 * (wordCount * 8) → policyBytes (policyOf bs) ≡ bs
 
--- Bytes get refusal 2 exactly when they are not 4W words or have an unused bit set. They are no policy exactly then, and they get no
+-- Bytes get refusal 2 exactly when they are not 4W words or have an unused bit set. Exactly then they are not a policy. They get no
 -- refusal exactly when they are a policy.
 unfoldable pub NoPolicyMeans : Type 0
 NoPolicyMeans =

@@ -1,8 +1,8 @@
-// The words of the default policy that are no named set's, with the tables of Unicode 15.0, made by
-// tools/unicode_tables.py.
+// The words of the one set of the default policy that has no name of its own, for the tables of Unicode 15.0.
+// tools/unicode_tables.py makes this file.
 use policy_key_set::named_sets::CHARSET_WORDS;
 
-// `prefer_bare`, ordinary: ASCII and the emoji defaults: 147.
+// `prefer_bare`, ordinary: ASCII and the emoji defaults: 147 entries.
 pub const PREFER_BARE_BITS: [u64; CHARSET_WORDS] = [
     0x06030020CC000FFF,
     0x5943CD00A01FFE00,

@@ -1,5 +1,5 @@
-// Formatter policy: policy.rs of the crate evfmt; document 01, "Key set and policy". A policy is two key sets; it
-// crosses as 4W words of 8 bytes, and `is_policy` is the one test of a policy handed in (refusal 2).
+// Policies: policy.rs of the crate evfmt; document 01, "Key set and policy". A policy is two key sets. Outside the
+// library it is 4W words of 8 bytes, and `is_policy` tests such bytes (refusal 2).
 mod default_policy;
 pub mod policy_bytes;
 
@@ -27,7 +27,8 @@ pub struct Policy {
     pub bare_as_text: PolicyKeySet,
 }
 
-// What a policy says of a base: what bare becomes, or which selector becomes bare.
+// The rule of a policy for a base: the presentation that the base has without a selector, or the selector that is
+// removed.
 pub enum SingletonRule {
     BareToEmoji,
     BareToText,
@@ -35,7 +36,7 @@ pub enum SingletonRule {
     EmojiToBare,
 }
 
-// A rule's number.
+// Returns the number of a rule.
 fn rule_number(rule: SingletonRule) -> u8
     ensures { λ r. ⌜ r ≡ ruleNumber rule ⌝ }
 {
@@ -48,7 +49,7 @@ fn rule_number(rule: SingletonRule) -> u8
 }
 
 impl SingletonRule {
-    // Whether two rules are the same.
+    // Tests whether two rules are the same.
     pub fn eq(self, rhs: Self) -> bool
         ensures { λ r. ⌜ r ≡ sameRule self rhs ⌝ }
     {
@@ -56,7 +57,7 @@ impl SingletonRule {
     }
 }
 
-// Whether a key set holds a base, in its ordinary or in its keycap set.
+// Tests whether a key set holds a base: in its keycap set if `is_keycap` is true, or else in its ordinary set.
 fn holds(set: PolicyKeySet, base: u32, is_keycap: bool) -> bool
     ensures { λ r. ⌜ r ≡ holdsBase set base «is_keycap» ⌝ }
 {
@@ -66,7 +67,7 @@ fn holds(set: PolicyKeySet, base: u32, is_keycap: bool) -> bool
     set.contains(base)
 }
 
-// What a policy says of a base, by whether `prefer_bare`, and whether `bare_as_text`, holds it.
+// Returns the rule for a base. The arguments say whether `prefer_bare` and whether `bare_as_text` hold the base.
 pub(crate) fn rule_of(prefers_bare: bool, bare_is_text: bool) -> SingletonRule
     ensures { λ r. ⌜ r ≡ ruleOf «prefers_bare» «bare_is_text» ⌝ }
 {
@@ -82,7 +83,7 @@ pub(crate) fn rule_of(prefers_bare: bool, bare_is_text: bool) -> SingletonRule
     SingletonRule::BareToEmoji
 }
 
-// A key set with its unused bits cleared.
+// Returns the key set with its unused bits cleared.
 fn cleared(set: PolicyKeySet) -> PolicyKeySet
     ensures { λ r. ⌜ Cleared set r ⌝ }
 {
@@ -90,7 +91,7 @@ fn cleared(set: PolicyKeySet) -> PolicyKeySet
 }
 
 impl Policy {
-    // The policy with another `prefer_bare` set.
+    // Returns the policy with another `prefer_bare` set.
     pub fn with_prefer_bare(self, prefer_bare: PolicyKeySet) -> Self
         ensures { λ r. ⌜ Cleared «prefer_bare» (r .«prefer_bare») × (r .«bare_as_text» ≡ self .«bare_as_text») ⌝ }
     {
@@ -101,7 +102,7 @@ impl Policy {
         }
     }
 
-    // The policy with another `bare_as_text` set.
+    // Returns the policy with another `bare_as_text` set.
     pub fn with_bare_as_text(self, bare_as_text: PolicyKeySet) -> Self
         ensures { λ r. ⌜ (r .«prefer_bare» ≡ self .«prefer_bare») × Cleared «bare_as_text» (r .«bare_as_text») ⌝ }
     {
@@ -112,7 +113,8 @@ impl Policy {
         }
     }
 
-    // The default policy: ASCII and emoji defaults bare; text defaults and every keycap base as text.
+    // Returns the default policy. ASCII and the emoji defaults prefer bare. The text defaults and every keycap base
+    // are text without a selector.
     pub fn default() -> Self
         ensures { λ r. ⌜ r ≡ defaultPolicy ⌝ }
     {
@@ -134,7 +136,7 @@ impl Policy {
         }
     }
 
-    // Whether two policies hold the same keys.
+    // Tests whether two policies hold the same keys.
     pub fn eq(self, rhs: Self) -> bool
         ensures { λ r. ⌜ r ≡ samePolicy self rhs ⌝ }
     {
@@ -144,7 +146,7 @@ impl Policy {
         false
     }
 
-    // What the policy says of a base, ordinary or keycap.
+    // Returns the policy's rule for a base, as an ordinary or a keycap base.
     pub fn singleton_rule(self, base: u32, is_keycap: bool) -> SingletonRule
         ensures { λ r. ⌜ r ≡ singletonRule self base «is_keycap» ⌝ }
     {
@@ -156,18 +158,18 @@ impl Policy {
     }
 }
 
-// What bytes say as a policy, and whether they are one. Only an accepted policy counts.
+// The policy that bytes encode, and whether the bytes are accepted. A caller uses the policy only if they are.
 pub struct ReadPolicy {
     pub accepted: bool,
     pub policy: Policy,
 }
 
-// The bytes of a set, and of a policy.
+// The number of bytes of a set, and of a policy.
 pub(crate) const SET_BYTES: usize = CHARSET_WORDS * WORD_BYTES;
 
 pub const POLICY_BYTES: usize = 4 * SET_BYTES;
 
-// The set whose words stand in the bytes from a place on.
+// Reads the set whose bytes start at an offset.
 fn read_set(bytes: &[u8], at: usize) -> CharSet
     requires { ⌜ at ≤ 144 ⌝ }
     ensures { λ r. ⌜ r .bits ≡ wordsFrom wordCount at (now (bytes .entry)) ⌝ }
@@ -181,7 +183,7 @@ fn read_set(bytes: &[u8], at: usize) -> CharSet
     CharSet { bits }
 }
 
-// The policy of the bytes handed in, and whether they are one.
+// Reads the policy that bytes encode, and tests whether they are a policy.
 pub fn read_policy(bytes: &[u8]) -> ReadPolicy
     ensures { λ r. ⌜ r ≡ readPolicy (now (bytes .entry)) ⌝ }
 {
@@ -199,21 +201,21 @@ pub fn read_policy(bytes: &[u8]) -> ReadPolicy
     ReadPolicy { accepted, policy }
 }
 
-// How many bytes a set has.
+// Returns the number of bytes of a set.
 fn set_len(set: CharSet) -> usize
     ensures { λ r. ⌜ (r ≡ length (bytesOf (set .bits))) × (r ≤ 48) ⌝ }
 {
     SET_BYTES
 }
 
-// How many bytes a key set has.
+// Returns the number of bytes of a key set.
 fn keys_len(set: PolicyKeySet) -> usize
     ensures { λ r. ⌜ (r ≡ length (bytesOf (keyWords set))) × (r ≤ 96) ⌝ }
 {
     set_len(set.chars) + set_len(set.keycap_chars)
 }
 
-// Writes the words of a set from a place on, and says where they end.
+// Writes the words of a set at an offset, and returns the offset after them.
 fn put_set(out: &mut [u8], start: usize, set: CharSet) -> usize
     requires { ⌜ start + length (bytesOf (set .bits)) ≤ length (now out) ⌝ }
     ensures { λ r. ⌜ PutAt (now (out .entry)) start (bytesOf (set .bits)) (now (out .exit)) r ⌝ }
@@ -229,7 +231,7 @@ fn put_set(out: &mut [u8], start: usize, set: CharSet) -> usize
     at
 }
 
-// Writes the words of a key set from a place on, and says where they end.
+// Writes the words of a key set at an offset, and returns the offset after them.
 fn put_keys(out: &mut [u8], start: usize, set: PolicyKeySet) -> usize
     requires { ⌜ start + length (bytesOf (keyWords set)) ≤ length (now out) ⌝ }
     ensures { λ r. ⌜ PutAt (now (out .entry)) start (bytesOf (keyWords set)) (now (out .exit)) r ⌝ }

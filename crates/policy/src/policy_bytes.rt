@@ -1,6 +1,6 @@
-// What a policy's bytes say, asked of the bytes themselves: document 01, "Key set and policy". A `Policy` goes by
-// value, so each call would copy its 192 bytes. `is_policy` is the test of refusal 2; `rule_at` and `ascii_keys_bare`
-// equal what the policy that the bytes say (`policyOf`) has, for any bytes.
+// The policy's functions on its bytes: document 01, "Key set and policy". A `Policy` is passed by value, so each call
+// would copy its 192 bytes; these functions read the bytes instead. `is_policy` is the test of refusal 2. `rule_at` and
+// `ascii_keys_bare` equal the same functions of the policy that the bytes encode (`policyOf`), for any bytes.
 ghost use mathlib.Core.Path.{_≡_};
 ghost use mathlib.Core.Bool.{_||_, cond, not};
 ghost use Prim.Native.Nat.{ℕ, _+_, _≤_};
@@ -17,12 +17,12 @@ use base::WORD_BYTES;
 use policy_key_set::named_sets::ALL_BITS;
 use policy_key_set::named_sets::CHARSET_WORDS;
 
-// Where a set's last word begins, and how many bits a set has.
+// The offset of the last word in a set, and the number of bits of a set.
 const LAST_WORD: usize = SET_BYTES - WORD_BYTES;
 
 const SET_BITS: usize = 8 * SET_BYTES;
 
-// Whether the last word of a set has ones among the used bits only.
+// Tests whether all ones of a set's last word are used bits.
 fn last_is_used(last: u64) -> bool
     ensures { λ r. ⌜ r ≡ allBelow 64 (λ (k : ℕ). ltb (320 + k) 354 || not (one k last)) ⌝ }
 {
@@ -30,7 +30,7 @@ fn last_is_used(last: u64) -> bool
     last <= used[CHARSET_WORDS - 1]
 }
 
-// Whether the set whose bytes begin at a place has no one among the unused bits.
+// Tests whether all unused bits are 0 in the set whose bytes start at an offset.
 fn has_no_unused_bit(bytes: &[u8], at: usize) -> bool
     requires { ⌜ at ≤ 144 ⌝ }
     ensures { λ r. ⌜ r ≡ noUnusedBit (wordsFrom wordCount at (now (bytes .entry))) ⌝ }
@@ -38,7 +38,7 @@ fn has_no_unused_bit(bytes: &[u8], at: usize) -> bool
     last_is_used(base::read_word(bytes, at + LAST_WORD))
 }
 
-// Whether the bytes handed in are a policy: the test of refusal 2.
+// Tests whether bytes are a policy: the test of refusal 2.
 pub fn is_policy(bytes: &[u8]) -> bool
     ensures { λ r. ⌜ r ≡ isPolicy (now (bytes .entry)) ⌝ }
 {
@@ -57,14 +57,15 @@ pub fn is_policy(bytes: &[u8]) -> bool
     has_no_unused_bit(bytes, 3 * SET_BYTES)
 }
 
-// The refusal of bytes that are no policy: the calls ask for it where `is_policy` answers no. Each such refusal is number 2.
+// Returns the refusal of bytes that are not a policy. The calls use it where `is_policy` returns false. Every such
+// refusal is number 2.
 pub fn policy_refusal(bytes: &[u8]) -> Refusal
     ensures { λ r. ⌜ r ≡ policyFault (now (bytes .entry)) ⌝ }
 {
     Refusal::NotAPolicy
 }
 
-// Whether the set whose bytes begin at a place holds an entry. After the set's bits there is none.
+// Tests whether a set holds an entry. The set's bytes start at an offset. After the bits of the set there is no entry.
 fn holds_entry(bytes: &[u8], at: usize, index: usize) -> bool
     ensures { λ r. ⌜ r ≡ member index (wordsFrom wordCount at (now (bytes .entry))) ⌝ }
 {
@@ -74,7 +75,7 @@ fn holds_entry(bytes: &[u8], at: usize, index: usize) -> bool
     base::has_bit(base::byte_at(bytes, at, index / 8) as u64, index % 8)
 }
 
-// Where a key set's ordinary or keycap set begins.
+// Returns the offset of the ordinary or the keycap set in a key set.
 fn set_start(is_keycap: bool) -> usize
     ensures { λ r. ⌜ (r ≡ cond «is_keycap» 48 0) × (r ≤ 48) ⌝ }
 {
@@ -84,7 +85,7 @@ fn set_start(is_keycap: bool) -> usize
     0
 }
 
-// What the policy says of the base that is an entry, ordinary or keycap.
+// Returns the policy's rule for a variation entry, as an ordinary or a keycap base.
 pub fn rule_at(bytes: &[u8], index: usize, is_keycap: bool) -> SingletonRule
     ensures { λ r. ⌜ r ≡ entryRule (policyOf (now (bytes .entry))) index «is_keycap» ⌝ }
 {
@@ -94,7 +95,8 @@ pub fn rule_at(bytes: &[u8], index: usize, is_keycap: bool) -> SingletonRule
     crate::rule_of(prefers_bare, bare_is_text)
 }
 
-// Whether the ASCII keys are all in the ordinary set of `prefer_bare`: # * 0 to 9 are the first twelve entries.
+// Tests whether the ordinary set of `prefer_bare` holds every ASCII key. The characters #, * and 0 to 9 are the first
+// twelve entries.
 pub fn ascii_keys_bare(bytes: &[u8]) -> bool
     ensures { λ r. ⌜ r ≡ asciiKeysBare (now (bytes .entry)) ⌝ }
 {

@@ -1,4 +1,4 @@
--- Tests of every number below a bound: one that is computed, and how many numbers pass.
+-- Tests of every number below a bound: a computed test, and the count of the numbers that pass.
 use mathlib.Core.Path.{_≡_, refl, sym, ap, ap₂, _∙_, subst}
 use mathlib.Core.Logic.{⊎-elim}
 use mathlib.Core.Bool.{Bool, true, false, Bool·beq, _&&_, _||_, not}
@@ -8,7 +8,7 @@ use native.Mathlib.Omega.{arith}
 use lib.Dec.{eqb}
 use borrow.Author.Tests.{ne-eqb}
 use Rattle.base.proofs.Tests.{both-true}
-use Rattle.policy_key_set.specs.Sets.{allBelow, countBelow, differ, number}
+use Rattle.policy_key_set.specs.Sets.{allBelow, countBelow, differ, oneIf}
 
 pub all-below : (n : ℕ) (p : ℕ → Bool) → allBelow n p ≡ true → (k : ℕ) → k < n → p k ≡ true
 unfolding allBelow
@@ -23,22 +23,22 @@ unfolding allBelow
 below-all zero p h = refl
 below-all (suc n) p h = simp (h n (omega arith), below-all n p (λ k l. h k (omega arith)))
 
--- tests that agree below n pass equally often
+-- Tests that agree below n have the same count.
 pub count-same : (n : ℕ) (p q : ℕ → Bool) → ((k : ℕ) → k < n → p k ≡ q k) → countBelow n p ≡ countBelow n q
 unfolding countBelow
 count-same zero p q h = refl
-count-same (suc n) p q h = ap₂ _+_ (count-same n p q (λ k l. h k (omega arith))) (ap number (h n (omega arith)))
+count-same (suc n) p q h = ap₂ _+_ (count-same n p q (λ k l. h k (omega arith))) (ap oneIf (h n (omega arith)))
 
--- what passes nowhere from n on is counted below n
+-- If no number from n on passes, the count below m is the count below n.
 pub count-to : (n m : ℕ) (p : ℕ → Bool) → n ≤ m → ((k : ℕ) → n ≤ k → p k ≡ false) → countBelow m p ≡ countBelow n p
 unfolding countBelow
 count-to n zero p l h = let e : 0 ≡ n = omega arith in ap (λ (k : ℕ). countBelow k p) e
 count-to n (suc m) p l h =
     ⊎-elim (λ (e : n ≡ suc m). ap (λ (k : ℕ). countBelow k p) (sym e))
-    (λ (q : n < suc m). let e : number (p m) ≡ 0 = ap number (h m (omega arith)) in omega (arith, count-to n m p (omega arith) h))
+    (λ (q : n < suc m). let e : oneIf (p m) ≡ 0 = ap oneIf (h m (omega arith)) in omega (arith, count-to n m p (omega arith) h))
     (eq-or-lt-of-le l)
 
-pub number-le : (b : Bool) → number b ≤ 1
+pub number-le : (b : Bool) → oneIf b ≤ 1
 number-le true = omega arith
 number-le false = omega arith
 
@@ -47,7 +47,7 @@ unfolding countBelow
 count-le zero p = omega arith
 count-le (suc n) p = omega (arith, count-le n p, number-le (p n))
 
--- none passes where the count is 0, all where it is n
+-- If the count is 0, no number passes. If it is n, every number passes.
 pub count-none : (n : ℕ) (p : ℕ → Bool) → countBelow n p ≡ 0 → (k : ℕ) → k < n → p k ≡ false
 unfolding countBelow
 count-none zero p e k h = absurd (not-suc-le-zero h)
@@ -55,7 +55,7 @@ count-none (suc n) p e k h =
     ⊎-elim (λ (q : k ≡ n). ap p q ∙ no (p n) (omega arith)) (λ (l : k < n). count-none n p (omega arith) k l)
     (eq-or-lt-of-le (le-of-suc-le-suc h))
   where
-    no : (b : Bool) → number b ≡ 0 → b ≡ false
+    no : (b : Bool) → oneIf b ≡ 0 → b ≡ false
     no true e = cc
     no false e = refl
 
@@ -67,7 +67,7 @@ count-all (suc n) p e k h =
     (λ (l : k < n). count-all n p (omega (arith, number-le (p n), count-le n p)) k l)
     (eq-or-lt-of-le (le-of-suc-le-suc h))
   where
-    yes : (b : Bool) → 0 < number b → b ≡ true
+    yes : (b : Bool) → 0 < oneIf b → b ≡ true
     yes true e = refl
     yes false e = absurd (omega arith)
 
@@ -81,7 +81,7 @@ unfolding countBelow
 all-counted zero = refl
 all-counted (suc n) = omega (arith, all-counted n)
 
--- no number differs exactly when all agree
+-- The count of the numbers at which two tests differ is 0 exactly if the tests agree.
 pub none-differ : (n : ℕ) (p q : ℕ → Bool)
     → eqb (countBelow n (λ (i : ℕ). differ (p i) (q i))) 0 ≡ allBelow n (λ (i : ℕ). Bool·beq (p i) (q i))
 unfolding countBelow allBelow
@@ -89,19 +89,19 @@ none-differ zero p q = refl
 none-differ (suc n) p q = go (Bool·beq (p n) (q n)) (none-differ n p q)
   where
     go : (b : Bool) → eqb (countBelow n (λ (i : ℕ). differ (p i) (q i))) 0 ≡ allBelow n (λ (i : ℕ). Bool·beq (p i) (q i))
-        → eqb (countBelow n (λ (i : ℕ). differ (p i) (q i)) + number (not b)) 0
+        → eqb (countBelow n (λ (i : ℕ). differ (p i) (q i)) + oneIf (not b)) 0
         ≡ (b && allBelow n (λ (i : ℕ). Bool·beq (p i) (q i)))
     go true h = ap (λ (m : ℕ). eqb m 0) (add-zero (countBelow n (λ (i : ℕ). differ (p i) (q i)))) ∙ h
     go false h = ne-eqb (countBelow n (λ (i : ℕ). differ (p i) (q i)) + 1) 0 (λ e. omega arith)
 
--- what is counted in either is counted in both besides
+-- The count of either test plus the count of both tests is the sum of the two counts.
 pub count-union : (n : ℕ) (p q : ℕ → Bool)
     → countBelow n (λ (i : ℕ). p i || q i) + countBelow n (λ (i : ℕ). p i && q i) ≡ countBelow n p + countBelow n q
 unfolding countBelow
 count-union zero p q = refl
 count-union (suc n) p q = let e = count-union n p q in let f = two (p n) (q n) in omega arith
   where
-    two : (x y : Bool) → number (x || y) + number (x && y) ≡ number x + number y
+    two : (x y : Bool) → oneIf (x || y) + oneIf (x && y) ≡ oneIf x + oneIf y
     two true y = refl
     two false true = refl
     two false false = refl

@@ -1,4 +1,4 @@
--- One bit of a word: what an operation on words does to it, at any place.
+-- The bits of the result of an operation on words.
 use mathlib.Core.Path.{_≡_, refl, sym, ap, _∙_}
 use mathlib.Core.Bool.{Bool, not, _||_, _&&_}
 use Prim.Native.Nat.{ℕ, zero, suc, _+_, _-_, _*_, _/_, _%_, _^_, min, max, _<_}
@@ -10,7 +10,7 @@ use Rattle.base.specs.Bits.{one}
 use Rattle.base.proofs.Bits.{low-bit, next-bit, zero-one}
 use Rattle.policy_key_set.specs.Sets as Sets
 
--- an operation that acts on each bit by itself, and the test that it is on bits
+-- An operation that acts on each bit separately, and its truth table.
 module _
     (op : ℕ → ℕ → ℕ)
     (f : ℕ → ℕ → ℕ)
@@ -27,7 +27,7 @@ module _
       omega (arith, step (a / 2 ^ k) (b / 2 ^ k)) in
       ap (λ (n : ℕ). eqb (n % 2) 1) (shr a b k) ∙ ap (λ (n : ℕ). eqb n 1) low ∙ h .1
 
--- what holds of the four pairs of bits
+-- A property of two bits holds if it holds for the four pairs.
 bits-are : (P : ℕ → ℕ → Type 0) → P 0 0 → P 0 1 → P 1 0 → P 1 1 → (x y : ℕ) → x < 2 → y < 2 → P x y
 bits-are P a b c d zero zero h i = a
 bits-are P a b c d zero (suc zero) h i = b
@@ -55,7 +55,7 @@ xor-one =
     (bits-are (λ x y. (differ x y < 2) × (eqb (differ x y) 1 ≡ Sets.differ (eqb x 1) (eqb y 1))) (omega arith, refl)
     (omega arith, refl) (omega arith, refl) (omega arith, refl))
 
--- the complement of n bits
+-- The complement of n bits.
 half-not : (p a : ℕ) → a < p * 2 → (p * 2 - 1 - a) / 2 ≡ p - 1 - a / 2
 half-not p a h = omega arith
 
@@ -79,7 +79,7 @@ not-one (suc n) (suc k) a h l =
     ∙ ap (one k) (half-not (2 ^ n) a l′) ∙ not-one n k (a / 2) (le-of-suc-le-suc h) (omega arith)
     ∙ ap not (sym (next-bit k a))
 
--- a power of two has one bit
+-- A power of two has one bit.
 pub power-one : (k n : ℕ) → one k (2 ^ n) ≡ eqb k n
 power-one zero zero = low-bit 1
 power-one zero (suc n) =
@@ -90,7 +90,7 @@ power-one (suc k) (suc n) =
     let e : 2 ^ suc n / 2 ≡ 2 ^ n = let p = pow-suc 2 n in omega arith in
     next-bit k (2 ^ suc n) ∙ ap (one k) e ∙ power-one k n ∙ sym (eqb·suc-suc k n)
 
--- numbers below a power of two that agree in each bit are equal
+-- Numbers below 2 ^ n with the same n bits are equal.
 pub bits-determine : (n a b : ℕ) → a < 2 ^ n → b < 2 ^ n → ((k : ℕ) → k < n → one k a ≡ one k b) → a ≡ b
 bits-determine zero a b h i e = omega arith
 bits-determine (suc n) a b h i e =

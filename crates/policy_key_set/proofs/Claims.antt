@@ -52,7 +52,7 @@ use Rattle.policy_key_set.proofs.Below.{
 }
 use Rattle.policy_key_set.proofs.Members.{held, holds-same, members-determine}
 use Rattle.policy_key_set.proofs.Sizes.{count-held, sum-count}
-use Rattle.policy_key_set.proofs.Entries.{entry-count, right-words}
+use Rattle.policy_key_set.proofs.Entries.{entry-count, matching-words-hold}
 use Rattle.policy_key_set.proofs.Contains.{contains-chars, contains-complement, contains-made}
 
 pub entries-and-words : EntriesAndWords
@@ -73,7 +73,7 @@ ones-are-members n m p ws l h a = sum-count ws h m ∙ count-held n (m * 64) p w
 
 pub tested-words-hold : TestedWordsHold
 unfolding TestedWordsHold
-tested-words-hold = right-words
+tested-words-hold = matching-words-hold
 
 pub named-sets-contain : NamedSetsContain
 unfolding NamedSetsContain

@@ -1,4 +1,4 @@
--- The variation entries: how many, and the words whose computed test says what they hold.
+-- The variation entries: their number, their indices, and words that pass the test of a rule.
 use mathlib.Core.Path.{_≡_, refl, sym, ap, _∙_}
 use mathlib.Core.Logic.{⊎-elim}
 use mathlib.Core.Bool.{Bool, true, false, _&&_}
@@ -16,7 +16,7 @@ use Rattle.unicode.proofs.Ascent.{entry-in, entry-out, index-holds, place-is-in
 use Rattle.unicode.proofs.InOrder.{variation-entries-ascend}
 use Rattle.base.specs.Bits.{one}
 use Rattle.policy_key_set.specs.Sets.{Holds, HoldsChars, allBelow, entryCount, member, sizeOf}
-use Rattle.policy_key_set.specs.KeySets.{rightWords}
+use Rattle.policy_key_set.specs.KeySets.{wordsMatchRule}
 use Rattle.policy_key_set.proofs.Below.{count-le}
 use Rattle.policy_key_set.proofs.Members.{decide, holds-same, none-held, one-member, test-holds}
 
@@ -32,7 +32,7 @@ pub size-le : (ws : List ℕ) → sizeOf ws ≤ entryCount
 unfolding sizeOf
 size-le ws = count-le entryCount (λ (i : ℕ). member i ws)
 
--- an index is below the number of entries, and its entry is the character
+-- An index is below the number of entries, and the entry there is the character.
 pub index-has-place : (ch i : ℕ) → variationSequenceIndex ch ≡ Index.At i → (i < entryCount) × (getD variationEntries i 0 ≡ ch)
 unfolding variationSequenceIndex entryCount
 index-has-place ch i e =
@@ -40,13 +40,13 @@ index-has-place ch i e =
     ⊎-elim (λ h. let q = entry-out i variationEntries h in let z : _≡_ {A = ℕ} 0 1 = cc in absurd (omega arith))
     (λ h. let q = entry-in i variationEntries h in (h, cc)) (le-or-lt (length variationEntries) i)
 
--- an entry's index is its place
+-- The index of the character of entry i is i.
 pub place-has-index : (i : ℕ) → i < entryCount → variationSequenceIndex (getD variationEntries i 0) ≡ Index.At i
 unfolding variationSequenceIndex entryCount
 place-has-index i h =
     place-is-index variationEntries variation-entries-ascend (getD variationEntries i 0) i (entry-in i variationEntries h)
 
--- the entries that are one character: the one at its index, or none
+-- The only entry with a given character is the one at its index. A character without an index is no entry.
 pub only-entry : (ch i : ℕ) → variationSequenceIndex ch ≡ Index.At i → (j : ℕ) → j < entryCount → eqb (getD variationEntries j 0) ch
     ≡ eqb j i
 only-entry ch i e j h =
@@ -62,7 +62,7 @@ no-entry ch e j h =
     ne-eqb (getD variationEntries j 0) ch
     (λ q. let f = place-has-index j h in let g = ap variationSequenceIndex q in let z : _≡_ {A = ℕ} 0 1 = cc in omega arith)
 
--- the one bit at a character's index, in words that were 0
+-- Words that have a 1 only at a character's index hold only this character.
 pub singleton-held : (ch i w : ℕ) → variationSequenceIndex ch ≡ Index.At i → ((k : ℕ) → one k w ≡ eqb k (i % 64))
     → HoldsChars (λ (c : ℕ). eqb c ch) (set (replicate 6 0) (i / 64) w)
 singleton-held ch i w e h j =
@@ -77,14 +77,14 @@ nothing-held ch e =
     holds-same entryCount (λ i. false) (λ i. eqb (getD variationEntries i 0) ch) (replicate 6 0) (none-held entryCount 6)
     (λ j h. sym (no-entry ch e j h))
 
--- words that pass the test of a rule hold the characters that match it
-pub right-words : (p : ℕ → Bool) (ws : List ℕ) → rightWords p ws ≡ true → HoldsChars p ws
-unfolding rightWords
-right-words p ws t =
+-- Words that pass the test of a rule hold the entries whose character matches it.
+pub matching-words-hold : (p : ℕ → Bool) (ws : List ℕ) → wordsMatchRule p ws ≡ true → HoldsChars p ws
+unfolding wordsMatchRule
+matching-words-hold p ws t =
     let s = both-true (leb entryCount (length ws * 64)) _ t in
     test-holds entryCount (λ (i : ℕ). p (getD variationEntries i 0)) ws (leb-true entryCount (length ws * 64) (s .0)) (s .1)
 
--- the words of all entries: bits 0 to 353 are one
+-- The words of all entries: bits 0 to 353 are 1.
 abbrev pub allWords : List ℕ
 allWords =
     0xFFFFFFFFFFFFFFFF
@@ -96,5 +96,5 @@ allWords =
     ∷ []
 
 pub all-words : Holds (λ (i : ℕ). true) allWords
-unfolding rightWords allBelow member one entryCount variationEntries
-all-words = right-words (λ c. true) allWords refl
+unfolding wordsMatchRule allBelow member one entryCount variationEntries
+all-words = matching-words-hold (λ c. true) allWords refl

@@ -1,5 +1,5 @@
--- Laws about bits, members and sizes for any number of entries and words, about the variation entries, and about texts in
--- buffers; and the theorems.
+-- Laws about bits, members and sizes for any number of entries and words, about the variation entries, and about writing texts; and the
+-- theorems.
 pub mod Bits
 pub mod Below
 pub mod Members

@@ -1,4 +1,4 @@
--- What words hold, entry by entry, for any number of entries and words.
+-- The entries that words hold, for any number of entries and words.
 use mathlib.Core.Path.{_≡_, refl, sym, ap, _∙_}
 use mathlib.Core.Logic.{_⊎_, inl, inr, ⊎-elim}
 use mathlib.Core.Bool.{Bool, true, false, Bool·beq, _&&_, not, and-false, and-true}
@@ -24,12 +24,12 @@ decide a b = go (eqb a b) refl
     go true e = inl (eqb-true a b e)
     go false e = inr (eqb-false a b e)
 
--- past the words there is no member
+-- After the last word, no entry is in the set.
 pub member-past : (ws : List ℕ) (i : ℕ) → length ws * 64 ≤ i → member i ws ≡ false
 unfolding member
 member-past ws i h = ap (one (i % 64)) (List·getD-eq-default ws 0 (omega arith)) ∙ zero-one (i % 64)
 
--- a word stored at its place: what holds of each word before it and of it holds of each up to it
+-- Storing word i: a property of each word before i and of the stored word holds of each word up to i.
 pub set-more : (P : ℕ → ℕ → Type 0) (z : List ℕ) (i v : ℕ) → i < length z → ((k : ℕ) → k < i → P k (getD z k 0)) → P i v
     → (k : ℕ) → k < i + 1 → P k (getD (set z i v) k 0)
 set-more P z i v l h p =
@@ -41,7 +41,7 @@ zeros-are zero k = refl
 zeros-are (suc n) zero = refl
 zeros-are (suc n) (suc k) = zeros-are n k
 
--- words that are 0 hold nothing
+-- Words that are 0 hold no entry.
 pub no-member : (n i : ℕ) → member i (replicate n 0) ≡ false
 unfolding member
 no-member n i = ap (one (i % 64)) (zeros-are n (i / 64)) ∙ zero-one (i % 64)
@@ -49,7 +49,7 @@ no-member n i = ap (one (i % 64)) (zeros-are n (i / 64)) ∙ zero-one (i % 64)
 pub none-held : (n m : ℕ) → HoldsBelow n (λ (i : ℕ). false) (replicate m 0)
 none-held n m i = no-member m i ∙ sym (and-false (ltb i n))
 
--- one bit stored into them holds one entry
+-- Words that have one 1 hold one entry.
 pub one-member : (n i w : ℕ) → i < n * 64 → ((k : ℕ) → one k w ≡ eqb k (i % 64)) → (j : ℕ)
     → member j (set (replicate n 0) (i / 64) w) ≡ eqb j i
 unfolding member
@@ -67,11 +67,11 @@ one-member n i w l h j = ⊎-elim same other (decide (j / 64) (i / 64))
         ap (one (j % 64)) (getD-set-other (replicate n 0) (i / 64) (j / 64) w 0 e) ∙ no-member n j
         ∙ sym (ne-eqb j i (λ q. e (ap (λ (x : ℕ). x / 64) q)))
 
--- in a word, each used bit is f of the two words' bits
+-- Each used bit of a word is f of the bits of two words.
 abbrev pub Combined : (Bool → Bool → Bool) → ℕ → ℕ → ℕ → ℕ → Type 0
 Combined f used x y z = (k : ℕ) → k < 64 → one k z ≡ (one k used && f (one k x) (one k y))
 
--- an operation that acts so on each word acts so on each entry
+-- If each word of a result is so combined, so is each entry.
 pub word-wise : (f : Bool → Bool → Bool) (n : ℕ) (used x y z : List ℕ) → HoldsBelow n (λ (i : ℕ). true) used → n ≤ length z * 64
     → ((k : ℕ) → k < length z → Combined f (getD used k 0) (getD x k 0) (getD y k 0) (getD z k 0))
     → HoldsBelow n (λ (i : ℕ). f (member i x) (member i y)) z
@@ -81,7 +81,7 @@ word-wise f n used x y z u l h i =
     (λ p. h (i / 64) (omega arith) (i % 64) (omega arith)
     ∙ ap (λ (b : Bool). b && f (member i x) (member i y)) (u i ∙ and-true (ltb i n))) (le-or-lt (length z * 64) i)
 
--- words that pass the test at each of their bits hold what it says
+-- Words whose bits all agree with a test hold the entries that pass it.
 pub test-holds : (n : ℕ) (p : ℕ → Bool) (ws : List ℕ) → n ≤ length ws * 64
     → allBelow (length ws * 64) (λ (i : ℕ). Bool·beq (member i ws) (ltb i n && p i)) ≡ true → HoldsBelow n p ws
 test-holds n p ws l t i =
@@ -89,24 +89,24 @@ test-holds n p ws l t i =
     (λ h. beq-so (member i ws) (ltb i n && p i) (all-below (length ws * 64) (λ (k : ℕ). Bool·beq (member k ws) (ltb k n && p k)) t i h))
     (le-or-lt (length ws * 64) i)
 
--- a test that agrees on the entries holds of the same words
+-- Tests that agree below n describe the same words.
 pub holds-same : (n : ℕ) (p q : ℕ → Bool) (ws : List ℕ) → HoldsBelow n p ws → ((i : ℕ) → i < n → p i ≡ q i) → HoldsBelow n q ws
 holds-same n p q ws h e i =
     h i ∙ ⊎-elim (λ l. ap (λ (b : Bool). b && p i) (le-ltb i n l) ∙ sym (ap (λ (b : Bool). b && q i) (le-ltb i n l)))
     (λ l. ap (λ (b : Bool). ltb i n && b) (e i l)) (le-or-lt n i)
 
--- an entry of the table is a member where it passes the test
+-- An entry below n is a member exactly if it passes the test.
 pub held : (n : ℕ) (p : ℕ → Bool) (ws : List ℕ) → HoldsBelow n p ws → (i : ℕ) → i < n → member i ws ≡ p i
 held n p ws h i l = h i ∙ ap (λ (b : Bool). b && p i) (lt-ltb i n l)
 
--- all but those of a set: its complement
+-- The set of all entries without those of a set is the complement.
 pub complement-held : (n : ℕ) (all ws vs : List ℕ) → HoldsBelow n (λ (i : ℕ). true) all
     → HoldsBelow n (λ (i : ℕ). butNot (member i all) (member i ws)) vs → HoldsBelow n (λ (i : ℕ). not (member i ws)) vs
 complement-held n all ws vs h g =
     holds-same n _ (λ (i : ℕ). not (member i ws)) vs g
     (λ i l. ap (λ (b : Bool). b && not (member i ws)) (held n (λ (i : ℕ). true) all h i l))
 
--- words below 2 ^ 64 are determined by their members
+-- Words below 2 ^ 64 with the same members are equal.
 pub members-determine : (ws vs : List ℕ) → length ws ≡ length vs → ((k : ℕ) → getD ws k 0 < 2 ^ 64) → ((k : ℕ) → getD vs k 0 < 2 ^ 64)
     → ((i : ℕ) → member i ws ≡ member i vs) → ws ≡ vs
 unfolding member

@@ -1,4 +1,4 @@
--- The number of ones of a word is the number of its bits that are one, and the sum over the words is the number of members.
+-- The number of ones of a word is the number of its bits that are 1, and the sum over the words is the number of members.
 use mathlib.Core.Path.{_≡_, refl, sym, ap, ap₂, _∙_}
 use mathlib.Core.Bool.{Bool, _&&_}
 use mathlib.Core.List.{List}
@@ -12,24 +12,24 @@ use lib.ListN.{getD}
 use borrow.Author.Tests.{le-ltb}
 use Rattle.base.specs.Bits.{one}
 use Rattle.base.proofs.Bits.{low-bit, next-bit}
-use Rattle.policy_key_set.specs.Sets.{HoldsBelow, countBelow, member, number, sumBelow}
+use Rattle.policy_key_set.specs.Sets.{HoldsBelow, countBelow, member, oneIf, sumBelow}
 use Rattle.policy_key_set.proofs.Below.{count-same, count-to}
 use Rattle.policy_key_set.proofs.Members.{held}
 
-bit-number : (b : ℕ) → b < 2 → number (eqb b 1) ≡ b
+bit-number : (b : ℕ) → b < 2 → oneIf (eqb b 1) ≡ b
 bit-number zero h = refl
 bit-number (suc zero) h = refl
 bit-number (suc (suc b)) h = absurd (omega arith)
 
--- the ones below k, as a count of places
+-- The number of ones among the lowest k bits of a word.
 abbrev pub bitCount : ℕ → ℕ → ℕ
 bitCount k w = countBelow k (λ (i : ℕ). one i w)
 
--- taken lowest first
+-- The count is the lowest bit plus the count of the others.
 lowest-first : (k w : ℕ) → bitCount (suc k) w ≡ w % 2 + bitCount k (w / 2)
 unfolding countBelow
-lowest-first zero w = let e = ap number (low-bit w) ∙ bit-number (w % 2) (omega arith) in omega arith
-lowest-first (suc k) w = let e = lowest-first k w in let f = ap number (next-bit k w) in omega arith
+lowest-first zero w = let e = ap oneIf (low-bit w) ∙ bit-number (w % 2) (omega arith) in omega arith
+lowest-first (suc k) w = let e = lowest-first k w in let f = ap oneIf (next-bit k w) in omega arith
 
 no-ones : ones 0 ≡ 0
 unfolding ones
@@ -42,7 +42,7 @@ ones-count (suc k) w h =
     let h′ : w < 2 ^ k * 2 = rw pow-suc at h in
     ones-step w ∙ ap (λ (n : ℕ). w % 2 + n) (ones-count k (w / 2) (omega arith)) ∙ sym (lowest-first k w)
 
--- the entries of the words before word j, and the first k of word j
+-- The number of entries in the words before word j and in the first k bits of word j.
 part-word : (ws : List ℕ) (j k : ℕ) → k ≤ 64
     → countBelow (j * 64 + k) (λ (i : ℕ). member i ws) ≡ countBelow (j * 64) (λ (i : ℕ). member i ws) + bitCount k (getD ws j 0)
 unfolding countBelow member
@@ -53,10 +53,10 @@ part-word ws j (suc k) h =
     let e = part-word ws j k (omega arith) in
     let d : (j * 64 + k) / 64 ≡ j = omega arith in
     let m : (j * 64 + k) % 64 ≡ k = omega arith in
-    let f : number (member (j * 64 + k) ws) ≡ number (one k (getD ws j 0)) = ap₂ (λ (a b : ℕ). number (one a (getD ws b 0))) m d in
+    let f : oneIf (member (j * 64 + k) ws) ≡ oneIf (one k (getD ws j 0)) = ap₂ (λ (a b : ℕ). oneIf (one a (getD ws b 0))) m d in
     ap (λ (n : ℕ). countBelow n (λ (i : ℕ). member i ws)) (add-suc (j * 64) k) ∙ omega (arith, e, f)
 
--- one word more
+-- The number of entries in the words up to word j.
 pub count-word : (ws : List ℕ) (j : ℕ)
     → countBelow ((j + 1) * 64) (λ (i : ℕ). member i ws) ≡ countBelow (j * 64) (λ (i : ℕ). member i ws) + bitCount 64 (getD ws j 0)
 count-word ws j =
@@ -67,7 +67,7 @@ count-zero : (p : ℕ → Bool) → countBelow 0 p ≡ 0
 unfolding countBelow
 count-zero p = refl
 
--- the ones of m words are the members below 64 m
+-- The number of ones of m words is the number of members below 64 m.
 pub sum-count : (ws : List ℕ) → ((k : ℕ) → getD ws k 0 < 2 ^ 64) → (m : ℕ)
     → sumBelow m (λ (k : ℕ). ones (getD ws k 0)) ≡ countBelow (m * 64) (λ (i : ℕ). member i ws)
 unfolding sumBelow
@@ -77,7 +77,7 @@ sum-count ws h (suc m) =
     ap (λ (n : ℕ). countBelow (n * 64) (λ (i : ℕ). member i ws)) (sym (add-one m)) in
     omega (arith, sum-count ws h m, ones-count 64 (getD ws m 0) (h m), count-word ws m, e)
 
--- the members of words that hold a test are the numbers that pass it
+-- The number of members of words that hold a test is the number of the numbers that pass it.
 pub count-held : (n m : ℕ) (p : ℕ → Bool) (ws : List ℕ) → n ≤ m → HoldsBelow n p ws → countBelow m (λ (i : ℕ). member i ws) ≡ countBelow n p
 count-held n m p ws q h =
     count-to n m (λ (i : ℕ). member i ws) q (λ k l. h k ∙ ap (λ (b : Bool). b && p k) (le-ltb k n l))

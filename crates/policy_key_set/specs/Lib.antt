@@ -1,4 +1,4 @@
--- What a set of variation entries holds, what the operations make of sets, and how a key set is shown.
+-- Sets of variation entries, sets of policy keys, the operations on them, and the display of a key set.
 pub mod Sets
 pub mod KeySets
 pub mod Display

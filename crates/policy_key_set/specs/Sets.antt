@@ -1,5 +1,5 @@
--- Sets of variation entries as words of 64 bits: document 01, "Key set and policy". `Holds` says what a set
--- holds, and every operation's contract cites it.
+-- Sets of variation entries as words of 64 bits: document 01, "Key set and policy". `Holds` says which entries a set holds, and the
+-- contract of every operation cites it.
 use mathlib.Core.Path.{_≡_}
 use mathlib.Core.Bool.{Bool, true, false, Bool·beq, _&&_, _||_, not}
 use mathlib.Core.List.{List}
@@ -20,82 +20,82 @@ use Rattle.policy_key_set.specs.declared.char_set.SetOperation.the-varia
   Union,
 }
 
--- "entry i at bit i mod 64 of word i/64"; past the words there is no member
+-- Entry i is in the set: "entry i at bit i mod 64 of word i/64". After the last word, no entry is in the set.
 unfoldable pub member : ℕ → List ℕ → Bool
 member i ws = one (i % 64) (getD ws (i / 64) 0)
 
--- "V variation entries"
+-- The number of variation entries: "V variation entries".
 unfoldable pub entryCount : ℕ
 entryCount = length variationEntries
 
--- "W = V/64 rounded up": the words of a set
+-- The number of words of a set: "W = V/64 rounded up".
 unfoldable pub wordCount : ℕ
 wordCount = (entryCount + 63) / 64
 
--- the words hold the entries below n that pass a test, and no other bit is one
+-- The words hold exactly the entries below n that pass a test, and every other bit is 0.
 abbrev pub HoldsBelow : ℕ → (ℕ → Bool) → List ℕ → Type 0
 HoldsBelow n p ws = (i : ℕ) → member i ws ≡ (ltb i n && p i)
 
--- the words hold the variation entries that pass a test, and "unused bits" are 0
+-- The words hold exactly the variation entries that pass a test, and "unused bits" are 0.
 abbrev pub Holds : (ℕ → Bool) → List ℕ → Type 0
 Holds p ws = HoldsBelow entryCount p ws
 
--- the entries that are characters of a kind
+-- The words hold exactly the variation entries whose character passes a test.
 abbrev pub HoldsChars : (ℕ → Bool) → List ℕ → Type 0
 HoldsChars p ws = Holds (λ (i : ℕ). p (getD variationEntries i 0)) ws
 
--- in the first and not in the second
+-- In the first set and not in the second.
 abbrev pub butNot : Bool → Bool → Bool
 butNot x y = x && not y
 
--- in just one of the two
+-- In exactly one of the two sets.
 abbrev pub differ : Bool → Bool → Bool
 differ x y = not (Bool·beq x y)
 
--- whether an operation keeps an entry, of whether it is in each of two sets
+-- An operation keeps an entry. The two arguments say whether the entry is in the first and in the second set.
 abbrev pub keeps : SetOperation → Bool → Bool → Bool
 keeps Union = _||_
 keeps Intersection = _&&_
 keeps SymmetricDifference = differ
 keeps Difference = butNot
 
--- "Union, intersection, difference and complement take whole sets and give a new one": entry by entry
+-- The result of an operation, entry by entry: "Union, intersection, difference and complement take whole sets and give a new one".
 abbrev pub MadeBy : (Bool → Bool → Bool) → CharSet → CharSet → CharSet → Type 0
 MadeBy f a b r = Holds (λ (i : ℕ). f (member i (a .bits)) (member i (b .bits))) (r .bits)
 
--- a test counts 1 where it passes
-abbrev pub number : Bool → ℕ
-number true = 1
-number false = 0
+-- 1 for true and 0 for false.
+abbrev pub oneIf : Bool → ℕ
+oneIf true = 1
+oneIf false = 0
 
--- how many of the numbers below n pass a test
+-- The number of the numbers below n that pass a test.
 unfoldable pub countBelow : ℕ → (ℕ → Bool) → ℕ
 countBelow zero p = 0
-countBelow (suc n) p = countBelow n p + number (p n)
+countBelow (suc n) p = countBelow n p + oneIf (p n)
 
--- the sum of a function's values below n
+-- The sum of a function's values below n.
 unfoldable pub sumBelow : ℕ → (ℕ → ℕ) → ℕ
 sumBelow zero f = 0
 sumBelow (suc n) f = sumBelow n f + f n
 
--- "The size of a set is the number of its one bits after that", the unused bits being cleared
+-- The size of a set after the unused bits are cleared: "The size of a set is the number of its one bits after that".
 unfoldable pub sizeOf : List ℕ → ℕ
 sizeOf ws = countBelow entryCount (λ (i : ℕ). member i ws)
 
--- each number below n passes a test
+-- Each number below n passes a test.
 unfoldable pub allBelow : ℕ → (ℕ → Bool) → Bool
 allBelow zero p = true
 allBelow (suc n) p = p n && allBelow n p
 
--- two sets hold the same entries
+-- The two sets hold the same entries.
 unfoldable pub sameEntries : List ℕ → List ℕ → Bool
 sameEntries ws vs = allBelow entryCount (λ (i : ℕ). Bool·beq (member i ws) (member i vs))
 
--- whether a set holds the entry at a character's index
+-- The set holds the entry at an index.
 unfoldable pub memberAt : VariationSequenceIndex → List ℕ → Bool
 memberAt (Index.At i) ws = member i ws
 memberAt Index.NoEntry ws = false
 
--- whether a set holds a character: `CharSet::contains` of policy_key_set.rs
+-- The set holds a character: `CharSet::contains` of policy_key_set.rs.
 unfoldable pub contains : ℕ → List ℕ → Bool
 contains ch ws = memberAt (variationSequenceIndex ch) ws

@@ -1,5 +1,5 @@
--- What the definitions of sets, key sets and their display come to, for any number of entries and words where they do
--- not name the tables. The proofs are in proofs/Claims.antt.
+-- Statements about sets, key sets and their display. They hold for any number of entries and words, unless they name the tables. The
+-- proofs are in proofs/Claims.antt.
 use mathlib.Core.Path.{_≡_}
 use mathlib.Core.Logic.{_↔_}
 use mathlib.Core.Bool.{Bool, true, false, not, _&&_, _||_}
@@ -21,7 +21,7 @@ use Rattle.policy_key_set.specs.Sets.{
   sumBelow,
   wordCount,
 }
-use Rattle.policy_key_set.specs.KeySets.{isAscii, isKeycapRgi, keycap, keysSize, ordinary, rightWords}
+use Rattle.policy_key_set.specs.KeySets.{isAscii, isKeycapRgi, keycap, keysSize, ordinary, wordsMatchRule}
 use Rattle.policy_key_set.specs.Display.{display}
 use Rattle.policy_key_set.specs.declared.PolicyKeySet.{PolicyKeySet}
 
@@ -29,47 +29,46 @@ use Rattle.policy_key_set.specs.declared.PolicyKeySet.{PolicyKeySet}
 unfoldable pub EntriesAndWords : Type 0
 EntriesAndWords = (entryCount ≡ 354) × (wordCount ≡ 6)
 
--- Words of 64 bits are determined by their members.
+-- Two lists of 64-bit words with the same members are equal.
 unfoldable pub MembersDetermineWords : Type 0
 MembersDetermineWords =
     (ws vs : List ℕ) → length ws ≡ length vs → ((k : ℕ) → getD ws k 0 < 2 ^ 64) → ((k : ℕ) → getD vs k 0 < 2 ^ 64)
     → ((i : ℕ) → member i ws ≡ member i vs) → ws ≡ vs
 
--- So two results that hold the same entries are the same words: every law of Booleans is a law of sets.
+-- Two results of operations with the same test are the same words. So every law of Booleans is a law of sets.
 unfoldable pub SameTestSameWords : Type 0
 SameTestSameWords =
     (n : ℕ) (p q : ℕ → Bool) (ws vs : List ℕ) → length ws ≡ length vs → ((k : ℕ) → getD ws k 0 < 2 ^ 64)
     → ((k : ℕ) → getD vs k 0 < 2 ^ 64) → HoldsBelow n p ws → HoldsBelow n q vs → ((i : ℕ) → i < n → p i ≡ q i) → ws ≡ vs
 
--- "The size of a set is the number of its one bits": the ones of m words that hold entries below n, summed, are the
--- entries that they hold.
+-- "The size of a set is the number of its one bits": the number of ones of m words that hold entries below n is the number of these
+-- entries.
 unfoldable pub OnesAreMembers : Type 0
 OnesAreMembers =
     (n m : ℕ) (p : ℕ → Bool) (ws : List ℕ) → n ≤ m * 64 → ((k : ℕ) → getD ws k 0 < 2 ^ 64) → HoldsBelow n p ws
     → sumBelow m (λ (k : ℕ). ones (getD ws k 0)) ≡ countBelow n p
 
--- The one computed test of a named set's words says what they hold, at every entry.
+-- Words that pass the computed test of a rule hold exactly the entries whose character matches the rule.
 unfoldable pub TestedWordsHold : Type 0
-TestedWordsHold = (p : ℕ → Bool) (ws : List ℕ) → rightWords p ws ≡ true → HoldsChars p ws
+TestedWordsHold = (p : ℕ → Bool) (ws : List ℕ) → wordsMatchRule p ws ≡ true → HoldsChars p ws
 
--- A set that holds the entries of a kind holds just the characters of that kind: what a named set contains.
+-- A set that holds the entries whose character passes a test contains exactly these characters.
 unfoldable pub NamedSetsContain : Type 0
 NamedSetsContain =
     (p : ℕ → Bool) (ws : List ℕ) → HoldsChars p ws → (ch : ℕ) → contains ch ws ≡ (hasVariationSequence ch && p ch)
 
--- Of the variation entries, the text-default ones are those that are not emoji-default, and the ASCII ones are those of
--- the RGI keycaps.
+-- A variation entry is text-default exactly if it is not emoji-default, and ASCII exactly if it is one of #, * and the digits.
 unfoldable pub NamedSetsCompare : Type 0
 NamedSetsCompare =
     (c : ℕ) → hasVariationSequence c ≡ true → (isTextDefault c ≡ not (isEmojiDefault c)) × (isAscii c ≡ isKeycapRgi c)
 
--- What an operation's result contains: union, intersection, difference and symmetric difference.
+-- The characters that the result of an operation contains: for union, intersection, difference and symmetric difference.
 unfoldable pub ContainsByOperation : Type 0
 ContainsByOperation =
     (f : Bool → Bool → Bool) → f false false ≡ false → (x y z : List ℕ) → Holds (λ (i : ℕ). f (member i x) (member i y)) z
     → (ch : ℕ) → contains ch z ≡ f (contains ch x) (contains ch y)
 
--- .. and the complement's.
+-- The characters that the complement contains.
 unfoldable pub ContainsByComplement : Type 0
 ContainsByComplement =
     (x z : List ℕ) → Holds (λ (i : ℕ). not (member i x)) z → (ch : ℕ)
@@ -87,18 +86,19 @@ ComplementOfUnion =
     (n : ℕ) (x y u v : List ℕ) → HoldsBelow n (λ (i : ℕ). member i x || member i y) u
     → HoldsBelow n (λ (i : ℕ). not (member i u)) v → HoldsBelow n (λ (i : ℕ). not (member i x) && not (member i y)) v
 
--- The sizes of a union and of the intersection are together those of the two sets.
+-- The size of a union plus the size of the intersection is the sum of the sizes of the two sets.
 unfoldable pub SizeOfUnion : Type 0
 SizeOfUnion =
     (x y u v : List ℕ) → Holds (λ (i : ℕ). member i x || member i y) u → Holds (λ (i : ℕ). member i x && member i y) v
     → sizeOf u + sizeOf v ≡ sizeOf x + sizeOf y
 
--- Equality means the same entries.
+-- Two sets are equal exactly if they hold the same entries.
 unfoldable pub SameEntriesMeans : Type 0
 SameEntriesMeans =
     (ws vs : List ℕ) → (sameEntries ws vs ≡ true) ↔ ((i : ℕ) → i < entryCount → member i ws ≡ member i vs)
 
--- `none` and `all` of the display: a key set of size 0 has no key, and one of size 2 V has every key.
+-- The conditions for the displays `none` and `all`: a key set has the size 0 exactly if it has no key, and the size 2 V exactly if it
+-- has every key.
 unfoldable pub SizeOfNone : Type 0
 SizeOfNone =
     (s : PolicyKeySet) → (keysSize s ≡ 0) ↔ ((i : ℕ) → i < entryCount → (ordinary s i ≡ false) × (keycap s i ≡ false))
@@ -108,7 +108,7 @@ SizeOfAll =
     (s : PolicyKeySet)
     → (keysSize s ≡ entryCount + entryCount) ↔ ((i : ℕ) → i < entryCount → (ordinary s i ≡ true) × (keycap s i ≡ true))
 
--- An example: # and A9 as ordinary keys and 1F6F3 as a keycap key are shown as u(0023),u(00A9),keycap:u(1F6F3).
+-- An example: the display of # and A9 as ordinary keys and 1F6F3 as a keycap key is u(0023),u(00A9),keycap:u(1F6F3).
 unfoldable pub DisplayExample : Type 0
 DisplayExample =
     display

@@ -1,6 +1,6 @@
-// Sets of variation entries by value: `CharSet` of policy_key_set.rs of the crate evfmt; document 01, "Key set
-// and policy". What a set holds is `Holds` of specs/Sets.antt, which also says that the unused bits are 0; a one
-// among them in a set handed in is cleared first. The four operations on two sets are one loop over the words.
+// Sets of variation entries: `CharSet` of policy_key_set.rs of the crate evfmt; document 01, "Key set and policy".
+// `Holds` of specs/Sets.antt says which entries a set holds, and that the unused bits are 0. An argument may have
+// unused bits that are 1; the operations clear them. One loop over the words serves all four operations on two sets.
 ghost use mathlib.Core.Path.{_≡_};
 ghost use mathlib.Core.Bool.{_&&_, _||_, true, false};
 ghost use Prim.Native.Nat.{ℕ, _<_, _≤_};
@@ -34,7 +34,7 @@ pub enum SetOperation {
     Difference,
 }
 
-// One word of an operation's result: of the used bits, those that it keeps.
+// Returns one word of an operation's result. It has only used bits.
 fn combine_words(op: SetOperation, x: u64, y: u64, used: u64) -> u64
     ensures { λ r. ⌜ ((k : ℕ) → k < 64 → one k r ≡ (one k used && keeps op (one k x) (one k y))) ⌝ }
 {
@@ -46,7 +46,7 @@ fn combine_words(op: SetOperation, x: u64, y: u64, used: u64) -> u64
     }
 }
 
-// An operation, word by word.
+// Computes an operation on two sets, word by word.
 fn combine(op: SetOperation, a: CharSet, b: CharSet) -> CharSet
     ensures { λ r. ⌜ MadeBy (keeps op) a b r ⌝ }
 {
@@ -62,14 +62,14 @@ fn combine(op: SetOperation, a: CharSet, b: CharSet) -> CharSet
     CharSet { bits: z }
 }
 
-// The number of ones of a word.
+// Counts the ones of a word.
 fn count_ones(w: u64) -> u32
     ensures { λ r. ⌜ (r ≡ countBelow 64 (λ (k : ℕ). one k w)) × (r ≤ 64) ⌝ }
 {
     u64::count_ones(w)
 }
 
-// The word with one bit set.
+// Returns the word whose only one is bit k.
 fn bit(k: usize) -> u64
     requires { ⌜ k < 64 ⌝ }
     ensures { λ r. ⌜ ((j : ℕ) → one j r ≡ eqb j k) ⌝ }
@@ -92,7 +92,7 @@ impl CharSet {
         }
     }
 
-    // The set of one character, or no character where it is no variation entry.
+    // Returns the set of one character. It is empty if the character is no variation entry.
     pub fn singleton(ch: u32) -> Self
         ensures { λ r. ⌜ HoldsChars (λ (c : ℕ). eqb c ch) (r .bits) ⌝ }
     {
@@ -140,7 +140,7 @@ impl CharSet {
         combine(SetOperation::Difference, self, rhs)
     }
 
-    // The number of entries in the set.
+    // Returns the number of entries in the set.
     pub fn size(self) -> u32
         ensures { λ r. ⌜ r ≡ sizeOf (self .bits) ⌝ }
     {
@@ -155,7 +155,7 @@ impl CharSet {
         n
     }
 
-    // Whether two sets hold the same entries: no entry is in just one of them.
+    // Tests whether two sets hold the same entries: no entry is in exactly one of them.
     pub fn eq(self, rhs: Self) -> bool
         ensures { λ r. ⌜ r ≡ sameEntries (self .bits) (rhs .bits) ⌝ }
     {

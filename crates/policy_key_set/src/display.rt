@@ -1,6 +1,6 @@
-// How a key set is shown: `Display` for `PolicyKeySet` of policy_key_set.rs of the crate evfmt. The output is lent,
-// so that the text is measured first and written only where it fits (document 01, "Turned back", number 8). The
-// text is `display` of specs/Display.antt.
+// The display of a key set: `Display` for `PolicyKeySet` of policy_key_set.rs of the crate evfmt. The text is `display`
+// of specs/Display.antt. The caller lends the output buffer. So the code computes the text's length first, and writes
+// the text only if it fits (document 01, "Turned back", number 8).
 ghost use mathlib.Core.Path.{_≡_};
 ghost use mathlib.Core.Bool.{true, false};
 ghost use Prim.Native.Nat.{_+_, _<_, _≤_};
@@ -16,8 +16,8 @@ ghost use Rattle.policy_key_set.specs.Display.{
   keyText,
   keyTexts,
   opening,
-  piece,
-  written,
+  withComma,
+  writtenFrom,
 };
 use crate::PolicyKeySet;
 use crate::char_set::CharSet;
@@ -25,7 +25,7 @@ use base::WriteAnswer;
 use unicode::VariationEntry;
 use unicode::unicode_data::VARIATION_ENTRY_COUNT;
 
-// The entry at a place of the table.
+// Returns variation entry i.
 fn entry(i: usize) -> u32
     requires { ⌜ i < 354 ⌝ }
     ensures { λ r. ⌜ r ≡ getD variationEntries i 0 ⌝ }
@@ -58,7 +58,7 @@ fn hex_width(ch: u32) -> usize
     6
 }
 
-// Writes bytes at a place, where there is room for them, and says where they end.
+// Writes bytes that fit at an offset, and returns the offset after them.
 fn put_bytes(out: &mut [u8], start: usize, bytes: &[u8]) -> usize
     requires { ⌜ start + length (now bytes) ≤ length (now out) ⌝ }
     ensures { λ r. ⌜ PutAt (now (out .entry)) start (now (bytes .entry)) (now (out .exit)) r ⌝ }
@@ -67,7 +67,7 @@ fn put_bytes(out: &mut [u8], start: usize, bytes: &[u8]) -> usize
     start + bytes.len()
 }
 
-// Writes the last digits of a number.
+// Writes the last hexadecimal digits of a number.
 fn put_hex(out: &mut [u8], start: usize, ch: u32, width: usize) -> usize
     requires { ⌜ (width ≤ 6) × (start + width ≤ length (now out)) ⌝ }
     ensures { λ r. ⌜ PutAt (now (out .entry)) start (hexDigits width ch) (now (out .exit)) r ⌝ }
@@ -82,7 +82,7 @@ fn put_hex(out: &mut [u8], start: usize, ch: u32, width: usize) -> usize
     at
 }
 
-// Writes what stands before a key's number.
+// Writes the part of a key's text before the code point.
 fn put_opening(out: &mut [u8], start: usize, keycap: bool) -> usize
     requires { ⌜ start + length (opening keycap) ≤ length (now out) ⌝ }
     ensures { λ r. ⌜ PutAt (now (out .entry)) start (opening keycap) (now (out .exit)) r ⌝ }
@@ -93,7 +93,7 @@ fn put_opening(out: &mut [u8], start: usize, keycap: bool) -> usize
     put_bytes(out, start, b"u(")
 }
 
-// Writes a key's text.
+// Writes the text of a key.
 fn put_text(out: &mut [u8], start: usize, keycap: bool, ch: u32) -> usize
     requires { ⌜ start + length (keyText keycap ch) ≤ length (now out) ⌝ }
     ensures { λ r. ⌜ PutAt (now (out .entry)) start (keyText keycap ch) (now (out .exit)) r ⌝ }
@@ -104,10 +104,10 @@ fn put_text(out: &mut [u8], start: usize, keycap: bool, ch: u32) -> usize
     put_bytes(out, j, b")")
 }
 
-// Writes a key's text, after a comma where it is not the first.
+// Writes the text of a key, with a comma before it unless it is the first.
 fn put_key(out: &mut [u8], start: usize, keycap: bool, ch: u32) -> usize
-    requires { ⌜ start + length (piece start (keyText keycap ch)) ≤ length (now out) ⌝ }
-    ensures { λ r. ⌜ PutAt (now (out .entry)) start (piece start (keyText keycap ch)) (now (out .exit)) r ⌝ }
+    requires { ⌜ start + length (withComma start (keyText keycap ch)) ≤ length (now out) ⌝ }
+    ensures { λ r. ⌜ PutAt (now (out .entry)) start (withComma start (keyText keycap ch)) (now (out .exit)) r ⌝ }
 {
     if start == 0 {
         return put_text(out, 0, keycap, ch);
@@ -116,7 +116,7 @@ fn put_key(out: &mut [u8], start: usize, keycap: bool, ch: u32) -> usize
     put_text(out, at, keycap, ch)
 }
 
-// How many bytes a key's text has.
+// Returns the number of bytes of a key's text.
 fn text_len(keycap: bool, ch: u32) -> usize
     ensures { λ r. ⌜ (r ≡ length (keyText keycap ch)) × (r ≤ 16) ⌝ }
 {
@@ -127,9 +127,9 @@ fn text_len(keycap: bool, ch: u32) -> usize
     2 + (width + 1)
 }
 
-// How many bytes `put_key` writes.
+// Returns the number of bytes that `put_key` writes.
 fn key_len(start: usize, keycap: bool, ch: u32) -> usize
-    ensures { λ r. ⌜ (r ≡ length (piece start (keyText keycap ch))) × (r ≤ 17) ⌝ }
+    ensures { λ r. ⌜ (r ≡ length (withComma start (keyText keycap ch))) × (r ≤ 17) ⌝ }
 {
     let n = text_len(keycap, ch);
     if start == 0 {
@@ -138,10 +138,10 @@ fn key_len(start: usize, keycap: bool, ch: u32) -> usize
     n + 1
 }
 
-// Where the keys of a domain end that are written from a place on.
+// Returns the offset after the keys of a domain, if they are written from an offset on.
 fn keys_end(start: usize, keycap: bool, set: CharSet) -> usize
     requires { ⌜ start ≤ 0x10000 ⌝ }
-    ensures { λ r. ⌜ (r ≡ start + length (written start (keyTexts keycap (set .bits) 0 variationEntries))) × (r ≤ start + 0x2000) ⌝ }
+    ensures { λ r. ⌜ (r ≡ start + length (writtenFrom start (keyTexts keycap (set .bits) 0 variationEntries))) × (r ≤ start + 0x2000) ⌝ }
 {
     let mut at = start;
     let mut i = 0;
@@ -157,8 +157,8 @@ fn keys_end(start: usize, keycap: bool, set: CharSet) -> usize
 
 // Writes the keys of a domain.
 fn put_keys(out: &mut [u8], start: usize, keycap: bool, set: CharSet) -> usize
-    requires { ⌜ start + length (written start (keyTexts keycap (set .bits) 0 variationEntries)) ≤ length (now out) ⌝ }
-    ensures { λ r. ⌜ PutAt (now (out .entry)) start (written start (keyTexts keycap (set .bits) 0 variationEntries)) (now (out .exit)) r ⌝ }
+    requires { ⌜ start + length (writtenFrom start (keyTexts keycap (set .bits) 0 variationEntries)) ≤ length (now out) ⌝ }
+    ensures { λ r. ⌜ PutAt (now (out .entry)) start (writtenFrom start (keyTexts keycap (set .bits) 0 variationEntries)) (now (out .exit)) r ⌝ }
 {
     let mut at = start;
     let mut i = 0;
@@ -172,7 +172,7 @@ fn put_keys(out: &mut [u8], start: usize, keycap: bool, set: CharSet) -> usize
     at
 }
 
-// Shows the keys.
+// Writes the list of the keys, or refuses.
 fn show_keys(set: PolicyKeySet, out: &mut [u8]) -> WriteAnswer
     ensures { λ r. ⌜ Wrote (keyList set) (now (out .entry)) (now (out .exit)) r ⌝ }
 {
@@ -187,7 +187,7 @@ fn show_keys(set: PolicyKeySet, out: &mut [u8]) -> WriteAnswer
     WriteAnswer::TooShort { wanted }
 }
 
-// Shows a word.
+// Writes a word, or refuses.
 fn show_word(word: &[u8], out: &mut [u8]) -> WriteAnswer
     ensures { λ r. ⌜ Wrote (now (word .entry)) (now (out .entry)) (now (out .exit)) r ⌝ }
 {
@@ -199,7 +199,8 @@ fn show_word(word: &[u8], out: &mut [u8]) -> WriteAnswer
 }
 
 impl PolicyKeySet {
-    // Only the set without a key has size 0, and only that of every key size 708 = 2 * 354.
+    // Writes the display of a key set, or refuses. Only the empty set has the size 0, and only the set of all keys
+    // has the size 708 = 2 * 354.
     pub fn fmt(self, out: &mut [u8]) -> WriteAnswer
         ensures { λ r. ⌜ Wrote (display self) (now (out .entry)) (now (out .exit)) r ⌝ }
     {

@@ -1,6 +1,6 @@
-// Sets of policy keys by value: policy_key_set.rs of the crate evfmt; document 01, "Key set and policy". A key is
-// a variation entry in one of two domains, ordinary or keycap. What a set holds is `HoldsKeys` of
-// specs/KeySets.antt; each operation is that of `CharSet` in each domain.
+// Sets of policy keys: policy_key_set.rs of the crate evfmt; document 01, "Key set and policy". A key is a variation
+// entry in one of two domains, ordinary or keycap. `HoldsKeys` of specs/KeySets.antt says which keys a set holds. Each
+// operation applies the operation of `CharSet` in each domain.
 pub mod char_set;
 pub mod display;
 pub mod named_sets;
@@ -22,7 +22,7 @@ ghost use Rattle.policy_key_set.specs.KeySets.{
   namedEntryMatches,
   ordinary,
   OrdinaryChars,
-  rightWords,
+  wordsMatchRule,
   sameKeys,
 };
 use char_set::CharSet;
@@ -37,14 +37,14 @@ pub struct PolicyKeySet {
     pub keycap_chars: CharSet,
 }
 
-// Whether a character is a variation entry.
+// Tests whether a character is a variation entry.
 pub fn is_variation_sequence_character(ch: u32) -> bool
     ensures { λ r. ⌜ r ≡ hasVariationSequence ch ⌝ }
 {
     unicode::has_variation_sequence(ch)
 }
 
-// The rules of the named sets.
+// The rules that define the named sets.
 pub enum NamedSet {
     Ascii,
     TextDefaults,
@@ -52,15 +52,15 @@ pub enum NamedSet {
     KeycapRgi,
 }
 
-// Words that were tested against a rule.
+// Makes a set of words that pass the test of a rule.
 fn tested(id: NamedSet, bits: [u64; CHARSET_WORDS]) -> CharSet
-    requires { ⌜ rightWords (namedEntryMatches id) bits ≡ true ⌝ }
+    requires { ⌜ wordsMatchRule (namedEntryMatches id) bits ≡ true ⌝ }
     ensures { λ r. ⌜ HoldsChars (namedEntryMatches id) (r .bits) ⌝ }
 {
     CharSet { bits }
 }
 
-// The entries that match a rule.
+// Returns the entries that match a rule.
 fn named_bits(id: NamedSet) -> CharSet
     ensures { λ r. ⌜ HoldsChars (namedEntryMatches id) (r .bits) ⌝ }
 {
@@ -142,7 +142,7 @@ pub fn keycap_variation_bases() -> PolicyKeySet
     }
 }
 
-// KEYCAP_RGI: # and * and the digits as keycap keys.
+// KEYCAP_RGI: #, * and the digits as keycap keys.
 pub fn keycap_rgi() -> PolicyKeySet
     ensures { λ r. ⌜ KeycapChars isKeycapRgi r ⌝ }
 {
@@ -177,7 +177,7 @@ impl PolicyKeySet {
         PolicyKeySet::none()
     }
 
-    // The ordinary key of a character, or no key where it is no variation entry.
+    // Returns the set of the ordinary key of a character. It is empty if the character is no variation entry.
     pub fn singleton(ch: u32) -> Self
         ensures { λ r. ⌜ OrdinaryChars (λ (c : ℕ). eqb c ch) r ⌝ }
     {
@@ -187,7 +187,7 @@ impl PolicyKeySet {
         }
     }
 
-    // The keycap key of a character, or no key where it is no variation entry.
+    // Returns the set of the keycap key of a character. It is empty if the character is no variation entry.
     pub fn singleton_keycap(ch: u32) -> Self
         ensures { λ r. ⌜ KeycapChars (λ (c : ℕ). eqb c ch) r ⌝ }
     {
@@ -236,7 +236,7 @@ impl PolicyKeySet {
         }
     }
 
-    // The difference.
+    // Returns the difference of two sets.
     pub fn sub(self, rhs: Self) -> Self
         ensures { λ r. ⌜ KeysMadeBy butNot self rhs r ⌝ }
     {
@@ -246,14 +246,14 @@ impl PolicyKeySet {
         }
     }
 
-    // The complement: the keys that are not in the set.
+    // Returns the complement: the keys that are not in the set.
     pub fn not(self) -> Self
         ensures { λ r. ⌜ HoldsKeys (λ (i : ℕ). not (ordinary self i)) (λ (i : ℕ). not (keycap self i)) r ⌝ }
     {
         PolicyKeySet::sub(PolicyKeySet::all(), self)
     }
 
-    // Whether two sets hold the same keys.
+    // Tests whether two sets hold the same keys.
     pub fn eq(self, rhs: Self) -> bool
         ensures { λ r. ⌜ r ≡ sameKeys self rhs ⌝ }
     {
@@ -263,7 +263,7 @@ impl PolicyKeySet {
         false
     }
 
-    // The number of keys of both domains.
+    // Returns the number of keys of both domains.
     pub fn size(self) -> u32
         ensures { λ r. ⌜ r ≡ keysSize self ⌝ }
     {

@@ -1,5 +1,5 @@
-// Holds a table of the crate `unicode` to a published file, both ways: the file's lines are marked
-// in a set of code points, and at each code point the set and the table must say the same.
+// Compares a table of the crate `unicode` with a published file. The code points that the file lists are marked in a
+// set. At each code point, the set and the table must agree.
 use crate::marks::CODE_POINTS;
 use crate::marks::WORDS;
 use crate::marks::is_marked;
@@ -14,21 +14,22 @@ use crate::tables::listed_in;
 use unicode::VariationEntry;
 use unicode::VariationSequenceIndex;
 
-// The first code point at which file and table differ, and which of them has it.
+// The first code point at which the file and the table differ, and which of them has it.
 pub enum Difference {
     Nowhere,
     FileOnly(u32),
     TableOnly(u32),
 }
 
-// As many entries as the file has, the first code point whose entry is wrong, or an entry past the last.
+// The result of comparing the entries: their number if they are as in the file, the first code point whose entry is
+// wrong, or an entry after the last.
 pub enum Entries {
     Same(usize),
     Wrong(u32),
     Extra(u32),
 }
 
-// Marks what the line lists for the table; false where a code point of it was listed before.
+// Marks the code points that a line lists for the table. Returns false if one of them is already marked.
 fn mark_line(line: &[u8], table: Table, marks: &mut [u64; WORDS]) -> bool {
     match listed_in(line, table) {
         Listed::Points(first, last) => mark_range(marks, first, last),
@@ -36,7 +37,8 @@ fn mark_line(line: &[u8], table: Table, marks: &mut [u64; WORDS]) -> bool {
     }
 }
 
-// Marks what the lines list for the table, and answers 0, or the line that lists a code point again.
+// Marks the code points that the lines list for the table. Returns 0, or the number of the line that lists a code point
+// again.
 pub(crate) fn mark_lines(text: &[u8], table: Table, marks: &mut [u64; WORDS]) -> usize {
     let mut at = 0;
     let mut number = 0;
@@ -50,7 +52,7 @@ pub(crate) fn mark_lines(text: &[u8], table: Table, marks: &mut [u64; WORDS]) ->
     0
 }
 
-// The difference at ch.
+// Returns the difference at the code point ch.
 fn difference_at(marks: &[u64; WORDS], table: Table, ch: u32) -> Difference {
     if is_marked(marks, ch) {
         if has(table, ch) {
@@ -64,7 +66,7 @@ fn difference_at(marks: &[u64; WORDS], table: Table, ch: u32) -> Difference {
     Difference::Nowhere
 }
 
-// The first difference between what is marked and the table.
+// Returns the first difference between the marked set and the table.
 pub(crate) fn first_difference(marks: &[u64; WORDS], table: Table) -> Difference {
     let mut ch = 0;
     while ch < CODE_POINTS {
@@ -79,7 +81,7 @@ pub(crate) fn first_difference(marks: &[u64; WORDS], table: Table) -> Difference
     Difference::Nowhere
 }
 
-// Whether ch is the entry at `index`.
+// Tests whether ch is the entry at `index`.
 fn is_entry(index: usize, ch: u32) -> bool {
     match unicode::variation_entry(index) {
         VariationEntry::Char(entry) => entry == ch,
@@ -87,7 +89,7 @@ fn is_entry(index: usize, ch: u32) -> bool {
     }
 }
 
-// Whether ch has the entry at `index` where it is marked, and none where it is not.
+// Tests whether ch has the entry at `index` if it is marked, and no entry if it is not.
 fn entry_agrees(marks: &[u64; WORDS], ch: u32, index: usize) -> bool {
     match unicode::variation_sequence_index(ch) {
         VariationSequenceIndex::At(at) => {
@@ -103,7 +105,7 @@ fn entry_agrees(marks: &[u64; WORDS], ch: u32, index: usize) -> bool {
     }
 }
 
-// What stands at `count`, which must be past the last entry.
+// Returns the result for the entry at `count`, where no entry may be.
 fn past_the_last(count: usize) -> Entries {
     match unicode::variation_entry(count) {
         VariationEntry::Char(entry) => Entries::Extra(entry),
@@ -111,7 +113,7 @@ fn past_the_last(count: usize) -> Entries {
     }
 }
 
-// Whether the entries are the marked code points, ascending, and nothing after the last.
+// Tests whether the entries are the marked code points in ascending order, with no entry after the last.
 pub(crate) fn compare_entries(marks: &[u64; WORDS]) -> Entries {
     let mut index = 0;
     let mut ch = 0;

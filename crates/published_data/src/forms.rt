@@ -1,16 +1,16 @@
-// Holds the fast forms of the crate `unicode` to the plain ones, at every code point. That they are the same is proved: here
-// the compiled functions are run.
+// Compares the fast forms of the crate `unicode` with the plain ones, at every code point. It is proved that they are
+// equal; this program runs the compiled functions.
 use crate::marks::CODE_POINTS;
 use unicode::EmojiData;
 use unicode::VariationSequenceIndex;
 
-// How many code points there are, or the first one at which a fast form differs.
+// The number of code points compared, or the first code point at which a fast form differs.
 pub enum Forms {
     Same(u32),
     Differ(u32),
 }
 
-// Whether two searches found the same.
+// Tests whether two searches have the same result.
 fn same_index(a: VariationSequenceIndex, b: VariationSequenceIndex) -> bool {
     match a {
         VariationSequenceIndex::At(i) => match b {
@@ -24,7 +24,7 @@ fn same_index(a: VariationSequenceIndex, b: VariationSequenceIndex) -> bool {
     }
 }
 
-// Whether the variation entry of ch is the same by the search and by the block.
+// Tests whether the search and the block give the same variation entry for ch.
 fn same_entry(ch: u32) -> bool {
     let is_entry = unicode::has_variation_sequence(ch);
     if is_entry != unicode::has_variation_sequence_by_block(ch) {
@@ -40,7 +40,7 @@ fn same_entry(ch: u32) -> bool {
     )
 }
 
-// Whether what the block tells of ch is what the searches find.
+// Tests whether the block's data for ch is what the searches find.
 fn same_data(ch: u32) -> bool {
     let EmojiData { is_emoji, index } = unicode::emoji_data(ch);
     if is_emoji != unicode::is_emoji(ch) {
@@ -49,7 +49,7 @@ fn same_data(ch: u32) -> bool {
     same_index(unicode::variation_sequence_index(ch), index)
 }
 
-// Whether the modifiers and the regional indicators have ch by the search and by their ends alike.
+// Tests whether the search and the comparison with the ends agree, for the modifiers and the regional indicators.
 fn same_ends(ch: u32) -> bool {
     let is_modifier = unicode::is_emoji_modifier(ch);
     if is_modifier != unicode::is_emoji_modifier_by_ends(ch) {
@@ -59,7 +59,7 @@ fn same_ends(ch: u32) -> bool {
     is_ri == unicode::is_ri_by_ends(ch)
 }
 
-// Whether the two forms of each question answer the same of ch.
+// Tests whether the two forms of each predicate agree for ch.
 fn same_forms(ch: u32) -> bool {
     if !same_entry(ch) {
         return false;
@@ -70,7 +70,7 @@ fn same_forms(ch: u32) -> bool {
     same_ends(ch)
 }
 
-// Whether they do at every code point.
+// Compares the forms at every code point.
 pub(crate) fn compare_forms() -> Forms {
     let mut ch = 0;
     while ch < CODE_POINTS {

@@ -1,7 +1,7 @@
-// Holds the tables of the crate `unicode` to the two files that Unicode publishes, which stand in
-// data/: each table must have exactly the code points that its file lists, over all of 0 to 10FFFF.
-// It writes a line for each file and each table, and where they differ, the first difference. The last line says whether the
-// fast forms of the lookups answer as the plain ones, over the same code points.
+// Compares the tables of the crate `unicode` with the two files that Unicode publishes, in data/. Each table must have
+// exactly the code points that its file lists, over all of 0 to 10FFFF. The program writes a line for each file and
+// each table, and for a difference the first code point. The last line says whether the fast forms of the lookups agree
+// with the plain ones, over the same code points.
 mod checksum;
 mod compare;
 mod forms;
@@ -17,11 +17,11 @@ use report::say_line;
 use tables::File;
 use tables::Table;
 
-// The room for a file, which must be shorter.
+// The length of the buffer for a file. The file must be shorter.
 const ROOM: usize = 131072;
 
-// Marks what the file lists for the table and compares the two. Where they differ, says so and
-// answers false.
+// Marks the code points that the file lists for the table, and compares the two. If they differ, it writes the
+// difference and returns false.
 fn agrees(name: &[u8], text: &[u8], table: Table, marks: &mut [u64; WORDS]) -> bool {
     let again = compare::mark_lines(text, table, marks);
     if again > 0 {
@@ -31,7 +31,7 @@ fn agrees(name: &[u8], text: &[u8], table: Table, marks: &mut [u64; WORDS]) -> b
     report::say_difference(table, compare::first_difference(marks, table))
 }
 
-// Holds the table of a property to emoji-data.txt.
+// Compares the table of a property with emoji-data.txt.
 fn check_property(name: &[u8], text: &[u8], table: Table) {
     let mut marks = [0u64; WORDS];
     if agrees(name, text, table, &mut marks) {
@@ -39,7 +39,7 @@ fn check_property(name: &[u8], text: &[u8], table: Table) {
     }
 }
 
-// Holds the tables of the properties to emoji-data.txt.
+// Compares the tables of the properties with emoji-data.txt.
 fn check_properties(name: &[u8], text: &[u8]) {
     check_property(name, text, Table::Emoji);
     check_property(name, text, Table::EmojiPresentation);
@@ -48,7 +48,7 @@ fn check_properties(name: &[u8], text: &[u8]) {
     check_property(name, text, Table::RegionalIndicator);
 }
 
-// Holds the variation sequences to emoji-variation-sequences.txt: each style, then the entries.
+// Compares the variation sequences with emoji-variation-sequences.txt: each style, then the entries.
 fn check_sequences(name: &[u8], text: &[u8]) {
     let mut text_style = [0u64; WORDS];
     if !agrees(name, text, Table::TextStyle, &mut text_style) {
@@ -61,7 +61,7 @@ fn check_sequences(name: &[u8], text: &[u8]) {
     report::say_entries(compare::compare_entries(&emoji_style));
 }
 
-// Holds the tables to the text of a file, if each of its lines follows the format.
+// Compares the tables with the text of a file, if each of its lines follows the format.
 fn check_text(name: &[u8], text: &[u8], file: File) {
     let survey = survey::survey_of(text, file);
     if survey.bad > 0 {
@@ -83,7 +83,7 @@ fn check_text(name: &[u8], text: &[u8], file: File) {
     }
 }
 
-// Reads a file and holds the tables to it.
+// Reads a file and compares the tables with it.
 fn check_file(name: &[u8], file: File) {
     let fd = os::open_read(name);
     if fd < 0 {

@@ -1,17 +1,17 @@
-// A set of code points: one bit for each of 0 to 10FFFF, 64 to a word, from the lowest bit up.
+// A set of code points: one bit for each of 0 to 10FFFF, 64 in a word, lowest bit first.
 ghost use Prim.Native.Nat.{_≤_};
 
 pub const CODE_POINTS: u32 = 0x11_0000;
 
 pub const WORDS: usize = 17408;
 
-// How many code points are marked, and in how many runs of consecutive ones.
+// The number of marked code points, and the number of runs of consecutive ones.
 pub struct Size {
     pub points: usize,
     pub ranges: usize,
 }
 
-// Whether ch is marked.
+// Tests whether ch is marked.
 pub(crate) fn is_marked(marks: &[u64; WORDS], ch: u32) -> bool {
     let at = (ch / 64) as usize;
     if at >= WORDS {
@@ -20,14 +20,14 @@ pub(crate) fn is_marked(marks: &[u64; WORDS], ch: u32) -> bool {
     (marks[at] >> (ch % 64)) % 2 == 1
 }
 
-// 1 where ch is marked, and 0 where it is not.
+// Returns 1 if ch is marked, or else 0.
 pub(crate) fn mark_at(marks: &[u64; WORDS], ch: u32) -> usize
     ensures { λ r. ⌜ r ≤ 1 ⌝ }
 {
     if is_marked(marks, ch) { 1 } else { 0 }
 }
 
-// 1 where a run of marked code points starts at ch, and 0 elsewhere.
+// Returns 1 if a run of marked code points starts at ch, or else 0.
 fn run_at(marks: &[u64; WORDS], ch: u32) -> usize
     ensures { λ r. ⌜ r ≤ 1 ⌝ }
 {
@@ -39,7 +39,7 @@ fn run_at(marks: &[u64; WORDS], ch: u32) -> usize
     mark_at(marks, ch)
 }
 
-// Marks ch; false where it is marked already, or is no code point.
+// Marks ch. Returns false if it is already marked or is no code point.
 fn mark(marks: &mut [u64; WORDS], ch: u32) -> bool {
     if is_marked(marks, ch) {
         return false;
@@ -52,7 +52,7 @@ fn mark(marks: &mut [u64; WORDS], ch: u32) -> bool {
     true
 }
 
-// Marks `first` to `last`; false where one of them is marked already, or is no code point.
+// Marks `first` to `last`. Returns false if one of them is already marked or is no code point.
 pub(crate) fn mark_range(marks: &mut [u64; WORDS], first: u32, last: u32) -> bool {
     let mut ch = first;
     while ch < last {
@@ -64,7 +64,7 @@ pub(crate) fn mark_range(marks: &mut [u64; WORDS], first: u32, last: u32) -> boo
     mark(marks, last)
 }
 
-// The size of the set.
+// Returns the size of the set.
 pub(crate) fn size_of(marks: &[u64; WORDS]) -> Size {
     let mut points = 0;
     let mut ranges = 0;

@@ -1,10 +1,10 @@
-// What a line of the two published files says. A line is empty, a comment that starts with `#`, or
-// `<code points> ; <field> # <comments>`, as the header of emoji-data.txt has it. The code points
-// are one, a range `A..B`, or a sequence `A B` of two. Which fields there are is decided in `tables`.
+// Parses a line of the two published files. A line is empty, a comment that starts with `#`, or `<code points> ;
+// <field> # <comments>`, as the header of emoji-data.txt says. The code points are one, a range `A..B`, or a sequence
+// `A B` of two. The module `tables` decides which fields are allowed.
 ghost use Prim.Native.Nat.{_≤_, _<_};
 ghost use lib.ListN.{length};
 
-// `field` is where the field after the semicolon starts.
+// A parsed line. `field` is the offset of the field after the semicolon.
 pub enum Line {
     Blank,
     Comment,
@@ -21,22 +21,22 @@ pub enum Line {
     Bad,
 }
 
-// Where something that was looked for ends.
+// The offset after a match, or no match.
 pub enum Place {
     Past(usize),
     Missing,
 }
 
-// A number, and where its digits end.
+// A number and the offset after its digits, or no number.
 pub enum Number {
     Value(u32, usize),
     NoNumber,
 }
 
-// No number of the files is larger.
+// The parser accepts no larger number.
 const LARGEST: u32 = 0xFF_FFFF;
 
-// Where the line that starts at `at` ends: at its line feed, or at the end of the text.
+// Returns the end of the line that starts at `at`: its line feed, or the end of the text.
 fn line_end(text: &[u8], at: usize) -> usize
     requires { ⌜ at ≤ length (now text) ⌝ }
     ensures { λ r. ⌜ (at ≤ r) × (r ≤ length (now (text .entry))) ⌝ }
@@ -51,7 +51,7 @@ fn line_end(text: &[u8], at: usize) -> usize
     i
 }
 
-// The line that starts at `at`, without its line feed.
+// Returns the line that starts at `at`, without its line feed.
 pub(crate) fn line_at(text: &[u8], at: usize) -> &[u8]
     requires { ⌜ at ≤ length (now text) ⌝ }
 {
@@ -59,7 +59,7 @@ pub(crate) fn line_at(text: &[u8], at: usize) -> &[u8]
     &text[at..end]
 }
 
-// Where the line after that at `at` starts.
+// Returns the start of the line after the line at `at`.
 pub(crate) fn next_line(text: &[u8], at: usize) -> usize
     requires { ⌜ at < length (now text) ⌝ }
     ensures { λ r. ⌜ (at < r) × (r ≤ length (now (text .entry))) ⌝ }
@@ -71,7 +71,7 @@ pub(crate) fn next_line(text: &[u8], at: usize) -> usize
     text.len()
 }
 
-// The first place from `at` on where no blank stands.
+// Returns the first offset from `at` on that is not a blank.
 fn skip_blanks(line: &[u8], at: usize) -> usize {
     let mut i = at;
     while i < line.len() {
@@ -83,7 +83,7 @@ fn skip_blanks(line: &[u8], at: usize) -> usize {
     i
 }
 
-// Where `word` ends, if it stands at `at`.
+// Returns the offset after `word`, if the line has it at `at`.
 pub(crate) fn after(line: &[u8], at: usize, word: &[u8]) -> Place {
     let mut i = at;
     let mut k = 0;
@@ -100,7 +100,7 @@ pub(crate) fn after(line: &[u8], at: usize, word: &[u8]) -> Place {
     Place::Past(i)
 }
 
-// Whether `word` stands at `at` or later.
+// Tests whether the line has `word` at `at` or later.
 pub(crate) fn contains(line: &[u8], at: usize, word: &[u8]) -> bool {
     let mut i = at;
     while i < line.len() {
@@ -112,7 +112,7 @@ pub(crate) fn contains(line: &[u8], at: usize, word: &[u8]) -> bool {
     false
 }
 
-// Whether the field at `field` is `name` and nothing more, and comments follow.
+// Tests whether the field is exactly `name`, with comments after it.
 pub(crate) fn field_is(line: &[u8], field: usize, name: &[u8]) -> bool {
     let Place::Past(end) = after(line, field, name) else {
         return false;
@@ -124,7 +124,7 @@ pub(crate) fn field_is(line: &[u8], field: usize, name: &[u8]) -> bool {
     }
 }
 
-// The value of a digit `0` to `9` or `A` to `F`, and 16 for any other byte.
+// Returns the value of a digit `0` to `9` or `A` to `F`, or 16 for any other byte.
 fn digit_value(b: u8) -> u32
     ensures { λ r. ⌜ r ≤ 16 ⌝ }
 {
@@ -135,7 +135,7 @@ fn digit_value(b: u8) -> u32
     }
 }
 
-// `value` with one digit more in base 10 or 16, or `value` as it is where it is too large already.
+// Returns `value` with one more digit in base 10 or 16, or `value` itself if it is already too large.
 fn with_digit(value: u32, base: u32, digit: u32) -> u32
     requires { ⌜ digit ≤ 16 ⌝ }
 {
@@ -148,7 +148,7 @@ fn with_digit(value: u32, base: u32, digit: u32) -> u32
     value * 16 + digit
 }
 
-// The number in base 10 or 16 whose digits start at `at`.
+// Returns the number in base 10 or 16 whose digits start at `at`.
 pub(crate) fn number_at(line: &[u8], at: usize, base: u32) -> Number {
     let mut value = 0;
     let mut i = at;
@@ -169,7 +169,7 @@ pub(crate) fn number_at(line: &[u8], at: usize, base: u32) -> Number {
     Number::Value(value, i)
 }
 
-// The code point at `at`: 4 to 6 digits in base 16, and at most 10FFFF.
+// Returns the code point at `at`: 4 to 6 digits in base 16, at most 10FFFF.
 fn code_point(line: &[u8], at: usize) -> Number {
     let Number::Value(value, end) = number_at(line, at, 16) else {
         return Number::NoNumber;
@@ -189,7 +189,7 @@ fn code_point(line: &[u8], at: usize) -> Number {
     Number::Value(value, end)
 }
 
-// Where the field starts that a semicolon at `at`, or after blanks, leads to.
+// Returns the offset of the field, if there is a semicolon at `at` or after blanks.
 fn field_after(line: &[u8], at: usize) -> Place {
     let Place::Past(end) = after(line, skip_blanks(line, at), b";") else {
         return Place::Missing;
@@ -197,7 +197,7 @@ fn field_after(line: &[u8], at: usize) -> Place {
     Place::Past(skip_blanks(line, end))
 }
 
-// The line of the range `first` to `last`, whose digits end at `end`.
+// Parses the rest of the line of the range `first` to `last`, whose digits end at `end`.
 fn range_line(line: &[u8], first: u32, last: u32, end: usize) -> Line {
     let Place::Past(field) = field_after(line, end) else {
         return Line::Bad;
@@ -208,7 +208,7 @@ fn range_line(line: &[u8], first: u32, last: u32, end: usize) -> Line {
     Line::Range { first, last, field }
 }
 
-// The line of the sequence of `first` and `second`, whose digits end at `end`.
+// Parses the rest of the line of the sequence `first` and `second`, whose digits end at `end`.
 fn sequence_line(line: &[u8], first: u32, second: u32, end: usize) -> Line {
     let Place::Past(field) = field_after(line, end) else {
         return Line::Bad;
@@ -220,7 +220,7 @@ fn sequence_line(line: &[u8], first: u32, second: u32, end: usize) -> Line {
     }
 }
 
-// The line that starts with the code point `first`, whose digits end at `end`.
+// Parses the rest of a line that starts with the code point `first`, whose digits end at `end`.
 fn data_line(line: &[u8], first: u32, end: usize) -> Line {
     if let Place::Past(at) = after(line, end, b"..") {
         let Number::Value(last, stop) = code_point(line, at) else {
@@ -234,7 +234,7 @@ fn data_line(line: &[u8], first: u32, end: usize) -> Line {
     sequence_line(line, first, second, stop)
 }
 
-// What a line, without its line feed, says.
+// Parses a line without its line feed.
 pub(crate) fn parse_line(line: &[u8]) -> Line {
     if line.len() == 0 {
         return Line::Blank;

@@ -1,4 +1,4 @@
-// What the program writes to standard output, in lines.
+// The lines that the program writes to standard output.
 use crate::compare::Difference;
 use crate::compare::Entries;
 use crate::forms::Forms;
@@ -14,14 +14,14 @@ fn say(text: &[u8]) {
     io::write_all(STDOUT_FILENO, text);
 }
 
-// "15.0"
+// Writes a version: "15.0".
 fn say_pair(major: u32, minor: u32) {
     io::print_decimal(STDOUT_FILENO, major as u64);
     say(b".");
     io::print_decimal(STDOUT_FILENO, minor as u64);
 }
 
-// "26 code points", "1 range"
+// Writes a count: "26 code points", "1 range".
 fn say_count(count: u64, thing: &[u8]) {
     io::print_decimal(STDOUT_FILENO, count);
     say(b" ");
@@ -31,19 +31,19 @@ fn say_count(count: u64, thing: &[u8]) {
     }
 }
 
-// The digit of `digits` at place `at`.
+// Writes digit `at` of `digits`.
 fn say_digit(digits: &[u8], at: usize) {
     if at < digits.len() {
         say(&digits[at..at + 1]);
     }
 }
 
-// The last of n's digits in base 16.
+// Writes the last digit of n in base 16.
 fn say_last_digit(n: u32) {
     say_digit(b"0123456789ABCDEF", (n % 16) as usize);
 }
 
-// "U+00A9"
+// Writes a code point: "U+00A9".
 fn say_code_point(ch: u32) {
     say(b"U+");
     if ch > 0xF_FFFF {
@@ -70,14 +70,14 @@ fn say_table(table: Table) {
     }
 }
 
-// The version of the tables: "Unicode 15.0".
+// Writes the version of the tables: "Unicode 15.0".
 pub(crate) fn say_tables_version() {
     say(b"Unicode ");
     say_pair(UNICODE_VERSION_MAJOR, UNICODE_VERSION_MINOR);
     say(b"\n");
 }
 
-// What is wrong with a file: "emoji-data.txt: cannot be opened".
+// Writes an error in a file: "emoji-data.txt: cannot be opened".
 pub(crate) fn say_file(name: &[u8], what: &[u8]) {
     say(name);
     say(b": ");
@@ -85,7 +85,7 @@ pub(crate) fn say_file(name: &[u8], what: &[u8]) {
     say(b"\n");
 }
 
-// What is wrong with a line: "emoji-data.txt: line 24 does not follow the format".
+// Writes an error in a line: "emoji-data.txt: line 24 does not follow the format".
 pub(crate) fn say_line(name: &[u8], number: usize, what: &[u8]) {
     say(name);
     say(b": line ");
@@ -95,7 +95,7 @@ pub(crate) fn say_line(name: &[u8], number: usize, what: &[u8]) {
     say(b"\n");
 }
 
-// The file's version, and whether it is that of the tables.
+// Writes the file's version, and whether it is the version of the tables.
 fn say_version(version: Version) {
     match version {
         Version::Stated(major, minor) => {
@@ -111,7 +111,7 @@ fn say_version(version: Version) {
     }
 }
 
-// "emoji-data.txt: Emoji Version 15.0, 1320 lines, 6 totals, CRC-32 0123abcd"
+// Writes the summary of a file: "emoji-data.txt: Emoji Version 15.0, 1320 lines, 6 totals, CRC-32 0123abcd".
 pub(crate) fn say_survey(name: &[u8], survey: Survey, crc: u32) {
     let version = survey.version;
     let totals = survey.totals;
@@ -127,7 +127,7 @@ pub(crate) fn say_survey(name: &[u8], survey: Survey, crc: u32) {
     say(b"\n");
 }
 
-// A table that is as published: "Emoji: 1424 code points, 151 ranges, as published".
+// Writes that a table is as published: "Emoji: 1424 code points, 151 ranges, as published".
 pub(crate) fn say_as_published(table: Table, size: Size) {
     say_table(table);
     say(b": ");
@@ -137,7 +137,7 @@ pub(crate) fn say_as_published(table: Table, size: Size) {
     say(b", as published\n");
 }
 
-// "Emoji differs first at U+00A9: in the file only"
+// Writes the first difference: "Emoji differs first at U+00A9: in the file only".
 fn say_only(table: Table, ch: u32, which: &[u8]) {
     say_table(table);
     say(b" differs first at ");
@@ -145,7 +145,7 @@ fn say_only(table: Table, ch: u32, which: &[u8]) {
     say(which);
 }
 
-// Says where a table differs from the file, and answers whether it does not.
+// Writes the difference between a table and the file, if there is one. Returns whether there is none.
 pub(crate) fn say_difference(table: Table, difference: Difference) -> bool {
     match difference {
         Difference::Nowhere => true,
@@ -160,7 +160,7 @@ pub(crate) fn say_difference(table: Table, difference: Difference) -> bool {
     }
 }
 
-// How the entries compare: "variation sequences: 354 entries, as published".
+// Writes the result for the entries: "variation sequences: 354 entries, as published".
 pub(crate) fn say_entries(entries: Entries) {
     say(b"variation sequences");
     match entries {
@@ -182,7 +182,7 @@ pub(crate) fn say_entries(entries: Entries) {
     }
 }
 
-// How the fast forms compare: "fast forms: as the plain ones at 1114112 code points".
+// Writes the result for the fast forms: "fast forms: as the plain ones at 1114112 code points".
 pub(crate) fn say_forms(forms: Forms) {
     say(b"fast forms");
     match forms {

@@ -1,6 +1,6 @@
-// What a published file says of itself: whether each line follows the format, the Emoji Version
-// that its header names, and whether each total that a comment states is that of the lines since
-// the total before it. Lines are counted from 1.
+// Checks a published file by itself: whether each line follows the format, the Emoji Version that its header names, and
+// whether each total that a comment states is the number of elements since the total before it. Lines are counted from
+// 1.
 use crate::parse::Line;
 use crate::parse::Number;
 use crate::parse::Place;
@@ -19,15 +19,14 @@ pub enum Version {
     Unstated,
 }
 
-// The elements since the last total, how many totals there are, and the first line, or 0, whose
-// total is wrong.
+// The number of elements since the last total, the number of totals, and the first line whose total is wrong, or 0.
 pub struct Totals {
     pub sum: u64,
     pub stated: u32,
     pub wrong: usize,
 }
 
-// `bad` is the first line, or 0, that does not follow the format.
+// The result for a file. `bad` is the first line that does not follow the format, or 0.
 pub struct Survey {
     pub lines: usize,
     pub bad: usize,
@@ -35,7 +34,7 @@ pub struct Survey {
     pub version: Version,
 }
 
-// The version that the header names, or `version` where this line is not that of the header.
+// Returns the version that this line names, or `version` if this is not the line of the header that names it.
 fn with_version(version: Version, line: &[u8]) -> Version {
     let Place::Past(at) = after(line, 0, b"# Used with Emoji Version ") else {
         return version;
@@ -52,7 +51,7 @@ fn with_version(version: Version, line: &[u8]) -> Version {
     Version::Stated(major, minor)
 }
 
-// The number after `words`, with which the line starts.
+// Returns the number after `words`, if the line starts with them.
 fn number_after(line: &[u8], words: &[u8]) -> Number {
     let Place::Past(at) = after(line, 0, words) else {
         return Number::NoNumber;
@@ -60,7 +59,7 @@ fn number_after(line: &[u8], words: &[u8]) -> Number {
     number_at(line, at, 10)
 }
 
-// The total that the line states, of code points or of sequences.
+// Returns the total that the line states, of code points or of sequences.
 fn total_in(line: &[u8]) -> Number {
     let elements = number_after(line, b"# Total elements: ");
     if let Number::Value(_, _) = elements {
@@ -69,7 +68,7 @@ fn total_in(line: &[u8]) -> Number {
     number_after(line, b"#Total sequences: ")
 }
 
-// How many elements the line adds to a total. The two sequences of a character count as one.
+// Returns the number of elements that the line adds to a total. The two sequences of a character count as one.
 fn elements_in(line: &[u8]) -> u64 {
     match parse_line(line) {
         Line::Range {
@@ -95,7 +94,7 @@ fn elements_in(line: &[u8]) -> u64 {
 }
 
 impl Totals {
-    // With a total that line `number` states. The next one starts anew.
+    // Compares the total that line `number` states, and starts the next total.
     fn with_total(self, total: u64, number: usize) -> Totals {
         let stated = wrapping_add_u32(self.stated, 1);
         let wrong = self.wrong;
@@ -115,7 +114,7 @@ impl Totals {
         }
     }
 
-    // With line `number`. The sum does not wrap: a file has too few lines.
+    // Adds line `number`. The sum does not overflow, since a file has few lines.
     fn with_line(self, line: &[u8], number: usize) -> Totals {
         if let Number::Value(total, _) = total_in(line) {
             return self.with_total(total as u64, number);
@@ -128,7 +127,7 @@ impl Totals {
     }
 }
 
-// The first bad line, where `bad` is that of the lines before.
+// Returns the first bad line. `bad` is the first among the lines before, or 0.
 fn first_bad(bad: usize, line: &[u8], number: usize, file: File) -> usize {
     if bad > 0 {
         return bad;
@@ -136,7 +135,7 @@ fn first_bad(bad: usize, line: &[u8], number: usize, file: File) -> usize {
     if is_of_file(line, file) { 0 } else { number }
 }
 
-// The survey of a whole file.
+// Checks a whole file.
 pub(crate) fn survey_of(text: &[u8], file: File) -> Survey {
     let mut at = 0;
     let mut lines = 0;

@@ -1,19 +1,19 @@
-// Which lines of the published files each table of the crate `unicode` is held to. A property is
-// matched by its whole name; Emoji_Component and Extended_Pictographic are properties that no table
-// has. No property tells the regional indicators: they are the Emoji lines whose comments do.
+// The lines of the published files that belong to each table of the crate `unicode`. A property is matched by its whole
+// name. No table has the properties Emoji_Component and Extended_Pictographic. The files have no property for the
+// regional indicators: they are the Emoji lines whose comments say so.
 use crate::parse::Line;
 use crate::parse::contains;
 use crate::parse::field_is;
 use crate::parse::parse_line;
 
-// emoji-data.txt, and emoji-variation-sequences.txt.
+// The two files: emoji-data.txt, and emoji-variation-sequences.txt.
 pub enum File {
     Properties,
     Sequences,
 }
 
-// A property, the regional indicators, or the characters that have a variation sequence of a style:
-// those of the two styles are the same.
+// A table: a property, the regional indicators, or the characters that have a variation sequence of a style. The two
+// styles have the same characters.
 pub enum Table {
     Emoji,
     EmojiPresentation,
@@ -24,13 +24,13 @@ pub enum Table {
     EmojiStyle,
 }
 
-// The code points, first to last, that a line lists for a table.
+// The code points, first to last, that a line lists for a table, or none.
 pub enum Listed {
     Points(u32, u32),
     Nothing,
 }
 
-// Whether a line with this field is one of regional indicators.
+// Tests whether a line with this field lists regional indicators.
 fn is_regional(line: &[u8], field: usize) -> bool {
     if contains(line, field, b"regional indicator") {
         return field_is(line, field, b"Emoji");
@@ -38,7 +38,7 @@ fn is_regional(line: &[u8], field: usize) -> bool {
     false
 }
 
-// Whether a line with this field is one of the table's.
+// Tests whether a line with this field belongs to the table.
 fn is_of_table(line: &[u8], field: usize, table: Table) -> bool {
     match table {
         Table::Emoji => field_is(line, field, b"Emoji"),
@@ -51,7 +51,7 @@ fn is_of_table(line: &[u8], field: usize, table: Table) -> bool {
     }
 }
 
-// Whether the field is a property that no table has.
+// Tests whether the field is a property that no table has.
 fn is_passed_over(line: &[u8], field: usize) -> bool {
     if field_is(line, field, b"Emoji_Component") {
         return true;
@@ -59,7 +59,7 @@ fn is_passed_over(line: &[u8], field: usize) -> bool {
     field_is(line, field, b"Extended_Pictographic")
 }
 
-// Whether the field is one of the properties of emoji-data.txt.
+// Tests whether the field is a property of emoji-data.txt.
 fn is_property(line: &[u8], field: usize) -> bool {
     if is_of_table(line, field, Table::Emoji) {
         return true;
@@ -76,7 +76,7 @@ fn is_property(line: &[u8], field: usize) -> bool {
     is_passed_over(line, field)
 }
 
-// Whether the field is the style that the selector `second` asks for.
+// Tests whether the field is the style that the selector `second` requests.
 fn is_style(line: &[u8], second: u32, field: usize) -> bool {
     match second {
         0xFE0E => is_of_table(line, field, Table::TextStyle),
@@ -85,7 +85,7 @@ fn is_style(line: &[u8], second: u32, field: usize) -> bool {
     }
 }
 
-// Whether the line is one of the format of its file.
+// Tests whether the line follows the format of its file.
 pub(crate) fn is_of_file(line: &[u8], file: File) -> bool {
     match parse_line(line) {
         Line::Blank => true,
@@ -110,7 +110,7 @@ pub(crate) fn is_of_file(line: &[u8], file: File) -> bool {
     }
 }
 
-// What the line lists for the table.
+// Returns the code points that the line lists for the table.
 pub(crate) fn listed_in(line: &[u8], table: Table) -> Listed {
     match parse_line(line) {
         Line::Range { first, last, field } => {
@@ -137,7 +137,7 @@ pub(crate) fn listed_in(line: &[u8], table: Table) -> Listed {
     }
 }
 
-// Whether the table has ch.
+// Tests whether the table has ch.
 pub(crate) fn has(table: Table, ch: u32) -> bool {
     match table {
         Table::Emoji => unicode::is_emoji(ch),

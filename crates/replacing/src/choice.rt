@@ -1,7 +1,7 @@
 // The choices of an item, one for each decision: `ReplacementChoice` of types.rs of the crate evfmt; document 01, "Counts and
-// finding". What is a `Vec` of choices in the Rust is a cursor over the item's bytes.
-// `next_choice` equals `choiceAt`, and `choice_replacement` equals `replaceUnit` of crate analysis, specs/ChoicesAt.antt, for
-// every slice.
+// finding". The Rust has a `Vec` of choices; here a cursor reads them from the item's bytes.
+// `next_choice` equals `choiceAt`, and `choice_replacement` equals `replaceUnit` of crate analysis, specs/ChoicesAt.antt, for every
+// slice.
 ghost use mathlib.Core.Path.{_≡_};
 ghost use Prim.Native.Nat.{_+_};
 ghost use Rattle.base.specs.Answers.{EndsAs};
@@ -23,7 +23,7 @@ use scanner::char_class::Peeked;
 use scanner::char_class::peek;
 use unicode::presentation::Presentation;
 
-// The end of the cells at an offset up to the next link; selectors before them are passed.
+// The offset of the next link at or after an offset, or the end of the text.
 fn end_before_link(raw: &[u8], at: usize) -> usize
     ensures { λ r. ⌜ r ≡ cellsStart (now (raw .entry)) at + cellsLength (upToLink (cellsFrom (now (raw .entry)) at)) ⌝ }
 {
@@ -85,7 +85,7 @@ pub fn next_choice(raw: &[u8], at: usize, policy: Policy) -> ChoiceStep
     }
 }
 
-// The end of the unit at an offset: its first character that is no selector, and what follows up to the next link.
+// The end of the unit at an offset. Its base is the first character that is no selector; the unit ends at the next link after that.
 fn unit_end(raw: &[u8], at: usize) -> usize
     ensures { λ r. ⌜ r ≡ cellsStart (now (raw .entry)) at + cellsLength (frontUnit (cellsFrom (now (raw .entry)) at)) ⌝ }
 {
@@ -100,7 +100,7 @@ fn unit_end(raw: &[u8], at: usize) -> usize
     }
 }
 
-// Writes the unit at an offset of an item's bytes with a decision: one of a choice's two replacements.
+// Writes the unit at an offset of an item's bytes under a decision: one of a choice's two replacements.
 pub fn choice_replacement(
     raw: &[u8],
     at: usize,

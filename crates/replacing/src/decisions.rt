@@ -1,4 +1,4 @@
-// Decisions handed in as bytes, 0 text, 1 emoji, and their tests (document 01, "Replacement and text", refusals 5 and 6).
+// Decisions given as bytes, 0 text, 1 emoji, and their tests (document 01, "Replacement and text", refusals 5 and 6).
 // `check_decisions` equals `decisionsRefusal` of crate analysis, specs/Decisions.antt.
 ghost use mathlib.Core.Path.{_≡_};
 ghost use Rattle.base.specs.Answers.{Answers, checkRow};
@@ -7,7 +7,7 @@ ghost use Rattle.analysis.specs.Decisions.{badDecision, decisionsRefusal};
 use base::Check;
 use base::Refusal;
 
-// The first decision byte above 1 is refused.
+// Refuses the first decision byte above 1.
 fn check_bytes(decisions: &[u8]) -> Check
     ensures { λ r. ⌜ r ≡ checked (badDecision 0 (now (decisions .entry))) ⌝ }
 {
@@ -21,7 +21,7 @@ fn check_bytes(decisions: &[u8]) -> Check
     Check::Passed
 }
 
-// Decisions that are to be so many, each 0 or 1.
+// Tests decisions: there must be `wanted` of them, each 0 or 1.
 pub fn check_decisions(decisions: &[u8], wanted: usize) -> Check
     ensures { λ r. ⌜ Answers checkRow (checked (decisionsRefusal wanted (now (decisions .entry)))) r ⌝ }
 {

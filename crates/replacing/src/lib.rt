@@ -1,6 +1,7 @@
-// Counts, findings and replacements of the items of a text under a policy: the functions of analysis.rs and render.rs of the crate evfmt;
-// document 01, "Counts and finding", "Replacement and text". The crate analysis has the definitions, the types and the six rules. An
-// item is read here from the text itself: no field of one handed in is believed.
+// Counts, findings and replacements of the items of a text under a policy: the functions of analysis.rs and render.rs of the crate
+// evfmt; document 01, "Counts and finding", "Replacement and text". The crate analysis has the definitions, the types and the six
+// rules.
+// The functions read the item from the text itself. They take no item from the caller, so that no field of one must be trusted.
 // `analyze_scan_item` equals `analysisAt` of crate analysis, specs/ItemAt.antt.
 pub mod choice;
 pub mod decisions;
@@ -17,7 +18,7 @@ use policy::Policy;
 use scanner::ScanKind;
 use scanner::ScanStep;
 
-// The item of a text at an offset under a policy.
+// The analysis of the item of a text at an offset under a policy.
 pub fn analyze_scan_item(text: &[u8], at: usize, policy: Policy) -> ItemAnalysis
     ensures { λ r. ⌜ r ≡ analysisAt policy (now (text .entry)) at ⌝ }
 {

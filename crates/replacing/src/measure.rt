@@ -1,8 +1,8 @@
-// The cells of a slice, one after the other: a character that is no selector, the selectors after it, and of the next cell only
-// its character's class. A cell is read once. This pass serves the analysis of an item, mending and the report; listing sums up the
-// same outcomes on its way (crate text_pass).
-// document 01, "Counts and finding". `measure_cells` equals `totalCells` and the length of `formatCells` of crate analysis,
-// specs/CellView.antt.
+// The cells of a slice, one after the other (document 01, "Counts and finding"). A cell is a character that is no selector and the
+// selectors after it; of the next cell, only the class of its character matters. Each cell is read once.
+// This pass serves the analysis of an item, mending and the report. Listing sums up the same outcomes in its own pass (crate
+// text_pass).
+// `measure_cells` equals `totalCells` and the length of `formatCells` of crate analysis, specs/CellView.antt.
 ghost use mathlib.Core.Path.{_≡_};
 ghost use Prim.Native.Nat.{_+_, _*_};
 ghost use lib.ListN.{drop, length};
@@ -27,13 +27,13 @@ use scanner::selectors::SELECTOR_BYTES;
 use scanner::selectors::consume_presentation_selectors;
 use scanner::selectors::selectors_end;
 
-// What the rules say of a cell, and the offset of its end.
+// The result of the rules for a cell, and the offset of the cell's end.
 pub struct CellOutcome {
     pub outcome: Outcome,
     pub end: usize,
 }
 
-// The class of the character at an offset; `Other` where none stands.
+// The class of the character at an offset; `Other` if no character begins there.
 fn class_at(text: &[u8], at: usize) -> Class
     ensures { λ r. ⌜ r ≡ classInFront (chars (drop at (now (text .entry)))) ⌝ }
 {
@@ -47,7 +47,7 @@ fn class_at(text: &[u8], at: usize) -> Class
     }
 }
 
-// What the rules say of the cell whose character is the base and whose selectors begin at the offset.
+// The result of the rules for a cell. Its character is `base`, and its selectors begin at the offset.
 pub fn cell_outcome(text: &[u8], at: usize, base: u32, policy: Policy) -> CellOutcome
     ensures outcome { λ r. ⌜ r .outcome ≡ outcome policy base (following (cells (chars (drop at (now (text .entry))))))
         (leading (chars (drop at (now (text .entry))))) ⌝ }
@@ -64,13 +64,13 @@ pub fn cell_outcome(text: &[u8], at: usize, base: u32, policy: Policy) -> CellOu
     CellOutcome { outcome, end }
 }
 
-// The counts of a slice, and the length of its cells written out, which is the same under all decisions.
+// The counts of a slice, and the number of bytes of its renewed cells, which is the same under all decisions.
 pub struct Measure {
     pub counts: NonCanonicality,
     pub len: usize,
 }
 
-// The bytes of the selector that a slot holds.
+// The number of bytes of the selector that a slot holds; 0 if it holds none.
 fn slot_len(slot: Slot) -> usize
     ensures { λ r. ⌜ r ≡ slotLength slot ⌝ }
 {
@@ -81,8 +81,8 @@ fn slot_len(slot: Slot) -> usize
     }
 }
 
-// Counts and measures a slice: its cells, and the selectors before the first of them, which are unsanctioned. A character without a
-// variation entry (rule 1) needs no look at what follows its selectors.
+// Counts and measures a slice: its cells, and the selectors before the first cell, which are unsanctioned. For a character without
+// a variation entry (rule 1) the character after its selectors does not matter.
 pub fn measure_cells(text: &[u8], policy: Policy) -> Measure
     ensures counts { λ r. ⌜ r .counts ≡ totalCells policy (chars (now (text .entry))) ⌝ }
     ensures len { λ r. ⌜ r .len ≡ capped (size width (formatCells policy (chars (now (text .entry))))) ⌝ }

@@ -1,7 +1,9 @@
-// Replacements as bytes: render.rs of the crate evfmt, and what analysis.rs puts together; document 01, "Replacement and text".
-// The cells of a slice are written with the selectors that the rules and the decisions give them (`render` of
-// crate analysis, specs/Analysis.antt). `canonical_replacement_with_decisions` equals `replaceAt` of its specs/ItemAt.antt: it makes every
-// test of a call that takes a text, an offset and decisions, and an item counts only if the text's items, from its beginning on, have it.
+// Replacements as bytes: render.rs of the crate evfmt, and the replacements that analysis.rs makes; document 01, "Replacement and
+// text".
+// The cells of a slice are written with the selectors that the rules and the decisions give them (`render` of crate analysis,
+// specs/Analysis.antt).
+// `canonical_replacement_with_decisions` equals `replaceAt` of crate analysis, specs/ItemAt.antt. It makes every test of a call
+// that takes a text, an offset and decisions. Only an item of the text scanned from its beginning counts as an item at the offset.
 ghost use mathlib.Core.Path.{_≡_};
 ghost use mathlib.Core.Bool.{true};
 ghost use mathlib.Core.List.{map};
@@ -40,7 +42,7 @@ use unicode::presentation::FromSelector;
 use unicode::presentation::Presentation;
 use utf8::WriteChar;
 
-// Puts a character's bytes, for which there is room.
+// Writes a character's bytes. The caller has tested that there is room.
 fn put_char(out: &mut [u8], at: usize, ch: u32) -> usize
     requires { ⌜ (isScalar ch ≡ true) × (at + length (encode ch) ≤ length (now out)) ⌝ }
     ensures { λ r. ⌜ PutAt (now (out .entry)) at (encode ch) (now (out .exit)) r ⌝ }
@@ -52,7 +54,7 @@ fn put_char(out: &mut [u8], at: usize, ch: u32) -> usize
     }
 }
 
-// Puts a selector's bytes, if there is one, for which there is room.
+// Writes a selector's bytes, if there is a selector. The caller has tested that there is room.
 fn put_selector(out: &mut [u8], at: usize, selector: FromSelector) -> usize
     requires { ⌜ at + length (encodeAll (map asSelector (runWith selector 1))) ≤ length (now out) ⌝ }
     ensures { λ r. ⌜ PutAt (now (out .entry)) at (encodeAll (map asSelector (runWith selector 1))) (now (out .exit)) r ⌝ }
@@ -63,7 +65,7 @@ fn put_selector(out: &mut [u8], at: usize, selector: FromSelector) -> usize
     }
 }
 
-// The decision at an index; a missing one means the default.
+// The decision at an index; the default if there is none.
 fn decision_at(decisions: &[u8], i: usize, default: Presentation) -> Presentation
     ensures { λ r. ⌜ r ≡ decide default (map meaning (drop i (now (decisions .entry)))) ⌝ }
 {
@@ -76,7 +78,7 @@ fn decision_at(decisions: &[u8], i: usize, default: Presentation) -> Presentatio
     Presentation::Emoji
 }
 
-// What a slot holds under the decisions from an index on.
+// The selector that a slot holds under the decisions from an index on, if it holds one.
 fn selector_of(slot: Slot, decisions: &[u8], i: usize) -> FromSelector
     ensures { λ r. ⌜ runWith r 1 ≡ chosen slot (map meaning (drop i (now (decisions .entry)))) ⌝ }
 {
@@ -87,7 +89,8 @@ fn selector_of(slot: Slot, decisions: &[u8], i: usize) -> FromSelector
     }
 }
 
-// Puts a character and what its slot holds under the decisions from an index on, for which there is room.
+// Writes a character and the selector that its slot holds under the decisions from an index on. The caller has tested that there is
+// room.
 fn put_cell(out: &mut [u8], at: usize, ch: u32, slot: Slot, decisions: &[u8], i: usize) -> usize
     requires { ⌜ (isScalar ch ≡ true) × (at + length (cellBytes ch slot (map meaning (drop i (now decisions)))) ≤ length (now out)) ⌝ }
     ensures { λ r. ⌜ PutAt (now (out .entry)) at (cellBytes ch slot (map meaning (drop i (now (decisions .entry))))) (now (out .exit)) r ⌝ }
@@ -97,7 +100,7 @@ fn put_cell(out: &mut [u8], at: usize, ch: u32, slot: Slot, decisions: &[u8], i:
     put_selector(out, after, selector)
 }
 
-// How many decisions a slot takes.
+// The number of decisions that a slot takes.
 fn decisions_used(slot: Slot) -> usize
     ensures { λ r. ⌜ r ≡ decisionsUsed slot ⌝ }
 {
@@ -108,7 +111,8 @@ fn decisions_used(slot: Slot) -> usize
     }
 }
 
-// Puts the cells of a slice with the selectors that the rules and the decisions give them, for which there is room.
+// Writes the cells of a slice with the selectors that the rules and the decisions give them. The caller has tested that there is
+// room.
 fn put_cells(text: &[u8], policy: Policy, decisions: &[u8], out: &mut [u8]) -> usize
     requires { ⌜ length (encodeAll (render policy (cells (chars (now text))) (map meaning (now decisions)))) ≤ length (now out) ⌝ }
     ensures { λ r. ⌜ PutAt (now (out .entry)) 0
@@ -138,7 +142,7 @@ fn put_cells(text: &[u8], policy: Policy, decisions: &[u8], out: &mut [u8]) -> u
     }
 }
 
-// Writes the cells of a slice at the front of the output, if there is room: for a caller that has the bytes of an item.
+// Writes the cells of a slice at the front of the output, if there is room. It is for callers that have the bytes of an item.
 pub fn write_cells(raw: &[u8], policy: Policy, decisions: &[u8], out: &mut [u8]) -> MendAnswer
     ensures { λ r. ⌜ EndsAs mendRow (writeCells policy (now (raw .entry)) (now (decisions .entry)) (now (out .entry))) r (now (out .exit)) ⌝ }
 {
@@ -153,7 +157,7 @@ pub fn write_cells(raw: &[u8], policy: Policy, decisions: &[u8], out: &mut [u8])
     MendAnswer::Mended { len }
 }
 
-// Whether an item of the text starts at an offset: the items are walked from the beginning.
+// Whether an item of the text starts at an offset. The items are read from the beginning of the text.
 fn item_starts_at(text: &[u8], offset: usize) -> bool
     ensures { λ r. ⌜ r ≡ startsAt offset (scan (now (text .entry))) ⌝ }
 {
@@ -167,7 +171,7 @@ fn item_starts_at(text: &[u8], offset: usize) -> bool
     false
 }
 
-// The item of the text that starts at an offset, or the end where none does.
+// The analysis of the item of the text that starts at an offset, or the end if none does.
 fn analyze_starting_item(text: &[u8], offset: usize, policy: Policy) -> ItemAnalysis
     ensures { λ r. ⌜ r ≡ startingAnalysis policy (now (text .entry)) offset ⌝ }
 {
@@ -205,7 +209,7 @@ pub fn canonical_replacement_with_decisions(
     }
 }
 
-// Writes the replacement of the finding that starts at an offset, every decision at its default.
+// Writes the replacement of the finding that starts at an offset, with every decision at its default.
 pub fn default_canonical_replacement(
     text: &[u8],
     at: usize,

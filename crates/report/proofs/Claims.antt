@@ -1,4 +1,4 @@
--- The statements of specs/, each with its proof.
+-- The proof of each statement of specs/Theorems.antt.
 use mathlib.Core.Path.{refl}
 use Rattle.base.specs.Texts.{parted}
 use Rattle.base.specs.Words.{bytesOf, littleEndian, number, wordBytes}
@@ -59,7 +59,7 @@ use Rattle.formatter.specs.Findings.{findingRow, findings}
 use Rattle.formatter.specs.Intake.{intakeRefusal}
 use Rattle.formatter.specs.List.{countNumbers}
 use Rattle.message_io.specs.Lines.{decimal, decimalBy, findingLine, line, programOutput, totalLine}
-use Rattle.report.specs.Report.{linesFrom, reportLines, reportNumbers, reported, rowLines, totalsAt}
+use Rattle.report.specs.Report.{linesFrom, reportLines, reportNumbers, reported, findingLines, totalsAt}
 use Rattle.report.specs.Theorems.{ExampleReported, ReportFits}
 use Rattle.report.proofs.Rooms.{report-fits}
 
@@ -77,5 +77,5 @@ unfolding ExampleReported findingLine totalLine line parted decimal decimalBy ta
     noUnusedBit noUnusedBits policyBytes policyOf policyWords wordCount wordsFrom classOf startState splitFrom items kindOf transition found
     width addChar split countCells countsOf following nonCanonicality render renew replacement replacementOf byFirst byKeycap byModifier
     byTags isBareSide outcome rule1 rule2 rule3 rule4 rule5 rule6 textFirst withoutSelector programOutput reported reportLines linesFrom
-    rowLines totalsAt countNumbers reportNumbers
+    findingLines totalsAt countNumbers reportNumbers
 example-reported = refl

@@ -1,4 +1,4 @@
--- The parts of a report, the room for it, and the claims.
+-- The parts of a report, its length, and the proofs of the statements.
 pub mod Reports
 pub mod Rooms
 pub mod Claims

@@ -1,4 +1,4 @@
--- The lines of the findings from a place on, by what the analysis says of the item there, and the totals.
+-- The lines of the findings from an offset on, by the analysis of the item there; and the totals.
 use mathlib.Core.Path.{_≡_, ap, sym, _∙_}
 use mathlib.Core.List.{List, [], _++_, map}
 use Prim.Native.Nat.{ℕ}
@@ -14,31 +14,31 @@ use Rattle.formatter.specs.List.{countNumbers}
 use Rattle.formatter.proofs.CellView.{totals-by-cells}
 use Rattle.formatter.proofs.Steps.{Ahead, analysis-says}
 use Rattle.message_io.specs.Lines.{findingLine, totalLine}
-use Rattle.report.specs.Report.{linesFrom, reportNumbers, rowLines, totalsAt}
+use Rattle.report.specs.Report.{linesFrom, reportNumbers, findingLines, totalsAt}
 
--- ---- the item at a place
+-- ---- the item at an offset
 
 module _ (p : Policy) (text : List ℕ) (at : ℕ) where
   pub at-end : End ≡ analysisAt p text at → linesFrom p text at ≡ []
-  unfolding linesFrom rowLines
-  at-end e = ap (λ fs. rowLines (map (findingRow p) fs)) (analysis-says p text at e)
+  unfolding linesFrom findingLines
+  at-end e = ap (λ fs. findingLines (map (findingRow p) fs)) (analysis-says p text at e)
 
   pub no-finding : {end : ℕ} → Canonical end ≡ analysisAt p text at → Ahead text at end × (linesFrom p text at ≡ linesFrom p text end)
   unfolding linesFrom
   no-finding e =
       let s = analysis-says p text at e in
-      (s .0, ap (λ fs. rowLines (map (findingRow p) fs)) (s .1))
+      (s .0, ap (λ fs. findingLines (map (findingRow p) fs)) (s .1))
 
   pub a-finding : {f : Finding} → NonCanonical f ≡ analysisAt p text at
       → Ahead text at (f .end) × (linesFrom p text at ≡ findingLine (reportNumbers f) ++ linesFrom p text (f .end))
-  unfolding linesFrom rowLines
+  unfolding linesFrom findingLines
   a-finding e =
       let s = analysis-says p text at e in
-      (s .0, ap rowLines (s .1))
+      (s .0, ap findingLines (s .1))
 
 -- ---- the totals
 
--- They go by the cells.
+-- The totals are the counts of the cells.
 pub totals-are : (p : Policy) (text : List ℕ) {n : NonCanonicality} → n ≡ totalCells p (chars text)
     → totalLine (countNumbers n) ≡ totalLine (countNumbers (totalsAt p text))
 unfolding totalsAt

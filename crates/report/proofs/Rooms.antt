@@ -1,4 +1,4 @@
--- Every report has room: a text has no more findings than bytes, and neither the places nor the counts have more than five digits.
+-- Every report fits: a text has at most as many findings as bytes, and the offsets and counts have at most five digits.
 use mathlib.Core.Path.{ap}
 use mathlib.Core.Bool.{Bool, true, false, cond}
 use mathlib.Core.List.{List, [], _∷_, _++_, map}
@@ -30,13 +30,13 @@ use Rattle.formatter.proofs.CellView.{totals-by-cells}
 use Rattle.formatter.proofs.Marks.{foundTotals}
 use Rattle.message_io.specs.Lines.{findingLine, totalLine}
 use Rattle.message_io.proofs.LineLengths.{finding-length, total-length}
-use Rattle.report.specs.Report.{linesFrom, messageLimit, reportLines, reportNumbers, rowLines, totalsAt}
+use Rattle.report.specs.Report.{linesFrom, messageLimit, reportLines, reportNumbers, findingLines, totalsAt}
 use Rattle.report.specs.Theorems.{reportRoom}
 
 module _ (p : Policy) where
   -- ---- counts
 
-  -- No more is counted than there are characters.
+  -- The counts are at most the number of characters.
   cells-few : (xs : List Cell) → total (countCells p xs) ≤ length (unsplit xs)
   unfolding countCells
   cells-few [] = omega arith
@@ -52,7 +52,7 @@ module _ (p : Policy) where
 
   -- ---- lines
 
-  -- The line of a finding of a short text has at most ten times six bytes.
+  -- The line of a finding of a short text has at most 60 bytes.
   row-length : (f : Finding) → f .start ≤ messageLimit → f .end ≤ messageLimit → total (f .counts) ≤ messageLimit
       → length (findingLine (reportNumbers f)) ≤ 60
   unfolding reportNumbers countNumbers
@@ -62,11 +62,11 @@ module _ (p : Policy) where
   unfolding countNumbers
   totals-length n t = total-length (countNumbers n) (omega arith)
 
-  -- An item has a character, and so a byte for which its line has room.
+  -- The lines of items have at most 60 bytes for each character: an item has at least one character.
   lines-few : (n : ℕ) {xs : List Item} → Filled xs → n + size width (join xs) ≤ messageLimit
       → total (foundTotals p (found (isFinding p) width n xs)) ≤ messageLimit
-      → length (rowLines (map (findingRow p) (found (isFinding p) width n xs))) ≤ 60 * length (join xs)
-  unfolding found rowLines totals findingRow
+      → length (findingLines (map (findingRow p) (found (isFinding p) width n xs))) ≤ 60 * length (join xs)
+  unfolding found findingLines totals findingRow
   lines-few n no-item h k = omega arith
   lines-few n (and-item {x = x} {xs = xs} c s l f) h k =
       go (isFinding p x) (lines-few (n + size width (x .chars)) f (omega (arith, size-append width (x .chars) (join xs)))) k
@@ -77,17 +77,17 @@ module _ (p : Policy) where
       row : Finding
       row = record { start = n; end = n + size width (x .chars); counts = nonCanonicality p x }
 
-      go : (b : Bool) → (total (foundTotals p F) ≤ messageLimit → length (rowLines (map (findingRow p) F)) ≤ 60 * length (join xs))
+      go : (b : Bool) → (total (foundTotals p F) ≤ messageLimit → length (findingLines (map (findingRow p) F)) ≤ 60 * length (join xs))
           → total (foundTotals p (cond b (record { start = n; item = x } ∷ F) F)) ≤ messageLimit
-          → length (rowLines (map (findingRow p) (cond b (record { start = n; item = x } ∷ F) F))) ≤ 60 * length (x .chars ++ join xs)
+          → length (findingLines (map (findingRow p) (cond b (record { start = n; item = x } ∷ F) F))) ≤ 60 * length (x .chars ++ join xs)
       go true i k =
-          let l′ = length-append (findingLine (reportNumbers row)) (rowLines (map (findingRow p) F)) in
+          let l′ = length-append (findingLine (reportNumbers row)) (findingLines (map (findingRow p) F)) in
           let w = size-append width (x .chars) (join xs) in
           let r = row-length row (omega arith) (omega (arith, w)) (omega arith) in
           omega (arith, i (omega arith), l′, r, length-append (x .chars) (join xs), ap length l)
       go false i k = omega (arith, i k, length-append (x .chars) (join xs))
 
--- No message of a length up to the limit has a longer report.
+-- The report of a message up to the limit is not longer than `reportRoom`.
 pub report-fits : (p : Policy) (text : List ℕ) → length text ≤ messageLimit → length (reportLines p text) ≤ reportRoom
 unfolding reportLines linesFrom totalsAt
 report-fits p text h =
@@ -99,5 +99,5 @@ report-fits p text h =
     let s = size-chars text in
     let k : total (foundTotals p fs) ≤ messageLimit = omega (arith, n, chars-few p t, b, s, v) in
     let f = lines-few p 0 (filled t) (omega (arith, ap (size width) (tiling t), s, v)) k in
-    let l = length-append (rowLines (map (findingRow p) fs)) (totalLine (countNumbers (foundTotals p fs))) in
+    let l = length-append (findingLines (map (findingRow p) fs)) (totalLine (countNumbers (foundTotals p fs))) in
     omega (arith, l, f, totals-length p (foundTotals p fs) k, ap length (tiling t), b, s, v)

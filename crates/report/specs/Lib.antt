@@ -1,3 +1,3 @@
--- What the program `report` writes (document 01, "Programs").
+-- The output of the program `report` (document 01, "Programs").
 pub mod Report
 pub mod Theorems

@@ -17,28 +17,28 @@ use Rattle.message_io.specs.Lines.{findingLine, programOutput, totalLine}
 abbrev pub messageLimit : ℕ
 messageLimit = 12288
 
--- "The report writes, per finding, start, end and eight counts": the ten columns of its line.
+-- The ten numbers of a finding's line: "The report writes, per finding, start, end and eight counts".
 unfoldable pub reportNumbers : Finding → List ℕ
 reportNumbers f = f .start ∷ f .end ∷ countNumbers (f .counts)
 
--- Findings, a line for each.
-unfoldable pub rowLines : List Finding → List ℕ
-rowLines [] = []
-rowLines (f ∷ fs) = findingLine (reportNumbers f) ++ rowLines fs
+-- The lines of the findings, one after the other.
+unfoldable pub findingLines : List Finding → List ℕ
+findingLines [] = []
+findingLines (f ∷ fs) = findingLine (reportNumbers f) ++ findingLines fs
 
--- The lines of the findings from a place on.
+-- The lines of the findings from an offset of the text on.
 unfoldable pub linesFrom : Policy → List ℕ → ℕ → List ℕ
-linesFrom p text at = rowLines (map (findingRow p) (findingsFrom p text at))
+linesFrom p text at = findingLines (map (findingRow p) (findingsFrom p text at))
 
 -- The eight totals of a text.
 unfoldable pub totalsAt : Policy → List ℕ → NonCanonicality
 totalsAt p text = totals p (map (λ (f : Found). f .item) (findingsFrom p text 0))
 
--- The lines of the findings, and the totals.
+-- The lines of the findings, and the line of the totals.
 unfoldable pub reportLines : Policy → List ℕ → List ℕ
 reportLines p text = linesFrom p text 0 ++ totalLine (countNumbers (totalsAt p text))
 
--- What the program writes: the lines of the findings, and the totals, or the line of a refusal.
+-- The output of the program: the lines of the findings and the line of the totals, or the line of a refusal.
 unfoldable pub reported : List ℕ → List ℕ
 reported message =
     programOutput messageLimit message (intakeRefusal message (policyBytes defaultPolicy)) (reportLines defaultPolicy message)

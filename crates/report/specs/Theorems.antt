@@ -1,4 +1,4 @@
--- What is claimed of a report. Each statement is proved in proofs/Claims.antt.
+-- Statements about a report. proofs/Claims.antt proves each of them.
 use mathlib.Core.Path.{_≡_}
 use mathlib.Core.List.{List, [], _∷_, _++_}
 use Prim.Native.Nat.{ℕ, _+_, _*_, _≤_}
@@ -8,16 +8,17 @@ use Rattle.formatter.specs.Worked.{exampleBytes}
 use Rattle.message_io.specs.Lines.{findingLine, totalLine}
 use Rattle.report.specs.Report.{messageLimit, reportLines, reported}
 
--- How long a report can be: a message has no more findings than bytes; of the ten numbers of a line none has more than five digits, and a
--- blank or the line's end stands after each; the line of the totals has the word `total` and eight numbers.
+-- The length of the longest report. A message has at most as many findings as bytes. Each of the ten numbers of a line has at most five
+-- digits, with a blank or the 0A after it. The line of the totals has the word `total` and eight numbers.
 abbrev pub reportRoom : ℕ
 reportRoom = 60 * messageLimit + 54
 
--- Under every policy the lines of a message have this room.
+-- Under every policy, the lines of a message have at most this length.
 unfoldable pub ReportFits : Type 0
 ReportFits = (p : Policy) (message : List ℕ) → length message ≤ messageLimit → length (reportLines p message) ≤ reportRoom
 
--- "Input bytes 31 EF B8 8E 20 E2 9D A4 give" document 01's three lines; their bytes are in message_io, WorkedLines.
+-- The report of document 01's example, "Input bytes 31 EF B8 8E 20 E2 9D A4 give". The bytes of the three lines are in message_io,
+-- LineExamples.
 unfoldable pub ExampleReported : Type 0
 ExampleReported =
     reported exampleBytes

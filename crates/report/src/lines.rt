@@ -1,5 +1,6 @@
-// The report of a message, written at the front of a lent buffer that has room for every report (document 01, "Programs"): a line for
-// each finding and the totals, or the line of a refusal. `write_report` equals `reported` of specs/Report.antt.
+// The report of a message (document 01, "Programs"): a line for each finding and a line for the totals, or the line of
+// a refusal. `write_report` writes it at the front of a lent buffer that is long enough for every report, and equals
+// `reported` of specs/Report.antt.
 ghost use mathlib.Core.Path.{_≡_};
 ghost use Prim.Native.Nat.{_+_, _≤_};
 ghost use lib.ListN.{drop, length, take};
@@ -28,11 +29,12 @@ use replacing::measure::measure_cells;
 // "Programs read at most 12,288 bytes under the default policy; more gives `refused 1`."
 pub(crate) const MESSAGE_LIMIT: usize = 12_288;
 
-// Room for every report (specs/Theorems.antt, ReportFits): for each byte of a message the line of a finding, with ten numbers of up to
-// five digits and a blank or the line's end after each, and then the line of the totals.
+// The length of the longest report (specs/Theorems.antt, ReportFits). For each byte of a message there is at most one
+// line of a finding, with ten numbers of up to five digits and a blank or the 0A after each. Then comes the line of the
+// totals.
 pub(crate) const REPORT_ROOM: usize = 60 * MESSAGE_LIMIT + 54;
 
-// The eight counts, in document 01's order.
+// Returns the eight counts, in document 01's order.
 fn count_numbers(counts: NonCanonicality) -> [usize; 8]
     ensures { λ r. ⌜ r ≡ countNumbers counts ⌝ }
 {
@@ -48,7 +50,7 @@ fn count_numbers(counts: NonCanonicality) -> [usize; 8]
     ]
 }
 
-// Puts a line at a place, for which there is room, and says where it ends.
+// Writes a line that fits at an offset, and returns the offset after it.
 fn put_line(out: &mut [u8], start: usize, line: &[u8]) -> usize
     requires { ⌜ start + length (now line) ≤ length (now out) ⌝ }
     ensures { λ r. ⌜ PutAt (now (out .entry)) start (now (line .entry)) (now (out .exit)) r ⌝ }
@@ -57,7 +59,7 @@ fn put_line(out: &mut [u8], start: usize, line: &[u8]) -> usize
     start + line.len()
 }
 
-// Puts the line of a finding.
+// Writes the line of a finding.
 fn put_finding(out: &mut [u8], start: usize, finding: Finding) -> usize
     requires { ⌜ start + length (findingLine (reportNumbers finding)) ≤ length (now out) ⌝ }
     ensures { λ r. ⌜ PutAt (now (out .entry)) start (findingLine (reportNumbers finding)) (now (out .exit)) r ⌝ }
@@ -68,7 +70,7 @@ fn put_finding(out: &mut [u8], start: usize, finding: Finding) -> usize
     put_line(out, start, &line[..len])
 }
 
-// Puts the line of the totals.
+// Writes the line of the totals.
 fn put_totals(out: &mut [u8], start: usize, totals: NonCanonicality) -> usize
     requires { ⌜ start + length (totalLine (countNumbers totals)) ≤ length (now out) ⌝ }
     ensures { λ r. ⌜ PutAt (now (out .entry)) start (totalLine (countNumbers totals)) (now (out .exit)) r ⌝ }
@@ -79,7 +81,7 @@ fn put_totals(out: &mut [u8], start: usize, totals: NonCanonicality) -> usize
     put_line(out, start, &line[..len])
 }
 
-// Puts the line of a refusal.
+// Writes the line of a refusal.
 fn put_refusal(out: &mut [u8], refusal: Refusal) -> usize
     requires { ⌜ 210 ≤ length (now out) ⌝ }
     ensures { λ r. ⌜ PutAt (now (out .entry)) 0 (refusalLine refusal) (now (out .exit)) r × (r ≤ 210) ⌝ }
@@ -89,7 +91,7 @@ fn put_refusal(out: &mut [u8], refusal: Refusal) -> usize
     put_line(out, 0, &line[..len])
 }
 
-// Puts the line of each finding.
+// Writes the line of each finding.
 fn put_findings(message: &[u8], policy: Policy, out: &mut [u8]) -> usize
     requires { ⌜ length (linesFrom policy (now message) 0) ≤ length (now out) ⌝ }
     ensures { λ r. ⌜ PutAt (now (out .entry)) 0 (linesFrom policy (now (message .entry)) 0) (now (out .exit)) r ⌝ }
@@ -112,7 +114,7 @@ fn put_findings(message: &[u8], policy: Policy, out: &mut [u8]) -> usize
     }
 }
 
-// Puts the lines of the findings, and the totals.
+// Writes the lines of the findings, and the line of the totals.
 fn put_report(message: &[u8], policy: Policy, out: &mut [u8]) -> usize
     requires { ⌜ length (reportLines policy (now message)) ≤ length (now out) ⌝ }
     ensures { λ r. ⌜ PutAt (now (out .entry)) 0 (reportLines policy (now (message .entry))) (now (out .exit)) r ⌝ }
@@ -122,7 +124,7 @@ fn put_report(message: &[u8], policy: Policy, out: &mut [u8]) -> usize
     put_totals(out, end, counts)
 }
 
-// The tests of a message, under the default policy.
+// Runs the tests of a message, under the default policy.
 fn check_message(message: &[u8]) -> Check
     ensures { λ r. ⌜ r ≡ checked (intakeRefusal (now (message .entry)) (policyBytes defaultPolicy)) ⌝ }
 {
@@ -131,7 +133,7 @@ fn check_message(message: &[u8]) -> Check
     intake(message, &policy)
 }
 
-// Writes the report of a message, or the line of a refusal, at the front of the buffer, and answers how many bytes it has.
+// Writes the report of a message, or the line of a refusal, at the front of the buffer. Returns its length.
 pub(crate) fn write_report(message: &[u8], out: &mut [u8; REPORT_ROOM]) -> usize
     ensures { λ r. ⌜ Counts r (now (out .exit)) ⌝ }
     ensures { λ r. ⌜ take r (now (out .exit)) ≡ reported (now (message .entry)) ⌝ }

@@ -1,6 +1,6 @@
-// Reports the findings of the message on standard input under the default policy: a line for each, then the totals (document 01,
-// "Programs"). On a refusal it writes the refusal's line, and nothing else. What it writes is decided by `write_report`; the functions
-// here read the message, call that, and write the bytes that it gave.
+// Reports the findings of the message on standard input under the default policy: a line for each, then the totals
+// (document 01, "Programs"). On a refusal it writes the refusal's line, and nothing else. `write_report` decides all
+// bytes of the output. The functions here read the message, call `write_report`, and write the bytes.
 mod lines;
 
 ghost use mathlib.Core.Path.{_≡_};
@@ -13,10 +13,10 @@ use lines::write_report;
 use message_io::Ending;
 use message_io::Message;
 
-// One byte more, so that a longer message is seen.
+// The buffer is one byte longer than the limit, so that the program notices a longer message.
 const MESSAGE_ROOM: usize = MESSAGE_LIMIT + 1;
 
-// Writes the report of a message to standard output, and says so where that fails.
+// Writes the report of a message to standard output. If that fails, the program ends with an error message.
 fn say_report(message: &[u8]) {
     let mut out = [0u8; REPORT_ROOM];
     let len = write_report(message, &mut out);
@@ -25,8 +25,8 @@ fn say_report(message: &[u8]) {
     }
 }
 
-// Reads a message, into a buffer of one byte more than the limit, and writes its report. Of a message that is too long the buffer holds
-// the front, which is over the limit too.
+// Reads a message into a buffer that is one byte longer than the limit, and writes its report. For a message that is
+// too long, the full buffer is over the limit too.
 fn report_input(buf: &mut [u8])
     requires { ⌜ length (now buf) ≡ messageLimit + 1 ⌝ }
 {

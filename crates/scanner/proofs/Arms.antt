@@ -1,4 +1,4 @@
--- An arm of a match on a class, a place or a kind: what holds at each variant that the arm names holds where the arm is taken.
+-- An arm of a match on a class, a state or a run kind: a property of each variant that the arm names holds where the arm is taken.
 use mathlib.Core.Path.{_≡_, refl, ap, sym, _∙_}
 use mathlib.Core.Bool.{Bool, true, false}
 use mathlib.Core.List.{List}
@@ -10,11 +10,11 @@ use Rattle.scanner.proofs.char_class.Class.{the-type as the-class}
 use Rattle.scanner.specs.RunKinds.{inRun}
 use Rattle.scanner.specs.declared.consume.RunKind.{RunKind}
 use Rattle.scanner.specs.declared.state.Next.{Next}
-use Rattle.scanner.proofs.state.State.{the-type as the-place}
+use Rattle.scanner.proofs.state.State.{the-type as the-state}
 use Rattle.scanner.specs.Classes.{Class, selector, link, ri, modifier, emoji, keycap, tag, other}
 use Rattle.scanner.specs.Items.{State, plain, selectors, links, oneRi, unit, joined, leftOver, nextOf, transition}
 
--- What is to be shown of the variant with a number: nothing where the arm does not name it.
+-- The property X, if the arm names the variant; otherwise nothing is to be shown.
 abbrev pub When : Bool → Type 0 → Type 0
 When true X = X
 When false X = Unit {0}
@@ -43,29 +43,29 @@ class-arm ks P e keycap h = named ks 5 (P keycap) (e .5) h
 class-arm ks P e tag h = named ks 6 (P tag) (e .6) h
 class-arm ks P e other h = named ks 7 (P other) (e .7) h
 
--- ---- a match on a place
+-- ---- a match on a state
 
-abbrev pub OfPlaces : List ℕ → (State → Type 0) → Type 0
-OfPlaces ks P =
+abbrev pub OfStates : List ℕ → (State → Type 0) → Type 0
+OfStates ks P =
     When (hasKey ks 0) (P plain) × When (hasKey ks 1) (P selectors) × When (hasKey ks 2) (P links) × When (hasKey ks 3) (P oneRi)
     × When (hasKey ks 4) (P unit) × When (hasKey ks 5) (P joined) × When (hasKey ks 6) (P leftOver)
 
-pub place-arm : (ks : List ℕ) (P : State → Type 0) → OfPlaces ks P → (p : State) → OneOf ks (tagOf the-place p) → P p
-place-arm ks P e plain h = named ks 0 (P plain) (e .0) h
-place-arm ks P e selectors h = named ks 1 (P selectors) (e .1) h
-place-arm ks P e links h = named ks 2 (P links) (e .2) h
-place-arm ks P e oneRi h = named ks 3 (P oneRi) (e .3) h
-place-arm ks P e unit h = named ks 4 (P unit) (e .4) h
-place-arm ks P e joined h = named ks 5 (P joined) (e .5) h
-place-arm ks P e leftOver h = named ks 6 (P leftOver) (e .6) h
+pub state-arm : (ks : List ℕ) (P : State → Type 0) → OfStates ks P → (p : State) → OneOf ks (tagOf the-state p) → P p
+state-arm ks P e plain h = named ks 0 (P plain) (e .0) h
+state-arm ks P e selectors h = named ks 1 (P selectors) (e .1) h
+state-arm ks P e links h = named ks 2 (P links) (e .2) h
+state-arm ks P e oneRi h = named ks 3 (P oneRi) (e .3) h
+state-arm ks P e unit h = named ks 4 (P unit) (e .4) h
+state-arm ks P e joined h = named ks 5 (P joined) (e .5) h
+state-arm ks P e leftOver h = named ks 6 (P leftOver) (e .6) h
 
--- ---- a match on a place and then on a class
+-- ---- a match on a state and then on a class
 
-pub step-arm : (ks : List ℕ) (q : State) (n : Next) → OfClasses ks (λ k. n ≡ nextOf (transition q k)) → (p : State) (k : Class) → p ≡ q
+pub transition-arm : (ks : List ℕ) (q : State) (n : Next) → OfClasses ks (λ k. n ≡ nextOf (transition q k)) → (p : State) (k : Class) → p ≡ q
     → OneOf ks (tagOf the-class k) → n ≡ nextOf (transition p k)
-step-arm ks q n h p k e o = class-arm ks (λ k. n ≡ nextOf (transition q k)) h k o ∙ ap (λ (x : State). nextOf (transition x k)) (sym e)
+transition-arm ks q n h p k e o = class-arm ks (λ k. n ≡ nextOf (transition q k)) h k o ∙ ap (λ (x : State). nextOf (transition x k)) (sym e)
 
--- ---- a match on a run and then on a class
+-- ---- a match on a run kind and then on a class
 
 pub run-arm : (ks : List ℕ) (q : RunKind) (b : Bool) → OfClasses ks (λ k. b ≡ inRun q k) → (r : RunKind) (k : Class) → r ≡ q
     → OneOf ks (tagOf the-class k) → b ≡ inRun r k

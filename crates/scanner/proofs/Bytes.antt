@@ -1,4 +1,4 @@
--- The bytes of a beginning of a text's characters, what is read after them, and that inside a character none begins.
+-- The bytes of the first characters of a text, the characters after them, and that no character begins inside a character.
 use mathlib.Core.Path.{_≡_, refl, ap, sym, _∙_, subst}
 use mathlib.Core.Logic.{⊎-elim}
 use mathlib.Core.Bool.{true}
@@ -28,14 +28,14 @@ pub width-some : (c : ℕ) → 1 ≤ width c
 unfolding width
 width-some c = encode-few c .0
 
--- ---- after a beginning of the characters
+-- ---- after the first characters of a text
 
 scalar-after : (vs us : List ℕ) → allScalar (vs ++ us) ≡ true → allScalar us ≡ true
 unfolding allScalar
 scalar-after [] us e = e
 scalar-after (v ∷ vs) us e = scalar-after vs us (both-true (isScalar v) (allScalar (vs ++ us)) e .1)
 
--- After the longest well-formed beginning no character is read.
+-- No character begins at the end of the longest well-formed beginning.
 rest-empty : (s : List ℕ) → chars (drop (validUpTo s) s) ≡ []
 rest-empty s =
     append-cancel-left (chars s) (chars (drop (validUpTo s) s)) []
@@ -59,7 +59,7 @@ chars-drop s vs us e =
     ∙ chars-encodeAll us (drop (validUpTo s) s) (scalar-after vs us (subst (λ (l : List ℕ). allScalar l ≡ true) e (chars-allScalar s)))
     ∙ ap (λ (l : List ℕ). us ++ l) (rest-empty s) ∙ append-nil us
 
--- The same at an offset, by the size of the characters.
+-- The same for a text from an offset on: the next offset is the first plus the size of the characters.
 pub chars-from : (text : List ℕ) (at : ℕ) (vs us : List ℕ) → chars (drop at text) ≡ vs ++ us → chars (drop (at + size width vs) text) ≡ us
 chars-from text at vs us e =
     ap (λ (n : ℕ). chars (drop (at + n) text)) (size-width vs) ∙ ap chars (sym (drop-drop (length (encodeAll vs)) at text))
@@ -70,7 +70,7 @@ size-chars s = size-width (chars s) ∙ length-encodeAll-chars s
 
 -- ---- inside a character
 
--- A list that begins with a tail byte.
+-- A list whose first byte is a tail byte.
 record TailFirst (s : List ℕ) : Type 0 where
   byte : ℕ
   rest : List ℕ
@@ -92,7 +92,7 @@ inside v k p q =
     (λ l₂. ⊎-elim (λ h. three (encode-3 v l₂ h)) (λ l₃. four (encode-4 v l₃)) (le-or-lt v 0xFFFF))
     (le-or-lt v 0x7FF)) (le-or-lt v 0x7F)
   where
-    -- The bytes after the first of an encoding, at k.
+    -- The bytes of an encoding from its k-th byte on, where k is not 0.
     at : {a : ℕ} {t : List ℕ} → encode v ≡ a ∷ t → ((j : ℕ) → j < length t → TailFirst (drop j t)) → TailFirst (drop k (encode v))
     at {a} {t} e f = go k p q
       where
@@ -141,7 +141,7 @@ tail-append t f = record {
       f .high;
 }
 
--- Inside a character no character is read.
+-- At an offset inside a character no character begins.
 pub chars-inside : (text : List ℕ) (at v w k : ℕ) → readChar (drop at text) ≡ Char v w → 0 < k → k < w → chars (drop (at + k) text) ≡ []
 chars-inside text at v w k e p q =
     let s = Places.step text at v w e in

@@ -225,7 +225,7 @@ pub cursor-inside-character : CursorInsideCharacter
 unfolding CursorInsideCharacter CursorEnds
 cursor-inside-character text at v w k e p q = cursor-ends text (at + k) .1 (chars-inside text at v w k e p q)
 
--- The structure of an item of links or units.
+-- The structure of a links-only or emoji-headed item.
 item-structure : (t : List ℕ) (x : Item) → List·Memᴰ x (items t) → Structured (x .kind) → StructureRead (x .chars)
 item-structure t x m k =
     ⊎-elim (λ e. links-only-read (subst (λ (i : ScanKind). Derives i (x .chars)) e (item-derives t x m)))

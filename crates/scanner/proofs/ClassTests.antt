@@ -1,16 +1,15 @@
--- What the class of a character says of document 01's tests: each is a test of the class, and so are the runs by these tests.
+-- Document 01's tests of a character are tests of its class, and the runs by these tests are runs by class.
 use mathlib.Core.Path.{_≡_, refl, ap, ap₂, sym, _∙_}
-use mathlib.Core.Logic.{⊎-elim}
 use mathlib.Core.Bool.{Bool, true, false, cond, not, _||_, false≢true}
 use mathlib.Core.List.{List, [], _∷_}
 use Prim.Native.Nat.{ℕ}
 use lib.Dec.{eqb}
 use borrow.Author.Tests.{eq-eqb, eqb-true}
-use Rattle.base.proofs.Tests.{either-left, either-right, either-true, same-test}
+use Rattle.base.proofs.Tests.{same-test}
 use Rattle.unicode.specs.Presentation.{isSelector}
 use Rattle.unicode.specs.Unicode.{isEmoji, isEmojiModifier, isRi, isTag}
-use Rattle.scanner.specs.Classes.{Class, selector, link, ri, modifier, emoji, keycap, tag, other, classOf}
-use Rattle.scanner.specs.RunKinds.{byClass, inRun, runOf}
+use Rattle.scanner.specs.Classes.{Class, selector, link, ri, modifier, emoji, keycap, tag, other, classOf, isClass}
+use Rattle.scanner.specs.RunKinds.{isEmojiClass, isLinkClass, isModificationClass, isSelectorClass, isTagClass, runOf}
 use Rattle.scanner.specs.Runs.{inLinks, inModifications, inTags, isModification, isPassthrough, passthroughAt, run, selectorsAt}
 use Rattle.scanner.specs.declared.consume.RunKind.the-variants.{Links, Modifications, Passthrough, Selectors, Tags}
 use Rattle.scanner.proofs.Arms.{When}
@@ -35,27 +34,12 @@ use Rattle.scanner.proofs.Classes.{
   ri-emoji,
 }
 
--- ---- the tests by class: a selector, a link, an RI, a modifier, another emoji, 20E3, a tag, any other
+-- ---- the tests by class
 
-abbrev pub forSelector : Class → Bool
-forSelector = byClass true false false false false false false false
+abbrev pub isRiClass : Class → Bool
+isRiClass = isClass ri
 
-abbrev pub forLink : Class → Bool
-forLink = byClass false true false false false false false false
-
-abbrev pub forRi : Class → Bool
-forRi = byClass false false true false false false false false
-
-abbrev pub forEmoji : Class → Bool
-forEmoji = byClass false false true true true false false false
-
-abbrev pub forTag : Class → Bool
-forTag = byClass false false false false false false true false
-
-abbrev pub forModification : Class → Bool
-forModification = byClass false false false true false true true false
-
--- A class that the test passes, at a character of which the test holds.
+-- If the test f passes the class k, it passes the class of a character of class k.
 at-class : (f : Class → Bool) {c : ℕ} {k : Class} → HasClass c k → f k ≡ true → f (classOf c) ≡ true
 at-class f h e = ap f (class-is h) ∙ e
 
@@ -63,7 +47,7 @@ taken : (b : Bool) (X : Type 0) → When b X → b ≡ true → X
 taken true X x e = x
 taken false X x e = absurd (false≢true e)
 
--- What holds of a character whose class the test passes: to be shown from what each such class says of the character.
+-- A property X of a character whose class passes the test f: X is shown for each class that passes f.
 passed : (f : Class → Bool) (c : ℕ) (X : Type 0)
     → When (f selector) (isSelector c ≡ true → X)
     × When (f link) (c ≡ 0x200D → X)
@@ -83,61 +67,58 @@ passed f c X b (is-keycap s) e = taken (f keycap) (c ≡ 0x20E3 → X) (b .5) e 
 passed f c X b (is-tag s) e = taken (f tag) (isTag c ≡ true → X) (b .6) e s
 passed f c X b (is-other s k t) e = taken (f other) X (b .7) e
 
-pub selector-test : (c : ℕ) → isSelector c ≡ forSelector (classOf c)
+pub selector-test : (c : ℕ) → isSelector c ≡ isSelectorClass (classOf c)
 selector-test c =
-    same-test (isSelector c) (forSelector (classOf c)) (λ e. at-class forSelector (is-selector e) refl)
-    (passed forSelector c (isSelector c ≡ true) ((λ s. s), tt, tt, tt, tt, tt, tt, tt) (hasClass c))
+    same-test (isSelector c) (isSelectorClass (classOf c)) (λ e. at-class isSelectorClass (is-selector e) refl)
+    (passed isSelectorClass c (isSelector c ≡ true) ((λ s. s), tt, tt, tt, tt, tt, tt, tt) (hasClass c))
 
-pub link-test : (c : ℕ) → eqb c 0x200D ≡ forLink (classOf c)
+pub link-test : (c : ℕ) → eqb c 0x200D ≡ isLinkClass (classOf c)
 link-test c =
-    same-test (eqb c 0x200D) (forLink (classOf c)) (λ e. at-class forLink (is-link (eqb-true c 0x200D e)) refl)
-    (passed forLink c (eqb c 0x200D ≡ true) (tt, eq-eqb c 0x200D, tt, tt, tt, tt, tt, tt) (hasClass c))
+    same-test (eqb c 0x200D) (isLinkClass (classOf c)) (λ e. at-class isLinkClass (is-link (eqb-true c 0x200D e)) refl)
+    (passed isLinkClass c (eqb c 0x200D ≡ true) (tt, eq-eqb c 0x200D, tt, tt, tt, tt, tt, tt) (hasClass c))
 
-pub ri-test : (c : ℕ) → isRi c ≡ forRi (classOf c)
+pub ri-test : (c : ℕ) → isRi c ≡ isRiClass (classOf c)
 ri-test c =
-    same-test (isRi c) (forRi (classOf c)) (λ e. at-class forRi (is-ri e) refl)
-    (passed forRi c (isRi c ≡ true) (tt, tt, (λ s. s), tt, tt, tt, tt, tt) (hasClass c))
+    same-test (isRi c) (isRiClass (classOf c)) (λ e. at-class isRiClass (is-ri e) refl)
+    (passed isRiClass c (isRi c ≡ true) (tt, tt, (λ s. s), tt, tt, tt, tt, tt) (hasClass c))
 
-pub tag-test : (c : ℕ) → isTag c ≡ forTag (classOf c)
+pub tag-test : (c : ℕ) → isTag c ≡ isTagClass (classOf c)
 tag-test c =
-    same-test (isTag c) (forTag (classOf c)) (λ e. at-class forTag (is-tag e) refl)
-    (passed forTag c (isTag c ≡ true) (tt, tt, tt, tt, tt, tt, (λ s. s), tt) (hasClass c))
+    same-test (isTag c) (isTagClass (classOf c)) (λ e. at-class isTagClass (is-tag e) refl)
+    (passed isTagClass c (isTag c ≡ true) (tt, tt, tt, tt, tt, tt, (λ s. s), tt) (hasClass c))
 
-pub emoji-test : (c : ℕ) → isEmoji c ≡ forEmoji (classOf c)
+pub emoji-test : (c : ℕ) → isEmoji c ≡ isEmojiClass (classOf c)
 emoji-test c =
-    same-test (isEmoji c) (forEmoji (classOf c)) (λ e. forth (emoji-class c e))
-    (passed forEmoji c (isEmoji c ≡ true) (tt, tt, ri-emoji c, modifier-emoji c, (λ s. s), tt, tt, tt) (hasClass c))
+    same-test (isEmoji c) (isEmojiClass (classOf c)) (λ e. forth (emoji-class c e))
+    (passed isEmojiClass c (isEmoji c ≡ true) (tt, tt, ri-emoji c, modifier-emoji c, (λ s. s), tt, tt, tt) (hasClass c))
   where
-    forth : EmojiClass c → forEmoji (classOf c) ≡ true
-    forth (an-ri r) = at-class forEmoji (is-ri r) refl
-    forth (a-modifier m) = at-class forEmoji (is-modifier m) refl
-    forth (an-emoji h) = at-class forEmoji h refl
+    forth : EmojiClass c → isEmojiClass (classOf c) ≡ true
+    forth (an-ri r) = at-class isEmojiClass (is-ri r) refl
+    forth (a-modifier m) = at-class isEmojiClass (is-modifier m) refl
+    forth (an-emoji h) = at-class isEmojiClass h refl
 
-pub modification-test : (c : ℕ) → isModification c ≡ forModification (classOf c)
+modifier-test : (c : ℕ) → isEmojiModifier c ≡ isClass modifier (classOf c)
+modifier-test c =
+    same-test (isEmojiModifier c) (isClass modifier (classOf c)) (λ e. at-class (isClass modifier) (is-modifier e) refl)
+    (passed (isClass modifier) c (isEmojiModifier c ≡ true) (tt, tt, tt, (λ s. s), tt, tt, tt, tt) (hasClass c))
+
+keycap-test : (c : ℕ) → eqb c 0x20E3 ≡ isClass keycap (classOf c)
+keycap-test c =
+    same-test (eqb c 0x20E3) (isClass keycap (classOf c)) (λ e. at-class (isClass keycap) (is-keycap (eqb-true c 0x20E3 e)) refl)
+    (passed (isClass keycap) c (eqb c 0x20E3 ≡ true) (tt, tt, tt, tt, tt, eq-eqb c 0x20E3, tt, tt) (hasClass c))
+
+either : {a b c d : Bool} → a ≡ c → b ≡ d → (a || b) ≡ (c || d)
+either = ap₂ (λ (x y : Bool). x || y)
+
+pub modification-test : (c : ℕ) → isModification c ≡ isModificationClass (classOf c)
 unfolding isModification
-modification-test c =
-    same-test (isModification c) (forModification (classOf c)) forth
-    (passed forModification c (isModification c ≡ true)
-    (tt, tt, tt, either-left (isEmojiModifier c) (eqb c 0x20E3 || isTag c), tt, by-keycap, by-tag, tt) (hasClass c))
-  where
-    forth : isModification c ≡ true → forModification (classOf c) ≡ true
-    forth e =
-        ⊎-elim (λ m. at-class forModification (is-modifier m) refl)
-        (λ o. ⊎-elim (λ k. at-class forModification (is-keycap (eqb-true c 0x20E3 k)) refl) (λ t. at-class forModification (is-tag t) refl)
-        (either-true (eqb c 0x20E3) (isTag c) o))
-        (either-true (isEmojiModifier c) (eqb c 0x20E3 || isTag c) e)
+modification-test c = either (modifier-test c) (either (keycap-test c) (tag-test c))
 
-    by-keycap : c ≡ 0x20E3 → isModification c ≡ true
-    by-keycap s = either-right (isEmojiModifier c) (eqb c 0x20E3 || isTag c) (either-left (eqb c 0x20E3) (isTag c) (eq-eqb c 0x20E3 s))
+abbrev pub isTagOrSelectorClass : Class → Bool
+isTagOrSelectorClass k = isTagClass k || isSelectorClass k
 
-    by-tag : isTag c ≡ true → isModification c ≡ true
-    by-tag s = either-right (isEmojiModifier c) (eqb c 0x20E3 || isTag c) (either-right (eqb c 0x20E3) (isTag c) s)
-
-abbrev pub forTags : Class → Bool
-forTags k = forTag k || forSelector k
-
-pub tags-test : (c : ℕ) → inTags c ≡ forTags (classOf c)
-tags-test c = ap₂ (λ (x y : Bool). x || y) (tag-test c) (selector-test c)
+pub tags-test : (c : ℕ) → inTags c ≡ isTagOrSelectorClass (classOf c)
+tags-test c = either (tag-test c) (selector-test c)
 
 -- ---- the runs by class
 
@@ -146,34 +127,14 @@ unfolding run
 run-same f g e [] = refl
 run-same f g e (c ∷ t) = ap₂ (λ (b : Bool) (l : List ℕ). cond b (c ∷ l) []) (e c) (run-same f g e t)
 
--- Two tests by class that agree on each class.
-class-by-class : (f g : Class → Bool) → f selector ≡ g selector → f link ≡ g link → f ri ≡ g ri → f modifier ≡ g modifier → f emoji
-    ≡ g emoji
-    → f keycap ≡ g keycap → f tag ≡ g tag → f other ≡ g other → (k : Class) → f k ≡ g k
-class-by-class f g s l r m e k t o selector = s
-class-by-class f g s l r m e k t o link = l
-class-by-class f g s l r m e k t o ri = r
-class-by-class f g s l r m e k t o modifier = m
-class-by-class f g s l r m e k t o emoji = e
-class-by-class f g s l r m e k t o keycap = k
-class-by-class f g s l r m e k t o tag = t
-class-by-class f g s l r m e k t o other = o
-
 pub run-selectors : (t : List ℕ) → runOf Selectors t ≡ selectorsAt t
 run-selectors = run-same _ isSelector (λ c. sym (selector-test c))
 
 pub run-links : (t : List ℕ) → runOf Links t ≡ run inLinks t
-run-links = run-same _ inLinks (λ c. in-class (classOf c) ∙ sym (ap₂ (λ (x y : Bool). x || y) (link-test c) (selector-test c)))
-  where
-    in-class : (k : Class) → inRun Links k ≡ (forLink k || forSelector k)
-    in-class = class-by-class (inRun Links) (λ k. forLink k || forSelector k) refl refl refl refl refl refl refl refl
+run-links = run-same _ inLinks (λ c. sym (either (link-test c) (selector-test c)))
 
 pub run-modifications : (t : List ℕ) → runOf Modifications t ≡ run inModifications t
-run-modifications = run-same _ inModifications
-    (λ c. in-class (classOf c) ∙ sym (ap₂ (λ (x y : Bool). x || y) (modification-test c) (selector-test c)))
-  where
-    in-class : (k : Class) → inRun Modifications k ≡ (forModification k || forSelector k)
-    in-class = class-by-class (inRun Modifications) (λ k. forModification k || forSelector k) refl refl refl refl refl refl refl refl
+run-modifications = run-same _ inModifications (λ c. sym (either (modification-test c) (selector-test c)))
 
 pub run-tags : (t : List ℕ) → runOf Tags t ≡ run isTag t
 run-tags = run-same _ isTag (λ c. sym (tag-test c))
@@ -181,10 +142,4 @@ run-tags = run-same _ isTag (λ c. sym (tag-test c))
 pub run-passthrough : (t : List ℕ) → runOf Passthrough t ≡ passthroughAt t
 unfolding passthroughAt
 run-passthrough =
-    run-same _ isPassthrough
-    (λ c. in-class (classOf c) ∙ sym
-    (ap₂ (λ (x y : Bool). not (x || y)) (selector-test c) (ap₂ (λ (x y : Bool). x || y) (link-test c) (emoji-test c))))
-  where
-    in-class : (k : Class) → inRun Passthrough k ≡ not (forSelector k || (forLink k || forEmoji k))
-    in-class = class-by-class (inRun Passthrough) (λ k. not (forSelector k || (forLink k || forEmoji k))) refl refl refl refl refl refl refl
-        refl
+    run-same _ isPassthrough (λ c. sym (ap not (either (selector-test c) (either (link-test c) (emoji-test c)))))

@@ -1,4 +1,5 @@
--- The class of a character says what it is in document 01's terms, and these decide the class: `hasClass` and `class-is`.
+-- The class of a character determines what the character is in document 01's terms, and these determine the class: `hasClass` and
+-- `class-is`.
 use mathlib.Core.Path.{_≡_, refl, sym, _∙_, subst}
 use mathlib.Core.Bool.{Bool, true, false, cond, not, true≢false, false≢true}
 use Prim.Native.Nat.{ℕ, _<_}
@@ -34,7 +35,7 @@ use Rattle.unicode.proofs.Claims.{
 use Rattle.scanner.specs.Classes.{Class, selector, link, ri, modifier, emoji, keycap, tag, other, classOf}
 use Rattle.scanner.specs.Grammar.{Plain}
 
--- What a character of the class is.
+-- What holds of a character of the class.
 pub data HasClass (c : ℕ) : Class → Type 0 where
   is-selector : isSelector c ≡ true → HasClass c selector
   is-link : c ≡ 0x200D → HasClass c link
@@ -65,9 +66,9 @@ hasClass c = go (isSelector c) (eqb c 0x200D) (eqb c 0x20E3) (isTag c) (isRi c) 
     go false false false false false false false s′ l′ k′ t′ r′ m′ e′ = is-other (record { no-selector = s′; no-link = l′; no-emoji = e′ })
         k′ t′
 
--- ---- no character is two things
+-- ---- a character has only one class
 
--- A test that passes only where isEmoji says x fails where it says otherwise.
+-- If the test f passes only where isEmoji is x, then f fails where isEmoji is not x.
 contrary : (f : ℕ → Bool) (x : Bool) → ((c : ℕ) → f c ≡ true → isEmoji c ≡ x) → (c : ℕ) → isEmoji c ≡ not x → f c ≡ false
 contrary f x h c e = fails (f c) (λ p. never x (sym (h c p) ∙ e))
   where
@@ -141,7 +142,7 @@ class-is {c} (is-other p k t) =
     let e = p .no-emoji in
     simp (p .no-selector, p .no-link, k, t, contrary isRi true ri-emoji c e, contrary isEmojiModifier true modifier-emoji c e, e)
 
--- A character that is neither emoji nor one of the others is of the class other.
+-- A character that is not an emoji and has none of the other classes has the class other.
 pub class-other : (c : ℕ) → isEmoji c ≡ false → (c ≡ 0xFE0E → ⊥) → (c ≡ 0xFE0F → ⊥) → (c ≡ 0x200D → ⊥) → (c ≡ 0x20E3 → ⊥) → isTag c ≡ false
     → classOf c ≡ other
 unfolding isSelector
@@ -149,7 +150,7 @@ class-other c e s s′ l k t =
     class-is (is-other (record { no-selector = simp (ne-eqb c 0xFE0E s, ne-eqb c 0xFE0F s′); no-link = ne-eqb c 0x200D l; no-emoji = e })
     (ne-eqb c 0x20E3 k) t)
 
--- So is one below 200D that is no emoji.
+-- A character below 200D that is no emoji has the class other.
 pub class-low : (c : ℕ) → isEmoji c ≡ false → c < 0x200D → classOf c ≡ other
 unfolding isTag
 class-low c e h = class-other c e (λ p. omega arith) (λ p. omega arith) (λ p. omega arith) (λ p. omega arith)
@@ -167,7 +168,7 @@ selector-class c e = go (subst (HasClass c) e (hasClass c))
     go : HasClass c selector → isSelector c ≡ true
     go (is-selector s) = s
 
--- An emoji is an RI, a modifier or of the class emoji.
+-- An emoji has the class ri, modifier or emoji.
 pub data EmojiClass (c : ℕ) : Type 0 where
   an-ri : isRi c ≡ true → EmojiClass c
   a-modifier : isEmojiModifier c ≡ true → EmojiClass c
@@ -181,7 +182,7 @@ emoji-class c e = go (isRi c) (isEmojiModifier c) refl refl
     go false true r′ m′ = a-modifier m′
     go false false r′ m′ = an-emoji (is-emoji e r′ m′)
 
--- 20E3 and tags are plain, where no item takes them in.
+-- 20E3 and tags are plain characters in the grammar's sense.
 pub keycap-plain : Plain 0x20E3
 unfolding isSelector LinkAndKeycapAreNotEmoji
 keycap-plain = record { no-selector = refl; no-link = refl; no-emoji = link-and-keycap-are-not-emoji .1 }
@@ -190,7 +191,7 @@ pub tag-plain : (c : ℕ) → isTag c ≡ true → Plain c
 unfolding NoTagIsEmoji
 tag-plain c e = record { no-selector = tag-no-selector c e; no-link = tag-no-link c e; no-emoji = no-tag-is-emoji c e }
 
--- A plain character is of one of three classes.
+-- A plain character has one of three classes.
 pub data PlainClass : Class → Type 0 where
   of-keycap : PlainClass keycap
   of-tag : PlainClass tag
@@ -206,7 +207,7 @@ plain-class {c} (is-modifier m) p = absurd (true≢false (sym (modifier-emoji c 
 plain-class {c} (is-emoji e r m) p = absurd (true≢false (sym e ∙ p .no-emoji))
 plain-class {c} (is-other o k t) p = of-other
 
--- A variation entry is of the class emoji.
+-- A variation entry has the class emoji.
 pub entry-class : (c : ℕ) → hasVariationSequence c ≡ true → classOf c ≡ emoji
 unfolding VariationEntriesAreEmoji NoRegionalIndicatorIsEntry NoModifierIsEntry
 entry-class c e =

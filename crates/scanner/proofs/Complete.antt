@@ -1,4 +1,4 @@
--- What it means that tags are complete: each list of tags ends in E007F; and how that is read from left to right.
+-- Tags are complete if each list of tags ends in E007F; and how a loop computes that from left to right.
 use mathlib.Core.Path.{_≡_, refl, ap, sym, _∙_, subst}
 use mathlib.Core.Logic.{_↔_, ⊎-elim}
 use mathlib.Core.Bool.{Bool, true, false, _&&_, and-true, false≢true}
@@ -65,9 +65,9 @@ ends-all-complete (us ∷ tss) h =
 pub all-complete-means : (tss : List (List ℕ)) → (allComplete tss ≡ true) ↔ ((ts : List ℕ) → List·Memᴰ ts tss → Ends ts)
 all-complete-means tss = (all-complete-ends tss, ends-all-complete tss)
 
--- ---- from left to right: what a loop over an item goes by
+-- ---- from left to right, as a loop over an item computes it
 
--- The tags of the rest of an item are complete, where the tags `ts` were read of the tag modification that goes on there.
+-- Whether the tags of the rest of an item are complete. The tags `ts` of the first tag modification have been read before.
 unfoldable pub completeFrom : List ℕ → List ℕ → Bool
 completeFrom ts t = allComplete (withTags (ts ++ (tagRuns t) .0) ((tagRuns t) .1))
 

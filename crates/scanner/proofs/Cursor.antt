@@ -1,4 +1,5 @@
--- The rest of an item from a byte offset on, character by character, and the item at an offset: what the cursor's loop goes by.
+-- The laws that the loop of `next_item` uses: the rest of an item from a byte offset on, character by character, and the item at an
+-- offset.
 use mathlib.Core.Path.{_≡_, refl, ap, ap₂, sym, _∙_, subst}
 use mathlib.Core.Logic.{⊎-elim}
 use mathlib.Core.Bool.{Bool, true, false, _&&_, and-assoc, and-true}
@@ -21,7 +22,7 @@ use Rattle.scanner.specs.declared.ScanStep.the-variants as Answer
 use Rattle.scanner.specs.declared.state.Next.the-variants as Next
 use Rattle.scanner.proofs.Bytes.{chars-from}
 use Rattle.scanner.proofs.Classes.{class-is, is-selector, is-tag}
-use Rattle.scanner.proofs.ClassTests.{forTags, tags-test}
+use Rattle.scanner.proofs.ClassTests.{isTagOrSelectorClass, tags-test}
 use Rattle.scanner.proofs.ItemRuns.{walk-passes}
 use Rattle.scanner.proofs.Peek.{Seen, Unseen}
 use Rattle.scanner.proofs.States.{headed-step, tag-begins}
@@ -32,7 +33,7 @@ use Rattle.scanner.proofs.Walk.{walk-cut}
 use Rattle.scanner.proofs.Tiling.{cut-none, cut-some}
 use Rattle.scanner.proofs.TagsRead.{first-tags, tags-headed, tags-nil, tags-on, tags-then}
 
--- ---- the code's answer for a step
+-- ---- the code's answer for a transition
 
 pub next-on : (o : Option State) (q : State) → nextOf o ≡ Next.On q → o ≡ some q
 next-on (some p) q e = cc
@@ -61,11 +62,11 @@ module _ {text : List ℕ} {at v : ℕ} {k : Class} {next : ℕ} (h : Seen text 
       ∙ ap (λ (r : List ℕ × List Item). r .0)
       (cut-none p v (chars (drop next text)) (ap (transition p) (sym (h .class)) ∙ next-stop (transition p k) e))
 
-  -- Its bytes.
+  -- The rest from the next character on has the same end.
   width-on : (q : State) → nextOf (transition p k) ≡ Next.On q → at + size width (restAt text at p) ≡ next + size width (restAt text next q)
   width-on q e = omega (arith, h .after, ap (size width) (rest-on q e))
 
--- ---- a tag modification in it
+-- ---- a tag modification in the rest of an item
 
 tags-stay : (c : ℕ) → inTags c ≡ true → transition unit (classOf c) ≡ some unit
 unfolding transition
@@ -81,7 +82,7 @@ cut-stops f p (at-char {c = c} {s = t} e) = go (transition p (classOf c)) refl
     go (some q) g = rw (cut-some p q c t g) (at-char e)
     go none g = rw (cut-none p c t g) at-end
 
--- Where a tag stands at a unit, the rest is the tag modification there and the rest after it.
+-- If a tag leads to the state `unit`, the rest is the tag modification there and the rest after it.
 module _ {text : List ℕ} {at v next : ℕ} (h : Seen text at v tag next) (p : State) (e : nextOf (transition p tag) ≡ Next.On unit) where
   abbrev t : List ℕ
   t = chars (drop at text)
@@ -114,9 +115,9 @@ module _ {text : List ℕ} {at v next : ℕ} (h : Seen text at v tag next) (p : 
       ∙ ap (λ (b : Bool). allComplete (tagModifications tags) && b) (sym (tags-headed unit (restAt text end unit) refl))
 
   pub tags-go-on : at < end
-  tags-go-on = omega (arith, h .on, run-on inTags h (tags-test v ∙ ap forTags (sym (h .class))))
+  tags-go-on = omega (arith, h .on, run-on inTags h (tags-test v ∙ ap isTagOrSelectorClass (sym (h .class))))
 
--- ---- the loop over the rest of an item, begun at an offset and a place: at each turn what is left gives the same end and the same tags
+-- ---- the loop over the rest of an item: at each turn, the characters not yet read give the same end and the same tag report
 
 pub record Reading (text : List ℕ) (from : ℕ) (first : State) (at : ℕ) (p : State) (b : Bool) : Type 0 where
   pub end-same : from + size width (restAt text from first) ≡ at + size width (restAt text at p)
@@ -127,7 +128,7 @@ reading-begin text from first = record { end-same = refl; tags-same = refl }
 
 module _ {text : List ℕ} {from at : ℕ} {first p : State} {b : Bool} (l : Reading text from first at p b) where
   module _ {v : ℕ} {k : Class} {next : ℕ} (h : Seen text at v k next) (q : State) (e : nextOf (transition p k) ≡ Next.On q) where
-    -- A character with which no tag modification begins.
+    -- A turn that reads one character with which no tag modification begins.
     pub reading-on : beginsTags q k ≡ false → Reading text from first next q b
     reading-on n = record {
       end-same = l .end-same ∙ width-on h p q e;
@@ -137,7 +138,7 @@ module _ {text : List ℕ} {from at : ℕ} {first p : State} {b : Bool} (l : Rea
           ∙ tags-on p q v (restAt text next q) (h .class) (next-on (transition p k) q e) n);
     }
 
-    -- A tag modification, as it is read in one go.
+    -- A turn that reads a whole tag modification.
     pub reading-tags : {c : Bool} {end : ℕ} → beginsTags q k ≡ true → end ≡ at + size width (tagModificationAt (chars (drop at text)))
         → c ≡ allComplete (tagModifications (tagModificationAt (chars (drop at text)))) → (at < end)
         × Reading text from first end q (b && c)
@@ -159,7 +160,7 @@ module _ {text : List ℕ} {from at : ℕ} {first p : State} {b : Bool} (l : Rea
           },
         )
 
-  -- Where nothing is left, the end and the tags are read.
+  -- If the rest is empty, the end and the tag report are those of the whole rest.
   pub reading-done : restAt text at p ≡ [] → (at ≡ from + size width (restAt text from first))
       × (b ≡ tagsComplete (kindOf first) (restAt text from first))
   reading-done e = (
@@ -173,7 +174,7 @@ pub cursor-end : {text : List ℕ} {at : ℕ} → Unseen text at → scanAt text
 unfolding scanAt scanFrom firstOf spans items
 cursor-end {text} {at} h = ap (λ (l : List ℕ). firstOf (spans at (items l))) (h .chars-none)
 
--- The item as the cursor makes it: the place of the first character, the end and the tag report of the rest, and the kind.
+-- The item as the cursor makes it: from the state of the first character, the end and the tag report of the rest, and the kind.
 pub cursor-item : {text : List ℕ} {at v : ℕ} {c : Class} {next : ℕ} → Seen text at v c next → (p : State) (e : ℕ) (b : Bool) (k : ScanKind)
     → p ≡ startState c → e ≡ next + size width (restAt text next p) → b ≡ tagsComplete (kindOf p) (restAt text next p) → k ≡ kindOf p
     → Answer.Item (record { start = at; end = e; kind = k; «tags_complete» = b }) ≡ scanAt text at

@@ -1,4 +1,4 @@
--- The cursors over tag runs and modifications, walked over the modifications of a unit.
+-- Calls of the functions that read tag runs and modifications, from the first modification of a unit to the unit's end.
 use mathlib.Core.Path.{_≡_, refl, ap, ap₂, sym, _∙_, subst}
 use mathlib.Core.Bool.{Bool, true, false}
 use mathlib.Core.List.{List, [], _∷_, _++_, append-assoc}
@@ -31,7 +31,8 @@ use Rattle.scanner.specs.declared.parts.EmojiModification.the-variants a
 use Rattle.scanner.specs.declared.parts.EmojiTagRun.the-variants.{NoTags}
 use Rattle.scanner.proofs.Bytes.{chars-from}
 use Rattle.scanner.proofs.Classes.{HasClass, class-is, is-keycap, is-modifier, is-selector, tag-no-selector}
-use Rattle.scanner.proofs.ClassTests.{forModification, forTag, modification-test, tag-test}
+use Rattle.scanner.specs.RunKinds.{isModificationClass, isTagClass}
+use Rattle.scanner.proofs.ClassTests.{modification-test, tag-test}
 use Rattle.scanner.proofs.ModificationWalks.{no-tag-after, Mods, mods-end, mods-keycap, mods-modifier, mods-tags}
 use Rattle.scanner.proofs.Modifications.{RunsOk, one-run, run-and as run-more, of-class}
 use Rattle.scanner.proofs.Rescan.{size-append}
@@ -43,7 +44,7 @@ use Rattle.scanner.proofs.UnitsAt.{tag-run-by}
 -- ---- one run of tags
 
 selector-no-tag : (c : ℕ) → isSelector c ≡ true → isTag c ≡ false
-selector-no-tag c e = tag-test c ∙ ap forTag (class-is (is-selector e))
+selector-no-tag c e = tag-test c ∙ ap isTagClass (class-is (is-selector e))
 
 neither : {t : List ℕ} → Stops inTags t → Stops isTag t × Stops isSelector t
 neither at-end = (at-end, at-end)
@@ -57,7 +58,7 @@ tags-pass : {t : List ℕ} → Tags t → Passes isTag t
 tags-pass (one-tag e) = pass-and e all-pass
 tags-pass (tag-and e h) = pass-and e (tags-pass h)
 
--- A list that begins with a tag.
+-- A list whose first character is a tag.
 data TagFirst : List ℕ → Type 0 where
   tag-first : {c : ℕ} {t : List ℕ} → isTag c ≡ true → TagFirst (c ∷ t)
 
@@ -77,7 +78,7 @@ unfolding tagRunRead
 no-run-read at at-end = refl
 no-run-read at (at-char {c = c} {s = t} e) = tag-run-by at c t false e
 
--- Tags and selectors, before t.
+-- The function reads tags and selectors before characters t.
 group-read : (at : ℕ) {g s t : List ℕ} → Tags g → S s → Stops isTag (s ++ t) → Stops isSelector t
     → tagRunRead at (g ++ (s ++ t)) ≡ tagRunFrom at (record { tags = g; after = s })
 group-read at {g} {s} {t} a b p q =
@@ -106,7 +107,7 @@ runs-size r rs = ap (size width) (sym (append-assoc (r .tags) (r .after) (flatte
     ∙ size-append width (r .tags ++ r .after) (flattenRuns rs)
 
 module _ (text : List ℕ) where
-  -- The offset after a run.
+  -- The characters from the end of a run on.
   next-run : (at : ℕ) (r : EmojiTagRun) (rs : List EmojiTagRun) (u : List ℕ) → chars (drop at text) ≡ flattenRuns (r ∷ rs) ++ u
       → chars (drop (at + size width (r .tags ++ r .after)) text) ≡ flattenRuns rs ++ u
   next-run at r rs u e =
@@ -137,12 +138,12 @@ unfolding modificationRead
 front-read at t e f = ap (λ (l : List ℕ). firstFrom at ((modificationsOf l) .1)) e ∙ ap (firstFrom at) f
 
 module _ {c : ℕ} {k : Class} (h : HasClass c k) (s t : List ℕ) where
-  -- A modifier or 20E3 and its selectors, before t.
-  one-read : (at : ℕ) → forTag k ≡ false → forModification k ≡ true → S s → Stops isSelector t → modificationRead at (c ∷ (s ++ t))
+  -- The function reads a modifier or 20E3 and its selectors, before characters t.
+  one-read : (at : ℕ) → isTagClass k ≡ false → isModificationClass k ≡ true → S s → Stops isSelector t → modificationRead at (c ∷ (s ++ t))
       ≡ firstFrom at ((toModifications k c (s, [])) .1)
   one-read at e f a p =
-      front-read at (c ∷ (s ++ t)) (modification-other c (s ++ t) true (tag-test c ∙ ap forTag (class-is h) ∙ e)
-      (modification-test c ∙ ap forModification (class-is h) ∙ f) ∙ ap (λ (l : List ℕ). c ∷ l) (run-all isSelector (S-passes a) p))
+      front-read at (c ∷ (s ++ t)) (modification-other c (s ++ t) true (tag-test c ∙ ap isTagClass (class-is h) ∙ e)
+      (modification-test c ∙ ap isModificationClass (class-is h) ∙ f) ∙ ap (λ (l : List ℕ). c ∷ l) (run-all isSelector (S-passes a) p))
       (ap (λ (x : List ℕ × List EmojiModification). x .1) (of-class s h ∙ ap (toModifications k c) (of-selectors (S-passes a))))
 
 none-read : (at : ℕ) {t : List ℕ} → Stops inModifications t → modificationRead at t ≡ Value.NoModification
@@ -154,7 +155,6 @@ none-read at (at-char {c = c} {s = t} e) = front-read at (c ∷ t)
     no-tag : Stops isTag (c ∷ t) → isTag c ≡ false
     no-tag (at-char f) = f
 
--- Groups of tags, before t.
 passes-append : {f : ℕ → Bool} {s t : List ℕ} → Passes f s → Passes f t → Passes f (s ++ t)
 passes-append all-pass k = k
 passes-append (pass-and e h) k = pass-and e (passes-append h k)

@@ -1,4 +1,4 @@
--- What the grammar derives, the places lead through: `derive-walk`.
+-- The automaton accepts what the grammar derives: `derive-walk`.
 use mathlib.Core.Path.{_≡_, refl, ap, sym, _∙_, subst}
 use mathlib.Core.Option.{some}
 use mathlib.Core.List.{List, _∷_, _++_}
@@ -68,12 +68,12 @@ use Rattle.scanner.proofs.Classes.{
 }
 use Rattle.scanner.proofs.Walk.{Walk, stay, pass, walk-append}
 
--- The places of a unit.
+-- The states of a unit.
 pub data InUnit : State → Type 0 where
   in-oneRi : InUnit oneRi
   in-unit : InUnit unit
 
--- A walk that begins with a character of the class.
+-- A walk whose first character has the class k.
 pub via : {p q r : State} {k : Class} {c : ℕ} {t : List ℕ} → HasClass c k → transition p k ≡ some q → Walk q t r → Walk p (c ∷ t) r
 via {p = p} h f w = pass (ap (transition p) (class-is h) ∙ f) w
 
@@ -117,13 +117,13 @@ walk-modifications i (modified m h) =
 
 -- ---- stems and units, after one link and at the front of an item
 
--- Where an emoji's place is reached: by `step` after one link, by `begin` at the front of an item.
+-- The states to which the first character of a unit leads: by `transition` after one link, by `startState` at the front of an item.
 pub record Starts (P : Class → State → Type 0) : Type 0 where
   pub at-ri : P ri oneRi
   pub at-modifier : P modifier unit
   pub at-emoji : P emoji unit
 
--- A text walked from the place of its first character on.
+-- A walk over a text from the state after its first character on.
 pub data Front (P : Class → State → Type 0) : List ℕ → State → Type 0 where
   front : {k : Class} {p q : State} {c : ℕ} {t : List ℕ} → HasClass c k → P k p → Walk p t q → Front P (c ∷ t) q
 
@@ -162,18 +162,18 @@ walk-unit h (unit-of s m) =
     let v = walk-modifications (r .inside) m in
     record { end = v .end; inside = v .inside; walked = front-append (r .walked) (v .walked) }
 
--- After one link.
-abbrev pub Behind : Class → State → Type 0
-Behind k p = transition joined k ≡ some p
+-- The state after one link and a character of the class.
+abbrev pub AfterLink : Class → State → Type 0
+AfterLink k p = transition joined k ≡ some p
 
-pub after : Starts Behind
+pub after : Starts AfterLink
 unfolding transition
 after = record { at-ri = refl; at-modifier = refl; at-emoji = refl }
 
-pub walk-front : {s : List ℕ} {q : State} → Front Behind s q → Walk joined s q
+pub walk-front : {s : List ℕ} {q : State} → Front AfterLink s q → Walk joined s q
 walk-front (front i e w) = via i e w
 
--- At the front of an item.
+-- The state after the first character of an item.
 abbrev pub First : Class → State → Type 0
 First k p = startState k ≡ p
 
@@ -204,17 +204,17 @@ walk-joined {s} {p} i (joined-and a v t) =
           (walk-append (walk-front (r .walked)) (o .walked));
     }
 
--- Some walk.
+-- A walk to some state.
 pub record SomeWalk (p : State) (s : List ℕ) : Type 0 where
   pub end : State
   pub walked : Walk p s end
 
--- Links after a place that links lead to itself.
+-- A walk over links from a state to which links and selectors lead back.
 pub walk-links : {s : List ℕ} (p : State) → transition p link ≡ some p → transition p selector ≡ some p → Links s → Walk p s p
 walk-links p e f no-links = stay
 walk-links p e f (link-and a l) = walk-append (walk-link p e f a) (walk-links p e f l)
 
--- The links left over.
+-- A walk over the links left over after a unit.
 walk-left : {s : List ℕ} {p : State} → InUnit p → Links s → SomeWalk p s
 unfolding transition
 walk-left {s} {p} i no-links = record { end = p; walked = stay }
@@ -267,7 +267,7 @@ derive-walk (passthrough {c = c} p h) = record {
       (walk-plain-run h);
 }
 
--- The same from the place of the first character.
+-- A walk from the state after the first character.
 pub accepted-walk : {c : ℕ} {s : List ℕ} → Accepted (c ∷ s) → SomeWalk (startState (classOf c)) s
 accepted-walk {c} {s} a = go (a .walked)
   where

@@ -1,4 +1,4 @@
--- Emoji-headed items by the runs at the front of a text: their first unit.
+-- Emoji-headed items by the runs at the front of a text: the first unit of an item.
 use mathlib.Core.Path.{_≡_, refl, ap, ap₂, sym, _∙_, subst}
 use mathlib.Core.Logic.{⊎-elim}
 use mathlib.Core.Bool.{Bool, true, false, cond, _||_, true≢false}
@@ -71,7 +71,7 @@ unfolding transition
 modifications-on c e = ⊎-elim (modification-on c) (λ s. ap (transition unit) (class-selector c s))
     (either-true (isModification c) (isSelector c) e)
 
--- After no selector, all modifications are one run.
+-- If no selector stands at the front, all modifications are one run.
 pub modifications-run : {r : List ℕ} → Stops isSelector r → modificationsAt r ≡ run inModifications r
 unfolding modificationsAt run
 modifications-run at-end = refl
@@ -181,7 +181,7 @@ unfolding afterStem
 after-stem {c} {t} r =
     ap₂ (λ (a b : List ℕ). drop (length a) (c ∷ b)) (r .stem-is) (sym (r .whole)) ∙ drop-append-seam (c ∷ r .tail) (r .rest)
 
--- ---- after a stem, one RI is as good as a whole stem
+-- ---- after a stem, the state after one RI leads to the same results as the state after a complete stem
 
 cut-step : (p q : State) (c : ℕ) (t : List ℕ) → transition p (classOf c) ≡ transition q (classOf c) → splitFrom p (c ∷ t)
     ≡ splitFrom q (c ∷ t)
@@ -213,7 +213,8 @@ stem-cut in-unit s n = refl
 
 -- ---- the unit at the front of an item
 
--- The item at an emoji: its unit, and what `unit` goes on with after it, where no modification and no selector stands.
+-- The item at an emoji: its unit, and the rest from the state `unit` on. The character after the unit is neither a selector nor the
+-- beginning of a modification.
 pub record UnitItem (c : ℕ) (t : List ℕ) : Type 0 where
   pub whole : unitAt (c ∷ t) ++ afterUnit (c ∷ t) ≡ c ∷ t
   pub item : c ∷ (splitFrom (startState (classOf c)) t) .0 ≡ unitAt (c ∷ t) ++ (splitFrom unit (afterUnit (c ∷ t))) .0

@@ -1,4 +1,4 @@
--- Items are equal where their fields are, and kinds where their numbers are.
+-- Two items are equal if their fields are, and two kinds are equal if their numbers are.
 use mathlib.Core.Path.{_≡_, refl, sym, ap, _∙_}
 use mathlib.Core.Bool.{Bool}
 use Prim.Native.Nat.{ℕ, zero, suc}

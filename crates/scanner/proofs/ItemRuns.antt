@@ -1,4 +1,4 @@
--- Items by the runs at the front of a text: what a loop over a text that goes by these runs needs.
+-- Items by the runs at the front of a text: selectors, links and passthrough.
 use mathlib.Core.Path.{_≡_, refl, ap, sym, _∙_, subst}
 use mathlib.Core.Bool.{Bool, true, false, cond, _||_, true≢false}
 use mathlib.Core.Option.{none, some}
@@ -36,7 +36,7 @@ use Rattle.scanner.proofs.Tiling.{cut-none}
 use Rattle.scanner.proofs.Walk.{Walk, stay, pass, walk-cut}
 use Rattle.scanner.proofs.Runs.{Passes, all-pass, pass-and, run-after, run-passes, run-true, Stops, at-char, at-end, after-stops}
 
--- ---- a place that a test keeps to
+-- ---- a state to which every character of a run leads back
 
 module _ (p : State) (f : ℕ → Bool) (on : (c : ℕ) → f c ≡ true → transition p (classOf c) ≡ some p) where
   pub walk-passes : {s : List ℕ} → Passes f s → Walk p s p
@@ -123,7 +123,7 @@ passthrough-on {c} (is-emoji s r m) e = absurd
     (true≢false (sym (either-right (isSelector c) (eqb c 0x200D || isEmoji c) (either-right (eqb c 0x200D) (isEmoji c) s)) ∙ not-true _ e))
 passthrough-on (is-other s k t) e = refl
 
--- The item at a selector, at 200D, and of passthrough.
+-- The item at a selector, at 200D, and at a plain character.
 pub item-selectors : (c : ℕ) (t : List ℕ) → isSelector c ≡ true → c ∷ (splitFrom (startState (classOf c)) t) .0 ≡ selectorsAt (c ∷ t)
 unfolding startState
 item-selectors c t e =

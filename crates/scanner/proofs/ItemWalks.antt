@@ -1,4 +1,5 @@
--- The cursors walked over an item: its structure, unit by unit and link by link.
+-- Calls of the functions that read the parts of an item, from its start to its end: they give its structure, unit by unit and link
+-- by link.
 use mathlib.Core.Path.{_≡_, refl, ap, sym, _∙_, subst}
 use mathlib.Core.Logic.{⊎-elim}
 use mathlib.Core.Bool.{Bool, true, false, cond, true≢false}
@@ -76,7 +77,7 @@ module _ (text : List ℕ) (end at : ℕ) {s t : List ℕ} (h : S s) (p : Stops 
   link-after : chars (drop (linkFrom at the-link .end) text) ≡ t
   link-after = ap (λ (n : ℕ). chars (drop n text)) link-end ∙ chars-from text at (0x200D ∷ s) t e
 
-  -- It is left over where no emoji follows within the item ..
+  -- A link is left over if no emoji follows it within the item.
   link-left : at < end → (linkFrom at the-link .end < end → Stops isEmoji t) → partRead text end at ≡ LeftOverLink (linkFrom at the-link)
   unfolding joins
   link-left n q = ⊎-elim (λ k. sym (part-last text end at n link-is k))
@@ -87,7 +88,7 @@ module _ (text : List ℕ) (end at : ℕ) {s t : List ℕ} (h : S s) (p : Stops 
       go at-end = refl
       go (at-char f) = ap (λ (b : Bool). cond b (JoiningLink (linkFrom at the-link)) (LeftOverLink (linkFrom at the-link))) f
 
-  -- .. and joins an emoji that does.
+  -- A link joins the emoji that follows it within the item.
   link-joins : {c : ℕ} {u : List ℕ} → at < end → linkFrom at the-link .end < end → t ≡ c ∷ u → isEmoji c ≡ true → partRead text end at
       ≡ JoiningLink (linkFrom at the-link)
   unfolding joins
@@ -120,7 +121,7 @@ links-walk text end at r (link-are {s = s} {l = l} h k) p e n =
     (λ i. links-emoji r k (omega (arith, n, z, i, link-end text end at h b q))))
     (links-walk text end (at + size width (0x200D ∷ s)) r k p (chars-from text at (0x200D ∷ s) (l ++ r) q) (omega (arith, n, z)))
 
--- ---- units before what follows in the item, and after it
+-- ---- a unit, before the other characters of the item and before those after it
 
 last-link : (s : List ℕ) (d : ℕ) → NoLink (s ++ d ∷ []) → eqb d 0x200D ≡ false
 last-link [] d (no-link-and e k) = e
@@ -133,7 +134,7 @@ before-link {v} = record {
   no-more = λ d f e u. true≢false (sym (eq-eqb d 0x200D (sym (head-eq-of-cons-eq e))) ∙ last-link v d (unit-no-link u));
 }
 
--- What is read, and no character after it can be taken in.
+-- The first character of r cannot be added to the characters t of an item.
 abbrev Whole : List ℕ → List ℕ → Type 0
 Whole t r = (d : ℕ) (f : List ℕ) → r ≡ d ∷ f → Derives EmojiHeaded (t ++ d ∷ []) → ⊥
 
@@ -204,7 +205,7 @@ sequence-walk {t} text at r (emoji-are {v = v} {w = w} d k) p n e =
           (ap (λ (y : ℕ). chars (drop y text)) g ∙ chars-from text at v (w ++ r) q) (omega (arith, g, size-append width v w)),
     )
 
--- The first item of a text, and what stands after it.
+-- The first item of a text, and the characters after it.
 record FirstRead (t : List ℕ) (x : Item) : Type 0 where
   rest : List ℕ
   whole : t ≡ x .chars ++ rest

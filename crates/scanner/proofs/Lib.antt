@@ -1,4 +1,4 @@
--- The laws of the items, and the theorems.
+-- The proofs about items, and the proofs of the statements.
 pub mod Classes
 pub mod Arms
 pub mod Tiling

@@ -1,4 +1,4 @@
--- What may follow in a run of links: selectors, and then links.
+-- What can follow in a run of links: selectors, and then links.
 use mathlib.Core.Path.{_≡_}
 use mathlib.Core.Bool.{true}
 use mathlib.Core.List.{List, _∷_, _++_}

@@ -1,4 +1,5 @@
--- The runs at the front of a text are the longest: each stands at the front, and any front that is the same part is as short.
+-- The runs at the front of a text are the longest: each is a beginning of the text, and no beginning that is the same part is
+-- longer.
 use mathlib.Core.Path.{_≡_, refl, ap, ap₂, sym, _∙_}
 use mathlib.Core.Logic.{_⊎_, inl, inr, ⊎-elim}
 use mathlib.Core.Bool.{Bool, true, false, cond}
@@ -77,9 +78,9 @@ use Rattle.scanner.proofs.RunLaws.{groups-tag, modification-other, modi
 use Rattle.scanner.proofs.Runs.{Passes, all-pass, pass-and, S-passes, Stops, at-char, at-end, after-all, run-all, run-after}
 use Rattle.scanner.proofs.Units.{front-no-ri, front-stops}
 
--- ---- fronts
+-- ---- beginnings of a text
 
--- What stands at the front of a text, and what is left.
+-- A list a is a beginning of the text t; the rest is given.
 record Front (a t : List ℕ) : Type 0 where
   rest : List ℕ
   whole : a ++ rest ≡ t
@@ -99,7 +100,7 @@ after-one c f = record { rest = f .rest; whole = ap (λ (l : List ℕ). c ∷ l)
 as-long : (s : List ℕ) {u : List ℕ} (v : List ℕ) → u ≡ s ++ v → length s ≤ length u
 as-long s v e = omega (arith, ap length e, length-append s v)
 
--- ---- characters of a part
+-- ---- the characters of a part
 
 pass-append : {f : ℕ → Bool} {s t : List ℕ} → Passes f s → Passes f t → Passes f (s ++ t)
 pass-append all-pass h = h
@@ -109,7 +110,7 @@ pass-all : {f g : ℕ → Bool} {s : List ℕ} → ((c : ℕ) → f c ≡ true �
 pass-all i all-pass = all-pass
 pass-all i (pass-and {c = c} e p) = pass-and (i c e) (pass-all i p)
 
--- A run over what passes goes on after it.
+-- The run at the front of characters that pass and any text goes on in that text.
 run-on : {f : ℕ → Bool} {s : List ℕ} → Passes f s → (t : List ℕ) → run f (s ++ t) ≡ s ++ run f t
 run-on p t = run-over (λ c e. e) p t
 
@@ -121,7 +122,7 @@ longest-selectors = record {
   longest = λ s r d. as-long s (selectorsAt r) (run-on (S-passes d) r);
 }
 
--- A character and S after it.
+-- A character and the S after it.
 and-selectors : (c : ℕ) {u : List ℕ} {l : List ℕ} (r : List ℕ) → S u → l ≡ c ∷ selectorsAt (u ++ r) → length (c ∷ u) ≤ length l
 and-selectors c {u} r d e = as-long (c ∷ u) (selectorsAt r) (e ∙ ap (λ (l : List ℕ). c ∷ l) (run-on (S-passes d) r))
 
@@ -147,7 +148,7 @@ groups-pass : {t : List ℕ} → TagGroups t → Passes inTags t
 groups-pass (one-group t s) = pass-append (tags-pass t) (selectors-in-tags s)
 groups-pass (group-and t s g) = pass-append (tags-pass t) (pass-append (selectors-in-tags s) (groups-pass g))
 
--- A tag stands first.
+-- A list whose first character is a tag.
 data TagFirst : List ℕ → Type 0 where
   tag-first : {c : ℕ} {t : List ℕ} → isTag c ≡ true → TagFirst (c ∷ t)
 
@@ -256,7 +257,7 @@ longest-modifications = record { front = λ t. front-of (modifications-front t);
 
 -- ---- a stem
 
--- A flag's first part, before its second RI.
+-- The first RI of a flag and its S, before the second RI.
 flag-at : (a b : ℕ) {s : List ℕ} (q : List ℕ) → isRi a ≡ true → S s → isRi b ≡ true → stemAt (a ∷ (s ++ b ∷ q))
     ≡ a ∷ (s ++ b ∷ selectorsAt q)
 unfolding secondRiAt
@@ -302,7 +303,7 @@ longest-stem = record { front = λ t. front-of (stem-front t); longest = stem-lo
 
 -- ---- a unit
 
--- Before what is no selector and no RI, the stem ends where it ends.
+-- Before a character that is neither selector nor RI, a stem is not longer.
 no-second : {q : List ℕ} (b : Bool) → Stops isRi q → cond b (secondRiAt q) [] ≡ []
 unfolding secondRiAt
 no-second false n = refl

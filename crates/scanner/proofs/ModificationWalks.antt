@@ -1,4 +1,5 @@
--- The modifications that `modificationsOf` makes, before what stands after the unit: each ends where the next begins.
+-- The modifications that `modificationsOf` makes of a unit's characters, before the characters after the unit: each ends where the
+-- next begins.
 use mathlib.Core.Path.{_≡_, refl, ap, ap₂, sym, _∙_, subst}
 use mathlib.Core.Bool.{Bool, true, false, _||_}
 use mathlib.Core.List.{List, [], _∷_, _++_}
@@ -33,7 +34,7 @@ use Rattle.scanner.proofs.Classes.{
   modifier-emoji,
   tag-no-selector,
 }
-use Rattle.scanner.proofs.ClassTests.{forTags, tags-test}
+use Rattle.scanner.proofs.ClassTests.{isTagOrSelectorClass, tags-test}
 use Rattle.scanner.proofs.Modifications.{
   RunsOk,
   tag-more,
@@ -49,7 +50,7 @@ use Rattle.scanner.proofs.Modifications.{
 }
 use Rattle.scanner.proofs.Runs.{Stops, at-char, at-end}
 
--- ---- the tests at the end of a part
+-- ---- the test that fails at the end of a part
 
 pub no-selector-after : {t : List ℕ} → Stops inModifications t → Stops isSelector t
 no-selector-after at-end = at-end
@@ -63,10 +64,10 @@ no-tag-after (at-char {c = c} e) =
     let q = both-false (isEmojiModifier c) (eqb c 0x20E3 || isTag c) (p .0) in
     at-char (ap₂ (λ (x y : Bool). x || y) (both-false (eqb c 0x20E3) (isTag c) (q .1) .1) (p .1))
 
-no-tags-at : {c : ℕ} {k : Class} → HasClass c k → forTags k ≡ false → inTags c ≡ false
-no-tags-at {c} h e = tags-test c ∙ ap forTags (class-is h) ∙ e
+no-tags-at : {c : ℕ} {k : Class} → HasClass c k → isTagOrSelectorClass k ≡ false → inTags c ≡ false
+no-tags-at {c} h e = tags-test c ∙ ap isTagOrSelectorClass (class-is h) ∙ e
 
--- ---- modifications before r
+-- ---- modifications before characters r
 
 pub data Mods (r : List ℕ) : List ℕ → List EmojiModification → Type 0 where
   mods-end : Stops inModifications r → Mods r r []
@@ -91,7 +92,7 @@ tag-mods c e h (mods-keycap a p m) = one-tags c e h (at-char (no-tags-at (is-key
 tag-mods c {s} e h (mods-tags {t = t} {rs = rs} q g p m) =
     mods-tags (ap (λ (l : List ℕ). c ∷ (s ++ l)) q ∙ sym (runs-before c s rs t)) (tag-more c e h g) p m
 
--- What is made of the characters m: the selectors at the front, and the modifications after them.
+-- The result of `modificationsOf` for the characters m: the selectors at the front, and the modifications after them.
 pub record ModsRead (r m : List ℕ) (p : List ℕ × List EmojiModification) : Type 0 where
   pub rest : List ℕ
   pub whole : m ++ r ≡ p .0 ++ rest

@@ -1,4 +1,4 @@
--- The modifications after a stem: `modificationsOf` takes them apart, loses nothing, and each is the grammar's.
+-- The modifications after a stem: `modificationsOf` splits the characters, keeps all of them, and the grammar derives each part.
 use mathlib.Core.Path.{_≡_, refl, ap, sym, _∙_, subst}
 use mathlib.Core.Bool.{true}
 use mathlib.Core.List.{List, [], _∷_, _++_, append-assoc, append-nil}
@@ -40,7 +40,7 @@ use Rattle.scanner.specs.Structure.{
 }
 use Rattle.scanner.proofs.Classes.{HasClass, is-keycap, is-modifier, is-selector, is-tag, class-is}
 
--- ---- characters of modifications
+-- ---- the characters of modifications
 
 -- Modifiers, 20E3, tags and selectors.
 pub data ModRun : List ℕ → Type 0 where
@@ -73,7 +73,7 @@ pub modifications-run : {m : List ℕ} → Modifications m → ModRun m
 modifications-run unmodified = run-end
 modifications-run (modified m h) = modification-run m (modifications-run h)
 
--- What a run of modifications begins with.
+-- The first character of a run of modifications.
 pub data ModFront : List ℕ → Type 0 where
   front-end : ModFront []
   front-modifier : {c : ℕ} {t : List ℕ} → isEmojiModifier c ≡ true → ModFront (c ∷ t)
@@ -94,7 +94,7 @@ modifications-front (modified (by-modifier e s) h) = front-modifier e
 modifications-front (modified (by-keycap s) h) = front-keycap
 modifications-front (modified {t = t} (by-tags g) h) = groups-front t g
 
--- ---- one character more
+-- ---- one more character
 
 pub of-class : {c : ℕ} {k : Class} (t : List ℕ) → HasClass c k → modificationsOf (c ∷ t) ≡ toModifications k c (modificationsOf t)
 unfolding modificationsOf
@@ -107,7 +107,7 @@ front-none (front-modifier {c = c} {t = t} e) = ap (λ (r : List ℕ × List Emo
 front-none (front-keycap {t = t}) = ap (λ (r : List ℕ × List EmojiModification). r .0) (of-class t (is-keycap refl))
 front-none (front-tag {c = c} {t = t} e) = ap (λ (r : List ℕ × List EmojiModification). r .0) (of-class t (is-tag e))
 
--- ---- nothing is lost
+-- ---- all characters are kept
 
 runs-flatten : (c : ℕ) (s : List ℕ) (rs : List EmojiTagRun) → flattenRuns (tagToRuns c s rs) ≡ c ∷ (s ++ flattenRuns rs)
 unfolding flattenRuns tagToRuns
@@ -139,9 +139,9 @@ modifications-flatten (run-tag {c = c} {t = t} e h) =
     rw (of-class t (is-tag e)) (tag-flatten c ((modificationsOf t) .0) ((modificationsOf t) .1)
     ∙ ap (λ (l : List ℕ). c ∷ l) (modifications-flatten h))
 
--- ---- each part is the grammar's
+-- ---- the grammar derives each part
 
--- The runs of one tag modification: after each but the last stands a selector.
+-- The runs of one tag modification: each but the last has a selector after its tags.
 pub data RunsOk : List EmojiTagRun → Type 0 where
   one-run : {t s : List ℕ} → Tags t → S s → RunsOk (record { tags = t; after = s } ∷ [])
   run-and : {t s : List ℕ} {d : ℕ} {rs : List EmojiTagRun} → Tags t → isSelector d ≡ true → S s → RunsOk rs
@@ -185,7 +185,7 @@ modifications-ok (run-keycap {t = t} h) = let r = modifications-ok h in rw (of-c
 modifications-ok (run-tag {c = c} {t = t} e h) = let r = modifications-ok h in rw (of-class t (is-tag e))
     (no-selectors, tag-ok c e (r .0) (r .1))
 
--- ---- as derivations
+-- ---- the derivations
 
 pub runs-derive : {rs : List EmojiTagRun} → RunsOk rs → TagGroups (flattenRuns rs)
 unfolding flattenRuns

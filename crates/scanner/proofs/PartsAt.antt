@@ -1,4 +1,4 @@
--- What is read of an item's parts at an offset, by the character there and its class: what the consume functions go by.
+-- The parts of an item at an offset, by the character there and its class: the laws that the consume functions use.
 use mathlib.Core.Path.{_≡_, refl, ap, ap₂, sym, _∙_, subst}
 use mathlib.Core.Bool.{Bool, true, false, cond}
 use mathlib.Core.List.{List, [], _∷_}
@@ -12,7 +12,7 @@ use Rattle.unicode.specs.Presentation.{isSelector}
 use Rattle.unicode.specs.Unicode.{isEmoji, isRi}
 use Rattle.scanner.specs.Classes.{Class, keycap, link, modifier, ri, tag, classOf}
 use Rattle.scanner.specs.Parts.{firstFrom, linkFrom, linkRead, modificationFrom, modificationRead, stemAfter, stemRead}
-use Rattle.scanner.specs.RunKinds.{runOf}
+use Rattle.scanner.specs.RunKinds.{isEmojiClass, isLinkClass, isModificationClass, isTagClass, runOf}
 use Rattle.scanner.specs.Runs.{
   afterSelectors,
   inModifications,
@@ -35,19 +35,7 @@ use Rattle.scanner.specs.declared.parts.ZwjLink.the-variants.{Link, NoLi
 use Rattle.scanner.specs.declared.selectors.PresentationSelectors.{PresentationSelectors}
 use Rattle.scanner.proofs.Bytes.{chars-from}
 use Rattle.scanner.proofs.Classes.{HasClass, hasClass, is-keycap}
-use Rattle.scanner.proofs.ClassTests.{
-  emoji-test,
-  forEmoji,
-  forLink,
-  forModification,
-  forRi,
-  forTag,
-  link-test,
-  modification-test,
-  ri-test,
-  run-modifications,
-  tag-test,
-}
+use Rattle.scanner.proofs.ClassTests.{emoji-test, isRiClass, link-test, modification-test, ri-test, run-modifications, tag-test}
 use Rattle.scanner.proofs.Modifications.{of-class}
 use Rattle.scanner.proofs.Peek.{Seen, Unseen}
 use Rattle.scanner.proofs.RunLaws.{modification-other, modification-tag}
@@ -79,11 +67,11 @@ keycap-is : {c : ℕ} → HasClass c keycap → c ≡ 0x20E3
 keycap-is (is-keycap e) = e
 
 module _ {text : List ℕ} {at v : ℕ} {k : Class} {next : ℕ} (h : Seen text at v k next) where
-  -- A test by class says the same of the character.
+  -- A test of the class has the same result as the test of the character.
   tested : {b : Bool} (f : ℕ → Bool) (g : Class → Bool) → ((c : ℕ) → f c ≡ g (classOf c)) → g k ≡ b → f v ≡ b
   tested f g t e = t v ∙ ap g (sym (h .class)) ∙ e
 
-  -- The selectors after it.
+  -- The selectors after the character.
   selectors-after : {r : PresentationSelectors} → r ≡ selectorRun text next → r
       ≡ selectorsFrom (at + width v) (selectorsAt (chars (drop next text)))
   unfolding selectorRun
@@ -91,60 +79,60 @@ module _ {text : List ℕ} {at v : ℕ} {k : Class} {next : ℕ} (h : Seen text 
 
   -- ---- all modifications
 
-  modifications-by : (b : Bool) → forModification k ≡ b → modificationsAt (chars (drop at text))
+  modifications-by : (b : Bool) → isModificationClass k ≡ b → modificationsAt (chars (drop at text))
       ≡ cond b (run inModifications (chars (drop at text))) []
   unfolding modificationsAt
   modifications-by b e =
       ap modificationsAt (h .chars-on) ∙ ap (λ (x : Bool). cond x (run inModifications (v ∷ chars (drop next text))) [])
-      (tested isModification forModification modification-test e)
+      (tested isModification isModificationClass modification-test e)
       ∙ ap (λ (t : List ℕ). cond b (run inModifications t) []) (sym (h .chars-on))
 
-  pub modifications-on : {end : ℕ} → forModification k ≡ true → end ≡ at + size width (runOf Modifications (chars (drop at text)))
+  pub modifications-on : {end : ℕ} → isModificationClass k ≡ true → end ≡ at + size width (runOf Modifications (chars (drop at text)))
       → end ≡ at + size width (modificationsAt (chars (drop at text)))
   modifications-on e r = r ∙ ap (λ (s : List ℕ). at + size width s)
       (run-modifications (chars (drop at text)) ∙ sym (modifications-by true e))
 
-  pub modifications-off : forModification k ≡ false → at ≡ at + size width (modificationsAt (chars (drop at text)))
+  pub modifications-off : isModificationClass k ≡ false → at ≡ at + size width (modificationsAt (chars (drop at text)))
   modifications-off e = omega (arith, ap (size width) (modifications-by false e))
 
   -- ---- a link
 
-  link-by : (b : Bool) → forLink k ≡ b → linkRead at (chars (drop at text))
+  link-by : (b : Bool) → isLinkClass k ≡ b → linkRead at (chars (drop at text))
       ≡ cond b (Link (linkFrom at (linkOf (chars (drop next text))))) NoLink
   unfolding linkRead
   link-by b e =
       ap (linkRead at) (h .chars-on)
       ∙ ap (λ (x : Bool). cond x (Link (linkFrom at (linkOf (chars (drop next text))))) NoLink)
-      (tested (λ c. eqb c 0x200D) forLink link-test e)
+      (tested (λ c. eqb c 0x200D) isLinkClass link-test e)
 
   pub link-on : {r : PresentationSelectors} → k ≡ link → r ≡ selectorRun text next → Link r ≡ linkRead at (chars (drop at text))
   unfolding linkFrom
   link-on e r =
-      let f : forLink k ≡ true = ap forLink e in
-      let i : v ≡ 0x200D = eqb-true v 0x200D (tested (λ c. eqb c 0x200D) forLink link-test f) in
+      let f : isLinkClass k ≡ true = ap isLinkClass e in
+      let i : v ≡ 0x200D = eqb-true v 0x200D (tested (λ c. eqb c 0x200D) isLinkClass link-test f) in
       ap Link (selectors-after r ∙ ap (λ (c : ℕ). selectorsFrom (at + width c) (selectorsAt (chars (drop next text)))) i)
       ∙ sym (link-by true f)
 
-  pub link-off : forLink k ≡ false → NoLink ≡ linkRead at (chars (drop at text))
+  pub link-off : isLinkClass k ≡ false → NoLink ≡ linkRead at (chars (drop at text))
   link-off e = sym (link-by false e)
 
   -- ---- a modification
 
-  -- The modification that is read, by the characters of it.
+  -- The modification at the offset, by its characters.
   modification-is : {s : List ℕ} {ms : List Structure.EmojiModification} → modificationAt (v ∷ chars (drop next text)) ≡ s
       → (modificationsOf s) .1 ≡ ms → firstFrom at ms ≡ modificationRead at (chars (drop at text))
   unfolding modificationRead
   modification-is p q = sym (ap (modificationRead at) (h .chars-on) ∙ ap (λ (l : List ℕ). firstFrom at ((modificationsOf l) .1)) p
       ∙ ap (firstFrom at) q)
 
-  -- A modifier or 20E3, and its selectors.
-  one-modification : forTag k ≡ false → forModification k ≡ true → (ms : List Structure.EmojiModification)
+  -- The modification at the offset, if the character is a modifier or 20E3.
+  one-modification : isTagClass k ≡ false → isModificationClass k ≡ true → (ms : List Structure.EmojiModification)
       → (toModifications k v (selectorsAt (chars (drop next text)), [])) .1 ≡ ms → firstFrom at ms
       ≡ modificationRead at (chars (drop at text))
   one-modification e f ms q =
       let s = selectorsAt (chars (drop next text)) in
-      modification-is (modification-other v (chars (drop next text)) true (tested _ forTag tag-test e)
-      (tested isModification forModification modification-test f))
+      modification-is (modification-other v (chars (drop next text)) true (tested _ isTagClass tag-test e)
+      (tested isModification isModificationClass modification-test f))
       (ap (λ (r : List ℕ × List Structure.EmojiModification). r .1)
       (of-class s (subst (HasClass v) (sym (h .class)) (hasClass v))
       ∙ ap (toModifications k v) (of-selectors (run-passes isSelector (chars (drop next text))))) ∙ q)
@@ -155,7 +143,7 @@ module _ {text : List ℕ} {at v : ℕ} {k : Class} {next : ℕ} (h : Seen text 
   modifier-on e r =
       let s = selectorsAt (chars (drop next text)) in
       ap (EmojiModifier v) (selectors-after r)
-      ∙ one-modification (ap forTag e) (ap forModification e) (Structure.EmojiModifier v s ∷ [])
+      ∙ one-modification (ap isTagClass e) (ap isModificationClass e) (Structure.EmojiModifier v s ∷ [])
       (ap (λ (x : Class). (toModifications x v (s, [])) .1) e)
 
   pub keycap-on : {r : PresentationSelectors} → k ≡ keycap → r ≡ selectorRun text next → EnclosingKeycap r
@@ -165,27 +153,27 @@ module _ {text : List ℕ} {at v : ℕ} {k : Class} {next : ℕ} (h : Seen text 
       let s = selectorsAt (chars (drop next text)) in
       let i : v ≡ 0x20E3 = keycap-is (subst (HasClass v) (sym (h .class) ∙ e) (hasClass v)) in
       ap EnclosingKeycap (selectors-after r ∙ ap (λ (c : ℕ). selectorsFrom (at + width c) s) i)
-      ∙ one-modification (ap forTag e) (ap forModification e) (Structure.EnclosingKeycap s ∷ [])
+      ∙ one-modification (ap isTagClass e) (ap isModificationClass e) (Structure.EnclosingKeycap s ∷ [])
       (ap (λ (x : Class). (toModifications x v (s, [])) .1) e)
 
   pub tags-on : {end : ℕ} → k ≡ tag → end ≡ at + size width (tagModificationAt (chars (drop at text))) → TagModifier end
       ≡ modificationRead at (chars (drop at text))
   unfolding firstFrom modificationFrom
   tags-on e r =
-      let p = tested _ forTag tag-test (ap forTag e) in
+      let p = tested _ isTagClass tag-test (ap isTagClass e) in
       let m = of-tags v (chars (drop next text)) p in
       ap TagModifier (r ∙ ap (λ (l : List ℕ). at + size width l) (ap tagModificationAt (h .chars-on) ∙ sym (m .flat)))
       ∙ modification-is (modification-tag v (chars (drop next text)) p) (m .is)
 
-  pub modification-off : forModification k ≡ false → forTag k ≡ false → NoModification ≡ modificationRead at (chars (drop at text))
+  pub modification-off : isModificationClass k ≡ false → isTagClass k ≡ false → NoModification ≡ modificationRead at (chars (drop at text))
   unfolding modificationsOf firstFrom
   modification-off e f =
-      modification-is (modification-other v (chars (drop next text)) false (tested _ forTag tag-test f)
-      (tested isModification forModification modification-test e)) refl
+      modification-is (modification-other v (chars (drop next text)) false (tested _ isTagClass tag-test f)
+      (tested isModification isModificationClass modification-test e)) refl
 
   -- ---- a stem
 
-  stem-by : (a b : Bool) → forEmoji k ≡ a → forRi k ≡ b
+  stem-by : (a b : Bool) → isEmojiClass k ≡ a → isRiClass k ≡ b
       → stemRead at (chars (drop at text))
       ≡ cond a (stemAfter next (cond b (riStem v (selectorsAt (chars (drop next text))) (afterSelectors (chars (drop next text))))
       (Structure.SingletonBase v (selectorsAt (chars (drop next text)))))) NoStem
@@ -195,27 +183,27 @@ module _ {text : List ℕ} {at v : ℕ} {k : Class} {next : ℕ} (h : Seen text 
       ap (stemRead at) (h .chars-on)
       ∙ ap₂ (λ (x y : Bool). cond x (stemAfter (at + width v)
       (cond y (riStem v (selectorsAt t) (afterSelectors t)) (Structure.SingletonBase v (selectorsAt t)))) NoStem)
-      (tested isEmoji forEmoji emoji-test e) (tested isRi forRi ri-test f)
+      (tested isEmoji isEmojiClass emoji-test e) (tested isRi isRiClass ri-test f)
       ∙ ap (λ (n : ℕ). cond a (stemAfter n
       (cond b (riStem v (selectorsAt t) (afterSelectors t)) (Structure.SingletonBase v (selectorsAt t)))) NoStem) (sym (h .after))
 
   pub stem-ri : {r : EmojiStem} → k ≡ ri → r
       ≡ stemAfter next (riStem v (selectorsAt (chars (drop next text))) (afterSelectors (chars (drop next text))))
       → r ≡ stemRead at (chars (drop at text))
-  stem-ri e r = r ∙ sym (stem-by true true (ap forEmoji e) (ap forRi e))
+  stem-ri e r = r ∙ sym (stem-by true true (ap isEmojiClass e) (ap isRiClass e))
 
-  pub stem-on : {r : PresentationSelectors} → forEmoji k ≡ true → forRi k ≡ false → r ≡ selectorRun text next → SingletonBase v r
+  pub stem-on : {r : PresentationSelectors} → isEmojiClass k ≡ true → isRiClass k ≡ false → r ≡ selectorRun text next → SingletonBase v r
       ≡ stemRead at (chars (drop at text))
   unfolding stemAfter selectorRun
   stem-on e f r = ap (SingletonBase v) r ∙ sym (stem-by true false e f)
 
-  pub stem-off : forEmoji k ≡ false → NoStem ≡ stemRead at (chars (drop at text))
-  stem-off e = sym (stem-by false (forRi k) e refl)
+  pub stem-off : isEmojiClass k ≡ false → NoStem ≡ stemRead at (chars (drop at text))
+  stem-off e = sym (stem-by false (isRiClass k) e refl)
 
--- ---- the stem of a first RI
+-- ---- the stem whose first character is an RI
 
 module _ (text : List ℕ) (at : ℕ) {r : PresentationSelectors} (e : r ≡ selectorRun text at) where
-  -- After the selectors.
+  -- The characters after the selectors.
   mid-is : chars (drop (r .end) text) ≡ afterSelectors (chars (drop at text))
   unfolding selectorRun
   mid-is =
@@ -230,7 +218,7 @@ module _ (text : List ℕ) (at : ℕ) {r : PresentationSelectors} (e : r ≡ sel
       (sym (h .chars-none) ∙ mid-is)
 
   module _ {v : ℕ} {k : Class} {next : ℕ} (h : Seen text (r .end) v k next) (a : ℕ) where
-    second-by : (b : Bool) → forRi k ≡ b
+    second-by : (b : Bool) → isRiClass k ≡ b
         → stemAfter at (riStem a (selectorsAt (chars (drop at text))) (afterSelectors (chars (drop at text))))
         ≡ stemAfter at (cond b (Structure.Flag a (selectorsAt (chars (drop at text))) v (selectorsAt (chars (drop next text))))
         (Structure.SingletonBase a (selectorsAt (chars (drop at text)))))
@@ -240,9 +228,9 @@ module _ (text : List ℕ) (at : ℕ) {r : PresentationSelectors} (e : r ≡ sel
         ap (λ (l : List ℕ). stemAfter at (riStem a s l)) (sym mid-is ∙ h .chars-on)
         ∙ ap (λ (x : Bool). stemAfter at
         (cond x (Structure.Flag a s v (selectorsAt (chars (drop next text)))) (Structure.SingletonBase a s)))
-        (tested h isRi forRi ri-test f)
+        (tested h isRi isRiClass ri-test f)
 
-    pub ri-single : forRi k ≡ false → SingletonBase a r
+    pub ri-single : isRiClass k ≡ false → SingletonBase a r
         ≡ stemAfter at (riStem a (selectorsAt (chars (drop at text))) (afterSelectors (chars (drop at text))))
     unfolding selectorRun stemAfter
     ri-single f = ap (SingletonBase a) e ∙ sym (second-by false f)
@@ -255,4 +243,4 @@ module _ (text : List ℕ) (at : ℕ) {r : PresentationSelectors} (e : r ≡ sel
         ap (λ (x : PresentationSelectors). x .end + width v) e in
         ap₂ (λ (x y : PresentationSelectors). Flag a x v y) e
         (selectors-after h g ∙ ap (λ (m : ℕ). selectorsFrom m (selectorsAt (chars (drop next text)))) n)
-        ∙ sym (second-by true (ap forRi f))
+        ∙ sym (second-by true (ap isRiClass f))

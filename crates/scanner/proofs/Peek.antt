@@ -1,4 +1,4 @@
--- What `peekAt` tells of a text at an offset: the step that every function goes by which reads a character.
+-- What the result of `peekAt` says of a text at an offset. Every function that reads a character uses these laws.
 use mathlib.Core.Path.{_≡_, refl, ap, ap₂, sym, _∙_}
 use mathlib.Core.Bool.{Bool, true≢false}
 use mathlib.Core.List.{List, [], _∷_}
@@ -18,7 +18,7 @@ use Rattle.scanner.proofs.Arms.{OfClasses, class-arm}
 use Rattle.scanner.proofs.char_class.Class.{the-type as the-class}
 use Rattle.scanner.proofs.Bytes.{chars-from, size-chars, width-some}
 
--- At an offset of a text stands the character v of class k, and the text goes on at an offset after it.
+-- At the offset `at` of a text stands the character v of class k; `next` is the offset after it.
 pub record Seen (text : List ℕ) (at v : ℕ) (k : Class) (next : ℕ) : Type 0 where
   pub class : k ≡ classOf v
   pub after : next ≡ at + width v
@@ -26,12 +26,12 @@ pub record Seen (text : List ℕ) (at v : ℕ) (k : Class) (next : ℕ) : Type 0
   pub on : at < next
   pub room : next ≤ length text
 
--- No character begins there.
+-- No character begins at the offset.
 pub record Unseen (text : List ℕ) (at : ℕ) : Type 0 where
   pub chars-none : chars (drop at text) ≡ []
 
 module _ (text : List ℕ) (at : ℕ) where
-  -- What the code makes of a character that it read, and where it read none.
+  -- The value that the code returns: for a character that it decoded, and where it decoded none.
   pub peeked : (v w : ℕ) (k : Class) → Places.Step text at v w → k ≡ classOf v → Char v k (at + w) ≡ peekAt at (chars (drop at text))
   unfolding peekAt width
   peeked v w k h e = ap₂ (λ (x : Class) (n : ℕ). Char v x (at + n)) e (sym (h .width)) ∙ ap (peekAt at) (sym (h .chars-on))
@@ -40,7 +40,7 @@ module _ (text : List ℕ) (at : ℕ) where
   unfolding peekAt
   not-peeked h = ap (peekAt at) (sym (h .chars-none))
 
-  -- What a caller knows then.
+  -- What a caller knows from that value.
   pub seen : {v : ℕ} {k : Class} {next : ℕ} → peekAt at (chars (drop at text)) ≡ Char v k next → Seen text at v k next
   unfolding peekAt
   seen {v} {k} {next} e = go (chars (drop at text)) refl e
@@ -70,7 +70,7 @@ module _ (text : List ℕ) (at : ℕ) where
       go [] q = refl
       go (c ∷ t) q = cc
 
--- The arm of a match on the class: a test has the value b there if it has it at each class that the arm names.
+-- An arm of a match on the class: the test f has the result b in the arm if it has the result b for each class that the arm names.
 pub seen-arm : {text : List ℕ} {at v : ℕ} {k : Class} {next : ℕ} → Seen text at v k next → (f : Class → Bool) (b : Bool) (ks : List ℕ)
     → OfClasses ks (λ (y : Class). f y ≡ b) → OneOf ks (tagOf the-class k) → f k ≡ b
 seen-arm {k = k} h f b ks e o = class-arm ks (λ (y : Class). f y ≡ b) e k o

@@ -71,7 +71,7 @@ first-longest c s r k w h j d f g e = longest c d f w (h d (f ++ g) e)
 
 -- ---- the items are a reading
 
--- The rest of an item, and the items after it.
+-- The rest of an item is a walk to a state at which the item ends, and the items after it are a reading of their characters.
 record Read (p : State) (t : List ℕ) : Type 0 where
   end : State
   walked : Walk p ((splitFrom p t) .0) end
@@ -155,7 +155,7 @@ derive-head (passthrough {c = c} p h) = record {
 
 -- ---- there is no other reading
 
--- Two fronts of one text.
+-- Two beginnings of one text: one is a beginning of the other.
 data Fronts (s r s′ r′ : List ℕ) : Type 0 where
   same-front : s ≡ s′ → r ≡ r′ → Fronts s r s′ r′
   longer-right : (d : ℕ) (f : List ℕ) → s′ ≡ s ++ d ∷ f → r ≡ d ∷ (f ++ r′) → Fronts s r s′ r′
@@ -172,7 +172,7 @@ fronts [] r (d ∷ f) r′ e = longer-right d f refl e
 fronts (d ∷ f) r [] r′ e = longer-left d f refl (sym e)
 fronts (c ∷ s) r (d ∷ s′) r′ e = fronts-cons c d (head-eq-of-cons-eq e) (fronts s r s′ r′ (tail-eq-of-cons-eq e))
 
--- A text has one reading.
+-- Two readings of a text are equal.
 pub unique : {t t′ : List ℕ} {xs ys : List Item} → Reads t xs → Reads t′ ys → t ≡ t′ → xs ≡ ys
 unfolding Longest
 unique at-the-end at-the-end e = refl
@@ -197,7 +197,7 @@ unique (reads-item {x = x} {xs = xs} r d l h) (reads-item {x = y} {xs = ys} r′
 pub only-reading : (t : List ℕ) (xs : List Item) → Reads t xs → xs ≡ items t
 only-reading t xs h = unique h (reading t) refl
 
--- Every item is derived by its kind.
+-- The grammar derives every item of a reading by its kind.
 pub reads-derive : {t : List ℕ} {xs : List Item} {x : Item} → Reads t xs → List·Memᴰ x xs → Derives (x .kind) (x .chars)
 reads-derive (reads-item r d l h) (List·Memᴰ·head p) = subst (λ (y : Item). Derives (y .kind) (y .chars)) (sym p) d
 reads-derive (reads-item r d l h) (List·Memᴰ·tail m) = reads-derive h m
@@ -205,7 +205,7 @@ reads-derive (reads-item r d l h) (List·Memᴰ·tail m) = reads-derive h m
 pub item-derives : (t : List ℕ) (x : Item) → List·Memᴰ x (items t) → Derives (x .kind) (x .chars)
 item-derives t x m = reads-derive (reading t) m
 
--- Its characters alone are that one item.
+-- The characters of an item, scanned alone, are this one item.
 pub item-alone : (t : List ℕ) (x : Item) → List·Memᴰ x (items t) → items (x .chars) ≡ x ∷ []
 unfolding Longest
 item-alone t x m =
@@ -213,7 +213,7 @@ item-alone t x m =
     (subst (λ (l : List ℕ). Reads l (x ∷ [])) (append-nil (x .chars))
     (reads-item [] (item-derives t x m) (λ k d f g e w. let z : _≡_ {A = ℕ} 0 1 = cc in omega arith) at-the-end)))
 
--- After the first character, selectors do not make or unmake an item of links or units.
+-- Adding or removing selectors after the first character of a links-only or emoji-headed item keeps it derivable.
 pub derives-alike : {k : ScanKind} (c : ℕ) (s t : List ℕ) → inner (startState (classOf c)) ≡ true → strip s ≡ strip t → Derives k (c ∷ s)
     → Derives k (c ∷ t)
 derives-alike {k} c s t i e d =

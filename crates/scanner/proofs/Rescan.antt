@@ -1,5 +1,5 @@
--- Items in a row are found again by a scan of their characters: the same items that pass a test, at the same starts,
--- where no passthrough passes it.
+-- A scan of the characters of items that stand in a row gives the same items that pass a test, at the same starts, if no
+-- passthrough passes the test.
 use mathlib.Core.Path.{_≡_, refl, ap, sym, _∙_, subst}
 use mathlib.Core.Bool.{Bool, true, false, cond, true≢false}
 use mathlib.Core.Option.{Option, none, some}
@@ -44,7 +44,7 @@ module _ (test : Item → Bool) (w : ℕ → ℕ) (plain-fails : (x : Item) → 
     pub same : (n : ℕ) → found test w (n + size w ((splitFrom p (join xs)) .0)) ((splitFrom p (join xs)) .1) ≡ found test w n xs
     pub whole : isPlain p ≡ false → (splitFrom p (join xs)) .0 ≡ []
 
-  -- What a scan makes of an item and the items after it, where it ends the item before.
+  -- The item that the scan finds for x: it has the characters of x and those of the items after x that continue it.
   abbrev next : Item → List Item → State → ℕ → List ℕ → Item
   next x xs q c s = record { kind = x .kind; chars = c ∷ (s ++ (splitFrom q (join xs)) .0) }
 
@@ -75,7 +75,7 @@ module _ (test : Item → Bool) (w : ℕ → ℕ) (plain-fails : (x : Item) → 
       ap (λ (i : Item). found test w n (i ∷ R .1)) y
       ∙ found-tail test w n x (R .1) xs (ap (λ (m : ℕ). found test w m (R .1)) (sym a) ∙ h .same (n + size w (x .chars)))
 
-  -- The item begins anew.
+  -- The case in which the scan begins a new item at x.
   again-none : {p q : State} {x : Item} {xs : List Item} (c : ℕ) (s : List ℕ) → transition p (classOf c) ≡ none → x .kind
       ≡ kindOf (startState (classOf c)) → x .chars ≡ c ∷ s → Walk (startState (classOf c)) s q → Again q xs → Again p (x ∷ xs)
   again-none {p} {q} {x} {xs} c s e k l wk h = record {
@@ -90,7 +90,7 @@ module _ (test : Item → Bool) (w : ℕ → ℕ) (plain-fails : (x : Item) → 
           found-skip (n + 0) (next x xs q c s) ((splitFrom q (join xs)) .1) kp ∙ rw (add-zero n) (again-plain x c s kp l h n)
       go false i n = rw (add-zero n) (again-solid x c s l (h .whole (sym (walk-plain wk) ∙ i)) h n)
 
-  -- Or passthrough goes on with it.
+  -- The case in which the passthrough before x goes on with x.
   again-some : {q : State} {x : Item} {xs : List Item} (c : ℕ) (s : List ℕ) (r : State) → transition plain (classOf c) ≡ some r → x .kind
       ≡ kindOf (startState (classOf c)) → x .chars ≡ c ∷ s → Walk (startState (classOf c)) s q → Again q xs → Again plain (x ∷ xs)
   unfolding kindOf
@@ -115,7 +115,7 @@ module _ (test : Item → Bool) (w : ℕ → ℕ) (plain-fails : (x : Item) → 
   rescan (then {p = p} {x = x} {xs = xs} c s (merges e) k l wk h) = subst (λ (p : State). Again p (x ∷ xs)) (sym e)
       (again-both c s (transition plain (classOf c)) refl k l wk (rescan h))
 
-  -- At the start of a text, what passes the test is the same as after passthrough.
+  -- At the start of a text the items that pass the test are the same as after passthrough.
   pub found-items : (n : ℕ) (t : List ℕ) → found test w n (items t)
       ≡ found test w (n + size w ((splitFrom plain t) .0)) ((splitFrom plain t) .1)
   unfolding items splitFrom found kindOf
@@ -131,6 +131,6 @@ module _ (test : Item → Bool) (w : ℕ → ℕ) (plain-fails : (x : Item) → 
           ∙ ap (λ (p : State). found test w (n + size w (c ∷ (splitFrom p t) .0)) ((splitFrom p t) .1)) (b .1 ∙ sym (b .0))
           ∙ sym (ap (λ (a : List ℕ × List Item). found test w (n + size w (a .0)) (a .1)) (cut-some plain q c t e))
 
-  -- Items in a row, scanned afresh.
+  -- A scan of the characters of items in a row gives the items that pass the test.
   pub found-again : {xs : List Item} → Chain plain xs → (n : ℕ) → found test w n (items (join xs)) ≡ found test w n xs
   found-again {xs} h n = found-items n (join xs) ∙ rescan h .same n

@@ -1,4 +1,5 @@
--- The rest of an emoji-headed item after a unit, by the runs at its front: nothing, a link and a unit, or the links left over.
+-- The rest of an emoji-headed item after a unit, by the runs at its front: it is empty, or a link and a unit, or the links left
+-- over.
 use mathlib.Core.Path.{_≡_, refl, ap, ap₂, sym, _∙_}
 use mathlib.Core.Bool.{Bool, true, false, _||_, true≢false}
 use mathlib.Core.Option.{none, some}
@@ -68,13 +69,13 @@ unit-off {c} (is-modifier s) e f = absurd
 unit-off (is-emoji s r m) e f = refl
 unit-off (is-other s k t) e f = refl
 
--- With no link there, the item ends.
+-- Without a link after the unit, the item ends.
 pub unit-ends : {r : List ℕ} → Stops inModifications r → Stops (λ c. eqb c 0x200D) r → (splitFrom unit r) .0 ≡ []
 unfolding splitFrom
 unit-ends at-end i = refl
 unit-ends (at-char {c = c} {s = t} e) (at-char f) = ap (λ (a : List ℕ × List Item). a .0) (cut-none unit c t (unit-off (hasClass c) e f))
 
--- A link and its S.
+-- The text from 200D on, split after this link and its S.
 link-cut : (t : List ℕ) → splitFrom unit (0x200D ∷ t)
     ≡ (0x200D ∷ (selectorsAt t ++ (splitFrom joined (afterSelectors t)) .0), (splitFrom joined (afterSelectors t)) .1)
 unfolding transition
@@ -90,7 +91,7 @@ joined-on (an-ri r) = rw (class-is (is-ri r))
 joined-on (a-modifier m) = rw (class-is (is-modifier m))
 joined-on (an-emoji h) = rw (class-is h)
 
--- With an emoji after one link and its S, the item goes on as at an emoji.
+-- With an emoji after one link and its S, the item goes on with the unit there.
 pub unit-joins : (t : List ℕ) (c : ℕ) (u : List ℕ) → afterSelectors t ≡ c ∷ u → isEmoji c ≡ true
     → splitFrom unit (0x200D ∷ t) ≡ (
       0x200D ∷ (selectorsAt t ++ c ∷ (splitFrom (startState (classOf c)) u) .0),
@@ -100,7 +101,7 @@ unit-joins t c u e f =
     link-cut t ∙ ap (λ (a : List ℕ × List Item). (0x200D ∷ (selectorsAt t ++ a .0), a .1))
     (ap (splitFrom joined) e ∙ cut-some joined (startState (classOf c)) c u (joined-on (emoji-class c f)))
 
--- Otherwise it takes in all links there, and ends.
+-- After one link and its S, the item ends at a character that is no selector, no link and no emoji.
 joined-off : {c : ℕ} {k : Class} → HasClass c k → isSelector c ≡ false → eqb c 0x200D ≡ false → isEmoji c ≡ false → transition joined k
     ≡ none
 unfolding transition

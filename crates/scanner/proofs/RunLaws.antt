@@ -1,4 +1,4 @@
--- The runs at the front of a text are the grammar's parts.
+-- The grammar derives the runs at the front of a text.
 use mathlib.Core.Path.{_≡_, refl, ap, ap₂, sym, _∙_, subst}
 use mathlib.Core.Logic.{⊎-elim}
 use mathlib.Core.Bool.{Bool, true, false, cond, _||_, true≢false}
@@ -86,7 +86,7 @@ tags-derived c t e = subst Tags (sym (run-true isTag c t e)) (tags-of e (run-pas
 
 -- ---- a tag modification
 
--- Selectors, and then groups or nothing.
+-- Selectors, and then groups of tags or nothing.
 data TagTail : List ℕ → Type 0 where
   no-groups : {a : List ℕ} → S a → TagTail a
   with-groups : {a g : List ℕ} → S a → TagGroups g → TagTail (a ++ g)
@@ -217,7 +217,7 @@ links-derived (c ∷ t) = go (eqb c 0x200D) refl
 
 -- ---- one run in another
 
--- A run that takes in what another takes in goes on after it.
+-- If every character that passes f passes g, the run by g goes on after characters that pass f.
 pub run-over : {f g : ℕ → Bool} {s : List ℕ} → ((c : ℕ) → f c ≡ true → g c ≡ true) → Passes f s → (t : List ℕ) → run g (s ++ t) ≡ s
     ++ run g t
 run-over {f} {g} {s} i all-pass t = refl

@@ -1,4 +1,4 @@
--- The longest run at the front: what it and what is left after it are, in front of any text.
+-- Laws of the longest run at the front of a text, and of the text after the run.
 use mathlib.Core.Path.{_≡_, refl, ap, _∙_}
 use mathlib.Core.Bool.{Bool, true, false, cond}
 use mathlib.Core.List.{List, [], _∷_, _++_}
@@ -13,7 +13,7 @@ module _ (f : ℕ → Bool) where
     all-pass : Passes []
     pass-and : {c : ℕ} {s : List ℕ} → f c ≡ true → Passes s → Passes (c ∷ s)
 
-  -- No character that passes the test stands at the front.
+  -- The first character does not pass the test, or there is none.
   pub data Stops : List ℕ → Type 0 where
     at-end : Stops []
     at-char : {c : ℕ} {s : List ℕ} → f c ≡ false → Stops (c ∷ s)
@@ -46,7 +46,7 @@ module _ (f : ℕ → Bool) where
   after-all all-pass (at-char {c = c} {s = s} e) = after-false c s e
   after-all {t = t} (pass-and {c = c} {s = s} e h) p = after-true c (s ++ t) e ∙ after-all h p
 
-  -- The run is a beginning of the text, all of it passes, and after it stands nothing that does.
+  -- The run and the text after it are the whole text. Every character of the run passes the test; the first one after it does not.
   pub run-after : (t : List ℕ) → run f t ++ afterRun f t ≡ t
   unfolding run afterRun
   run-after [] = refl

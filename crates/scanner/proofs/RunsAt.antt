@@ -1,4 +1,4 @@
--- The bytes of a run from an offset on, character by character: what a loop over a run goes by.
+-- The bytes of a run from an offset on, character by character: the laws that a loop over a run uses.
 use mathlib.Core.Path.{_≡_, ap, _∙_}
 use mathlib.Core.Bool.{Bool, true, false}
 use mathlib.Core.List.{List}
@@ -13,16 +13,16 @@ use Rattle.scanner.proofs.Peek.{Seen, Unseen}
 use Rattle.scanner.proofs.Runs.{run-false, run-true}
 
 module _ (f : ℕ → Bool) where
-  -- At no character the run is over.
+  -- Where no character begins, the run is empty.
   pub run-none : {text : List ℕ} {at : ℕ} → Unseen text at → size width (run f (chars (drop at text))) ≡ 0
   unfolding run
   run-none h = ap (λ (l : List ℕ). size width (run f l)) (h .chars-none)
 
   module _ {text : List ℕ} {at v : ℕ} {k : Class} {next : ℕ} (h : Seen text at v k next) where
-    -- A character that passes the test adds its bytes.
+    -- A character that passes the test adds its bytes to the run.
     pub run-on : f v ≡ true → at + size width (run f (chars (drop at text))) ≡ next + size width (run f (chars (drop next text)))
     run-on e = omega (arith, h .after, ap (size width) (ap (run f) (h .chars-on) ∙ run-true f v (chars (drop next text)) e))
 
-    -- At any other the run is over.
+    -- At a character that fails the test, the run is empty.
     pub run-over : f v ≡ false → size width (run f (chars (drop at text))) ≡ 0
     run-over e = ap (size width) (ap (run f) (h .chars-on) ∙ run-false f v (chars (drop next text)) e)

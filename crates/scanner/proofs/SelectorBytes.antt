@@ -1,4 +1,4 @@
--- The selectors at an offset by their bytes: EF B8 8E and EF B8 8F.
+-- The selectors at an offset by their bytes, EF B8 8E and EF B8 8F.
 use mathlib.Core.Path.{_≡_, refl, ap, sym, _∙_, subst}
 use mathlib.Core.List.{List, [], _∷_, _++_}
 use Prim.Native.Nat.{ℕ, _+_}
@@ -34,7 +34,7 @@ read-bytes (x ∷ s) q a b c = (λ i. readFour (a i) (b i) (c i) (getD s 2 0)) �
     go Text = refl
     go Emoji = refl
 
--- ---- a selector stands at an offset
+-- ---- whether a selector stands at an offset
 
 pub record SelectorAt (text : List ℕ) (at : ℕ) (q : Presentation) : Type 0 where
   pub read : Step text at (asSelector q) 3
@@ -59,7 +59,7 @@ module _ (text : List ℕ) (at : ℕ) where
             (selector-is q)) ∙ omega (arith, width-selector q);
       }
 
-  -- It is what the first character asks for, ..
+  -- If the first character selects q, a selector for q stands there.
   pub selector-here : (q : Presentation) → Front ≡ Selector q → SelectorAt text at q
   unfolding firstSelector
   selector-here q e = go (reading (drop at text))
@@ -72,7 +72,7 @@ module _ (text : List ℕ) (at : ℕ) where
       go (read-ill-formed f) = none (chars-ill-formed (drop at text) f)
       go (read-more v w f r) = front-selector (step text at v w f) q e
 
-  -- .. and has these three bytes,
+  -- A selector has these three bytes.
   pub selector-bytes : (q : Presentation) → Front ≡ Selector q
       → (getD (drop at text) 0 0 ≡ 0xEF) × (getD (drop at text) 1 0 ≡ 0xB8) × (getD (drop at text) 2 0 ≡ lastByte q)
   unfolding encode asSelector
@@ -93,12 +93,12 @@ module _ (text : List ℕ) (at : ℕ) where
             (sym b),
       )
 
-  -- .. which nothing else has.
+  -- Only a selector has these three bytes.
   pub selector-read : (q : Presentation) → getD (drop at text) 0 0 ≡ 0xEF → getD (drop at text) 1 0 ≡ 0xB8 → getD (drop at text) 2 0
       ≡ lastByte q → Selector q ≡ Front
   selector-read q a b c = sym (front-read (step text at (asSelector q) 3 (read-bytes (drop at text) q a b c)) ∙ from-selector q)
 
-  -- No selector stands where a test of the bytes fails that every selector passes.
+  -- If a test fails that the bytes of every selector pass, no selector stands there.
   pub no-selector-read : ((q : Presentation) → Front ≡ Selector q → ⊥) → NoSelector ≡ Front
   no-selector-read never = go Front refl
     where
@@ -113,7 +113,7 @@ module _ (text : List ℕ) (at : ℕ) where
       go Text = no-text
       go Emoji = no-emoji
 
-  -- Where none stands, the run is over.
+  -- Where no selector stands, the run of selectors is empty.
   pub no-more : Front ≡ NoSelector → size width (selectorsAt (chars (drop at text))) ≡ 0
   unfolding firstSelector run
   no-more e = go (chars (drop at text)) e

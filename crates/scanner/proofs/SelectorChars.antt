@@ -1,4 +1,4 @@
--- A character is a selector or not: what each is to the tests, and the bytes of a selector.
+-- Whether a character is a selector: the results of the tests in both cases, and the bytes of a selector.
 use mathlib.Core.Path.{_≡_, refl, ap, sym, _∙_}
 use mathlib.Core.Bool.{Bool, true, false, cond, _||_, true≢false}
 use mathlib.Core.Logic.{⊎-elim}
@@ -61,7 +61,7 @@ other-value c f = go (char-is c)
     go (a-selector q n) = let z : Selector q ≡ NoSelector = sym (ap fromSelector n ∙ from-selector q)
         ∙ f in let n : _≡_ {A = ℕ} 0 1 = cc in absurd (omega arith)
 
--- ---- three bytes each
+-- ---- three bytes for each selector
 
 pub width-selector : (q : Presentation) → width (asSelector q) ≡ 3
 unfolding width encode asSelector

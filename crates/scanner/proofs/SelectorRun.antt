@@ -1,4 +1,4 @@
--- The run of selectors by its bytes: three for each, the first at the offset and the second three bytes after it.
+-- The run of selectors by its bytes: three for each. The first selector is at the offset, the second three bytes after it.
 use mathlib.Core.Path.{_≡_, refl, ap, sym, _∙_}
 use mathlib.Core.Logic.{⊎-elim}
 use mathlib.Core.Bool.{Bool, true, false}
@@ -18,7 +18,7 @@ use Rattle.scanner.proofs.Bytes.{chars-from}
 use Rattle.scanner.proofs.Runs.{Passes, all-pass, pass-and, run-false, run-passes, run-true}
 use Rattle.scanner.proofs.SelectorChars.{from-other, selector-width}
 
--- ---- three bytes each
+-- ---- three bytes for each selector
 
 passes-size : {s : List ℕ} → Passes isSelector s → size width s ≡ 3 * length s
 passes-size all-pass = refl

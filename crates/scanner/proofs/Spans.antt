@@ -1,4 +1,4 @@
--- Spans tile the bytes, spell their items, and a scan or a cursor at a span's end goes on with the spans after it.
+-- Spans tile the bytes and are the encodings of their items; a scan or a cursor at a span's end goes on with the spans after it.
 use mathlib.Core.Path.{_≡_, refl, ap, sym, _∙_, subst}
 use mathlib.Core.List.{List, [], _∷_, _++_, append-nil, cons-ne-nil, head-eq-of-cons-eq, tail-eq-of-cons-eq}
 use Prim.Native.Nat.{ℕ, _+_, _-_, _≤_}
@@ -31,7 +31,7 @@ scan-tiles text at =
     subst (λ (n : ℕ). Tiles at (spans at (items t)) (at + n)) (ap (size width) (tiling t) ∙ size-chars (drop at text))
     (spans-tile at (filled t))
 
--- ---- spans spell their items
+-- ---- spans are the encodings of their items
 
 spans-spell : (text : List ℕ) (at : ℕ) (xs : List Item) → chars (drop at text) ≡ join xs → Spells text (spans at xs) xs
 unfolding spans
@@ -50,9 +50,9 @@ pub spells-first : {text : List ℕ} {s : ScanItem} {ss : List ScanItem} {x : It
     → take (s .end - s .start) (drop (s .start) text) ≡ encodeAll (x .chars)
 spells-first (span-and b c d h) = b
 
--- ---- afresh from a span's end
+-- ---- a scan from a span's end
 
--- The items of the spans up to a span, and those after it.
+-- The items of the spans up to a span, and the items after it.
 record Parted (at : ℕ) (xs : List Item) (end : ℕ) (after : List ScanItem) : Type 0 where
   upTo : List Item
   rest : List Item

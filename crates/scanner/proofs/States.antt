@@ -1,4 +1,5 @@
--- Facts of all places and classes, each by one computed test: which steps keep to passthrough, and where selectors are taken in.
+-- Facts about all states and classes, each by one computed test: which transitions stay in passthrough, and which states selectors
+-- lead back to.
 use mathlib.Core.Path.{_≡_, refl, sym, subst}
 use mathlib.Core.Bool.{Bool, true, false, _&&_, Bool·beq, false≢true, true≢false}
 use mathlib.Core.Option.{Option, none, some}
@@ -21,7 +22,7 @@ use Rattle.scanner.specs.Items.{
 }
 use Rattle.scanner.specs.declared.ScanKind.the-variants.{EmojiHeaded, LinksOnly, Passthrough, UnsanctionedPresentationSelectors}
 
--- ---- a fact of all places and classes is one computed test
+-- ---- a fact about all states and classes is one computed test
 
 abbrev pub Row : (Class → Bool) → Type 0
 Row f = T (f selector) × T (f link) × T (f ri) × T (f modifier) × T (f emoji) × T (f keycap) × T (f tag) × T (f other)
@@ -59,7 +60,7 @@ is-true false h = absurd h
 same-bool : (a b : Bool) → T (Bool·beq a b) → a ≡ b
 same-bool a b h = beq-so a b (is-true (Bool·beq a b) h)
 
--- A test of the place that a step leads to.
+-- A test of the state to which a transition leads; true if there is no transition.
 abbrev pub onSome : (State → Bool) → Option State → Bool
 onSome f (some q) = f q
 onSome f none = true
@@ -98,7 +99,7 @@ pub kind-plain : (p : State) → isPlain p ≡ true → kindOf p ≡ Passthrough
 unfolding kindOf
 kind-plain p e = subst (λ (q : State). kindOf q ≡ Passthrough) (sym (is-plain p e)) refl
 
--- Passthrough goes on with what would begin as passthrough.
+-- Passthrough goes on with exactly the characters that would begin a passthrough item.
 plainOn : Class → State → Bool
 plainOn k q = isPlain q && isPlain (startState k)
 
@@ -110,7 +111,7 @@ plain-step k q e =
     let b = both-true (isPlain q) (isPlain (startState k)) (is-true (plainOn k q) t) in
     (is-plain q (b .0), is-plain (startState k) (b .1))
 
--- ---- where selectors are taken in: inside links and units
+-- ---- states to which selectors lead back: those of links and units
 
 abbrev pub inner : State → Bool
 inner plain = false
@@ -125,7 +126,7 @@ pub inner-step : (p q : State) (k : Class) → transition p k ≡ some q → inn
 unfolding transition
 inner-step p q k e = same-bool (inner p) (inner q) (on-step (λ p q. Bool·beq (inner p) (inner q)) always p q k e)
 
--- A selector moves no place that is not passthrough.
+-- A selector leads from every state other than passthrough to the same state.
 pub solid-selector : (p : State) → isPlain p ≡ false → transition p selector ≡ some p
 unfolding transition
 solid-selector plain e = absurd (true≢false e)
@@ -136,7 +137,7 @@ solid-selector unit e = refl
 solid-selector joined e = refl
 solid-selector leftOver e = refl
 
--- Only after passthrough, or at the start, a selector begins an item.
+-- A selector begins an item only after passthrough, or at the start of a text.
 pub selector-ends : (p : State) → transition p selector ≡ none → p ≡ plain
 unfolding transition
 selector-ends plain e = refl
@@ -159,7 +160,7 @@ inner-solid leftOver e = refl
 pub inner-selector : (p : State) → inner p ≡ true → transition p selector ≡ some p
 inner-selector p e = solid-selector p (inner-solid p e)
 
--- A run of selectors goes on with a selector only.
+-- Only a selector continues a run of selectors.
 pub selectors-step : (k : Class) (q : State) → transition selectors k ≡ some q → (k ≡ selector) × (q ≡ selectors)
 unfolding transition
 selectors-step selector q e = (refl, cc)
@@ -171,7 +172,7 @@ selectors-step keycap q e = (cc, cc)
 selectors-step tag q e = (cc, cc)
 selectors-step other q e = (cc, cc)
 
--- A base stands in a unit whose stem is whole.
+-- A character of class emoji leads to the state of a unit whose stem is complete.
 pub emoji-step : (p q : State) → transition p emoji ≡ some q → q ≡ unit
 unfolding transition
 emoji-step plain r e = cc
@@ -182,7 +183,7 @@ emoji-step unit r e = cc
 emoji-step joined r e = cc
 emoji-step leftOver r e = cc
 
--- ---- places of emoji-headed items, and the tags there
+-- ---- the states of emoji-headed items, and tags there
 
 abbrev pub headed : State → Bool
 headed plain = false
@@ -207,7 +208,7 @@ tag-step unit q e h = cc
 tag-step joined q e h = cc
 tag-step leftOver q e h = cc
 
--- A tag modification begins with a tag, at a unit.
+-- A tag modification begins with a tag that leads to the state `unit`.
 pub tag-begins : (q : State) (k : Class) → beginsTags q k ≡ true → (k ≡ tag) × (q ≡ unit)
 unfolding beginsTags
 tag-begins q selector e = absurd (false≢true e)
@@ -225,7 +226,7 @@ tag-begins joined tag e = absurd (false≢true e)
 tag-begins leftOver tag e = absurd (false≢true e)
 tag-begins q other e = absurd (false≢true e)
 
--- ---- the kind of an item by its first class
+-- ---- the kind of an item by the class of its first character
 
 pub kind-passthrough : (k : Class) → kindOf (startState k) ≡ Passthrough → startState k ≡ plain
 unfolding kindOf startState

@@ -1,5 +1,5 @@
--- The structure of links-only and emoji-headed items: it flattens to their characters, its parts are the grammar's, and its tags
--- are those that `tagModifications` finds.
+-- The structure of links-only and emoji-headed items: `flatten` gives their characters back, the grammar derives its parts, and its
+-- tags are those that `tagModifications` finds.
 use mathlib.Core.Path.{_≡_, refl, ap, ap₂, sym, _∙_, subst}
 use mathlib.Core.Bool.{false}
 use mathlib.Core.List.{List, [], _∷_, _++_, append-assoc, append-nil, map, List·Memᴰ, List·Memᴰ·cases-cons, List·Memᴰ·not-nil, Memᴰ·of-map}
@@ -69,7 +69,7 @@ use Rattle.scanner.proofs.Modifications.{
 use Rattle.scanner.proofs.Units.{NoLink, no-more, no-link-and, S-no-link, UnitRead, unit-flatten, unit-no-link, unit-read}
 use Rattle.scanner.proofs.Tags.{link-tags, unit-tags}
 
--- ---- cut at links
+-- ---- splitting at links
 
 cut-char : (c : ℕ) (t : List ℕ) → eqb c 0x200D ≡ false → splitAtLinks (c ∷ t) ≡ (c ∷ (splitAtLinks t) .0, (splitAtLinks t) .1)
 unfolding splitAtLinks
@@ -84,14 +84,14 @@ cut-link : (t : List ℕ) → splitAtLinks (0x200D ∷ t) ≡ ([], (splitAtLinks
 unfolding splitAtLinks
 cut-link t = refl
 
--- ---- characters and the structure that is made of them
+-- ---- characters and their structure
 
--- Links.
+-- Characters and the links that they are.
 pub data LinksAre : List ℕ → List ZwjLink → Type 0 where
   no-links-are : LinksAre [] []
   link-are : {s l : List ℕ} {ls : List ZwjLink} → S s → LinksAre l ls → LinksAre (0x200D ∷ (s ++ l)) (record { after = s } ∷ ls)
 
--- Further units, and the links left over.
+-- Characters and the further units and links left over that they are.
 pub data JoinsAre : List ℕ → List ZwjJoinedEmoji → List ZwjLink → Type 0 where
   no-joins-are : {l : List ℕ} {ls : List ZwjLink} → LinksAre l ls → JoinsAre l [] ls
   join-are :
@@ -99,7 +99,7 @@ pub data JoinsAre : List ℕ → List ZwjJoinedEmoji → List ZwjLink → Type 0
       → JoinsAre (0x200D ∷ (s ++ (v ++ w)))
       (record { link = record { after = s }; emoji = emojiLike (unit-read d .char) (unit-read d .rest) } ∷ js) ls
 
--- An item.
+-- The characters of an item and its structure.
 pub data SequenceAre : List ℕ → EmojiSequence → Type 0 where
   links-are : {l : List ℕ} {ls : List ZwjLink} → LinksAre l ls → SequenceAre l (linksOnly ls)
   emoji-are :
@@ -115,7 +115,7 @@ link-derives s = a-link (passes-S (run-passes isSelector s))
 links-derive : (ss : List (List ℕ)) (l : ZwjLink) → List·Memᴰ l (map linkOf ss) → Link (flattenLink l)
 links-derive ss l m = let p = Memᴰ·of-map linkOf ss m in subst (λ (x : ZwjLink). Link (flattenLink x)) (p .2) (link-derives (p .0))
 
--- A run of links: nothing stands before the first, and all are left over.
+-- A run of links: no character stands before the first link, and all links are left over.
 record LinksRead (l : List ℕ) : Type 0 where
   before : (splitAtLinks l) .0 ≡ []
   flat : flattenLinks (map linkOf ((splitAtLinks l) .1)) ≡ l
@@ -237,7 +237,7 @@ joins-read {l = l} (joined-and {v = v} {j = j} (a-link {s = s} h) d k) m =
 
 -- ---- items
 
--- What is claimed of an item's structure.
+-- The properties of an item's structure that the statements claim.
 pub record StructureRead (t : List ℕ) : Type 0 where
   pub flat : flatten (structure t) ≡ t
   pub derives : StructureDerives (structure t)

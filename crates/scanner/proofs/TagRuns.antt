@@ -1,4 +1,4 @@
--- The modifications that `modificationsOf` makes of selectors alone, and of tags and selectors.
+-- The modifications that `modificationsOf` makes from selectors alone, and from tags and selectors.
 use mathlib.Core.Path.{_≡_, refl, ap, sym, _∙_, subst}
 use mathlib.Core.Bool.{true}
 use mathlib.Core.List.{List, [], _∷_, _++_, append-nil, cons-ne-nil}
@@ -45,7 +45,7 @@ data OneTags : List EmojiModification → Type 0 where
   no-tags : OneTags []
   the-tags : (rs : List EmojiTagRun) → OneTags (TagModifier rs ∷ [])
 
--- One tag modification, of the characters s.
+-- The characters s are exactly one tag modification.
 pub record OfTags (s : List ℕ) : Type 0 where
   pub runs : List EmojiTagRun
   pub is : (modificationsOf s) .1 ≡ TagModifier runs ∷ []
@@ -69,7 +69,7 @@ one-tags (pass-and {c = c} {s = s} e h) =
     (λ t. rw (of-class s (is-selector t)) (one-tags h))
     (either-true (isTag c) (isSelector c) e)
 
--- Where a tag stands at the front.
+-- The characters of a tag modification, if a tag stands at the front.
 pub of-tags : (c : ℕ) (t : List ℕ) → isTag c ≡ true → OfTags (tagModificationAt (c ∷ t))
 unfolding tagModificationAt flattenModifications flattenModification
 of-tags c t e = go ((modificationsOf s) .1) refl (one-tags passes)

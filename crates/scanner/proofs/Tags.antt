@@ -1,4 +1,4 @@
--- The tags of each tag modification, taken from an item's characters: after links, stems and modifications.
+-- The tags of each tag modification, from an item's characters: for links, stems and modifications.
 use mathlib.Core.Path.{_≡_, refl, ap, ap₂, sym, _∙_}
 use mathlib.Core.Bool.{true, false, true≢false}
 use mathlib.Core.List.{List, [], _∷_, _++_, append-assoc}
@@ -56,7 +56,7 @@ use Rattle.scanner.proofs.Modifications.{
 }
 use Rattle.scanner.proofs.Units.{UnitRead}
 
--- ---- one character more
+-- ---- one more character
 
 pub tag-runs-tag : (c : ℕ) (t : List ℕ) → isTag c ≡ true → tagRuns (c ∷ t) ≡ (c ∷ (tagRuns t) .0, (tagRuns t) .1)
 unfolding tagRuns
@@ -97,7 +97,7 @@ stem-tags t (flag {s = s} {t = u} a b e h f k) =
 
 -- ---- modifications
 
--- The tags of a tag modification that stands first, and those of the later ones.
+-- The tags of the first modification, if it is a tag modification, and the tags of the later ones.
 unfoldable pub frontTags : List EmojiModification → List ℕ
 frontTags [] = []
 frontTags (EmojiModifier c s ∷ ms) = []
@@ -149,11 +149,11 @@ later-more c s (EnclosingKeycap u ∷ ms) = refl
 later-more c s (TagModifier rs ∷ ms) = refl
 
 module _ (w : List ℕ) (l : List (List ℕ)) (e : tagRuns w ≡ ([], l)) where
-  -- What the tags of a run of modifications before w are.
+  -- The tags of modifications before characters w.
   abbrev TagsBefore : List ℕ → List EmojiModification → Type 0
   TagsBefore t ms = tagRuns (t ++ w) ≡ (frontTags ms, laterTags ms ++ l)
 
-  -- A modification that is no tag modification.
+  -- A modification that is not a tag modification.
   other-before : (c : ℕ) (t : List ℕ) → isTag c ≡ false → isSelector c ≡ false → ModRun t → TagsBefore t ((modificationsOf t) .1)
       → tagRuns (c ∷ (t ++ w)) ≡ ([], tagsOfModifications ((modificationsOf t) .1) ++ l)
   unfolding tagModifications

@@ -1,4 +1,4 @@
--- Whether tags are complete, read from left to right: over a tag modification, by the last tag so far; over the rest of an item, by its tag
+-- Whether tags are complete, from left to right: in a tag modification, by the last tag read; in the rest of an item, by its tag
 -- modifications one after the other.
 use mathlib.Core.Path.{_≡_, refl, ap, ap₂, sym, _∙_}
 use mathlib.Core.Logic.{⊎-elim}
@@ -31,7 +31,8 @@ use Rattle.scanner.specs.Runs.{inTags, run}
 use Rattle.scanner.specs.Tags.{allComplete, complete, tagModifications, tagRuns, tagsComplete, withTags}
 use Rattle.scanner.specs.declared.ScanKind.{ScanKind}
 use Rattle.scanner.specs.declared.ScanKind.the-variants.{EmojiHeaded, LinksOnly, Passthrough, UnsanctionedPresentationSelectors}
-use Rattle.scanner.proofs.ClassTests.{forSelector, forTag, selector-test, tag-test}
+use Rattle.scanner.specs.RunKinds.{isSelectorClass, isTagClass}
+use Rattle.scanner.proofs.ClassTests.{selector-test, tag-test}
 use Rattle.scanner.proofs.Complete.{complete-end, complete-other, complete-selector, complete-start, complete-tag, completeFrom}
 use Rattle.scanner.proofs.Complete.{last-of}
 use Rattle.scanner.proofs.Peek.{Seen, Unseen}
@@ -41,7 +42,8 @@ use Rattle.scanner.proofs.Tags.{tag-runs-other, tag-runs-selector}
 
 -- ---- a tag modification
 
--- Of the characters `whole`, `rest` is left, and `b` says whether the last tag so far is E007F.
+-- Of the characters `whole`, the characters `rest` are still to be read; b says whether the last tag read is E007F, or none was
+-- read.
 pub record TagsRead (whole rest : List ℕ) (b : Bool) : Type 0 where
   tags : List ℕ
   so-far : b ≡ allComplete (withTags tags [])
@@ -70,7 +72,7 @@ module _ {text : List ℕ} {at v : ℕ} {k : Class} {next : ℕ} (s : Seen text 
 
   pub tags-tag : k ≡ tag → TagsRead w rest (eqb v 0xE007F)
   tags-tag e =
-      let t : isTag v ≡ true = tag-test v ∙ ap forTag (sym (s .class) ∙ e) in
+      let t : isTag v ≡ true = tag-test v ∙ ap isTagClass (sym (s .class) ∙ e) in
       record {
         tags = h .tags ++ (v ∷ []);
         so-far = last-tag (h .tags) v;
@@ -79,7 +81,7 @@ module _ {text : List ℕ} {at v : ℕ} {k : Class} {next : ℕ} (s : Seen text 
 
   pub tags-selector : k ≡ selector → TagsRead w rest b
   tags-selector e =
-      let t : isSelector v ≡ true = selector-test v ∙ ap forSelector (sym (s .class) ∙ e) in
+      let t : isSelector v ≡ true = selector-test v ∙ ap isSelectorClass (sym (s .class) ∙ e) in
       record {
         tags = h .tags;
         so-far = h .so-far;
@@ -111,13 +113,13 @@ both-parts {t = t} ts (pass-and {c = c} {s = s} e h) f =
     ∙ ap (λ (b : Bool). b && completeFrom [] t) (sym (complete-selector ts c s g)))
     (either-true (isTag c) (isSelector c) e)
 
--- After a tag modification stands what is neither tag nor selector.
+-- A tag modification, before a character that is neither tag nor selector.
 pub tags-then : {s t : List ℕ} → Passes inTags s → Stops inTags t
     → allComplete (tagModifications (s ++ t)) ≡ (allComplete (tagModifications s) && allComplete (tagModifications t))
 tags-then {s} {t} h f = complete-start (s ++ t) ∙ both-parts [] h f
     ∙ sym (ap₂ (λ (a b : Bool). a && b) (complete-start s) (complete-start t))
 
--- Any other character changes nothing.
+-- A character that is no tag changes nothing.
 other-tags : (c : ℕ) (t : List ℕ) → isTag c ≡ false → tagModifications (c ∷ t) ≡ tagModifications t
 unfolding tagModifications withTags
 other-tags c t e = go (isSelector c) refl
@@ -126,7 +128,7 @@ other-tags c t e = go (isSelector c) refl
     go true s = ap (λ (r : List ℕ × List (List ℕ)). withTags (r .0) (r .1)) (tag-runs-selector c t s)
     go false s = ap (λ (r : List ℕ × List (List ℕ)). withTags (r .0) (r .1)) (tag-runs-other c t e s)
 
--- ---- by the place
+-- ---- by the state
 
 abbrev tagsIn : Bool → List ℕ → Bool
 tagsIn b s = cond b (allComplete (tagModifications s)) true
@@ -151,8 +153,8 @@ tags-nil UnsanctionedPresentationSelectors = refl
 tags-nil LinksOnly = refl
 tags-nil EmojiHeaded = refl
 
--- A tag with which no tag modification begins stands in no emoji-headed item.
-no-tag : (p q : State) (k : Class) → transition p k ≡ some q → headed p ≡ true → beginsTags q k ≡ false → forTag k ≡ false
+-- In an emoji-headed item, a tag always belongs to a tag modification.
+no-tag : (p q : State) (k : Class) → transition p k ≡ some q → headed p ≡ true → beginsTags q k ≡ false → isTagClass k ≡ false
 unfolding beginsTags
 no-tag p q selector e h b = refl
 no-tag p q link e h b = refl
@@ -168,7 +170,7 @@ pub tags-on : (p q : State) {k : Class} (c : ℕ) (s : List ℕ) → k ≡ class
 tags-on p q {k} c s i e b = tags-by p (c ∷ s) ∙ go (headed p) refl ∙ ap (λ (h : Bool). tagsIn h s) (headed-step p q k e) ∙ sym (tags-by q s)
   where
     go : (h : Bool) → headed p ≡ h → tagsIn h (c ∷ s) ≡ tagsIn h s
-    go true f = ap allComplete (other-tags c s (tag-test c ∙ ap forTag (sym i) ∙ no-tag p q k e f b))
+    go true f = ap allComplete (other-tags c s (tag-test c ∙ ap isTagClass (sym i) ∙ no-tag p q k e f b))
     go false f = refl
 
 -- The first character of an emoji-headed item is no tag.
@@ -177,15 +179,15 @@ pub first-tags : (c : ℕ) (s : List ℕ) → tagsComplete (kindOf (startState (
 unfolding tagsComplete kindOf startState
 first-tags c s = go (classOf c) refl
   where
-    headed-first : forTag (classOf c) ≡ false → allComplete (tagModifications (c ∷ s)) ≡ allComplete (tagModifications s)
+    headed-first : isTagClass (classOf c) ≡ false → allComplete (tagModifications (c ∷ s)) ≡ allComplete (tagModifications s)
     headed-first e = ap allComplete (other-tags c s (tag-test c ∙ e))
 
     go : (k : Class) → classOf c ≡ k → tagsComplete (kindOf (startState k)) (c ∷ s) ≡ tagsComplete (kindOf (startState k)) s
     go selector e = refl
     go link e = refl
-    go ri e = headed-first (ap forTag e)
-    go modifier e = headed-first (ap forTag e)
-    go emoji e = headed-first (ap forTag e)
+    go ri e = headed-first (ap isTagClass e)
+    go modifier e = headed-first (ap isTagClass e)
+    go emoji e = headed-first (ap isTagClass e)
     go keycap e = refl
     go tag e = refl
     go other e = refl

@@ -1,4 +1,4 @@
--- The tests of a text by their answers.
+-- The refusal of a text, by the results of its two tests.
 use mathlib.Core.Path.{_≡_, ap, _∙_}
 use mathlib.Core.Bool.{Bool, cond, not}
 use mathlib.Core.List.{List}
@@ -12,7 +12,7 @@ use Rattle.base.specs.declared.Refusal.the-variants.{NotWellFormed, TextTooLong
 use Rattle.utf8.specs.Rfc3629.{validUpTo}
 use Rattle.scanner.specs.TextCheck.{textRefusal}
 
--- The refusal by the answers of the two tests.
+-- The refusal, by the results of the two tests.
 abbrev pub byTextTests : Bool → Bool → List ℕ → Option Refusal
 byTextTests short formed text = cond (not short) (some TextTooLong) (cond (not formed) (some (NotWellFormed (validUpTo text))) none)
 

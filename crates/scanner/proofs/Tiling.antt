@@ -1,4 +1,4 @@
--- The items tile the text, none is empty, and a scan that starts afresh at an item's end goes on with the same items.
+-- The items tile the text, none is empty, and a scan from an item's end gives the items after it.
 use mathlib.Core.Path.{_≡_, refl, ap, sym, _∙_}
 use mathlib.Core.Logic.{_≢_}
 use mathlib.Core.Option.{Option, none, some}
@@ -9,11 +9,11 @@ use lib.Seq.{drop-append-seam}
 use Rattle.scanner.specs.Classes.{classOf}
 use Rattle.scanner.specs.Items.{State, transition, startState, kindOf, Item, join, splitFrom, items}
 
--- The item that begins with c in front of t.
+-- The first item of the text c ∷ t.
 abbrev pub first : ℕ → List ℕ → Item
 first c t = record { kind = kindOf (startState (classOf c)); chars = c ∷ (splitFrom (startState (classOf c)) t) .0 }
 
--- The items after it.
+-- The items after the first item of the text c ∷ t.
 abbrev pub after : ℕ → List ℕ → List Item
 after c t = (splitFrom (startState (classOf c)) t) .1
 
@@ -36,13 +36,13 @@ cut-tile p (c ∷ t) = go (transition p (classOf c)) refl (λ q. cut-tile q t)
     go (some q) e h = rw (cut-some p q c t e) (ap (λ (l : List ℕ). c ∷ l) (h q))
     go none e h = rw (cut-none p c t e) (ap (λ (l : List ℕ). c ∷ l) (h (startState (classOf c))))
 
--- The items' characters, joined, are the text.
+-- The characters of the items, one item after the other, are the text.
 pub tiling : (t : List ℕ) → join (items t) ≡ t
 unfolding items
 tiling [] = refl
 tiling (c ∷ t) = ap (λ (l : List ℕ). c ∷ l) (cut-tile (startState (classOf c)) t)
 
--- ---- a scan that starts afresh
+-- ---- a scan from an item's end
 
 pub restart : (p : State) (t : List ℕ) → (splitFrom p t) .1 ≡ items (drop (length ((splitFrom p t) .0)) t)
 unfolding splitFrom items
@@ -55,7 +55,7 @@ restart p (c ∷ t) = go (transition p (classOf c)) refl (λ q. restart q t)
     go (some q) e h = rw (cut-some p q c t e) (h q)
     go none e h = rw (cut-none p c t e)
 
--- What a place is left with is scanned as a text of its own.
+-- The items after the item at a state are the items of the remaining text, scanned alone.
 pub cut-restart : (p : State) (t : List ℕ) → items (join ((splitFrom p t) .1)) ≡ (splitFrom p t) .1
 cut-restart p t =
     ap items (sym (drop-append-seam ((splitFrom p t) .0) (join ((splitFrom p t) .1)))
@@ -67,7 +67,7 @@ items-tail [] x xs e = absurd (cons-ne-nil x xs (sym e))
 items-tail (c ∷ t) x xs e = let z : (splitFrom (startState (classOf c)) t) .1 ≡ xs = cc in ap (λ (l : List Item). items (join l)) (sym z)
     ∙ cut-restart (startState (classOf c)) t ∙ z
 
--- Scanning afresh from an item's end gives the remaining items.
+-- A scan from an item's end gives the remaining items.
 pub items-after : (t : List ℕ) (xs ys : List Item) → items t ≡ xs ++ ys → items (join ys) ≡ ys
 items-after t [] ys e = ap items (ap join (sym e) ∙ tiling t) ∙ e
 items-after t (x ∷ xs) ys e = items-after (join (xs ++ ys)) xs ys (items-tail t x (xs ++ ys) e)

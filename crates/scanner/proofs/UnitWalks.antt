@@ -1,4 +1,5 @@
--- A unit before characters that it cannot take in: what is read of it at its offset is the unit that `emojiLike` makes of its characters.
+-- A unit before characters that cannot be added to it: the function that reads a unit at its offset returns the unit that
+-- `emojiLike` makes of its characters.
 use mathlib.Core.Path.{_≡_, refl, ap, ap₂, sym, _∙_, subst}
 use mathlib.Core.Logic.{⊎-elim}
 use mathlib.Core.Bool.{Bool, true, _||_}
@@ -67,12 +68,12 @@ use Rattle.scanner.proofs.Runs.{Passes, all-pass, pass-and, Stops, at-c
 use Rattle.scanner.proofs.Units.{front-no-ri, front-stops, like-flag, like-of, like-single, unit-read}
 use Rattle.scanner.proofs.UnitsAt.{no-stem, stem-emoji, stemEnd, unit-on}
 
--- The unit v cannot take in what begins with r.
+-- The first character of r cannot be added to the unit v, and it is no selector.
 pub record Last (v r : List ℕ) : Type 0 where
   pub no-selector : Stops isSelector r
   pub no-more : (d : ℕ) (f : List ℕ) → r ≡ d ∷ f → EmojiUnit (v ++ d ∷ []) → ⊥
 
--- ---- a character more
+-- ---- one more character
 
 modifications-append : {s m : List ℕ} → Modifications s → Modification m → Modifications (s ++ m)
 modifications-append {m = m} unmodified h = subst Modifications (append-nil m) (modified h unmodified)
@@ -90,7 +91,7 @@ one-modification c e =
     (λ t. by-tags (one-group (one-tag t) no-selectors)) (either-true (eqb c 0x20E3) (isTag c) o))
     (either-true (isEmojiModifier c) (eqb c 0x20E3 || isTag c) e)
 
--- After the unit no modification goes on ..
+-- No character of a modification stands after the unit.
 last-stops : {v : List ℕ} (r : List ℕ) → EmojiUnit v → Last v r → Stops inModifications r
 last-stops [] u l = at-end
 last-stops (c ∷ t) u l = go (l .no-selector)
@@ -99,7 +100,7 @@ last-stops (c ∷ t) u l = go (l .no-selector)
     go (at-char f) = at-char (ap₂ (λ (x y : Bool). x || y)
         (fails (isModification c) (λ e. l .no-more c t refl (unit-more u (one-modification c e)))) f)
 
--- .. and after a lone RI there is no RI.
+-- No RI stands after a unit that is a single RI and its S.
 no-ri-after : {c : ℕ} {s : List ℕ} (r : List ℕ) → isRi c ≡ true → S s → Last ((c ∷ s) ++ []) r → Stops isRi r
 no-ri-after [] e h l = at-end
 no-ri-after {c} {s} (d ∷ t) e h l =

@@ -1,4 +1,4 @@
--- The unit that `emojiLike` makes of a unit's characters: its stem and its modifications are those of the grammar.
+-- The unit that `emojiLike` makes of a unit's characters: the grammar derives its stem and its modifications.
 use mathlib.Core.Path.{_≡_, refl, ap, ap₂, sym, _∙_, subst}
 use mathlib.Core.Bool.{Bool, true, false, cond, false≢true}
 use mathlib.Core.List.{List, [], _∷_, _++_, append-assoc}
@@ -54,7 +54,7 @@ use Rattle.scanner.proofs.Modifications.{
   modifications-run,
 }
 
--- ---- after a stem stand no selector and no RI
+-- ---- neither a selector nor an RI stands after a stem
 
 pub front-stops : {m : List ℕ} → ModFront m → Stops isSelector m
 unfolding isSelector
@@ -84,7 +84,7 @@ second a s b {t} {m} e h p = (
   ap (λ (x : Bool). cond x (afterSelectors (t ++ m)) (b ∷ (t ++ m))) e ∙ after-all isSelector (S-passes h) p,
 )
 
--- ---- the unit of a character, the selectors after it and what follows these
+-- ---- the unit of a character, the selectors after it and the characters after these
 
 abbrev pub likeOf : ℕ → List ℕ → List ℕ → EmojiLike
 likeOf c s m = record {
@@ -167,7 +167,7 @@ unit-read (unit-of {m = m} (flag {s = s} {t = t} a b e h f k) d) = record {
       ∙ like-flag a s b t m e f k (front-stops (modifications-front d));
 }
 
--- The unit's characters again.
+-- `flattenUnit` gives the unit's characters back.
 pub unit-flatten : {v : List ℕ} (r : UnitRead v) → flattenUnit (emojiLike (r .char) (r .rest)) ≡ v
 unfolding flattenUnit
 unit-flatten r =

@@ -1,4 +1,4 @@
--- What is read of a tag run, a unit and the links after it at an offset: by the ends of the parts in them.
+-- A tag run, a unit and the links after it at an offset, by the ends of their parts: the laws that the consume functions use.
 use mathlib.Core.Path.{_≡_, refl, ap, ap₂, sym, _∙_}
 use mathlib.Core.Bool.{Bool, true, false, cond, true≢false}
 use mathlib.Core.List.{List, [], _∷_, _++_, append-nil}
@@ -10,7 +10,7 @@ use Rattle.utf8.specs.Rfc3629.{chars}
 use Rattle.unicode.specs.Unicode.{isEmoji, isRi, isTag}
 use Rattle.scanner.specs.Classes.{Class}
 use Rattle.scanner.specs.Parts.{joins, linkPart, linkRead, noUnit, partRead, stemAfter, stemRead, tagRunFrom, tagRunRead, unitRead}
-use Rattle.scanner.specs.RunKinds.{runOf}
+use Rattle.scanner.specs.RunKinds.{isEmojiClass, runOf}
 use Rattle.scanner.specs.Runs.{afterRun, afterSelectors, afterStem, modificationsAt, run, secondRiAt, selectorsAt, stemAt, unitAt}
 use Rattle.scanner.specs.SelectorRun.{selectorRun, selectorsFrom}
 use Rattle.scanner.specs.Spans.{size, width}
@@ -25,7 +25,7 @@ use Rattle.scanner.specs.declared.parts.ZwjLink.{ZwjLink}
 use Rattle.scanner.specs.declared.parts.ZwjLink.the-variants.{Link, NoLink}
 use Rattle.scanner.specs.declared.selectors.PresentationSelectors.{PresentationSelectors}
 use Rattle.scanner.proofs.Bytes.{chars-from, width-some}
-use Rattle.scanner.proofs.ClassTests.{emoji-test, forEmoji, run-tags}
+use Rattle.scanner.proofs.ClassTests.{emoji-test, run-tags}
 use Rattle.scanner.proofs.EmojiRuns.{after-stem, stem-read}
 use Rattle.scanner.proofs.Peek.{Seen, Unseen}
 use Rattle.scanner.proofs.Rescan.{size-append}
@@ -81,7 +81,8 @@ stemEnd at (SingletonBase c s) = s .end
 stemEnd at (Flag a s b t) = t .end
 stemEnd at NoStem = at
 
--- The stem and its characters, by whether the first is emoji (a) and an RI (b), the selectors after it (s) and what follows these (m).
+-- The stem and its characters. It depends on whether the first character is emoji (a) and an RI (b), the selectors after it (s) and
+-- the characters after these (m).
 abbrev stemBy : ℕ → ℕ → Bool → Bool → List ℕ → List ℕ → EmojiStem
 stemBy at c a b s m = cond a (stemAfter (at + width c) (cond b (riStem c s m) (Structure.SingletonBase c s))) NoStem
 
@@ -121,7 +122,7 @@ stem-whole (c ∷ t) = go (isEmoji c) refl
         ∙ ap (λ (l : List ℕ). c ∷ l) (r .whole)
     go false e = ap (λ (l : List ℕ). l ++ drop (length l) (c ∷ t)) (stem-empty c t e)
 
--- A stem, and the modifications after it.
+-- The end of a unit, from the end of its stem and the end of its modifications.
 unit-end : (text : List ℕ) (at mid end : ℕ) → mid ≡ at + size width (stemAt (chars (drop at text))) → end
     ≡ mid + size width (modificationsAt (chars (drop mid text)))
     → end ≡ at + size width (unitAt (chars (drop at text)))
@@ -143,7 +144,7 @@ single-some e = true≢false (cc)
 pub flag-some : {a b : ℕ} {s t : PresentationSelectors} → Flag a s b t ≡ NoStem → ⊥
 flag-some e = true≢false (cc)
 
--- A stem stands there exactly at an emoji.
+-- A stem begins at a character exactly if it is an emoji.
 pub stem-emoji : (at c : ℕ) (t : List ℕ) (b : Bool) → isEmoji c ≡ b → stemRead at (c ∷ t)
     ≡ cond b (stemAfter (at + width c) ((emojiLike c t) .stem)) NoStem
 unfolding stemRead
@@ -166,7 +167,7 @@ unit-by at c t b e =
     }) (noUnit at)) e
 
 module _ (text : List ℕ) (at : ℕ) {m : EmojiStem} (e : m ≡ stemRead at (chars (drop at text))) where
-  -- Where there is a stem, the unit goes from it on.
+  -- Where a stem begins, a unit begins.
   pub unit-on : (m ≡ NoStem → ⊥) → {start end : ℕ} → start ≡ stemEnd at m → end
       ≡ start + size width (modificationsAt (chars (drop start text)))
       → record { stem = m; «modifiers_start» = start; end = end } ≡ unitRead at (chars (drop at text))
@@ -233,14 +234,14 @@ module _ (text : List ℕ) (end at : ℕ) where
         part-before-none u = ap (joins s) (sym (u .chars-none)) ∙ joins-is
 
         module _ {v : ℕ} {c : Class} {next : ℕ} (u : Seen text (s .end) v c next) where
-          joins-by : (b : Bool) → forEmoji c ≡ b → cond b (JoiningLink s) (LeftOverLink s) ≡ partRead text end at
+          joins-by : (b : Bool) → isEmojiClass c ≡ b → cond b (JoiningLink s) (LeftOverLink s) ≡ partRead text end at
           unfolding joins
           joins-by b f =
-              ap (λ (x : Bool). cond x (JoiningLink s) (LeftOverLink s)) (sym (emoji-test v ∙ ap forEmoji (sym (u .class)) ∙ f))
+              ap (λ (x : Bool). cond x (JoiningLink s) (LeftOverLink s)) (sym (emoji-test v ∙ ap isEmojiClass (sym (u .class)) ∙ f))
               ∙ ap (joins s) (sym (u .chars-on)) ∙ joins-is
 
-          pub part-joins : forEmoji c ≡ true → JoiningLink s ≡ partRead text end at
+          pub part-joins : isEmojiClass c ≡ true → JoiningLink s ≡ partRead text end at
           part-joins f = joins-by true f
 
-          pub part-left : forEmoji c ≡ false → LeftOverLink s ≡ partRead text end at
+          pub part-left : isEmojiClass c ≡ false → LeftOverLink s ≡ partRead text end at
           part-left f = joins-by false f

@@ -1,5 +1,5 @@
--- The places that a run of characters leads through, and items in a row: what a scan of their characters gives back,
--- but for passthroughs that grow together.
+-- The states to which a list of characters leads, and items in a row. A scan of the characters of items in a row gives these items,
+-- except that adjacent passthroughs become one.
 use mathlib.Core.Path.{_≡_, refl, ap, sym, _∙_, subst}
 use mathlib.Core.Bool.{Bool, true, false, false≢true}
 use mathlib.Core.Option.{Option, none, some}
@@ -13,9 +13,9 @@ use Rattle.scanner.proofs.Classes.{class-selector, selector-class}
 use Rattle.scanner.proofs.Tiling.{cut-some, cut-none}
 use Rattle.scanner.proofs.States.{isPlain, same-side, inner, inner-step, inner-selector, selectors-step}
 
--- ---- a run of places
+-- ---- a walk from state to state
 
--- The characters lead from a place to a place of the same item.
+-- The characters lead from one state to another within one item.
 pub data Walk : State → List ℕ → State → Type 0 where
   stay : {p : State} → Walk p [] p
   pass : {p q r : State} {c : ℕ} {t : List ℕ} → transition p (classOf c) ≡ some q → Walk q t r → Walk p (c ∷ t) r
@@ -32,7 +32,7 @@ pub walk-inner : {p q : State} {t : List ℕ} → Walk p t q → inner p ≡ inn
 walk-inner stay = refl
 walk-inner (pass {p = p} {q = q} {c = c} e w) = inner-step p q (classOf c) e ∙ walk-inner w
 
--- What a run leads through belongs to the item.
+-- The characters of a walk belong to the item.
 pub walk-cut : {p q : State} {s : List ℕ} → Walk p s q → (t : List ℕ) → splitFrom p (s ++ t) ≡ (s ++ (splitFrom q t) .0, (splitFrom q t) .1)
 walk-cut stay t = refl
 walk-cut (pass {p = p} {q = q} {r = r} {c = c} {t = s} e w) t = cut-some p q c (s ++ t) e
@@ -40,7 +40,7 @@ walk-cut (pass {p = p} {q = q} {r = r} {c = c} {t = s} e w) t = cut-some p q c (
 
 -- ---- items in a row
 
--- The item at a place may end before a character of the class, if only in a list in which passthrough is cut small.
+-- The item at state p may end before a character of class k: the automaton ends it there, or the item is passthrough.
 pub data Ends (p : State) (k : Class) : Type 0 where
   stops : transition p k ≡ none → Ends p k
   merges : p ≡ plain → Ends p k
@@ -84,7 +84,7 @@ pub weaken : {p : State} {xs : List Item} → Chain p xs → Chain plain xs
 weaken done = done
 weaken (then c s e k l w h) = then c s (merges refl) k l w h
 
--- ---- selectors do not move a run that is inside links or units
+-- ---- selectors within links or units do not change the state
 
 pub strip-selector : (c : ℕ) (t : List ℕ) → isSelector c ≡ true → strip (c ∷ t) ≡ strip t
 unfolding strip
@@ -121,16 +121,16 @@ fill-walk {p} {q} (c ∷ t) i w = go (isSelector c) refl (λ x j v. fill-walk {p
     go false s h = let v = walk-cons (rw (strip-char c t s) at w) in pass (v .1)
         (h (v .0) (sym (inner-step p (v .0) (classOf c) (v .1)) ∙ i) (v .2))
 
--- Two texts with the same characters but for selectors are walked alike.
+-- Two lists with the same characters other than selectors lead from a state of links or units to the same state.
 pub same-walk : {p q : State} (s t : List ℕ) → inner p ≡ true → strip s ≡ strip t → Walk p s q → Walk p t q
 same-walk {p} {q} s t i e w = fill-walk t i (subst (λ (l : List ℕ). Walk p l q) e (strip-walk i w))
 
--- The first character of an item of links or units is no selector.
+-- The first character of a links-only or emoji-headed item is no selector.
 pub inner-no-selector : (c : ℕ) → inner (startState (classOf c)) ≡ true → isSelector c ≡ false
 unfolding startState
 inner-no-selector c i = fails (isSelector c) (λ e. false≢true (sym (ap (λ (k : Class). inner (startState k)) (class-selector c e)) ∙ i))
 
--- A run of selectors has no other character.
+-- A run of selectors contains no other character.
 pub selectors-strip : {p q : State} {s : List ℕ} → p ≡ selectors → Walk p s q → strip s ≡ []
 unfolding strip
 selectors-strip e stay = refl

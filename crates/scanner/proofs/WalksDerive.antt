@@ -1,4 +1,4 @@
--- What the places lead through, the grammar derives: `walk-derive`.
+-- The grammar derives what the automaton accepts: `walk-derive`.
 use mathlib.Core.Path.{_≡_, ap, sym, _∙_, subst}
 use mathlib.Core.Bool.{true}
 use mathlib.Core.Option.{Option, none, some}
@@ -61,9 +61,9 @@ use Rattle.scanner.proofs.Classes.{
 use Rattle.scanner.proofs.LinksTail.{LinksTail, links-tail, links-link, links-selector}
 use Rattle.scanner.proofs.Walk.{Walk, stay, pass}
 
--- ---- what may follow at a place, in the grammar's terms
+-- ---- what can follow at a state, in the grammar's terms
 
--- After a stem that is whole.
+-- After a complete stem.
 data UnitTail : List ℕ → Type 0 where
   unit-tail : {a m j l : List ℕ} → S a → Modifications m → JoinedUnits j → Links l → UnitTail (a ++ (m ++ (j ++ l)))
 
@@ -86,12 +86,12 @@ Tail unit s = UnitTail s
 Tail joined s = JoinTail s
 Tail leftOver s = LinksTail s
 
--- ---- one character more
+-- ---- one more character
 
 unit-selector : {c : ℕ} {t : List ℕ} → isSelector c ≡ true → UnitTail t → UnitTail (c ∷ t)
 unit-selector e (unit-tail a m j l) = unit-tail (selector-and e a) m j l
 
--- A modification with its S in front.
+-- A modification and its S in front.
 unit-modification : {c : ℕ} {t : List ℕ} → ((s : List ℕ) → S s → Modification (c ∷ s)) → UnitTail t → UnitTail (c ∷ t)
 unit-modification {c} f (unit-tail {a = a} {m = m} {j = j} {l = l} s p q r) =
     subst UnitTail (ap (λ (t : List ℕ). c ∷ t) (append-assoc a m (j ++ l))) (unit-tail no-selectors (modified (f a s) p) q r)
@@ -137,7 +137,7 @@ link-more {c} {t} (is-link e) h = subst (λ (x : ℕ). LinksTail (x ∷ t)) (sym
 keycap-run : {c : ℕ} {t : List ℕ} → HasClass c keycap → PlainRun t → PlainRun (c ∷ t)
 keycap-run {c} {t} (is-keycap e) h = subst (λ (x : ℕ). PlainRun (x ∷ t)) (sym e) (plain-and keycap-plain h)
 
--- ---- a step, and a walk
+-- ---- a transition, and a walk
 
 abbrev TailAfter : Option State → List ℕ → Type 0
 TailAfter none t = ⊥

@@ -1,5 +1,5 @@
--- What the scanner asks of a character: one of eight classes (document 01, "Character").
-use mathlib.Core.Bool.{cond}
+-- The class of a character: the scanner asks no more of a character than which of eight classes it has (document 01, "Character").
+use mathlib.Core.Bool.{Bool, cond}
 use mathlib.Core.List.{List, [], _∷_}
 use Prim.Native.Nat.{ℕ}
 use lib.Dec.{eqb}
@@ -18,7 +18,7 @@ pub use Rattle.scanner.specs.declared.char_class.Class.the-variants.{
   Other as other,
 }
 
--- The first class that fits: the tables of document 01 say which characters are emoji, RI and modifiers.
+-- The class of a character is the first one that fits. The tables of document 01 say which characters are emoji, RI and modifiers.
 unfoldable pub classOf : ℕ → Class
 classOf c =
     cond (isSelector c) selector
@@ -29,7 +29,22 @@ classOf c =
     (cond (isEmojiModifier c) modifier
     (cond (isEmoji c) emoji other))))))
 
--- The characters that are no selectors.
+-- The number of a class, in the order of the list above.
+abbrev pub classNumber : Class → ℕ
+classNumber selector = 0
+classNumber link = 1
+classNumber ri = 2
+classNumber modifier = 3
+classNumber emoji = 4
+classNumber keycap = 5
+classNumber tag = 6
+classNumber other = 7
+
+-- Whether k is the class j.
+abbrev pub isClass : Class → Class → Bool
+isClass j k = eqb (classNumber k) (classNumber j)
+
+-- A list of characters without its selectors.
 unfoldable pub strip : List ℕ → List ℕ
 strip [] = []
 strip (c ∷ t) = cond (isSelector c) (strip t) (c ∷ strip t)

@@ -1,5 +1,5 @@
--- The grammar of document 01, "Item", in its words and order, and what a reading of a text by it is.
--- A text has exactly one reading, which is `items` of it: specs/Theorems.antt, ItemsAreAReading and OnlyReading.
+-- The grammar of document 01, "Item", in its words and order, and the definition of a reading of a text by this grammar.
+-- A text has exactly one reading, and `items` computes it: specs/Theorems.antt, ItemsAreAReading and OnlyReading.
 use mathlib.Core.Path.{_≡_}
 use mathlib.Core.Bool.{true, false}
 use mathlib.Core.List.{List, [], _∷_, _++_}
@@ -37,7 +37,7 @@ pub data Stem : List ℕ → Type 0 where
   flag : {s t : List ℕ} (a b : ℕ) → isRi a ≡ true → S s → isRi b ≡ true → S t → Stem (a ∷ (s ++ b ∷ t))
   single : {c : ℕ} {s : List ℕ} → isEmoji c ≡ true → S s → Stem (c ∷ s)
 
--- .. its modifications, one after the other
+-- ".. its modifications": any number of them, one after the other.
 pub data Modifications : List ℕ → Type 0 where
   unmodified : Modifications []
   modified : {s t : List ℕ} → Modification s → Modifications t → Modifications (s ++ t)
@@ -60,18 +60,18 @@ pub data JoinedUnits : List ℕ → Type 0 where
   no-units : JoinedUnits []
   joined-and : {a v j : List ℕ} → Link a → EmojiUnit v → JoinedUnits j → JoinedUnits (a ++ (v ++ j))
 
--- Neither a selector nor 200D nor emoji.
+-- A character that is neither a selector nor 200D nor emoji.
 pub record Plain (c : ℕ) : Type 0 where
   pub no-selector : isSelector c ≡ false
   pub no-link : eqb c 0x200D ≡ false
   pub no-emoji : isEmoji c ≡ false
 
--- Any number of such characters.
+-- Any number of plain characters.
 pub data PlainRun : List ℕ → Type 0 where
   no-plain : PlainRun []
   plain-and : {c : ℕ} {s : List ℕ} → Plain c → PlainRun s → PlainRun (c ∷ s)
 
--- The four kinds of item and the characters that each can have.
+-- The four kinds of item, and the characters that an item of each kind can have.
 pub data Derives : ScanKind → List ℕ → Type 0 where
   -- "At 200D an item is the run of links, each 200D and S."
   links-only : {a l : List ℕ} → Link a → Links l → Derives LinksOnly (a ++ l)
@@ -82,11 +82,13 @@ pub data Derives : ScanKind → List ℕ → Type 0 where
   -- "Otherwise passthrough, up to the next selector, 200D or emoji."
   passthrough : {c : ℕ} {s : List ℕ} → Plain c → PlainRun s → Derives Passthrough (c ∷ s)
 
--- "Each choice takes the longest run": before the rest r the item cannot take in any more of it, by any of the four kinds.
+-- "Each choice takes the longest run": r is the text after the item. No beginning of r can be added to the item so that the result
+-- is again an item of any of the four kinds.
 unfoldable pub Longest : Item → List ℕ → Type 0
 Longest x r = (k : ScanKind) (d : ℕ) (f g : List ℕ) → r ≡ d ∷ (f ++ g) → Derives k (x .chars ++ d ∷ f) → ⊥
 
--- A reading of a text: items one after the other, each derived by its kind and the longest.
+-- A reading of a text: a list of items that are the text, one after the other. Each item is derived by its kind, and none can be
+-- longer.
 pub data Reads : List ℕ → List Item → Type 0 where
   at-the-end : Reads [] []
   reads-item : {x : Item} {xs : List Item} (r : List ℕ) → Derives (x .kind) (x .chars) → Longest x r → Reads r xs

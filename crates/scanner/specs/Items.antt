@@ -1,5 +1,5 @@
--- The items of a text: the function that gives them, character by character (document 01, "Item").
--- It is the grammar's only reading: specs/Theorems.antt, ItemsAreAReading and OnlyReading.
+-- The items of a text, computed character by character by an automaton (document 01, "Item").
+-- They are the grammar's only reading of the text: specs/Theorems.antt, ItemsAreAReading and OnlyReading.
 use mathlib.Core.Bool.{Bool, true, false}
 use mathlib.Core.Option.{Option, none, some}
 use mathlib.Core.List.{List, [], _∷_, _++_}
@@ -9,8 +9,9 @@ use Rattle.scanner.specs.declared.state.Next.{Next}
 use Rattle.scanner.specs.declared.state.Next.the-variants.{On, Stop}
 use Rattle.scanner.specs.declared.ScanKind.{ScanKind}
 use Rattle.scanner.specs.declared.ScanKind.the-variants.{EmojiHeaded, LinksOnly, Passthrough, UnsanctionedPresentationSelectors}
--- Where in an item a character stands: in passthrough; in a run of selectors; in a run of links; in a unit whose stem is one RI so
--- far; in a unit whose stem is whole; after a unit and one link; after a unit and two links or more.
+-- A state of the automaton says where in an item a character stands: in passthrough; in a run of selectors; in a run of links; in a
+-- unit whose stem is one RI so far; in a unit whose stem is complete; after a unit and one link; after a unit and two or more
+-- links.
 pub use Rattle.scanner.specs.declared.state.State.{State}
 pub use Rattle.scanner.specs.declared.state.State.the-variants.{
   Plain as plain,
@@ -22,7 +23,7 @@ pub use Rattle.scanner.specs.declared.state.State.the-variants.{
   LeftOver as leftOver,
 }
 
--- Where a character of the class stands if the item goes on with it; `none` if the item ends before it.
+-- The state after a character of the class if the item goes on with this character; `none` if the item ends before it.
 unfoldable pub transition : State → Class → Option State
 -- "Otherwise passthrough, up to the next selector, 200D or emoji."
 transition plain selector = none
@@ -88,12 +89,12 @@ transition leftOver keycap = none
 transition leftOver tag = none
 transition leftOver other = none
 
--- What `step` says, as the code's enum `Next`.
+-- The result of `transition` as the code's enum `Next`.
 abbrev pub nextOf : Option State → Next
 nextOf (some q) = On q
 nextOf none = Stop
 
--- Where the first character of an item stands.
+-- The state after the first character of an item.
 unfoldable pub startState : Class → State
 startState selector = selectors
 startState link = links
@@ -104,7 +105,7 @@ startState keycap = plain
 startState tag = plain
 startState other = plain
 
--- The place is a unit whose stem is whole.
+-- Whether the state is a unit whose stem is complete.
 abbrev pub inUnit : State → Bool
 inUnit plain = false
 inUnit selectors = false
@@ -114,8 +115,8 @@ inUnit unit = true
 inUnit joined = false
 inUnit leftOver = false
 
--- Whether a tag modification begins with a character of the class that stands at the place: tags stand in units and in passthrough, and
--- only "a stem and its modifications" has tag modifications.
+-- Whether a tag modification begins with a character of class k that leads to state p. Tags stand in units and in passthrough; only
+-- "a stem and its modifications" has tag modifications.
 unfoldable pub beginsTags : State → Class → Bool
 beginsTags p selector = false
 beginsTags p link = false
@@ -126,7 +127,7 @@ beginsTags p keycap = false
 beginsTags p tag = inUnit p
 beginsTags p other = false
 
--- The kind of an item that has a character at the place.
+-- The kind of an item, by the state after any of its characters.
 unfoldable pub kindOf : State → ScanKind
 kindOf plain = Passthrough
 kindOf selectors = UnsanctionedPresentationSelectors
@@ -141,16 +142,17 @@ pub record Item : Type 0 where
   pub kind : ScanKind
   pub chars : List ℕ
 
--- The characters of the items, joined.
+-- The characters of all items of a list, one item after the other.
 abbrev pub join : List Item → List ℕ
 join [] = []
 join (x ∷ xs) = x .chars ++ join xs
 
--- The item that begins with a character, and the items after it, given what is cut after that character.
+-- The items of a text whose first character is c. The pair r has the other characters of the first item, and the items after it.
 abbrev pub beginItem : ℕ → List ℕ × List Item → List Item
 beginItem c r = record { kind = kindOf (startState (classOf c)); chars = c ∷ r .0 } ∷ r .1
 
--- From inside an item, at a place: the rest of that item, and the items after it.
+-- The text after some character of an item, where that character led to state p: the remaining characters of this item, and the
+-- items after it.
 unfoldable pub splitFrom : State → List ℕ → List ℕ × List Item
 splitFrom p [] = ([], [])
 splitFrom p (c ∷ t) =

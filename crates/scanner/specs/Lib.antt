@@ -1,4 +1,4 @@
--- The items of a text: document 01, "Item".
+-- Definitions for the items of a text (document 01, "Item"), and statements about them.
 pub mod Classes
 pub mod Items
 pub mod Grammar

@@ -1,6 +1,8 @@
--- The parts of an item's structure as the code gives them: a part of specs/Structure.antt that begins at an offset, as a value
--- with offsets, and what is read at an offset of a text (document 01, "Item"). Walked from an item's start on, they are the
--- structure of the item: specs/Walks.antt, StructureIsWalked.
+-- Contracts of helper functions: the functions of src/parts.rt. They read one part of an item at an offset and return it as a value
+-- with offsets.
+-- The `..From` definitions turn a part of specs/Structure.antt that begins at an offset into such a value. The `..Read` definitions
+-- say which part stands at the front of the characters from an offset on (document 01, "Item").
+-- Calls of these functions from an item's start to its end give the structure of the item: specs/Walks.antt, StructureIsWalked.
 use mathlib.Core.Bool.{cond}
 use mathlib.Core.List.{List, [], _∷_}
 use Prim.Native.Nat.{ℕ, _+_}
@@ -26,7 +28,7 @@ use Rattle.scanner.specs.declared.parts.SequencePart.the-variants.{Joini
 use Rattle.scanner.specs.declared.parts.ZwjLink.{ZwjLink}
 use Rattle.scanner.specs.declared.parts.ZwjLink.the-variants.{Link, NoLink}
 
--- ---- a part that begins at an offset
+-- ---- a part of the structure that begins at an offset, as the code's value
 
 -- A run of tags and its selectors.
 unfoldable pub tagRunFrom : ℕ → Structure.EmojiTagRun → EmojiTagRun
@@ -43,7 +45,7 @@ unfoldable pub stemAfter : ℕ → Structure.EmojiStem → EmojiStem
 stemAfter at (Structure.SingletonBase c s) = SingletonBase c (selectorsFrom at s)
 stemAfter at (Structure.Flag a s b t) = Flag a (selectorsFrom at s) b (selectorsFrom (at + size width s + width b) t)
 
--- A stem, by the offset of its first character.
+-- A stem, by the offset at which it begins.
 unfoldable pub stemFrom : ℕ → Structure.EmojiStem → EmojiStem
 stemFrom at (Structure.SingletonBase c s) = stemAfter (at + width c) (Structure.SingletonBase c s)
 stemFrom at (Structure.Flag a s b t) = stemAfter (at + width a) (Structure.Flag a s b t)
@@ -60,7 +62,7 @@ unitFrom at u = record {
 unfoldable pub linkFrom : ℕ → Structure.ZwjLink → PresentationSelectors
 linkFrom at l = selectorsFrom (at + width 0x200D) (l .after)
 
--- ---- what is read at an offset, by the characters from there on
+-- ---- the part that begins at an offset, by the characters from there on
 
 -- ".. one or more tags and S"
 unfoldable pub tagRunRead : ℕ → List ℕ → EmojiTagRun
@@ -68,7 +70,7 @@ tagRunRead at [] = NoTags
 tagRunRead at (c ∷ t) =
     cond (isTag c) (tagRunFrom at (record { tags = run isTag (c ∷ t); after = selectorsAt (afterRun isTag (c ∷ t)) })) NoTags
 
--- The first of modifications.
+-- The first modification of a list, as a value; the list begins at an offset.
 unfoldable pub firstFrom : ℕ → List Structure.EmojiModification → EmojiModification
 firstFrom at [] = NoModification
 firstFrom at (m ∷ ms) = modificationFrom at m
@@ -77,7 +79,7 @@ firstFrom at (m ∷ ms) = modificationFrom at m
 unfoldable pub modificationRead : ℕ → List ℕ → EmojiModification
 modificationRead at t = firstFrom at ((modificationsOf (modificationAt t)) .1)
 
--- The stem of a first RI, by the characters after it: "RI, S, RI, S (a flag)".
+-- The stem whose first character is an RI, by the offset after this RI and the characters from there on: "RI, S, RI, S (a flag)".
 abbrev pub riStemRead : ℕ → ℕ → List ℕ → EmojiStem
 riStemRead c at t = stemAfter at (riStem c (selectorsAt t) (afterSelectors t))
 
@@ -86,7 +88,7 @@ unfoldable pub stemRead : ℕ → List ℕ → EmojiStem
 stemRead at [] = NoStem
 stemRead at (c ∷ t) = cond (isEmoji c) (stemAfter (at + width c) ((emojiLike c t) .stem)) NoStem
 
--- Where no unit begins.
+-- The value that says: no unit begins at this offset.
 abbrev pub noUnit : ℕ → EmojiLike
 noUnit at = record { stem = NoStem; «modifiers_start» = at; end = at }
 
@@ -107,16 +109,17 @@ unfoldable pub linkRead : ℕ → List ℕ → ZwjLink
 linkRead at [] = NoLink
 linkRead at (c ∷ t) = cond (eqb c 0x200D) (Link (linkFrom at (linkOf t))) NoLink
 
--- A link before what stands after its selectors.
+-- A link with these selectors, by the characters after them: it joins a unit if an emoji stands there, and is left over otherwise.
 unfoldable pub joins : PresentationSelectors → List ℕ → SequencePart
 joins s [] = LeftOverLink s
 joins s (c ∷ t) = cond (isEmoji c) (JoiningLink s) (LeftOverLink s)
 
--- A link of an item that ends at an offset: nothing joins after that.
+-- A link of an item that ends at the offset `end`. It joins nothing after the item's end.
 unfoldable pub linkPart : List ℕ → ℕ → ZwjLink → SequencePart
 linkPart text end NoLink = NoPart
 linkPart text end (Link s) = cond (leb end (s .end)) (LeftOverLink s) (joins s (chars (drop (s .end) text)))
 
--- ".. further units each joined by exactly one link, then the links left over", in an item that ends at an offset.
+-- ".. further units each joined by exactly one link, then the links left over": the part at an offset of an item that ends at
+-- `end`.
 unfoldable pub partRead : List ℕ → ℕ → ℕ → SequencePart
 partRead text end at = cond (leb end at) NoPart (linkPart text end (linkRead at (chars (drop at text))))

@@ -1,5 +1,5 @@
--- The grammar's parts at the front of a text, each the longest: S, tags, groups of tags, a modification, a stem, a unit, links,
--- passthrough (document 01, "Item").
+-- The longest part of each sort at the front of a text: S, tags, groups of tags, a modification, a stem, a unit, links, passthrough
+-- (document 01, "Item").
 use mathlib.Core.Bool.{Bool, cond, not, _||_}
 use mathlib.Core.List.{List, [], _∷_, _++_}
 use Prim.Native.Nat.{ℕ}
@@ -14,7 +14,7 @@ module _ (test : ℕ → Bool) where
   run [] = []
   run (c ∷ t) = cond (test c) (c ∷ run t) []
 
-  -- What is left after it.
+  -- The text after that run.
   unfoldable pub afterRun : List ℕ → List ℕ
   afterRun [] = []
   afterRun (c ∷ t) = cond (test c) (afterRun t) (c ∷ t)
@@ -23,7 +23,7 @@ module _ (test : ℕ → Bool) where
 abbrev pub selectorsAt : List ℕ → List ℕ
 selectorsAt t = run isSelector t
 
--- What is left after them.
+-- The text after these selectors.
 abbrev pub afterSelectors : List ℕ → List ℕ
 afterSelectors t = afterRun isSelector t
 
@@ -31,48 +31,48 @@ afterSelectors t = afterRun isSelector t
 abbrev pub tagsAt : List ℕ → List ℕ
 tagsAt t = run isTag t
 
--- A tag or a selector.
+-- Whether the character is a tag or a selector.
 abbrev pub inTags : ℕ → Bool
 inTags c = isTag c || isSelector c
 
--- "A tag modification ends at the first character that is neither tag nor selector": what is left of one, from inside it on.
+-- The tags and selectors at the front: "A tag modification ends at the first character that is neither tag nor selector".
 unfoldable pub tagModificationAt : List ℕ → List ℕ
 tagModificationAt t = run inTags t
 
--- The groups at the front, each of tags and S, if a tag stands there.
+-- The groups at the front, each of one or more tags and S; empty unless the first character is a tag.
 unfoldable pub tagGroupsAt : List ℕ → List ℕ
 tagGroupsAt [] = []
 tagGroupsAt (c ∷ t) = cond (isTag c) (tagModificationAt (c ∷ t)) []
 
--- A modification begins with a modifier, with 20E3 or with a tag.
+-- Whether a modification begins with the character: it is a modifier, 20E3 or a tag.
 unfoldable pub isModification : ℕ → Bool
 isModification c = isEmojiModifier c || (eqb c 0x20E3 || isTag c)
 
--- The modification at the front, if one begins there.
+-- The modification at the front; empty unless one begins with the first character.
 unfoldable pub modificationAt : List ℕ → List ℕ
 modificationAt [] = []
 modificationAt (c ∷ t) = cond (isTag c) (tagModificationAt (c ∷ t)) (cond (isModification c) (c ∷ selectorsAt t) [])
 
--- A character of modifications: one begins with it, or it is a selector.
+-- Whether the character can stand in a row of modifications: a modification begins with it, or it is a selector.
 abbrev pub inModifications : ℕ → Bool
 inModifications c = isModification c || isSelector c
 
--- All modifications at the front, if one begins there.
+-- All modifications at the front; empty unless one begins with the first character.
 unfoldable pub modificationsAt : List ℕ → List ℕ
 modificationsAt [] = []
 modificationsAt (c ∷ t) = cond (isModification c) (run inModifications (c ∷ t)) []
 
--- The second RI of a flag and its S, if an RI stands there.
+-- The second RI of a flag and its S; empty unless the first character is an RI.
 unfoldable pub secondRiAt : List ℕ → List ℕ
 secondRiAt [] = []
 secondRiAt (c ∷ t) = cond (isRi c) (c ∷ selectorsAt t) []
 
--- The stem at the front, if an emoji stands there.
+-- The stem at the front; empty unless the first character is an emoji.
 unfoldable pub stemAt : List ℕ → List ℕ
 stemAt [] = []
 stemAt (c ∷ t) = cond (isEmoji c) (c ∷ (selectorsAt t ++ cond (isRi c) (secondRiAt (afterSelectors t)) [])) []
 
--- What is left after the stem.
+-- The text after the stem at the front.
 unfoldable pub afterStem : List ℕ → List ℕ
 afterStem t = drop (length (stemAt t)) t
 
@@ -80,25 +80,25 @@ afterStem t = drop (length (stemAt t)) t
 unfoldable pub unitAt : List ℕ → List ℕ
 unitAt t = stemAt t ++ modificationsAt (afterStem t)
 
--- What is left after the unit.
+-- The text after the unit at the front.
 unfoldable pub afterUnit : List ℕ → List ℕ
 afterUnit t = drop (length (unitAt t)) t
 
--- The link at the front, if 200D stands there.
+-- The link at the front; empty unless the first character is 200D.
 unfoldable pub linkAt : List ℕ → List ℕ
 linkAt [] = []
 linkAt (c ∷ t) = cond (eqb c 0x200D) (c ∷ selectorsAt t) []
 
--- 200D or a selector.
+-- Whether the character is 200D or a selector.
 abbrev pub inLinks : ℕ → Bool
 inLinks c = eqb c 0x200D || isSelector c
 
--- All links at the front, if 200D stands there.
+-- All links at the front; empty unless the first character is 200D.
 unfoldable pub linksAt : List ℕ → List ℕ
 linksAt [] = []
 linksAt (c ∷ t) = cond (eqb c 0x200D) (run inLinks (c ∷ t)) []
 
--- Neither a selector nor 200D nor emoji.
+-- Whether the character is neither a selector nor 200D nor emoji.
 abbrev pub isPassthrough : ℕ → Bool
 isPassthrough c = not (isSelector c || (eqb c 0x200D || isEmoji c))
 

@@ -1,5 +1,5 @@
--- The nested structure of links-only and emoji-headed items, as the types of scanner.rs show it: `structure` of an item's
--- characters, and `flatten` back. A run of selectors stands as its characters.
+-- The nested structure of links-only and emoji-headed items, as the types of scanner.rs show it. `structure` computes it from an
+-- item's characters, and `flatten` gives the characters back. A run of selectors is the list of its characters.
 use mathlib.Core.Bool.{cond}
 use mathlib.Core.List.{List, [], _∷_, _++_, map}
 use Prim.Native.Nat.{ℕ}
@@ -15,23 +15,23 @@ pub record EmojiTagRun : Type 0 where
   pub tags : List ℕ
   pub after : List ℕ
 
--- A modification: a modifier and its selectors; 20E3's selectors; tag runs.
+-- A modification: a modifier and its selectors; 20E3 and its selectors; or tag runs.
 pub data EmojiModification : Type 0 where
   EmojiModifier : ℕ → List ℕ → EmojiModification
   EnclosingKeycap : List ℕ → EmojiModification
   TagModifier : List EmojiTagRun → EmojiModification
 
--- A stem: a base and its selectors; two regional indicators, each with its selectors.
+-- A stem: a base and its selectors; or two regional indicators, each with its selectors.
 pub data EmojiStem : Type 0 where
   SingletonBase : ℕ → List ℕ → EmojiStem
   Flag : ℕ → List ℕ → ℕ → List ℕ → EmojiStem
 
--- A unit.
+-- A unit: its stem and its modifications.
 pub record EmojiLike : Type 0 where
   pub stem : EmojiStem
   pub modifiers : List EmojiModification
 
--- A link: the selectors after 200D.
+-- A link: 200D and the selectors after it.
 pub record ZwjLink : Type 0 where
   pub after : List ℕ
 
@@ -58,7 +58,7 @@ flattenModification (EmojiModifier c s) = c ∷ s
 flattenModification (EnclosingKeycap s) = 0x20E3 ∷ s
 flattenModification (TagModifier rs) = flattenRuns rs
 
--- One after the other.
+-- The modifications one after the other.
 unfoldable pub flattenModifications : List EmojiModification → List ℕ
 flattenModifications [] = []
 flattenModifications (m ∷ ms) = flattenModification m ++ flattenModifications ms
@@ -76,7 +76,7 @@ flattenUnit u = flattenStem (u .stem) ++ flattenModifications (u .modifiers)
 unfoldable pub flattenLink : ZwjLink → List ℕ
 flattenLink l = 0x200D ∷ l .after
 
--- One after the other.
+-- The links one after the other.
 unfoldable pub flattenLinks : List ZwjLink → List ℕ
 flattenLinks [] = []
 flattenLinks (l ∷ ls) = flattenLink l ++ flattenLinks ls
@@ -93,20 +93,21 @@ flatten (emojiHeaded u js ls) = flattenUnit u ++ (flattenJoined js ++ flattenLin
 
 -- ---- from characters: modifications
 
--- A tag, with the selectors after it, in front of tag runs: with no selector between, it is of the first run.
+-- A tag c and the selectors s after it, added before tag runs. Without a selector in between, c becomes the first tag of the first
+-- run.
 unfoldable pub tagToRuns : ℕ → List ℕ → List EmojiTagRun → List EmojiTagRun
 tagToRuns c s [] = record { tags = c ∷ []; after = s } ∷ []
 tagToRuns c [] (r ∷ rs) = record { tags = c ∷ r .tags; after = r .after } ∷ rs
 tagToRuns c (d ∷ s) (r ∷ rs) = record { tags = c ∷ []; after = d ∷ s } ∷ r ∷ rs
 
--- The same in front of modifications: before a tag modification it is a part of that.
+-- A tag c and the selectors s after it, added before modifications. Before a tag modification, c becomes part of it.
 unfoldable pub tagToModifications : ℕ → List ℕ → List EmojiModification → List EmojiModification
 tagToModifications c s [] = TagModifier (tagToRuns c s []) ∷ []
 tagToModifications c s (EmojiModifier d u ∷ ms) = TagModifier (tagToRuns c s []) ∷ EmojiModifier d u ∷ ms
 tagToModifications c s (EnclosingKeycap u ∷ ms) = TagModifier (tagToRuns c s []) ∷ EnclosingKeycap u ∷ ms
 tagToModifications c s (TagModifier rs ∷ ms) = TagModifier (tagToRuns c s rs) ∷ ms
 
--- A character in front of selectors and the modifications after them.
+-- A character c of the given class, added before selectors and the modifications after them.
 unfoldable pub toModifications : Class → ℕ → List ℕ × List EmojiModification → List ℕ × List EmojiModification
 toModifications modifier c r = ([], EmojiModifier c (r .0) ∷ r .1)
 toModifications keycap c r = ([], EnclosingKeycap (r .0) ∷ r .1)
@@ -117,19 +118,19 @@ toModifications ri c r = (c ∷ r .0, r .1)
 toModifications emoji c r = (c ∷ r .0, r .1)
 toModifications other c r = (c ∷ r .0, r .1)
 
--- The selectors at the front of what follows a stem, and the modifications after them.
+-- The selectors at the front of the characters after a stem, and the modifications after these selectors.
 unfoldable pub modificationsOf : List ℕ → List ℕ × List EmojiModification
 modificationsOf [] = ([], [])
 modificationsOf (c ∷ t) = toModifications (classOf c) c (modificationsOf t)
 
 -- ---- from characters: stems and units
 
--- The stem of a first RI with its selectors, before what follows these.
+-- The stem whose first character is the RI a, with its selectors s and the characters after these.
 unfoldable pub riStem : ℕ → List ℕ → List ℕ → EmojiStem
 riStem a s [] = SingletonBase a s
 riStem a s (b ∷ t) = cond (isRi b) (Flag a s b (selectorsAt t)) (SingletonBase a s)
 
--- What is left after a second RI and its selectors, if there is one.
+-- The characters after a second RI and its selectors; all of them if the first character is no RI.
 unfoldable pub afterSecondRi : List ℕ → List ℕ
 afterSecondRi [] = []
 afterSecondRi (b ∷ t) = cond (isRi b) (afterSelectors t) (b ∷ t)
@@ -150,21 +151,22 @@ splitAtLinks (c ∷ t) =
     let r = splitAtLinks t in
     cond (eqb c 0x200D) ([], r .0 ∷ r .1) (c ∷ r .0, r .1)
 
--- The link with the selectors at the front of what is after 200D.
+-- The link whose selectors stand at the front of the characters after its 200D.
 abbrev pub linkOf : List ℕ → ZwjLink
 linkOf s = record { after = selectorsAt s }
 
--- One link more: with a unit after its selectors it joins that; otherwise it and all after it are left over.
+-- One more link l. The characters after its selectors, if there are any, are a unit that it joins. Otherwise l and all later links
+-- are left over.
 unfoldable pub joinOne : ZwjLink → List ℕ → List (List ℕ) → List ZwjJoinedEmoji × List ZwjLink → List ZwjJoinedEmoji × List ZwjLink
 joinOne l [] ss r = ([], l ∷ map linkOf ss)
 joinOne l (c ∷ t) ss r = (record { link = l; emoji = emojiLike c t } ∷ r .0, r .1)
 
--- The joined units and the links left over, from the characters after each 200D.
+-- The joined units and the links left over, from the lists of characters after each 200D.
 unfoldable pub joinedOf : List (List ℕ) → List ZwjJoinedEmoji × List ZwjLink
 joinedOf [] = ([], [])
 joinedOf (s ∷ ss) = joinOne (linkOf s) (afterSelectors s) ss (joinedOf ss)
 
--- The structure, from the characters before the first 200D and those after each.
+-- The structure, from the characters before the first 200D and the lists of characters after each 200D.
 unfoldable pub sequenceOf : List ℕ → List (List ℕ) → EmojiSequence
 sequenceOf [] ss = linksOnly (map linkOf ss)
 sequenceOf (c ∷ t) ss = emojiHeaded (emojiLike c t) ((joinedOf ss) .0) ((joinedOf ss) .1)
@@ -173,9 +175,9 @@ sequenceOf (c ∷ t) ss = emojiHeaded (emojiLike c t) ((joinedOf ss) .0) ((joine
 unfoldable pub structure : List ℕ → EmojiSequence
 structure t = sequenceOf ((splitAtLinks t) .0) ((splitAtLinks t) .1)
 
--- ---- the tags in it
+-- ---- the tags in a structure
 
--- The tags of one tag modification, selectors left out.
+-- The tags of one tag modification, without selectors.
 unfoldable pub tagsOfRuns : List EmojiTagRun → List ℕ
 tagsOfRuns [] = []
 tagsOfRuns (r ∷ rs) = r .tags ++ tagsOfRuns rs
@@ -187,12 +189,12 @@ tagsOfModifications (EmojiModifier c s ∷ ms) = tagsOfModifications ms
 tagsOfModifications (EnclosingKeycap s ∷ ms) = tagsOfModifications ms
 tagsOfModifications (TagModifier rs ∷ ms) = tagsOfRuns rs ∷ tagsOfModifications ms
 
--- The same in the further units.
+-- The tags of each tag modification in the further units.
 unfoldable pub tagsOfJoined : List ZwjJoinedEmoji → List (List ℕ)
 tagsOfJoined [] = []
 tagsOfJoined (j ∷ js) = tagsOfModifications (j .emoji .modifiers) ++ tagsOfJoined js
 
--- The same in a structure.
+-- The tags of each tag modification in a structure.
 unfoldable pub tagsOf : EmojiSequence → List (List ℕ)
 tagsOf (linksOnly ls) = []
 tagsOf (emojiHeaded u js ls) = tagsOfModifications (u .modifiers) ++ tagsOfJoined js

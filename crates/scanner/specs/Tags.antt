@@ -1,4 +1,4 @@
--- Whether an item's tags are complete (document 01, "Item", tag report): `tagsComplete`.
+-- Whether the tags of an item are complete (document 01, "Item", tag report): `tagsComplete`.
 use mathlib.Core.Bool.{Bool, true, cond, _&&_}
 use mathlib.Core.List.{List, [], _∷_, getLastD}
 use Prim.Native.Nat.{ℕ}
@@ -8,29 +8,29 @@ use Rattle.unicode.specs.Unicode.{isTag}
 use Rattle.scanner.specs.declared.ScanKind.{ScanKind}
 use Rattle.scanner.specs.declared.ScanKind.the-variants.{EmojiHeaded, LinksOnly, Passthrough, UnsanctionedPresentationSelectors}
 
--- Of the tags of one tag modification, selectors left out: ".. has E007F as its last tag".
+-- The tags of one tag modification, without selectors: ".. has E007F as its last tag".
 unfoldable pub complete : List ℕ → Bool
 complete tags = eqb (getLastD tags 0) 0xE007F
 
--- The same of each of several.
+-- Whether each of several lists of tags is complete.
 unfoldable pub allComplete : List (List ℕ) → Bool
 allComplete [] = true
 allComplete (ts ∷ tss) = complete ts && allComplete tss
 
--- Another tag modification, if there are tags for one.
+-- Lists of tags with one more in front; an empty list of tags is left out.
 unfoldable pub withTags : List ℕ → List (List ℕ) → List (List ℕ)
 withTags [] tss = tss
 withTags (c ∷ ts) tss = (c ∷ ts) ∷ tss
 
--- The tags at the front, selectors left out, up to the first character that is neither tag nor selector;
--- and the tags of each tag modification after that character.
+-- First, the tags at the front, without selectors, up to the first character that is neither tag nor selector. Second, the tags of
+-- each tag modification after that character.
 unfoldable pub tagRuns : List ℕ → List ℕ × List (List ℕ)
 tagRuns [] = ([], [])
 tagRuns (c ∷ t) =
     let r = tagRuns t in
     cond (isTag c) (c ∷ r .0, r .1) (cond (isSelector c) r ([], withTags (r .0) (r .1)))
 
--- The tags of each tag modification of an emoji-headed item's characters.
+-- The tags of each tag modification in the characters of an emoji-headed item.
 unfoldable pub tagModifications : List ℕ → List (List ℕ)
 tagModifications t = withTags ((tagRuns t) .0) ((tagRuns t) .1)
 

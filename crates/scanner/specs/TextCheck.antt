@@ -1,4 +1,4 @@
--- The tests of a text by a call that takes no policy (document 01, "Turned back"; "Making one tests the text (1, 3)").
+-- The tests of a text by a call that takes a text and no policy (document 01, "Turned back"; "Making one tests the text (1, 3)").
 use mathlib.Core.Bool.{cond, not}
 use mathlib.Core.List.{List}
 use mathlib.Core.Option.{Option, none, some}
@@ -10,7 +10,7 @@ use Rattle.base.specs.declared.Refusal.{Refusal}
 use Rattle.base.specs.declared.Refusal.the-variants.{NotWellFormed, TextTooLong}
 use Rattle.utf8.specs.Rfc3629.{validUpTo}
 
--- The tests of a text alone: 1 and 3. None where both pass.
+-- The first of the tests 1 and 3 that refuses the text; `none` if the text passes both.
 unfoldable pub textRefusal : List ℕ → Option Refusal
 textRefusal text =
     cond (not (leb (length text) textLimit)) (some TextTooLong)

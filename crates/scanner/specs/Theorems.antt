@@ -1,4 +1,4 @@
--- What is claimed of items and spans. Each statement is proved in proofs/Claims.antt.
+-- Statements about items and spans. Each statement is proved in proofs/Claims.antt.
 use mathlib.Core.Path.{_≡_}
 use mathlib.Core.Logic.{_≢_, _⊎_, _↔_}
 use mathlib.Core.Bool.{Bool, true, false}
@@ -62,11 +62,11 @@ use Rattle.scanner.specs.declared.ScanStep.the-variants.{End}
 
 -- ---- items
 
--- The kinds of item that have links or units.
+-- The kinds of item that consist of links or units.
 abbrev pub Structured : ScanKind → Type 0
 Structured k = (k ≡ LinksOnly) ⊎ (k ≡ EmojiHeaded)
 
--- The items' characters, joined, are the text.
+-- The characters of the items, one item after the other, are the text.
 unfoldable pub ItemsTile : Type 0
 ItemsTile = (t : List ℕ) → join (items t) ≡ t
 
@@ -74,11 +74,11 @@ ItemsTile = (t : List ℕ) → join (items t) ≡ t
 unfoldable pub NoItemIsEmpty : Type 0
 NoItemIsEmpty = (t : List ℕ) (x : Item) → List·Memᴰ x (items t) → x .chars ≢ []
 
--- The items are a reading of the text by document 01's grammar, with each choice the longest.
+-- The items are a reading of the text by document 01's grammar, each of them the longest.
 unfoldable pub ItemsAreAReading : Type 0
 ItemsAreAReading = (t : List ℕ) → Reads t (items t)
 
--- And there is no other reading.
+-- A text has no other reading.
 unfoldable pub OnlyReading : Type 0
 OnlyReading = (t : List ℕ) (xs : List Item) → Reads t xs → xs ≡ items t
 
@@ -86,18 +86,18 @@ OnlyReading = (t : List ℕ) (xs : List Item) → Reads t xs → xs ≡ items t
 unfoldable pub ItemsAfresh : Type 0
 ItemsAfresh = (t : List ℕ) (xs ys : List Item) → items t ≡ xs ++ ys → items (drop (length (join xs)) t) ≡ ys
 
--- An item is determined by its own characters: alone, they are that one item.
+-- An item is determined by its own characters: scanned alone, they are this one item.
 unfoldable pub ItemAlone : Type 0
 ItemAlone = (t : List ℕ) (x : Item) → List·Memᴰ x (items t) → items (x .chars) ≡ x ∷ []
 
--- After its first character, selectors do not make or unmake an item of links or units.
+-- Adding or removing selectors after the first character of a links-only or emoji-headed item leaves it one item of the same kind.
 unfoldable pub SelectorsKeepItems : Type 0
 SelectorsKeepItems =
     (k : ScanKind) (c : ℕ) (s t : List ℕ) → Structured k → strip s ≡ strip t → Derives k (c ∷ s) → Derives k (c ∷ t)
 
 -- ---- items by the runs at the front of a text
 
--- The runs at the front of a text are derived by the grammar.
+-- The grammar derives each of the runs at the front of a text.
 unfoldable pub RunsAreDerived : Type 0
 RunsAreDerived =
     ((t : List ℕ) → S (selectorsAt t))
@@ -110,13 +110,14 @@ RunsAreDerived =
     × ((t : List ℕ) → Link (linkAt (0x200D ∷ t)))
     × ((t : List ℕ) → Links (linksAt t))
 
--- What a function gives of any characters stands at their front, and no front of them that is this part is longer.
+-- `at` computes the longest part of this sort at the front of a text: the result is a beginning of the text, and no beginning of
+-- the text that is such a part is longer.
 pub record LongestAt (Part : List ℕ → Type 0) (at : List ℕ → List ℕ) : Type 0 where
   pub front : (t : List ℕ) → take (length (at t)) t ≡ at t
   pub longest : (s r : List ℕ) → Part s → length s ≤ length (at (s ++ r))
 
--- "Each choice takes the longest run": so do S, tags, groups of tags, a modification, all modifications, a stem, a unit, a link
--- and all links.
+-- "Each choice takes the longest run": S, tags, groups of tags, a modification, all modifications, a stem, a unit, a link and all
+-- links are each the longest at the front.
 unfoldable pub RunsAreLongest : Type 0
 RunsAreLongest =
     LongestAt S selectorsAt
@@ -129,8 +130,8 @@ RunsAreLongest =
     × LongestAt Link linkAt
     × LongestAt Links linksAt
 
--- The first item of a text: at a selector, at 200D and otherwise it is the run there; at an emoji it is the unit there and the
--- rest of the item after that.
+-- The first item of a text, by its first character. At a selector, at 200D and at a plain character it is the run there. At an
+-- emoji it is the unit there and the rest of the item after that unit.
 unfoldable pub FirstItemByRuns : Type 0
 FirstItemByRuns =
     (c : ℕ) (t : List ℕ) (x : Item) (xs : List Item) → items (c ∷ t) ≡ x ∷ xs
@@ -139,8 +140,8 @@ FirstItemByRuns =
     × (isEmoji c ≡ true → x .chars ≡ unitAt (c ∷ t) ++ (splitFrom unit (afterUnit (c ∷ t))) .0)
     × (isPassthrough c ≡ true → x .chars ≡ passthroughAt (c ∷ t))
 
--- The rest of an item after a unit: nothing where no link stands; a link and the next unit where exactly one link stands before
--- an emoji; otherwise all links there.
+-- The rest of an item after a unit. Without a link it is empty. If exactly one link stands there, before an emoji, it is this link,
+-- the next unit and the rest after that. Otherwise it is all links there.
 unfoldable pub RestByRuns : Type 0
 RestByRuns =
     ((c : ℕ) (t : List ℕ) → inModifications c ≡ false → eqb c 0x200D ≡ false → (splitFrom unit (c ∷ t)) .0 ≡ [])
@@ -152,12 +153,12 @@ RestByRuns =
 
 -- ---- spans
 
--- Spans that go from the byte a to the byte b: each starts where the one before ended, and none is empty.
+-- The spans go from the byte a to the byte b: each starts where the one before it ends, and none is empty.
 abbrev pub Tiles : ℕ → List ScanItem → ℕ → Type 0
 Tiles a [] b = a ≡ b
 Tiles a (x ∷ xs) b = (x .start ≡ a) × (x .start < x .end) × Tiles (x .end) xs b
 
--- "Spans tile the text with no empty item": from 0 to the first place where no well-formed character begins.
+-- "Spans tile the text with no empty item": they go from 0 to the first offset at which no well-formed character begins.
 unfoldable pub SpansTile : Type 0
 SpansTile = (text : List ℕ) → Tiles 0 (scan text) (validUpTo text)
 
@@ -165,11 +166,11 @@ SpansTile = (text : List ℕ) → Tiles 0 (scan text) (validUpTo text)
 unfoldable pub SpansCover : Type 0
 SpansCover = (text : List ℕ) → WellFormed text → Tiles 0 (scan text) (length text)
 
--- From any offset on: the spans go to the first place where no well-formed character begins.
+-- The spans of a text from any offset on go to the first offset at which no well-formed character begins.
 unfoldable pub SpansTileFrom : Type 0
 SpansTileFrom = (text : List ℕ) (at : ℕ) → Tiles at (scanFrom text at) (at + validUpTo (drop at text))
 
--- Spans that spell items: the bytes of each span are the encoding of its item's characters, and it has the item's kind and tag report.
+-- Each span stands for an item: its bytes are the encoding of the item's characters, and it has the item's kind and tag report.
 pub data Spells (text : List ℕ) : List ScanItem → List Item → Type 0 where
   no-spans : Spells text [] []
   span-and :
@@ -181,7 +182,7 @@ pub data Spells (text : List ℕ) : List ScanItem → List Item → Type 0 where
 unfoldable pub SpansAreItems : Type 0
 SpansAreItems = (text : List ℕ) → Spells text (scan text) (items (chars text))
 
--- From an item's end the scan of the same text gives the items after it.
+-- A scan of a text from an item's end gives the items after that item.
 unfoldable pub SpansAfresh : Type 0
 SpansAfresh =
     (text : List ℕ) (before after : List ScanItem) (x : ScanItem)
@@ -189,37 +190,37 @@ SpansAfresh =
 
 -- ---- the cursor
 
--- At 0 a cursor answers the first item.
+-- A cursor at offset 0 answers the first item.
 unfoldable pub CursorAtStart : Type 0
 CursorAtStart = (text : List ℕ) → scanAt text 0 ≡ firstOf (scan text)
 
--- At an item's end it answers the next item, or the end.
+-- A cursor at an item's end answers the next item, or the end.
 unfoldable pub CursorAtItemEnd : Type 0
 CursorAtItemEnd =
     (text : List ℕ) (before after : List ScanItem) (x : ScanItem)
     → scan text ≡ before ++ x ∷ after → scanAt text (x .end) ≡ firstOf after
 
--- Past the end of the text it answers the end.
+-- A cursor past the end of the text answers the end.
 unfoldable pub CursorPastEnd : Type 0
 CursorPastEnd = (text : List ℕ) (at : ℕ) → length text ≤ at → scanAt text at ≡ End
 
--- Inside a character it answers the end.
+-- A cursor at an offset inside a character answers the end.
 unfoldable pub CursorInsideCharacter : Type 0
 CursorInsideCharacter =
     (text : List ℕ) (at v w k : ℕ) → readChar (drop at text) ≡ Read.Char v w → 0 < k → k < w → scanAt text (at + k) ≡ End
 
--- It answers the end exactly where no well-formed character begins.
+-- A cursor answers the end exactly at an offset where no well-formed character begins.
 unfoldable pub CursorEnds : Type 0
 CursorEnds = (text : List ℕ) (at : ℕ) → (scanAt text at ≡ End) ↔ (chars (drop at text) ≡ [])
 
--- ---- the structure of links-only and emoji-headed items; that the code's cursors give it is stated in specs/Walks.antt
+-- ---- the structure of links-only and emoji-headed items; specs/Walks.antt states that the code's functions return it
 
--- The stem and the modifications of a unit are the grammar's.
+-- The grammar derives the stem and each modification of a unit.
 pub record UnitDerives (u : EmojiLike) : Type 0 where
   pub stem-derives : Stem (flattenStem (u .stem))
   pub modifications-derive : (m : EmojiModification) → List·Memᴰ m (u .modifiers) → Modification (flattenModification m)
 
--- So are the links and the units of a structure.
+-- The grammar derives each link and each unit of a structure.
 unfoldable pub StructureDerives : EmojiSequence → Type 0
 StructureDerives (linksOnly ls) = (l : ZwjLink) → List·Memᴰ l ls → Link (flattenLink l)
 StructureDerives (emojiHeaded u js ls) =
@@ -227,15 +228,15 @@ StructureDerives (emojiHeaded u js ls) =
     × ((j : ZwjJoinedEmoji) → List·Memᴰ j js → Link (flattenLink (j .link)) × UnitDerives (j .emoji))
     × ((l : ZwjLink) → List·Memᴰ l ls → Link (flattenLink l))
 
--- Of such an item the structure gives back the characters.
+-- The structure of a links-only or emoji-headed item gives back the item's characters.
 unfoldable pub StructureFlattens : Type 0
 StructureFlattens = (t : List ℕ) (x : Item) → List·Memᴰ x (items t) → Structured (x .kind) → flatten (structure (x .chars)) ≡ x .chars
 
--- And its parts are derived by the grammar.
+-- The grammar derives each part of the structure of such an item.
 unfoldable pub StructureIsDerived : Type 0
 StructureIsDerived = (t : List ℕ) (x : Item) → List·Memᴰ x (items t) → Structured (x .kind) → StructureDerives (structure (x .chars))
 
--- The tags of each tag modification are those in the structure.
+-- `tagModifications` of an item's characters lists the tags of each tag modification in the item's structure.
 unfoldable pub TagsAreInStructure : Type 0
 TagsAreInStructure = (t : List ℕ) (x : Item) → List·Memᴰ x (items t) → Structured (x .kind) → tagModifications (x .chars)
     ≡ tagsOf (structure (x .chars))
@@ -247,7 +248,7 @@ TagsCompleteMeans =
     → (tagsComplete (x .kind) (x .chars) ≡ true)
     ↔ ((tags : List ℕ) → List·Memᴰ tags (tagsOf (structure (x .chars))) → (before : List ℕ) × (tags ≡ before ++ (0xE007F ∷ [])))
 
--- The runs that are read class by class (specs/RunKinds.antt) are those of specs/Runs.antt.
+-- The runs that the code reads class by class (specs/RunKinds.antt) are the runs of specs/Runs.antt.
 unfoldable pub RunsByClass : Type 0
 RunsByClass =
     (t : List ℕ)
@@ -259,11 +260,11 @@ RunsByClass =
 
 -- ---- examples
 
--- An item as the examples write it.
+-- A short form for items in the examples.
 abbrev pub item : ScanKind → List ℕ → Item
 item k t = record { kind = k; chars = t }
 
--- A span as the examples write it.
+-- A short form for spans in the examples.
 abbrev pub span : ℕ → ℕ → ScanKind → Bool → ScanItem
 span a e k b = record { start = a; end = e; kind = k; «tags_complete» = b }
 
@@ -284,8 +285,8 @@ ItemExamples =
     × (items (0x1F1E6 ∷ 0x1F1E7 ∷ 0x1F1E8 ∷ [])
     ≡ item EmojiHeaded (0x1F1E6 ∷ 0x1F1E7 ∷ []) ∷ item EmojiHeaded (0x1F1E8 ∷ []) ∷ [])
 
--- Tags: a flag whose tags end in E007F, one that has E007F only before its last tag, one with a selector after E007F,
--- two tag modifications of which one is not complete, and tags that are no modification.
+-- Examples of the tag report: tags that end in E007F; tags with E007F only before the last tag; a selector after E007F; two tag
+-- modifications of which one is not complete; tags that are no modification.
 unfoldable pub TagExamples : Type 0
 TagExamples =
     (scan (encodeAll (0x1F3F4 ∷ 0xE0067 ∷ 0xE007F ∷ [])) ≡ span 0 12 EmojiHeaded true ∷ [])

@@ -1,6 +1,6 @@
--- The cursors of the code, walked from an item's start to its end, give the structure of the item: `StructureIsWalked`, which is
--- proved in proofs/Claims.antt. At each offset a cursor gives the next part of the structure as it begins there (specs/Parts.antt),
--- and the next offset is where that part's characters end.
+-- Contracts of helper functions: the functions of src/parts.rt, called from an item's start to its end, give the structure of the
+-- item (StructureIsWalked, proved in proofs/Claims.antt). At each offset a function returns the next part of the structure as a
+-- value (specs/Parts.antt), and the next offset is the end of that part's characters.
 use mathlib.Core.Path.{_≡_}
 use mathlib.Core.List.{List, [], _∷_, _++_}
 use Prim.Native.Nat.{ℕ, _+_, _-_}
@@ -45,21 +45,21 @@ use Rattle.scanner.specs.declared.parts.SequencePart.the-variants.{Joini
 
 module _ (text : List ℕ) where
   module _ (end : ℕ) where
-    -- The tag runs of a tag modification that ends at an offset, and no more.
+    -- The calls return the tag runs of the list, one after the other, up to the offset `end`, and then no further one.
     pub data RunsWalk : ℕ → List EmojiTagRun → Type 0 where
       runs-end : {at : ℕ} → at ≡ end → tagRunRead at (chars (drop at text)) ≡ NoTags → RunsWalk at []
       run-and :
           {at : ℕ} {r : EmojiTagRun} {rs : List EmojiTagRun} → tagRunRead at (chars (drop at text)) ≡ tagRunFrom at r
           → RunsWalk (at + size width (r .tags ++ r .after)) rs → RunsWalk at (r ∷ rs)
 
-  -- A tag modification's own runs.
+  -- If the modification is a tag modification, the calls return its tag runs.
   abbrev pub TagsWalk : ℕ → EmojiModification → Type 0
   TagsWalk at (EmojiModifier c s) = Unit {0}
   TagsWalk at (EnclosingKeycap s) = Unit {0}
   TagsWalk at (TagModifier rs) = RunsWalk (at + size width (flattenRuns rs)) at rs
 
   module _ (end : ℕ) where
-    -- The modifications of a unit that ends at an offset, and no more.
+    -- The calls return the modifications of the list, one after the other, up to the offset `end`, and then no further one.
     pub data ModificationsWalk : ℕ → List EmojiModification → Type 0 where
       modifications-end : {at : ℕ} → at ≡ end → modificationRead at (chars (drop at text)) ≡ NoModification → ModificationsWalk at []
       modification-and :
@@ -67,20 +67,20 @@ module _ (text : List ℕ) where
           ≡ modificationFrom at m → TagsWalk at m
           → ModificationsWalk (at + size width (flattenModification m)) ms → ModificationsWalk at (m ∷ ms)
 
-  -- A unit, and its modifications from its stem's end on.
+  -- The calls return the unit at an offset, and its modifications from the end of its stem on.
   pub record UnitWalk (at : ℕ) (u : EmojiLike) : Type 0 where
     pub unit : unitRead at (chars (drop at text)) ≡ unitFrom at u
     pub modifications : ModificationsWalk (at + size width (flattenUnit u)) (at + size width (flattenStem (u .stem))) (u .modifiers)
 
   module _ (end : ℕ) where
-    -- The links left over in an item that ends at an offset, and no more.
+    -- The calls return the links left over of the list, one after the other, up to the item's end, and then no further one.
     pub data LinksWalk : ℕ → List ZwjLink → Type 0 where
       links-end : {at : ℕ} → at ≡ end → partRead text end at ≡ NoPart → LinksWalk at []
       link-and :
           {at : ℕ} {l : ZwjLink} {ls : List ZwjLink} → partRead text end at ≡ LeftOverLink (linkFrom at l)
           → LinksWalk (at + size width (flattenLink l)) ls → LinksWalk at (l ∷ ls)
 
-    -- Further units, each after its link, and the links left over.
+    -- The calls return further units, each after its link, and then the links left over.
     pub data JoinsWalk : ℕ → List ZwjJoinedEmoji → List ZwjLink → Type 0 where
       no-more-units : {at : ℕ} {ls : List ZwjLink} → LinksWalk at ls → JoinsWalk at [] ls
       unit-and :
@@ -89,13 +89,13 @@ module _ (text : List ℕ) where
           → UnitWalk (at + size width (flattenLink (j .link))) (j .emoji)
           → JoinsWalk (at + size width (flattenLink (j .link) ++ flattenUnit (j .emoji))) js ls → JoinsWalk at (j ∷ js) ls
 
-  -- An item from its start to its end.
+  -- The calls return the structure of an item from its start to its end.
   unfoldable pub SequenceWalk : ℕ → ℕ → EmojiSequence → Type 0
   SequenceWalk start end (linksOnly ls) = LinksWalk end start ls
   SequenceWalk start end (emojiHeaded u js ls) = UnitWalk start u × JoinsWalk end (start + size width (flattenUnit u)) js ls
 
--- The characters of every links-only or emoji-headed item that the scanner's cursor gives have a structure that is walked from the
--- item's start to its end.
+-- If the scanner's cursor returns a links-only or emoji-headed item, the calls return the structure of this item's characters, from
+-- its start to its end.
 unfoldable pub StructureIsWalked : Type 0
 StructureIsWalked =
     (text : List ℕ) (at : ℕ) (x : ScanItem) → scanAt text at ≡ Step.Item x → Structured (x .kind)

@@ -1,6 +1,6 @@
-// What the scanner asks of a character: one of eight classes, from the tables of the crate unicode.
+// The class of a character: one of eight, from the tables of the crate unicode.
 // scanner.rs of the crate evfmt asks the same questions one by one; document 01, "Character".
-// `class_of` and the class of `classify` equal `classOf` of specs/Classes.antt, and `peek` equals `peekAt` of specs/Peek.antt for every
+// `class_of` and the class in `classify` equal `classOf` of specs/Classes.antt. `peek` equals `peekAt` of specs/Peek.antt for every
 // slice and offset.
 ghost use mathlib.Core.Path.{_≡_};
 ghost use mathlib.Core.Bool.{false, true};
@@ -16,7 +16,7 @@ use unicode::TEXT_PRESENTATION_SELECTOR;
 use unicode::VariationSequenceIndex;
 use unicode::ZWJ;
 
-// What a character is to the scanner: a selector, a link, an RI, a modifier, another emoji, 20E3, a tag, or any other.
+// The classes of characters: a selector, a link, an RI, a modifier, another emoji, 20E3, a tag, or any other character.
 pub enum Class {
     Selector,
     Link,
@@ -28,13 +28,13 @@ pub enum Class {
     Other,
 }
 
-// The class of a character, and where it stands among the variation entries.
+// The class of a character, and its index among the variation entries, if it has one.
 pub struct Classified {
     pub class: Class,
     pub index: VariationSequenceIndex,
 }
 
-// The character at an offset, its class and the offset after it; or that none begins there.
+// The character at an offset, its class and the offset after it; or that no character begins there.
 pub enum Peeked {
     Char {
         value: u32,
@@ -44,7 +44,7 @@ pub enum Peeked {
     NoChar,
 }
 
-// The class of a character that is no emoji.
+// The class of a character that is not an emoji.
 fn class_of_plain(ch: u32) -> Class
     ensures { λ r. ⌜ (isEmoji ch ≡ false → r ≡ classOf ch) ⌝ }
 {
@@ -82,7 +82,7 @@ fn class_of_emoji(ch: u32) -> Class
     Class::Emoji
 }
 
-// The class of a character, and where it stands among the variation entries.
+// The class of a character, and its index among the variation entries, if it has one.
 pub fn classify(ch: u32) -> Classified
     ensures class { λ r. ⌜ r .class ≡ classOf ch ⌝ }
     ensures index { λ r. ⌜ r .index ≡ variationSequenceIndex ch ⌝ }
@@ -104,7 +104,7 @@ pub fn class_of(ch: u32) -> Class
     class
 }
 
-// What stands at an offset: no character begins past the end of the text or inside a character.
+// Reads the character at an offset. No character begins past the end of the text or inside a character.
 pub fn peek(text: &[u8], at: usize) -> Peeked
     ensures { λ r. ⌜ r ≡ peekAt at (chars (drop at (now (text .entry)))) ⌝ }
 {

@@ -1,8 +1,8 @@
-// The runs of characters in an item, each the longest, by loops: the consume functions of scanner.rs of the crate evfmt; document 01,
+// The longest runs of characters in an item, read by loops: the consume functions of scanner.rs of the crate evfmt; document 01,
 // "Item".
-// Each function gives the offset of the run's end, and equals a run of specs/Runs.antt over the characters from the offset on,
-// for every slice and offset; nothing is read past the end or inside a character. Of a tag modification it is told too whether its
-// last tag is E007F (specs/Tags.antt).
+// Each function returns the offset of the run's end, and equals a run of specs/Runs.antt over the characters from the offset on,
+// for every slice and offset. No function reads past the end of the slice or from inside a character. `consume_emoji_tag_runs` also
+// says whether the last tag of a tag modification is E007F (specs/Tags.antt).
 ghost use mathlib.Core.Path.{_≡_};
 ghost use Prim.Native.Nat.{_+_};
 ghost use lib.ListN.{drop};
@@ -24,7 +24,7 @@ pub struct TagModification {
     pub complete: bool,
 }
 
-// The runs that go by a test on each character alone.
+// The runs that are determined by a test on each single character.
 pub enum RunKind {
     Selectors,
     Links,
@@ -33,7 +33,7 @@ pub enum RunKind {
     Passthrough,
 }
 
-// Whether a run goes on with a character of the class.
+// Whether a character of this class belongs to a run of this kind.
 fn in_run(kind: RunKind, class: Class) -> bool
     ensures { λ r. ⌜ r ≡ inRun kind class ⌝ }
 {
@@ -61,7 +61,7 @@ fn in_run(kind: RunKind, class: Class) -> bool
     }
 }
 
-// The end of a run.
+// The offset of the end of the run that begins at an offset.
 pub fn run_end(text: &[u8], at: usize, kind: RunKind) -> usize
     ensures { λ r. ⌜ r ≡ at + size width (runOf kind (chars (drop at (now (text .entry))))) ⌝ }
 {
@@ -85,8 +85,9 @@ pub fn run_end(text: &[u8], at: usize, kind: RunKind) -> usize
     }
 }
 
-// The tag modification at an offset, which is complete where it has no tag. The outer loop goes by groups, the inner by tags and
-// selectors: a tag after selectors begins the next group, and the label is left at the first character that is neither.
+// The tag modification at an offset; it is complete if it has no tag. The outer loop passes groups, the inner loop tags and
+// selectors. A tag after a selector begins the next group. The first character that is neither tag nor selector leaves both loops
+// by the label.
 pub fn consume_emoji_tag_runs(text: &[u8], at: usize) -> TagModification
     ensures end { λ r. ⌜ r .end ≡ at + size width (tagModificationAt (chars (drop at (now (text .entry))))) ⌝ }
     ensures complete { λ r. ⌜ r .complete ≡ allComplete (tagModifications (tagModificationAt (chars (drop at (now (text .entry)))))) ⌝ }
@@ -127,7 +128,7 @@ pub fn consume_emoji_tag_runs(text: &[u8], at: usize) -> TagModification
     TagModification { end, complete }
 }
 
-// All modifications at an offset.
+// The offset of the end of all modifications that begin at an offset.
 pub fn consume_emoji_modifications(text: &[u8], at: usize) -> usize
     ensures { λ r. ⌜ r ≡ at + size width (modificationsAt (chars (drop at (now (text .entry))))) ⌝ }
 {

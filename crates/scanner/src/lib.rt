@@ -1,6 +1,7 @@
 // The items of a text: scanner.rs of the crate evfmt; document 01, "Item".
-// `next_item` is the cursor: it starts afresh at each offset, reads the item there once, character by character, and
-// equals `scanAt` of specs/Spans.antt for every slice and offset. `item_rest` is its loop, over the places of an item.
+// `next_item` is the cursor. It keeps nothing from call to call, reads the item at an offset once, character by character, and
+// equals `scanAt` of specs/Spans.antt for every slice and offset. Its loop is `item_rest`, which follows the automaton of
+// src/state.rt.
 pub mod char_class;
 pub mod consume;
 pub mod parts;
@@ -21,7 +22,7 @@ use consume::consume_emoji_tag_runs;
 use state::Next;
 use state::State;
 
-// What an item is.
+// The kind of an item.
 pub enum ScanKind {
     Passthrough,
     UnsanctionedPresentationSelectors,
@@ -29,7 +30,7 @@ pub enum ScanKind {
     EmojiHeaded,
 }
 
-// An item by its bytes, from start up to end, its kind, and whether its tags are complete.
+// An item: its bytes from start up to end, its kind, and whether its tags are complete.
 pub struct ScanItem {
     pub start: usize,
     pub end: usize,
@@ -37,7 +38,7 @@ pub struct ScanItem {
     pub tags_complete: bool,
 }
 
-// A kind's number.
+// The number of a kind.
 pub fn kind_number(kind: ScanKind) -> usize
     ensures { λ r. ⌜ r ≡ kindNumber kind ⌝ }
 {
@@ -69,19 +70,19 @@ impl ScanItem {
     }
 }
 
-// What a cursor answers: the item at its offset, or that there is none.
+// The answer of a cursor: the item at its offset, or that there is none.
 pub enum ScanStep {
     Item(ScanItem),
     End,
 }
 
-// What is read of an item after its first character: the offset of its end, and whether its tags are complete.
+// The result of reading an item after its first character: the offset of the item's end, and whether its tags are complete.
 struct ItemRest {
     end: usize,
     tags_complete: bool,
 }
 
-// Both are true.
+// Whether both are true.
 fn both(a: bool, b: bool) -> bool
     ensures { λ r. ⌜ r ≡ (a && b) ⌝ }
 {
@@ -91,7 +92,8 @@ fn both(a: bool, b: bool) -> bool
     false
 }
 
-// The rest of an item that has a character at the place, from an offset on. A tag modification is read in one go.
+// Reads the rest of an item from an offset on; the item's character before this offset led to the state `first`. A tag modification
+// is read by one call.
 fn item_rest(text: &[u8], from: usize, first: State) -> ItemRest
     ensures end { λ r. ⌜ r .end ≡ from + size width (restAt (now (text .entry)) from first) ⌝ }
     ensures tags { λ r. ⌜ r .«tags_complete» ≡ tagsComplete (kindOf first) (restAt (now (text .entry)) from first) ⌝ }
@@ -135,7 +137,7 @@ fn item_rest(text: &[u8], from: usize, first: State) -> ItemRest
     }
 }
 
-// The item at an offset, or the end: no item begins past the end of the text or inside a character.
+// The item at an offset, or the end. No item begins past the end of the text or inside a character.
 pub fn next_item(text: &[u8], at: usize) -> ScanStep
     ensures { λ r. ⌜ r ≡ scanAt (now (text .entry)) at ⌝ }
 {

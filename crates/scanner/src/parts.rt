@@ -1,8 +1,9 @@
 // The parts of an item as values: the types and the consume functions of scanner.rs of the crate evfmt; document 01, "Item".
-// What is a `Vec` there is a span here, and a cursor that starts afresh at it: `consume_emoji_modification` over a unit's
-// modifications, `consume_emoji_tag_run` over a tag modification, `consume_sequence_part` over the links after a unit.
-// Each function equals a definition of specs/Parts.antt for every slice and offset; walked over an item, they give its structure
-// (specs/Walks.antt, StructureIsWalked).
+// Where the Rust has a `Vec`, a value here has a span, and a function reads the next part at any offset of this span:
+// `consume_emoji_modification` in a unit's modifications, `consume_emoji_tag_run` in a tag modification, `consume_sequence_part` in
+// the links after a unit.
+// Each function equals a definition of specs/Parts.antt for every slice and offset. Called from an item's start to its end, they
+// give its structure (specs/Walks.antt, StructureIsWalked).
 ghost use mathlib.Core.Path.{_≡_};
 ghost use lib.ListN.{drop};
 ghost use Rattle.utf8.specs.Rfc3629.{chars};
@@ -18,7 +19,7 @@ use crate::consume::run_end;
 use crate::selectors::PresentationSelectors;
 use crate::selectors::consume_presentation_selectors;
 
-// One or more tags, up to tags_end, and the selectors after them.
+// One or more tags, up to the offset tags_end, and the selectors after them.
 pub enum EmojiTagRun {
     Run {
         tags_end: usize,
@@ -27,7 +28,7 @@ pub enum EmojiTagRun {
     NoTags,
 }
 
-// A modification of a stem. The runs of a tag modification are read by `consume_emoji_tag_run` from its start up to its end.
+// A modification of a stem. `consume_emoji_tag_run` reads the runs of a tag modification, from its start up to its end.
 pub enum EmojiModification {
     EmojiModifier {
         modifier: u32,
@@ -57,21 +58,20 @@ pub enum EmojiStem {
     NoStem,
 }
 
-// A unit: its stem, and its modifications from modifiers_start up to end, which are read by `consume_emoji_modification`.
+// A unit: its stem, and its modifications from modifiers_start up to end. `consume_emoji_modification` reads these.
 pub struct EmojiLike {
     pub stem: EmojiStem,
     pub modifiers_start: usize,
     pub end: usize,
 }
 
-// A link, by the selectors after 200D.
+// A link: 200D, with the selectors after it.
 pub enum ZwjLink {
     Link { selectors: PresentationSelectors },
     NoLink,
 }
 
-// What stands after a unit of an item, or in an item of links: a link with a unit where its selectors end, a link left over,
-// or nothing more.
+// The part after a unit, or in an item of links: a link that joins the unit after its selectors, a link left over, or no part.
 pub enum SequencePart {
     JoiningLink(PresentationSelectors),
     LeftOverLink(PresentationSelectors),
@@ -93,7 +93,7 @@ pub fn consume_emoji_tag_run(text: &[u8], at: usize) -> EmojiTagRun
     }
 }
 
-// The link at an offset.
+// The link at an offset, if 200D stands there.
 pub fn consume_zwj_link(text: &[u8], at: usize) -> ZwjLink
     ensures { λ r. ⌜ r ≡ linkRead at (chars (drop at (now (text .entry)))) ⌝ }
 {
@@ -113,7 +113,7 @@ pub fn consume_zwj_link(text: &[u8], at: usize) -> ZwjLink
     }
 }
 
-// The modification at an offset.
+// The modification that begins at an offset, if one does.
 pub fn consume_emoji_modification(text: &[u8], at: usize) -> EmojiModification
     ensures { λ r. ⌜ r ≡ modificationRead at (chars (drop at (now (text .entry)))) ⌝ }
 {
@@ -143,7 +143,8 @@ pub fn consume_emoji_modification(text: &[u8], at: usize) -> EmojiModification
     }
 }
 
-// The stem of a first regional indicator, from the offset after that on: a flag, if a second follows.
+// The stem whose first character is the regional indicator first_ri; `at` is the offset after it. The stem is a flag if a second
+// one follows.
 pub fn consume_regional_indicator_stem(text: &[u8], at: usize, first_ri: u32) -> EmojiStem
     ensures { λ r. ⌜ r ≡ riStemRead «first_ri» at (chars (drop at (now (text .entry)))) ⌝ }
 {
@@ -171,7 +172,7 @@ pub fn consume_regional_indicator_stem(text: &[u8], at: usize, first_ri: u32) ->
     }
 }
 
-// The stem at an offset.
+// The stem that begins at an offset, if one does.
 pub fn consume_emoji_stem(text: &[u8], at: usize) -> EmojiStem
     ensures { λ r. ⌜ r ≡ stemRead at (chars (drop at (now (text .entry)))) ⌝ }
 {
@@ -191,7 +192,7 @@ pub fn consume_emoji_stem(text: &[u8], at: usize) -> EmojiStem
     }
 }
 
-// The unit at an offset.
+// The unit that begins at an offset, if one does.
 pub fn consume_emoji_like(text: &[u8], at: usize) -> EmojiLike
     ensures { λ r. ⌜ r ≡ unitRead at (chars (drop at (now (text .entry)))) ⌝ }
 {
@@ -228,7 +229,7 @@ pub fn consume_emoji_like(text: &[u8], at: usize) -> EmojiLike
     }
 }
 
-// The part at an offset of an item that ends at item_end: a link there joins no unit after the item.
+// The part at an offset of an item that ends at item_end. A link joins no unit after the item's end.
 pub fn consume_sequence_part(text: &[u8], at: usize, item_end: usize) -> SequencePart
     ensures { λ r. ⌜ r ≡ partRead (now (text .entry)) «item_end» at ⌝ }
 {

@@ -1,7 +1,7 @@
-// The run of selectors at an offset: `consume_presentation_selectors` of scanner.rs of the crate evfmt, whose `Vec` is held
-// as its first two and its length (document 01, "Forms in the Rust that need another").
-// It equals `selectorRun` of specs/SelectorRun.antt for every slice and offset. Selectors are told by their bytes, EF B8 8E and
-// EF B8 8F, which costs fewer steps than decoding.
+// The run of selectors at an offset: `consume_presentation_selectors` of scanner.rs of the crate evfmt. Its `Vec` is held as its
+// first two selectors and its length (document 01, "Forms in the Rust that need another").
+// `consume_presentation_selectors` equals `selectorRun` of specs/SelectorRun.antt for every slice and offset. The code recognises a
+// selector by its bytes, EF B8 8E or EF B8 8F, which takes fewer operations than decoding it.
 ghost use mathlib.Core.Path.{_≡_};
 ghost use Prim.Native.Nat.{_+_};
 ghost use lib.ListN.{drop};
@@ -12,10 +12,10 @@ ghost use Rattle.scanner.specs.Spans.{size, width};
 use unicode::presentation::FromSelector;
 use unicode::presentation::Presentation;
 
-// Each selector has three bytes.
+// The number of bytes of a selector.
 pub const SELECTOR_BYTES: usize = 3;
 
-// A run of selectors: the first two, how many there are, and the offset of their end.
+// A run of selectors: the first two, their number, and the offset of their end.
 pub struct PresentationSelectors {
     pub first: FromSelector,
     pub second: FromSelector,
@@ -23,7 +23,7 @@ pub struct PresentationSelectors {
     pub end: usize,
 }
 
-// What the character at an offset asks for as a selector.
+// The presentation that the selector at an offset selects, if a selector stands there.
 pub fn selector_at(text: &[u8], at: usize) -> FromSelector
     ensures { λ r. ⌜ r ≡ firstSelector (chars (drop at (now (text .entry)))) ⌝ }
 {
@@ -43,7 +43,7 @@ pub fn selector_at(text: &[u8], at: usize) -> FromSelector
     FromSelector::NoSelector
 }
 
-// The end of the selectors from an offset on.
+// The offset of the end of the selectors that begin at an offset.
 pub fn selectors_end(text: &[u8], from: usize) -> usize
     ensures { λ r. ⌜ r ≡ from + size width (selectorsAt (chars (drop from (now (text .entry))))) ⌝ }
 {

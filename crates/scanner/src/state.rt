@@ -1,7 +1,7 @@
-// Where in an item a character stands, and where the next one stands if the item goes on with it.
-// The loops of scanner.rs of the crate evfmt as one table; document 01, "Item".
-// `begin`, `begins_tags` and `kind_of` equal `begin`, `beginsTags` and `kindOf` of specs/Items.antt, and `step` equals its `step`,
-// place by place.
+// The automaton of items. A state says where in an item a character stands; `transition` gives the next state if the item goes on.
+// It is the loops of scanner.rs of the crate evfmt as one table; document 01, "Item".
+// `start_state`, `transition`, `begins_tags` and `kind_of` equal `startState`, `transition`, `beginsTags` and `kindOf` of
+// specs/Items.antt for every state and class.
 ghost use mathlib.Core.Path.{_≡_};
 ghost use Rattle.scanner.specs.Items.{startState, beginsTags, kindOf, nextOf, transition};
 use crate::ScanKind;
@@ -16,21 +16,21 @@ pub enum State {
     Links,
     // in a unit whose stem is one RI so far
     OneRi,
-    // in a unit whose stem is whole
+    // in a unit whose stem is complete
     Unit,
     // after a unit and one link
     Joined,
-    // after a unit and two links or more
+    // after a unit and two or more links
     LeftOver,
 }
 
-// Whether an item goes on with a character.
+// The next state, or that the item ends before the character.
 pub enum Next {
     On(State),
     Stop,
 }
 
-// Where the first character of an item stands.
+// The state after the first character of an item.
 pub fn start_state(k: Class) -> State
     ensures { λ r. ⌜ r ≡ startState k ⌝ }
 {
@@ -43,7 +43,7 @@ pub fn start_state(k: Class) -> State
     }
 }
 
-// Where a character of the class stands if the item goes on with it.
+// The state after a character of the class, if the item goes on with it.
 pub fn transition(p: State, k: Class) -> Next
     ensures { λ r. ⌜ r ≡ nextOf (transition p k) ⌝ }
 {
@@ -81,7 +81,7 @@ pub fn transition(p: State, k: Class) -> Next
     }
 }
 
-// Whether a tag modification begins with a character of the class that stands at the place.
+// Whether a tag modification begins with a character of class k that leads to state p.
 pub fn begins_tags(p: State, k: Class) -> bool
     ensures { λ r. ⌜ r ≡ beginsTags p k ⌝ }
 {
@@ -94,7 +94,7 @@ pub fn begins_tags(p: State, k: Class) -> bool
     }
 }
 
-// The kind of an item that has a character at the place.
+// The kind of an item, by the state after any of its characters.
 pub fn kind_of(p: State) -> ScanKind
     ensures { λ r. ⌜ r ≡ kindOf p ⌝ }
 {

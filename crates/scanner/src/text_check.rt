@@ -1,4 +1,4 @@
-// The tests of a text alone, by whoever takes a text and no policy (document 01, "Turned back", numbers 1 and 3).
+// The tests of a text by calls that take a text and no policy (document 01, "Turned back", numbers 1 and 3).
 // `check_text` equals `textRefusal` of specs/TextCheck.antt.
 ghost use Rattle.base.specs.Answers.{Answers, checkRow};
 ghost use Rattle.base.specs.Refusals.{checked};
@@ -7,7 +7,7 @@ use base::Check;
 use base::Refusal;
 use base::TEXT_LIMIT;
 
-// The bytes of a text: both of its tests have passed, or the first refusal.
+// Tests a text: it passes both tests, or the answer is the first refusal.
 pub fn check_text(text: &[u8]) -> Check
     ensures { λ r. ⌜ Answers checkRow (checked (textRefusal (now (text .entry)))) r ⌝ }
 {

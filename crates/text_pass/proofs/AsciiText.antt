@@ -1,5 +1,5 @@
--- ASCII stays where the policy keeps the ASCII bases bare: of each run all but the last character, and that one too if it has no
--- variation entry or nothing stands after it.
+-- ASCII is plain text where the policy keeps the ASCII bases bare: all of a run but its last character, and that one too if it has no
+-- variation entry or the text ends there.
 use mathlib.Core.Path.{_≡_, refl, ap, sym, _∙_, subst}
 use mathlib.Core.Logic.{_⊎_, inl, inr, ⊎-elim}
 use mathlib.Core.Bool.{Bool, true, false, true≢false}
@@ -16,7 +16,7 @@ use Rattle.utf8.specs.Rfc3629.{chars}
 use Rattle.utf8.proofs.AsciiRuns.{readChar-ascii-at}
 use Rattle.utf8.proofs.Folds.{chars-end}
 use Rattle.utf8.proofs.Fronts.{readChar-past-end}
-use Rattle.utf8.proofs.Places.{Step, transition as read}
+use Rattle.utf8.proofs.Places.{Step, step as read}
 use Rattle.unicode.specs.Presentation.{isSelector}
 use Rattle.unicode.specs.Unicode.{hasVariationSequence, isEmojiModifier, isRi, isTag}
 use Rattle.unicode.specs.UnicodeData.{emojiModifiers, riRanges}
@@ -52,11 +52,11 @@ ascii-no-selector : (c : ℕ) → c ≤ 0x7F → isSelector c ≡ false
 unfolding isSelector
 ascii-no-selector c h = simp (ne-eqb c 0xFE0E (λ e. omega arith), ne-eqb c 0xFE0F (λ e. omega arith))
 
--- What stands after a character is to the rules no modifier, no tag and not 20E3, and no selector.
+-- The characters after a base begin with no selector, and for the rules with no modifier, no tag and not with 20E3.
 pub record Harmless (t : List ℕ) : Type 0 where
   pub leads-none : leading t ≡ []
   pub rules : SameRules other (following (cells t))
-  -- An item of one base ends before them.
+  -- An item that is one base ends before these characters.
   pub ends : (splitFrom unit t) .0 ≡ []
 
 harmless-end : Harmless []
@@ -94,7 +94,7 @@ harmless-ascii c t h =
       ends = ap (λ (a : List ℕ × List Item). a .0) (cut-none unit c t (unit-none (classOf c) (ascii-class c h)));
     }
 
--- What stands at a place whose byte is ASCII, or after the end.
+-- The characters from an ASCII byte on, or from the end of the text on, are harmless.
 harmless-at : (text : List ℕ) (k : ℕ) → getD text k 0 ≤ 0x7F → Harmless (chars (drop k text))
 harmless-at text k h =
     ⊎-elim (λ l. subst Harmless (sym (chars-end (drop k text) (readChar-past-end text k l))) harmless-end)
@@ -102,7 +102,7 @@ harmless-at text k h =
     (harmless-ascii (getD text k 0) (chars (drop (k + 1) text)) h))
     (le-or-lt (length text) k)
 
--- A base that the policy keeps bare stays before it.
+-- Rule 6 leaves a base bare and counts nothing, if it has no selector and the policy keeps it bare.
 bare-outcome : (r : SingletonRule) → (r ≡ TextToBare) ⊎ (r ≡ EmojiToBare) → (chosen (rule6 r [] .slot) [] ≡ [])
     × (total (rule6 r [] .counts) ≡ 0)
 unfolding rule6 withoutSelector
@@ -123,7 +123,7 @@ module _ {p : Policy} (b : AsciiBare p) {text : List ℕ} where
           stays-char p h (ascii-no-selector v l) (ap (λ (x : Outcome). chosen (x .slot) []) o ∙ n .0)
           (ap (λ (x : Outcome). total (x .counts)) o ∙ n .1 ∙ sym (ap length (s .leads-none)))
 
-  -- After it no other finding follows than before it.
+  -- No finding starts at an ASCII character before harmless characters.
   passes-ascii : {at v : ℕ} → Step text at v 1 → v ≤ 0x7F → Harmless (chars (drop (at + 1) text)) → NoFindingBetween p text at (at + 1)
   unfolding items startState
   passes-ascii {at} {v} h l s = ⊎-elim key (λ e. passes-plain p h (ap startState e)) (ascii-class v l)
@@ -151,7 +151,7 @@ module _ {p : Policy} (b : AsciiBare p) {text : List ℕ} where
       (skips-on (skips-ascii s (f i (omega arith) (omega arith)) (harmless-at text (i + 1) (f (i + 1) (omega arith) (omega arith))))
       (ascii-skips n (i + 1) (omega arith) (λ k a c. f k (omega arith) (omega arith))))
 
-  -- One more character of the class other, whatever stands after it.
+  -- A run of ASCII whose last character has the class other is plain text, whatever follows.
   pub ascii-skips-last : (n i : ℕ) → i + suc n ≤ length text → ((k : ℕ) → i ≤ k → k ≤ i + n → getD text k 0 ≤ 0x7F)
       → classOf (getD text (i + n) 0) ≡ other → PlainBetween p text i (i + suc n)
   ascii-skips-last n i l f e =
@@ -160,7 +160,7 @@ module _ {p : Policy} (b : AsciiBare p) {text : List ℕ} where
       let s = read text (i + n) (getD text (i + n) 0) 1 (readChar-ascii-at text (i + n) (omega arith) h) in
       subst (PlainBetween p text i) z (skips-on (ascii-skips n i (omega arith) f) (skips-other p s e))
 
--- ---- a run as the code finds it: one character that is ASCII, and the run after it
+-- ---- a run as the code finds it: one ASCII character, and the run after it
 
 module _ {text : List ℕ} {from end : ℕ} (q : (from < length text) × (getD text from 0 ≤ 0x7F)) (r : AsciiRun text (from + 1) end) where
   run-byte : (k : ℕ) → from ≤ k → k < end → getD text k 0 ≤ 0x7F
@@ -175,7 +175,7 @@ module _ {text : List ℕ} {from end : ℕ} (q : (from < length text) × (getD t
 
 module _ {p : Policy} (b : AsciiBare p) {text : List ℕ} {from end : ℕ} (q : (from < length text) × (getD text from 0 ≤ 0x7F))
     (r : AsciiRun text (from + 1) end) where
-  -- All of it where the text ends, ..
+  -- The whole run is plain text if the text ends there.
   pub run-to-end : end ≡ length text → PlainBetween p text from end
   run-to-end e =
       let h = r .from-le in
@@ -185,7 +185,7 @@ module _ {p : Policy} (b : AsciiBare p) {text : List ℕ} {from end : ℕ} (q : 
       (ascii-skips b (end - from) from (omega (arith, run-room q r))
       (λ k i j. ⊎-elim (λ l. past k l) (λ l. run-byte q r k i l) (le-or-lt end k)))
 
-  -- .. all but its last character, whatever stands after it, ..
+  -- The run without its last character is plain text, whatever follows.
   pub run-but-last : PlainBetween p text from (end - 1)
   run-but-last =
       let h = r .from-le in
@@ -193,7 +193,7 @@ module _ {p : Policy} (b : AsciiBare p) {text : List ℕ} {from end : ℕ} (q : 
       subst (PlainBetween p text from) z
       (ascii-skips b (end - 1 - from) from (omega (arith, run-room q r)) (λ k i j. run-byte q r k i (omega arith)))
 
-  -- .. and that one too if it is of the class other.
+  -- The whole run is plain text if its last character has the class other.
   pub run-with-last : classOf (getD text (end - 1) 0) ≡ other → PlainBetween p text from end
   run-with-last e =
       let h = r .from-le in

@@ -1,4 +1,4 @@
--- What becomes of a base with a variation entry and the selectors after it, and of a selector without such a base.
+-- The change at a base with a variation entry and the selectors after it, and at a selector without such a base.
 use mathlib.Core.Path.{_≡_, refl, ap, ap₂, sym, _∙_}
 use mathlib.Core.Bool.{Bool, true, false, _&&_, not, true≢false}
 use mathlib.Core.List.{List, [], _∷_, _++_, append-assoc, map}
@@ -38,6 +38,7 @@ use Rattle.analysis.proofs.Cells.{split-selector, split-whole}
 use Rattle.analysis.proofs.CellsAt.{after-at, selectors-end, selectors-room, split-after}
 use Rattle.analysis.proofs.RuleLaws.{keeps, settles}
 use Rattle.text_pass.specs.Changes.{
+  Advances,
   BaseChange,
   ChangeAt,
   IsNextChange,
@@ -68,7 +69,7 @@ number-tells (Selector Emoji) NoSelector e = absurd (omega arith)
 number-tells (Selector Emoji) (Selector Text) e = absurd (omega arith)
 number-tells (Selector Emoji) (Selector Emoji) e = refl
 
--- Selectors, at most one, are what their first tells.
+-- A run of at most one selector is determined by its first selector.
 one-at-most : (s : List Presentation) → length s ≤ 1 → runWith (firstAsked s) 1 ≡ s
 unfolding runWith firstAsked
 one-at-most [] h = refl
@@ -85,7 +86,7 @@ unfolding runWith
 few-are NoSelector = omega arith
 few-are (Selector q) = omega arith
 
--- Nothing is counted exactly where the selector that stays is all there was.
+-- The rules count nothing exactly if the selectors are just the selector that stays.
 pub no-change : (p : Policy) (c : ℕ) (k : Class) (s : List Presentation) (a : FromSelector) → runWith a 1
     ≡ chosen (outcome p c k s .slot) []
     → (eqb (selectorNumber (firstAsked s)) (selectorNumber a) && leb (3 * length s) 3) ≡ eqb (total (outcome p c k s .counts)) 0
@@ -114,7 +115,7 @@ module _ (text : List ℕ) (at : ℕ) where
   abbrev End : ℕ
   End = at + 3 * length (leading (chars (drop at text)))
 
-  -- After them nothing leads, and the cells are the same.
+  -- The characters after the selectors.
   after-cells : chars (drop End text) ≡ afterSelectors (chars (drop at text))
   after-cells = after-at text at
 
@@ -145,7 +146,7 @@ module _ (text : List ℕ) (at : ℕ) where
   three-each (Text ∷ s) = omega (arith, three-each s)
   three-each (Emoji ∷ s) = omega (arith, three-each s)
 
-  -- Their bytes.
+  -- The bytes of the selectors.
   pub selectors-bytes : take (End - at) (drop at text) ≡ encodeAll (map asSelector (leading (chars (drop at text))))
   selectors-bytes =
       let t = chars (drop at text) in
@@ -168,7 +169,7 @@ base-read p text base at first end k a m f e h s q =
     ∙ ap (λ (x : Outcome). chosen (x .slot) []) o in
     let w : end - at ≡ 3 * length (leading t) = omega arith in
     record {
-      kept-is = refl;
+      start-is = refl;
       end-is = e;
       selector-is = u;
       present-is =
@@ -195,8 +196,12 @@ module _ (p : Policy) {text : List ℕ} {at v w : ℕ} (h : Step text at v w) (e
       ∙ ap (λ (l : List ℕ). encode v ++ (encodeAll (map asSelector (chosen (outcomeFrom p text v (at + w) .slot) [])) ++ l))
       (selectors-formatted text (at + w) p ∙ ap (formattedFrom p text) (sym (b .end-is)))
 
-  base-inside : c .end ≤ length text
-  base-inside = omega (arith, b .end-is, selectors-room text (at + w) (h .room))
+  base-advances : Advances text at (c .end)
+  base-advances = record {
+    on = omega (arith, b .end-is);
+    inside = λ _. omega (arith, b .end-is, selectors-room text (at + w) (h .room));
+    valid = base-valid;
+  }
 
   pub change-at-base : ChangeAt p text at c
   change-at-base = (changed, stays)
@@ -210,17 +215,16 @@ module _ (p : Policy) {text : List ℕ} {at v w : ℕ} (h : Step text at v w) (e
 
       changed : c .present ≡ true → IsNextChange p text at c
       changed m = record {
-        on = omega (arith, b .kept-is);
-        after = omega (arith, b .kept-is, b .end-is);
+        advances = base-advances;
+        on = omega (arith, b .start-is);
+        after = omega (arith, b .start-is, b .end-is);
         moves = omega (arith, b .end-is, h .some);
-        inside = λ _. base-inside;
         formatted =
             base-formatted
             ∙ ap₂ (λ (x y : List ℕ). x ++ (y ++ formattedFrom p text (c .end)))
-            (sym (ap (λ (n : ℕ). take (n - at) (drop at text)) (b .kept-is) ∙ step-bytes h))
+            (sym (ap (λ (n : ℕ). take (n - at) (drop at text)) (b .start-is) ∙ step-bytes h))
             (ap (λ (s : List Presentation). encodeAll (map asSelector s)) (sym (b .selector-is)));
         counted = omega (arith, base-total, counted m);
-        valid = base-valid;
       }
 
       stays : c .present ≡ false → UnchangedBetween p text at (c .end) × (at < c .end)
@@ -233,22 +237,20 @@ module _ (p : Policy) {text : List ℕ} {at v w : ℕ} (h : Step text at v w) (e
           ∙ ap₂ (λ (x y : List ℕ). x ++ y) (step-bytes h)
           (ap (λ (n : ℕ). take (n - (at + w)) (drop (at + w) text)) (b .end-is) ∙ selectors-bytes text (at + w)) in (
             record {
-              on = omega (arith, b .end-is);
-              inside = λ _. base-inside;
+              advances = base-advances;
               formatted =
                   base-formatted ∙ ap (λ (x : List Presentation). encode v
                   ++ (encodeAll (map asSelector x) ++ formattedFrom p text (c .end))) s
                   ∙ sym (append-assoc (encode v) (encodeAll (map asSelector (leading t))) (formattedFrom p text (c .end)))
                   ∙ ap (λ (x : List ℕ). x ++ formattedFrom p text (c .end)) (sym a);
               counted = omega (arith, base-total, z);
-              valid = base-valid;
             },
             omega (arith, b .end-is, h .some),
           )
 
 -- ---- a selector
 
--- It goes, and the selectors after it go with it.
+-- Formatting removes the selector and all selectors after it.
 pub change-at-selector : (p : Policy) {text : List ℕ} {at w : ℕ} (q : Presentation) → Step text at (asSelector q) w → (end : ℕ) → end
     ≡ End text (at + w)
     → ChangeAt p text at (record { start = at; selector = NoSelector; end = end; present = true })
@@ -260,22 +262,25 @@ change-at-selector p {text} {at} {w} q h end e =
     ap (λ (l : List ℕ). total (totalCells p l)) (h .chars-on)
     ∙ ap (λ (a : List Presentation × List Cell). total (unsanctioned (length (a .0)) ⊕ countCells p (a .1))) s ∙ omega arith in (
       λ _. record {
+        advances = record {
+          on = omega arith;
+          inside = λ _. omega (arith, selectors-room text (at + w) (h .room));
+          valid = omega (arith, h .validUpTo-on, selectors-valid text (at + w), ap (λ (n : ℕ). validUpTo (drop n text)) e);
+        };
         on = omega arith;
         after = omega arith;
         moves = omega (arith, h .some);
-        inside = λ _. omega (arith, selectors-room text (at + w) (h .room));
         formatted =
             ap (λ (l : List ℕ). encodeAll (formatCells p l)) (h .chars-on)
             ∙ ap (λ (a : List Presentation × List Cell). encodeAll (render p (a .1) [])) s
             ∙ selectors-formatted text (at + w) p ∙ ap (formattedFrom p text) (sym e)
             ∙ ap (λ (n : ℕ). take n (drop at text) ++ formattedFrom p text end) (sym z);
         counted = omega (arith, n, selectors-total text (at + w) p, ap (totalFrom p text) e);
-        valid = omega (arith, h .validUpTo-on, selectors-valid text (at + w), ap (λ (n : ℕ). validUpTo (drop n text)) e);
       },
       λ f. absurd (true≢false f),
     )
 
--- ---- which of them a character is
+-- ---- a character with a variation entry is no selector
 
 pub entry-no-selector : (c i : ℕ) → variationSequenceIndex c ≡ At i → isSelector c ≡ false
 unfolding VariationEntriesAreEmoji

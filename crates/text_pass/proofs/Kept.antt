@@ -1,4 +1,4 @@
--- What stays of the selectors after a base is what the rules leave, by the first selector and the class of what follows them.
+-- The selector that the code keeps after a base is the one that the rules leave, by the first selector and the class of the next character.
 use mathlib.Core.Path.{_≡_, refl, ap, sym, _∙_, subst}
 use mathlib.Core.Bool.{Bool, cond}
 use mathlib.Core.List.{List, [], _∷_}
@@ -43,7 +43,7 @@ use Rattle.analysis.proofs.Rules.{has-entry, outcome-entry, rule23}
 use Rattle.text_pass.specs.Changes.{SameRules, outcomeFrom}
 use Rattle.text_pass.proofs.RuleClasses.{rules-before, same-outcome}
 
--- ---- the rule that holds
+-- ---- the rule that applies
 
 module _ (p : Policy) (c i : ℕ) (e : variationSequenceIndex c ≡ At i) (a r : FromSelector) where
   by-rule : (k : Class) (n : ℕ) (o : Outcome) → outcome p c k (runWith a n) ≡ o → runWith r 1 ≡ chosen (o .slot) [] → runWith r 1
@@ -90,7 +90,7 @@ module _ (p : Policy) (c i : ℕ) (e : variationSequenceIndex c ≡ At i) (a r :
         outcome-entry p c other (runWith a n) (has-entry c i e),
       ) k o ∙ ap (λ (x : Bool). rule6 (singletonRule p c x) (runWith a n)) (sym d)) s
 
--- ---- the class of what follows
+-- ---- the class of the next character
 
 same-then : {i j k : Class} → SameRules i j → SameRules j k → SameRules i k
 same-then a b = record { modifier = a .modifier ∙ b .modifier; tags = a .tags ∙ b .tags; keycap = a .keycap ∙ b .keycap }
@@ -98,7 +98,7 @@ same-then a b = record { modifier = a .modifier ∙ b .modifier; tags = a .tags 
 same-back : {i j : Class} → SameRules i j → SameRules j i
 same-back a = record { modifier = sym (a .modifier); tags = sym (a .tags); keycap = sym (a .keycap) }
 
--- The packed number of the character at an offset is 0 where none stands, and 0 is to the rules as any other character.
+-- The packed number is 0 where no character begins, and for the rules 0 has the class other.
 pub class-in-front : (text : List ℕ) (at n : ℕ) (k : Class) → n ≡ packed (readChar (drop at text)) → SameRules k (classOf (n / 8))
     → SameRules k (classInFront (chars (drop at text)))
 unfolding classInFront
@@ -114,7 +114,7 @@ unfolding classInFront following split
 front-class [] e = refl
 front-class (c ∷ u) e = sym (ap (λ (a : List Presentation × List Cell). following (a .1)) (split-char c u (front-char c u e)))
 
--- ---- all together
+-- ---- the outcome of the rules, as the code reads the text
 
 module _ (p : Policy) (text : List ℕ) (base at : ℕ) where
   abbrev T : List ℕ

@@ -1,4 +1,4 @@
--- Selectors by numbers: what the rules leave of them, as the code has it in words and numbers.
+-- Selectors as numbers: the code's numbers and words of bits give the selectors that the rules leave.
 use mathlib.Core.Path.{_≡_, refl}
 use mathlib.Core.Bool.{Bool}
 use mathlib.Core.List.{List, [], _∷_}

@@ -1,4 +1,4 @@
--- Where no finding begins, where one does, and how many are passed: by the items from an offset on and the totals before and after an item.
+-- Stretches of a text in which no finding starts or in which findings are passed, and items that are findings.
 use mathlib.Core.Path.{_≡_, refl, ap, sym, _∙_, subst}
 use mathlib.Core.Bool.{Bool, true, false, cond, not}
 use mathlib.Core.List.{List, _∷_}
@@ -40,33 +40,28 @@ use Rattle.text_pass.specs.Findings.{
 }
 use Rattle.analysis.proofs.CellsOfItems.{total-first}
 use Rattle.text_pass.proofs.PlainText.{other-plain, stays-plain}
-use Rattle.text_pass.proofs.Staying.{stays-here, stays-on}
+use Rattle.text_pass.proofs.Staying.{advances-here, advances-on, stays-here, stays-on, step-advances}
 
 -- ---- stretches without a finding
 
 module _ {p : Policy} {text : List ℕ} where
   pub passes-here : (i : ℕ) → NoFindingBetween p text i i
-  passes-here i = record { on = omega arith; inside = λ h. h; same = refl; valid = omega arith }
+  passes-here i = record { advances = advances-here i; same = refl }
 
   pub passes-on : {i j k : ℕ} → NoFindingBetween p text i j → NoFindingBetween p text j k → NoFindingBetween p text i k
-  passes-on a b =
-      let l = a .on in
-      let m = b .on in
-      let v = a .valid in
-      let w = b .valid in
-      record { on = omega arith; inside = λ h. b .inside (a .inside h); same = a .same ∙ b .same; valid = omega arith }
+  passes-on a b = record { advances = advances-on (a .advances) (b .advances); same = a .same ∙ b .same }
 
 -- ---- stretches with findings that start before a limit
 
-left-on : {before m n : ℕ} {fs gs hs : List Found} → SkipsFindings before fs m gs → SkipsFindings before gs n hs
-    → SkipsFindings before fs (m + n) hs
-left-on {before} {n = n} {fs} {hs = hs} none-skipped b = let z : n
-    ≡ 0 + n = omega arith in subst (λ (k : ℕ). SkipsFindings before fs k hs) z b
-left-on {before} {n = n} {fs} {hs = hs} (one-skipped {n = m} h a) b = let z : suc (m + n)
-    ≡ suc m + n = omega arith in subst (λ (k : ℕ). SkipsFindings before fs k hs) z (one-skipped h (left-on a b))
+left-on : {limit m n : ℕ} {fs gs hs : List Found} → SkipsFindings limit fs m gs → SkipsFindings limit gs n hs
+    → SkipsFindings limit fs (m + n) hs
+left-on {limit} {n = n} {fs} {hs = hs} none-skipped b = let z : n
+    ≡ 0 + n = omega arith in subst (λ (k : ℕ). SkipsFindings limit fs k hs) z b
+left-on {limit} {n = n} {fs} {hs = hs} (one-skipped {n = m} h a) b = let z : suc (m + n)
+    ≡ suc m + n = omega arith in subst (λ (k : ℕ). SkipsFindings limit fs k hs) z (one-skipped h (left-on a b))
 
--- The findings that are passed are counted.
-pub left-length : {before n : ℕ} {fs gs : List Found} → SkipsFindings before fs n gs → length fs ≡ n + length gs
+-- A list of findings is as long as the number of skipped findings and the list of the others together.
+pub left-length : {limit n : ℕ} {fs gs : List Found} → SkipsFindings limit fs n gs → length fs ≡ n + length gs
 left-length none-skipped = omega arith
 left-length (one-skipped h a) = let e = left-length a in omega arith
 
@@ -74,49 +69,40 @@ none-passed : {n : ℕ} {fs gs : List Found} → SkipsFindings 0 fs n gs → fs 
 none-passed none-skipped = refl
 none-passed (one-skipped h a) = absurd (omega arith)
 
-module _ {p : Policy} {text : List ℕ} {before : ℕ} where
-  pub over-here : (i : ℕ) → FindingsBetween p text before i i 0
-  over-here i = record { on = omega arith; inside = λ h. h; few = omega arith; left = none-skipped; valid = omega arith }
+module _ {p : Policy} {text : List ℕ} {limit : ℕ} where
+  pub over-here : (i : ℕ) → FindingsBetween p text limit i i 0
+  over-here i = record { advances = advances-here i; few = omega arith; skips = none-skipped }
 
-  pub over-on : {i j k m n : ℕ} → FindingsBetween p text before i j m → FindingsBetween p text before j k n
-      → FindingsBetween p text before i k (m + n)
+  pub over-on : {i j k m n : ℕ} → FindingsBetween p text limit i j m → FindingsBetween p text limit j k n
+      → FindingsBetween p text limit i k (m + n)
   over-on a b =
-      let l = a .on in
-      let m = b .on in
-      let v = a .valid in
-      let w = b .valid in
+      let l = a .advances .on in
+      let m = b .advances .on in
       let f = a .few in
       let g = b .few in
       record {
-        on = omega arith;
-        inside = λ h. b .inside (a .inside h);
+        advances = advances-on (a .advances) (b .advances);
         few = omega arith;
-        left = left-on (a .left) (b .left);
-        valid =
-            omega arith;
+        skips = left-on (a .skips) (b .skips);
       }
 
-  -- A stretch without a finding after it.
-  pub over-passes : {i j k n : ℕ} → FindingsBetween p text before i j n → NoFindingBetween p text j k → FindingsBetween p text before i k n
+  -- A stretch in which findings are passed, followed by a stretch without a finding.
+  pub over-passes : {i j k n : ℕ} → FindingsBetween p text limit i j n → NoFindingBetween p text j k → FindingsBetween p text limit i k n
   over-passes {i} {n = n} a b =
-      let l = a .on in
-      let m = b .on in
-      let v = a .valid in
-      let w = b .valid in
+      let l = a .advances .on in
+      let m = b .advances .on in
       let f = a .few in
       record {
-        on = omega arith;
-        inside = λ h. b .inside (a .inside h);
+        advances = advances-on (a .advances) (b .advances);
         few = omega arith;
-        left = subst (λ (l : List Found). SkipsFindings before (findingsFrom p text i) n l) (b .same) (a .left);
-        valid = omega arith;
+        skips = subst (λ (l : List Found). SkipsFindings limit (findingsFrom p text i) n l) (b .same) (a .skips);
       }
 
--- Nothing starts before the first offset, so that no finding is passed.
+-- No finding starts before offset 0, so that with this limit none is passed.
 pub over-none : {p : Policy} {text : List ℕ} {i j n : ℕ} → FindingsBetween p text 0 i j n → NoFindingBetween p text i j
-over-none a = record { on = a .on; inside = a .inside; same = none-passed (a .left); valid = a .valid }
+over-none a = record { advances = a .advances; same = none-passed (a .skips) }
 
--- ---- an item, by the totals before and after it
+-- ---- an item, and the totals from its start and from its end on
 
 module _ (p : Policy) (text : List ℕ) (at end : ℕ) {x : Item} {xs : List Item} (e : items (chars (drop at text)) ≡ x ∷ xs)
     (f : end ≡ at + size width (x .chars)) where
@@ -149,13 +135,11 @@ module _ (p : Policy) (text : List ℕ) (at end : ℕ) {x : Item} {xs : List Ite
       let s = h .some in
       let r = h .room in
       record {
-        on = omega arith;
-        inside = λ _. omega arith;
+        advances = record { on = omega arith; inside = λ _. omega arith; valid = item-valid };
         same =
             ap (found (isFinding p) width at) e ∙ found-none (isFinding p) width at x xs n
             ∙ ap (found (isFinding p) width (at + size width (x .chars))) (sym (h .after))
             ∙ ap (findingsFrom p text) (sym f);
-        valid = item-valid;
       }
 
   pub counted-item : (m : NonCanonicality) → 1 ≤ total m → totalCells p (chars (drop at text)) ≡ m ⊕ totalCells p (chars (drop end text))
@@ -176,8 +160,8 @@ module _ (p : Policy) (text : List ℕ) (at end : ℕ) {x : Item} {xs : List Ite
 -- ---- an item that is a finding
 
 module _ {p : Policy} {text : List ℕ} {start end : ℕ} (f : Finds p text start end) where
-  state : ItemAt text start (f .item) (f .after)
-  state = item-at text start (f .items-are)
+  here : ItemAt text start (f .item) (f .after)
+  here = item-at text start (f .items-are)
 
   pub finds-here : findingsFrom p text start ≡ record { start = start; item = f .item } ∷ findingsFrom p text end
   unfolding found
@@ -187,25 +171,23 @@ module _ {p : Policy} {text : List ℕ} {start end : ℕ} (f : Finds p text star
       ap (found (isFinding p) width start) (f .items-are)
       ∙ ap (λ (b : Bool). cond b (record { start = start; item = f .item } ∷ l) l) (f .is-finding)
       ∙ ap (λ (k : List Found). record { start = start; item = f .item } ∷ k)
-      (ap (found (isFinding p) width n) (sym (state .after)) ∙ ap (findingsFrom p text) (sym (f .end-is)))
+      (ap (found (isFinding p) width n) (sym (here .after)) ∙ ap (findingsFrom p text) (sym (f .end-is)))
 
   pub finds-some : start < end
-  finds-some = let e = f .end-is in let s = state .some in omega arith
+  finds-some = let e = f .end-is in let s = here .some in omega arith
 
   pub finds-room : end ≤ length text
-  finds-room = let e = f .end-is in let r = state .room in omega arith
+  finds-room = let e = f .end-is in let r = here .room in omega arith
 
-  -- It is passed where it starts before the limit.
-  pub over-finding : {before : ℕ} → start < before → FindingsBetween p text before start end 1
-  over-finding {before} l =
+  -- A finding that starts before the limit is passed.
+  pub over-finding : {limit : ℕ} → start < limit → FindingsBetween p text limit start end 1
+  over-finding {limit} l =
       let s = finds-some in
       let r = finds-room in
       record {
-        on = omega arith;
-        inside = λ _. r;
+        advances = record { on = omega arith; inside = λ _. r; valid = item-valid p text start end (f .items-are) (f .end-is) };
         few = omega arith;
-        left = subst (λ (k : List Found). SkipsFindings before k 1 (findingsFrom p text end)) (sym finds-here) (one-skipped l none-skipped);
-        valid = item-valid p text start end (f .items-are) (f .end-is);
+        skips = subst (λ (k : List Found). SkipsFindings limit k 1 (findingsFrom p text end)) (sym finds-here) (one-skipped l none-skipped);
       }
 
 -- ---- plain characters
@@ -214,7 +196,7 @@ pub step-width : {text : List ℕ} {at v w : ℕ} → Step text at v w → width
 step-width {text} {at} {v} {w} s =
     omega (arith, size-chars (drop at text), size-chars (drop (at + w) text), ap (size width) (s .chars-on), s .validUpTo-on)
 
--- No finding begins in passthrough, and after a character of it the same findings follow.
+-- No finding starts at a character of passthrough.
 pub passes-plain : (p : Policy) {text : List ℕ} {at v w : ℕ} → Step text at v w → startState (classOf v)
     ≡ plain → NoFindingBetween p text at (at + w)
 unfolding items kindOf
@@ -223,18 +205,16 @@ passes-plain p {text} {at} {v} {w} s b =
     let x : Item = record { kind = kindOf (startState (classOf v)); chars = v ∷ (splitFrom (startState (classOf v)) t) .0 } in
     let n : at + size width (v ∷ (splitFrom plain t) .0) ≡ at + w + size width ((splitFrom plain t) .0) = omega (arith, step-width s) in
     record {
-      on = omega arith;
-      inside = λ _. s .room;
+      advances = step-advances s;
       same =
           ap (λ (l : List ℕ). found (isFinding p) width at (items l)) (s .chars-on)
           ∙ found-skip (isFinding p) width (passthrough-no-finding p) at x ((splitFrom (startState (classOf v)) t) .1) (ap kindOf b)
           ∙ ap (λ (q : State). found (isFinding p) width (at + size width (v ∷ (splitFrom q t) .0)) ((splitFrom q t) .1)) b
           ∙ ap (λ (m : ℕ). found (isFinding p) width m ((splitFrom plain t) .1)) n
           ∙ sym (found-items (isFinding p) width (passthrough-no-finding p) (at + w) t);
-      valid = omega (arith, s .validUpTo-on);
     }
 
--- ---- plain text: its bytes stay too
+-- ---- plain text, which formatting also keeps
 
 module _ {p : Policy} {text : List ℕ} where
   pub skips-here : (i : ℕ) → PlainBetween p text i i
@@ -247,13 +227,13 @@ pub skips-other : (p : Policy) {text : List ℕ} {at v w : ℕ} → Step text at
 unfolding startState
 skips-other p {v = v} s e = (stays-plain p s (other-plain v e), passes-plain p s (ap startState e))
 
--- Plain text passed by what the policy's bytes say of the ASCII bases, as the code does.
+-- The code skips plain text by what the policy's bytes say of the ASCII bases.
 pub passed : (policy text : List ℕ) {at to : ℕ} {bare : Bool} → bare ≡ asciiKeysBare policy
     → ((p : Policy) → (bare ≡ true → AsciiBare p) → PlainBetween p text at to)
     → NoFindingBetween (policyOf policy) text at to
 passed policy text e s = s (policyOf policy) (λ t. ascii-rule-bare policy (sym e ∙ t)) .1
 
-pub passes-skip : (policy text : List ℕ) {before from at to n : ℕ} {bare : Bool} → bare ≡ asciiKeysBare policy
-    → FindingsBetween (policyOf policy) text before from at n
-    → ((p : Policy) → (bare ≡ true → AsciiBare p) → PlainBetween p text at to) → FindingsBetween (policyOf policy) text before from to n
+pub passes-skip : (policy text : List ℕ) {limit from at to n : ℕ} {bare : Bool} → bare ≡ asciiKeysBare policy
+    → FindingsBetween (policyOf policy) text limit from at n
+    → ((p : Policy) → (bare ≡ true → AsciiBare p) → PlainBetween p text at to) → FindingsBetween (policyOf policy) text limit from to n
 passes-skip policy text e a s = over-passes a (passed policy text e s)

@@ -1,4 +1,4 @@
--- Characters that stay whatever stands after them: which they are by their first bytes, and ASCII.
+-- Characters that formatting keeps, whatever follows them, and how the code recognises them by their first bytes.
 use mathlib.Core.Path.{_≡_, refl, ap, sym, _∙_, subst}
 use mathlib.Core.Logic.{⊎-elim}
 use mathlib.Core.Bool.{Bool, true, false, _&&_, _||_}
@@ -22,7 +22,8 @@ use Rattle.policy.specs.declared.Policy.{Policy}
 use Rattle.scanner.specs.Classes.{classOf}
 use Rattle.scanner.specs.declared.char_class.Class.{Class}
 use Rattle.scanner.specs.declared.char_class.Class.the-variants.{Emoji as emoji, Other as other}
-use Rattle.scanner.proofs.ClassTests.{forSelector, selector-test}
+use Rattle.scanner.specs.RunKinds.{isSelectorClass}
+use Rattle.scanner.proofs.ClassTests.{selector-test}
 use Rattle.scanner.proofs.Classes.{class-is, entry-class, is-link, is-other, is-tag}
 use Rattle.analysis.specs.Analysis.{following}
 use Rattle.analysis.specs.Cells.{cells, leading}
@@ -31,14 +32,14 @@ use Rattle.analysis.proofs.Rules.{outcome-no-entry}
 use Rattle.text_pass.specs.Changes.{UnchangedBetween, outcomeFrom}
 use Rattle.text_pass.proofs.Staying.{stays-char}
 
--- A character that has no variation entry and is no selector: it stays, whatever stands after it.
+-- A character that has no variation entry and is no selector. Formatting keeps it, whatever follows.
 pub record StaysAlone (c : ℕ) : Type 0 where
   pub no-entry : hasVariationSequence c ≡ false
   pub no-selector : isSelector c ≡ false
 
 -- ---- where the emoji are
 
--- Before F000 a character that is neither emoji nor 200D nor 20E3 is of the class other.
+-- A character below F000 that is neither emoji nor 200D nor 20E3 has the class other.
 other-if : (c : ℕ) → c < 0xF000 → (c ≡ 0x200D → ⊥) → (c ≡ 0x20E3 → ⊥) → isEmoji c ≡ false → classOf c ≡ other
 unfolding isSelector isTag
 other-if c high link keycap e =
@@ -51,7 +52,7 @@ other-if c high link keycap e =
     })
     (ne-eqb c 0x20E3 keycap) (simp (lt-leb 0xE0020 c (omega arith))))
 
--- A range of emoji lies among ASCII and Latin-1, from 2000 to 2FFF, in the blocks of 3030 and 3297, or after EFFF.
+-- Whether a range of emoji lies up to BF, from 2000 to 2FFF, in the blocks of 3030 and 3297, or after EFFF.
 unfoldable emojiPlace : ℕ → ℕ → Bool
 emojiPlace a e = leb e 0xBF || ((leb 0x2000 a && leb e 0x2FFF) ||
     ((leb 0x3000 a && leb e 0x303F) || ((leb 0x3280 a && leb e 0x32BF) || leb 0xF000 a)))
@@ -83,7 +84,7 @@ other-by c low two three four high =
     go true m = absurd (every-range emojiPlace (λ d. d ≡ c → ⊥) no emojiRanges refl c m refl)
     go false m = refl
 
--- Among ASCII only # * and the digits.
+-- Whether a range of emoji is #, is *, lies among the digits, or lies after ASCII.
 unfoldable asciiPlace : ℕ → ℕ → Bool
 asciiPlace a e = (eqb a 0x23 && eqb e 0x23) || ((eqb a 0x2A && eqb e 0x2A) || ((leb 0x30 a && leb e 0x39) || leb 0x80 a))
 
@@ -111,9 +112,9 @@ ascii-other c ascii hash star digit =
     go true m = absurd (every-range asciiPlace (λ d. d ≡ c → ⊥) no emojiRanges refl c m refl)
     go false m = refl
 
--- A character whose class is neither emoji nor selector has no entry and is no selector.
-class-plain : (c : ℕ) {k : Class} → classOf c ≡ k → (k ≡ emoji → ⊥) → forSelector k ≡ false → StaysAlone c
-class-plain c e never s = record { no-entry = entry (hasVariationSequence c) refl; no-selector = selector-test c ∙ ap forSelector e ∙ s }
+-- A character whose class is neither emoji nor selector has no variation entry and is no selector.
+class-plain : (c : ℕ) {k : Class} → classOf c ≡ k → (k ≡ emoji → ⊥) → isSelectorClass k ≡ false → StaysAlone c
+class-plain c e never s = record { no-entry = entry (hasVariationSequence c) refl; no-selector = selector-test c ∙ ap isSelectorClass e ∙ s }
   where
     entry : (b : Bool) → hasVariationSequence c ≡ b → b ≡ false
     entry true v = absurd (never (sym e ∙ entry-class c v))
@@ -124,7 +125,7 @@ other-plain c e = class-plain c e (λ z. let n : _≡_ {A = ℕ} 0 1 = cc in ome
 
 -- ---- by the first bytes
 
--- A character whose first byte is from C3 to EE, not E2, and if it is E3, its second is neither 80 nor 8A.
+-- A character has the class other if its first byte is from C3 to EE and not E2, and, where it is E3, the second is neither 80 nor 8A.
 pub plain-lead : {text : List ℕ} {at v w : ℕ} → Step text at v w → (a : ℕ) → a ≡ getD (drop at text) 0 0
     → 0xC3 ≤ a → a ≤ 0xEE → (a ≡ 0xE2 → ⊥) → (a ≡ 0xE3 → (getD (drop at text) 1 0 ≡ 0x80 → ⊥) × (getD (drop at text) 1 0 ≡ 0x8A → ⊥))
     → classOf v ≡ other
@@ -150,7 +151,7 @@ plain-lead {text} {at} {v} {w} h a e low high two three =
     second : (s : List ℕ) → encode v ≡ s → getD (drop at text) 1 0 ≡ getD (s ++ drop (at + w) text) 1 0
     second s f = ap (λ (l : List ℕ). getD l 1 0) (sym (h .bytes)) ∙ ap (λ (l : List ℕ). getD (l ++ drop (at + w) text) 1 0) f
 
--- ---- such characters stay
+-- ---- formatting keeps such characters
 
 pub stays-plain : (p : Policy) {text : List ℕ} {at v w : ℕ} → Step text at v w → StaysAlone v → UnchangedBetween p text at (at + w)
 unfolding rule1
@@ -161,7 +162,7 @@ stays-plain p {text} {at} {v} {w} h c =
 
 -- ---- links and tags
 
--- At an offset stands such a character, of so many bytes.
+-- A character of w bytes that formatting keeps, whatever follows, stands at an offset.
 pub record PlainAt (text : List ℕ) (at w : ℕ) : Type 0 where
   pub value : ℕ
   pub read : Step text at value w
@@ -176,7 +177,7 @@ module _ (text : List ℕ) (at n : ℕ) (e : n ≡ packed (readChar (drop at tex
       let s = subst (λ (x : ℕ). Step text at x (n % 8)) h (packed-step text at n e (λ z. omega arith)) in
       subst (Step text at v) (sym (s .width) ∙ f) s
 
-  -- What is read with the value 200D is a link, of three bytes.
+  -- A character with the value 200D is a link and has three bytes.
   pub link-at : n / 8 ≡ 0x200D → PlainAt text at 3
   unfolding encode
   link-at h = record {

@@ -1,4 +1,4 @@
--- What a character after a base is to the rules: a modifier, a tag, 20E3, or any other.
+-- The classes that the rules distinguish: modifier, tag, 20E3, and all others.
 use mathlib.Core.Path.{_≡_, refl, sym, _∙_, subst}
 use mathlib.Core.Bool.{Bool, true, false, cond, _&&_, not, true≢false}
 use mathlib.Core.List.{List}
@@ -35,7 +35,7 @@ use Rattle.text_pass.specs.Changes.{SameRules}
 pub rules-as : {c : ℕ} {k : Class} → HasClass c k → SameRules k (classOf c)
 rules-as {c} {k} h = subst (λ (j : Class). SameRules k j) (sym (class-is h)) (record { modifier = refl; tags = refl; keycap = refl })
 
--- A character that is none of the three is as any other.
+-- For the rules, a character that is no modifier, no tag and not 20E3 has the class other.
 pub rules-other : (c : ℕ) → eqb c 0x20E3 ≡ false → isEmojiModifier c ≡ false → isTag c ≡ false → SameRules other (classOf c)
 unfolding byModifier byTags byKeycap
 rules-other c k m t = go (hasClass c)
@@ -50,7 +50,7 @@ rules-other c k m t = go (hasClass c)
     go (is-emoji s r n) = record { modifier = refl; tags = refl; keycap = refl }
     go (is-other s r n) = record { modifier = refl; tags = refl; keycap = refl }
 
--- So is every character before 20E3.
+-- For the rules, every character below 20E3 has the class other.
 pub rules-before : (c : ℕ) → c < 0x20E3 → SameRules other (classOf c)
 unfolding isEmojiModifier every emojiModifiers isTag
 rules-before c h = rules-other c (ne-eqb c 0x20E3 (λ e. omega arith)) (no-modifier (isEmojiModifier c) refl) (no-tag (isTag c) refl)
@@ -63,7 +63,7 @@ rules-before c h = rules-other c (ne-eqb c 0x20E3 (λ e. omega arith)) (no-modif
     no-tag true e = let i = within-in 0xE0020 0xE007F c e in absurd (omega arith)
     no-tag false e = refl
 
--- Where two classes are one to the rules, what they say is the same.
+-- The rules have the same outcome for two classes that they do not distinguish.
 pub same-outcome : (p : Policy) (c : ℕ) (s : List Presentation) {j k : Class} → SameRules j k → outcome p c j s ≡ outcome p c k s
 unfolding outcome
 same-outcome p c s h =

@@ -1,4 +1,4 @@
--- From an item of links or units on, cell by cell: what the loop over items goes by, up to the finding that is looked for.
+-- The walk through items of links and units, cell by cell: the invariant of the loop, and what each turn does to it.
 use mathlib.Core.Path.{_≡_, refl, ap, ap₂, sym, _∙_, subst}
 use mathlib.Core.Logic.{inl, inr, ⊎-elim}
 use mathlib.Core.Bool.{Bool, true, false, _&&_, _||_, and-false, cond, not, true≢false}
@@ -51,7 +51,7 @@ use Rattle.scanner.proofs.Rescan.{size-append}
 use Rattle.scanner.proofs.Runs.{Stops, at-char, at-end, after-stops, run-after, run-passes}
 use Rattle.scanner.proofs.Tiling.{cut-none, cut-some}
 use Rattle.scanner.proofs.Walk.{inner-no-selector, walk-cut}
-use Rattle.scanner.proofs.state.State.{the-type as the-place}
+use Rattle.scanner.proofs.state.State.{the-type as the-state}
 use Rattle.analysis.specs.Analysis.{chosen, following}
 use Rattle.analysis.specs.CellView.{classInFront, totalCells}
 use Rattle.analysis.specs.Cells.{cells, leading}
@@ -74,7 +74,7 @@ use Rattle.text_pass.proofs.Passing.{counted-item, over-finding, over-o
 use Rattle.text_pass.proofs.PlainText.{ascii-other}
 use Rattle.text_pass.proofs.RuleClasses.{same-outcome}
 
--- ---- whether something is counted of a cell
+-- ---- whether the rules count something for a cell
 
 pub entry-changes : (p : Policy) (c : ℕ) (k : Class) (s : List Presentation) (first a : FromSelector) (bytes : ℕ) (m : Bool)
     → first ≡ firstAsked s → bytes ≡ 3 * length s → ((n : ℕ) → runWith a 1 ≡ chosen (outcome p c k (runWith first n) .slot) [])
@@ -96,7 +96,7 @@ no-entry-changes p c k s bytes e b =
     (λ h. eq-eqb bytes 0 (omega arith) ∙ sym (eq-eqb (total (outcome p c k s .counts)) 0 (omega (arith, o))))
     (le-or-lt 1 (length s)))
 
--- The cell as the code reads it.
+-- What the code reads of a cell and of the character after it.
 pub read-end : (p : Policy) (text : List ℕ) (base at : ℕ) (first : FromSelector) (end n : ℕ) (k : Class) (i : VariationSequenceIndex)
     (m : Bool)
     → first ≡ firstAsked (leading (chars (drop at text))) → end ≡ at + 3 * length (leading (chars (drop at text))) → n
@@ -119,7 +119,7 @@ read-end p text base at first end n k i m f e d c j h =
       index-is = j;
     }
 
--- Whether something was counted, with this cell, as the branch that asks leaves it.
+-- The value of `changed` after the branch that sets it: it was true, or the rules count something for this cell.
 pub now-changed : (x : Bool) {b y : Bool} → y ≡ true → b ≡ true → b ≡ x || y
 now-changed true e f = f
 now-changed false e f = f ∙ sym e
@@ -128,47 +128,47 @@ pub as-changed : (x : Bool) {b y : Bool} → y ≡ false → b ≡ x → b ≡ x
 as-changed true e f = f
 as-changed false e f = f ∙ sym e
 
--- The arm for every place but that in passthrough.
-pub not-plain : (q : State) → OneOf (1 ∷ 2 ∷ 3 ∷ 4 ∷ 5 ∷ 6 ∷ []) (tagOf the-place q) → q ≡ plain → ⊥
-not-plain q o e = miss (1 ∷ 2 ∷ 3 ∷ 4 ∷ 5 ∷ 6 ∷ []) 0 tt (subst (λ (r : State). OneOf (1 ∷ 2 ∷ 3 ∷ 4 ∷ 5 ∷ 6 ∷ []) (tagOf the-place r)) e o)
+-- In the arm for every state but that of passthrough, the state is not that of passthrough.
+pub not-plain : (q : State) → OneOf (1 ∷ 2 ∷ 3 ∷ 4 ∷ 5 ∷ 6 ∷ []) (tagOf the-state q) → q ≡ plain → ⊥
+not-plain q o e = miss (1 ∷ 2 ∷ 3 ∷ 4 ∷ 5 ∷ 6 ∷ []) 0 tt (subst (λ (r : State). OneOf (1 ∷ 2 ∷ 3 ∷ 4 ∷ 5 ∷ 6 ∷ []) (tagOf the-state r)) e o)
 
--- ---- the loop: the item that is gone through, and what is counted of it so far
+-- ---- the invariant of the loop: the current item, and what is counted in it so far
 
--- The counts that are kept: those of an item that does not start before the limit, else none.
+-- The variable `counts` has the sum of the counts if the item does not start before the limit; else it is empty.
 abbrev pub Keeps : ℕ → ℕ → NonCanonicality → NonCanonicality → Type 0
-Keeps before start sum counts = (before ≤ start → counts ≡ sum) × (start < before → counts ≡ empty)
+Keeps limit start sum counts = (limit ≤ start → counts ≡ sum) × (start < limit → counts ≡ empty)
 
-pub record Walking (p : Policy) (text : List ℕ) (before from start base : ℕ) (index : VariationSequenceIndex) (at : ℕ) (state : State)
+pub record Walking (p : Policy) (text : List ℕ) (limit from start base : ℕ) (index : VariationSequenceIndex) (at : ℕ) (state : State)
     (changed : Bool) (n : ℕ) (counts : NonCanonicality) : Type 0 where
-  pub passed : FindingsBetween p text before from start n
+  pub passed : FindingsBetween p text limit from start n
   pub entry : variationSequenceIndex base ≡ index
   pub inside : inner state ≡ true
-  -- Its last character that is no selector, and where it stands.
+  -- The last character of the item so far that is no selector: its offset and its number of bytes.
   pub pos : ℕ
   pub wide : ℕ
   pub reads : Step text pos base wide
   pub at-is : at ≡ pos + wide
   pub clean : isSelector base ≡ false
   pub on : start ≤ pos
-  -- The item ends where it ends from here on.
+  -- The item, and where it ends, seen from its start and from `at`.
   pub item : Item
   pub after : List Item
   pub items-are : items (chars (drop start text)) ≡ item ∷ after
   pub end-same : start + size width (item .chars) ≡ at + size width ((splitFrom state (chars (drop at text))) .0)
   pub sum : NonCanonicality
   pub counted : totalCells p (chars (drop start text)) ≡ sum ⊕ totalCells p (chars (drop pos text))
-  -- There are no more counts than bytes.
+  -- The sum of the counts is at most the number of bytes passed.
   pub few-counts : total sum + start ≤ pos
   pub changed-is : changed ≡ not (eqb (total sum) 0)
-  pub start : Keeps before start sum counts
+  pub kept : Keeps limit start sum counts
 
-pub walking-begin : (p : Policy) (text : List ℕ) (before from : ℕ) {start v w n : ℕ} {counts : NonCanonicality}
+pub walking-begin : (p : Policy) (text : List ℕ) (limit from : ℕ) {start v w n : ℕ} {counts : NonCanonicality}
     (index : VariationSequenceIndex)
-    → FindingsBetween p text before from start n → counts ≡ empty → Step text start v w
+    → FindingsBetween p text limit from start n → counts ≡ empty → Step text start v w
     → variationSequenceIndex v ≡ index → inner (startState (classOf v)) ≡ true
-    → Walking p text before from start v index (start + w) (startState (classOf v)) false n counts
+    → Walking p text limit from start v index (start + w) (startState (classOf v)) false n counts
 unfolding items
-walking-begin p text before from {start} {v} {w} index a z h e i = record {
+walking-begin p text limit from {start} {v} {w} index a z h e i = record {
   passed = a;
   entry = e;
   inside = i;
@@ -190,10 +190,10 @@ walking-begin p text before from {start} {v} {w} index a z h e i = record {
   counted = sym (empty-plus (totalCells p (chars (drop start text))));
   few-counts = omega arith;
   changed-is = refl;
-  start = (λ _. z, λ _. z);
+  kept = (λ _. z, λ _. z);
 }
 
--- Inside links and units an item ends before any other character.
+-- In a state of links or units, a character of the class other ends the item.
 inner-other : (q : State) → inner q ≡ true → transition q other ≡ none
 unfolding transition
 inner-other plain e = absurd (true≢false (sym e))
@@ -211,7 +211,7 @@ begins-selectors : (k : Class) → startState k ≡ selectors → k ≡ selector
 unfolding kindOf
 begins-selectors k e = kind-selector k (ap kindOf e)
 
--- A class that begins neither passthrough nor a run of selectors begins links or a unit.
+-- A character that starts neither passthrough nor a run of selectors starts links or a unit.
 begins-inner : (k : Class) → (k ≡ selector → ⊥) → (startState k ≡ plain → ⊥) → inner (startState k) ≡ true
 begins-inner k s q = go (startState k) refl
   where
@@ -224,9 +224,9 @@ begins-inner k s q = go (startState k) refl
     go joined e = refl
     go leftOver e = refl
 
-module _ {p : Policy} {text : List ℕ} {before from start base : ℕ} {index : VariationSequenceIndex} {at : ℕ} {state : State}
+module _ {p : Policy} {text : List ℕ} {limit from start base : ℕ} {index : VariationSequenceIndex} {at : ℕ} {state : State}
     {changed : Bool} {n : ℕ} {counts : NonCanonicality}
-    (l : Walking p text before from start base index at state changed n counts) {cell : CellEnd} (c : ReadsCell p text base at cell) where
+    (l : Walking p text limit from start base index at state changed n counts) {cell : CellEnd} (c : ReadsCell p text base at cell) where
   abbrev T : List ℕ
   T = chars (drop at text)
 
@@ -242,7 +242,7 @@ module _ {p : Policy} {text : List ℕ} {before from start base : ℕ} {index : 
   text-after : U ≡ afterSelectors T
   text-after = ap (λ (n : ℕ). chars (drop n text)) (c .end-is) ∙ after-at text at
 
-  -- The selectors belong to the item.
+  -- The selectors of the cell belong to the item.
   cut-selectors : (splitFrom state T) .0 ≡ selectorsAt T ++ (splitFrom state U) .0
   cut-selectors =
       let w = walk-passes state isSelector (λ x e. ap (transition state) (class-selector x e) ∙ inner-selector state (l .inside))
@@ -261,7 +261,7 @@ module _ {p : Policy} {text : List ℕ} {before from start base : ℕ} {index : 
     c .end-is,
   )
 
-  -- What is counted with this cell.
+  -- The sum of the counts, with this cell.
   total-on : totalCells p (chars (drop start text)) ≡ Sum ⊕ totalCells p U
   total-on =
       l .counted
@@ -278,11 +278,11 @@ module _ {p : Policy} {text : List ℕ} {before from start base : ℕ} {index : 
   pub further : start < cell .end
   further = omega (arith, c .end-is, l .at-is, l .on, l .reads .some)
 
-  -- The counts that are kept with this cell.
-  pub keeps-on : length text ≤ most → {q : Bool} {k : NonCanonicality} → q ≡ cell .changes && leb before start
+  -- The variable `counts` after `add_cell`.
+  pub keeps-on : length text ≤ most → {q : Bool} {k : NonCanonicality} → q ≡ cell .changes && leb limit start
       → k ≡ cond q (cappedSum counts (outcome p base (cell .class) (runWith (cell .first) ((cell .end - at) / 3)) .counts)) counts
-      → Keeps before start Sum k
-  keeps-on room-most {q} {k} e z = (after-limit (cell .changes) refl, λ h. z ∙ simp (e, lt-leb before start h, and-false) (l .start .1 h))
+      → Keeps limit start Sum k
+  keeps-on room-most {q} {k} e z = (after-limit (cell .changes) refl, λ h. z ∙ simp (e, lt-leb limit start h, and-false) (l .kept .1 h))
     where
       cell-counts : outcome p base (cell .class) (runWith (cell .first) ((cell .end - at) / 3)) .counts ≡ gain
       cell-counts =
@@ -291,13 +291,13 @@ module _ {p : Policy} {text : List ℕ} {before from start base : ℕ} {index : 
           (ap₂ (λ (f : FromSelector) (m : ℕ). outcome p base (cell .class) (runWith f m)) (c .first-is) i
           ∙ sym (by-numbers p base (cell .class) (leading T)) ∙ c .outcome-is)
 
-      after-limit : (x : Bool) → cell .changes ≡ x → before ≤ start → k ≡ Sum
+      after-limit : (x : Bool) → cell .changes ≡ x → limit ≤ start → k ≡ Sum
       after-limit true t h =
           let s = whole-sum (l .sum) gain (omega (arith, few-on, room, room-most)) in
-          z ∙ simp (e, t, le-leb before start h) (ap₂ cappedSum (l .start .0 h) cell-counts ∙ s)
+          z ∙ simp (e, t, le-leb limit start h) (ap₂ cappedSum (l .kept .0 h) cell-counts ∙ s)
       after-limit false t h =
           let g : gain ≡ empty = total-empty gain (eqb-true (total gain) 0 (not-false _ (sym (c .changes-is) ∙ t))) in
-          z ∙ simp (e, t) (l .start .0 h ∙ sym (plus-empty (l .sum)) ∙ ap (λ (m : NonCanonicality). l .sum ⊕ m) (sym g))
+          z ∙ simp (e, t) (l .kept .0 h ∙ sym (plus-empty (l .sum)) ∙ ap (λ (m : NonCanonicality). l .sum ⊕ m) (sym g))
 
   module _ {b : Bool} (d : b ≡ changed || cell .changes) where
     changed-on : b ≡ not (eqb (total Sum) 0)
@@ -331,7 +331,7 @@ module _ {p : Policy} {text : List ℕ} {before from start base : ℕ} {index : 
         go at-end e = let z : 0 ≡ suc (length (chars (drop (cell .end + w) text))) = ap length e in absurd (omega arith)
         go (at-char {c = x} n) e = let z : x ≡ v = cc in subst (λ (y : ℕ). isSelector y ≡ false) z n
 
-    -- There is one where the item goes on, or links or a unit begin.
+    -- A character stands there if the item continues, or if links or a unit start.
     pub on-char : (q : State) → nextOf (transition state (cell .class)) ≡ Next.On q → 1 ≤ cell .packed
     on-char q e = ⊎-elim (λ h. h) (λ h. absurd (true≢false (no (omega arith)))) (le-or-lt 1 (cell .packed))
       where
@@ -343,15 +343,15 @@ module _ {p : Policy} {text : List ℕ} {before from start base : ℕ} {index : 
     unfolding startState
     begin-char q = ⊎-elim (λ h. h) (λ h. absurd (q (ap startState (other-class (omega arith))))) (le-or-lt 1 (cell .packed))
 
-    -- The item goes on with it.
-    pub walking-on : {k : NonCanonicality} → Keeps before start Sum k → (q : State) → nextOf (transition state (cell .class)) ≡ Next.On q
-        → Walking p text before from start (cell .packed / 8) (cell .index) (cell .end + cell .packed % 8) q b n k
+    -- The item continues with that character.
+    pub walking-on : {k : NonCanonicality} → Keeps limit start Sum k → (q : State) → nextOf (transition state (cell .class)) ≡ Next.On q
+        → Walking p text limit from start (cell .packed / 8) (cell .index) (cell .end + cell .packed % 8) q b n k
     walking-on {k} y q e = go (on-char q e)
       where
         on : transition state (cell .class) ≡ some q
         on = next-on (transition state (cell .class)) q e
 
-        go : 1 ≤ cell .packed → Walking p text before from start (cell .packed / 8) (cell .index) (cell .end + cell .packed % 8) q b n k
+        go : 1 ≤ cell .packed → Walking p text limit from start (cell .packed / 8) (cell .index) (cell .end + cell .packed % 8) q b n k
         go h =
             let s = reads-next h in
             let v = cell .packed / 8 in
@@ -377,10 +377,10 @@ module _ {p : Policy} {text : List ℕ} {before from start base : ℕ} {index : 
               counted = total-on;
               few-counts = few-on;
               changed-is = changed-on;
-              start = y;
+              kept = y;
             }
 
-    -- Or it ends here.
+    -- The item ends before that character.
     module _ (e : nextOf (transition state (cell .class)) ≡ Next.Stop) where
       nothing-left : (splitFrom state U) .0 ≡ []
       unfolding splitFrom
@@ -405,44 +405,44 @@ module _ {p : Policy} {text : List ℕ} {before from start base : ℕ} {index : 
           some-of zero z = absurd (true≢false (sym t ∙ changed-on ∙ ap not (eq-eqb (total Sum) 0 z)))
           some-of (suc m) z = omega arith
 
-      -- It is the finding that is looked for ..
-      pub walking-finds : {k : NonCanonicality} → Keeps before start Sum k → {q : Bool} → q ≡ b && leb before start → q ≡ true
-          → FindsFrom p text before (record { start = start; end = cell .end; counts = k; present = true; passed = n })
+      -- The item is a finding that does not start before the limit.
+      pub walking-finds : {k : NonCanonicality} → Keeps limit start Sum k → {q : Bool} → q ≡ b && leb limit start → q ≡ true
+          → FindsFrom p text limit (record { start = start; end = cell .end; counts = k; present = true; passed = n })
       walking-finds {k} y e t =
-          let h = both-true b (leb before start) (sym e ∙ t) in
-          let m = leb-true before start (h .1) in
+          let h = both-true b (leb limit start) (sym e ∙ t) in
+          let m = leb-true limit start (h .1) in
           (m, subst (λ (x : NonCanonicality). Counted p text start (cell .end) x) (sym (y .0 m)) (finds (h .0)))
 
-      -- .. or it is passed, and no count is kept.
-      pub walking-passes : {q : Bool} {m : ℕ} → q ≡ b && leb before start → q ≡ false → m ≡ cond b 1 0
-          → FindingsBetween p text before from (cell .end) (n + m)
+      -- The item is no finding, or starts before the limit: it is passed, and `counts` is empty.
+      pub walking-passes : {q : Bool} {m : ℕ} → q ≡ b && leb limit start → q ≡ false → m ≡ cond b 1 0
+          → FindingsBetween p text limit from (cell .end) (n + m)
       walking-passes {q} {m} e f z = go b refl (sym e ∙ f) z
         where
-          go : (a : Bool) → b ≡ a → (a && leb before start) ≡ false → m ≡ cond a 1 0
-              → FindingsBetween p text before from (cell .end) (n + m)
-          go true t h y = rw y (over-on (l .passed) (over-finding (finds t .finds) (leb-false before start h)))
+          go : (a : Bool) → b ≡ a → (a && leb limit start) ≡ false → m ≡ cond a 1 0
+              → FindingsBetween p text limit from (cell .end) (n + m)
+          go true t h y = rw y (over-on (l .passed) (over-finding (finds t .finds) (leb-false limit start h)))
           go false t h y =
               let s : total Sum ≡ 0 = eqb-true (total Sum) 0 (not-false _ (sym changed-on ∙ t)) in
               let k : n ≡ n + m = omega (arith, y) in
-              subst (λ (i : ℕ). FindingsBetween p text before from (cell .end) i) k
+              subst (λ (i : ℕ). FindingsBetween p text limit from (cell .end) i) k
               (over-passes (l .passed) (uncounted-item p text start (cell .end) (l .items-are) ends-here
               (omega (arith, ap total total-on))))
 
-      pub none-kept : {k : NonCanonicality} → Keeps before start Sum k → {q : Bool} → q ≡ b && leb before start → q ≡ false → k ≡ empty
-      none-kept {k} y e f = ⊎-elim (λ h. after-limit h b refl) (y .1) (le-or-lt before start)
+      pub none-kept : {k : NonCanonicality} → Keeps limit start Sum k → {q : Bool} → q ≡ b && leb limit start → q ≡ false → k ≡ empty
+      none-kept {k} y e f = ⊎-elim (λ h. after-limit h b refl) (y .1) (le-or-lt limit start)
         where
-          after-limit : before ≤ start → (a : Bool) → b ≡ a → k ≡ empty
-          after-limit h true t = absurd (true≢false (sym (and-both b (leb before start) t (le-leb before start h)) ∙ sym e ∙ f))
+          after-limit : limit ≤ start → (a : Bool) → b ≡ a → k ≡ empty
+          after-limit h true t = absurd (true≢false (sym (and-both b (leb limit start) t (le-leb limit start h)) ∙ sym e ∙ f))
           after-limit h false t = y .0 h ∙ total-empty Sum (eqb-true (total Sum) 0 (not-false _ (sym changed-on ∙ t)))
 
-      -- And another item of links or units begins.
-      pub walking-again : {m : ℕ} {k : NonCanonicality} → FindingsBetween p text before from (cell .end) m → k ≡ empty
+      -- After a passed item, another item of links or units starts.
+      pub walking-again : {m : ℕ} {k : NonCanonicality} → FindingsBetween p text limit from (cell .end) m → k ≡ empty
           → (startState (cell .class) ≡ plain → ⊥)
-          → Walking p text before from (cell .end) (cell .packed / 8) (cell .index) (cell .end + cell .packed % 8)
+          → Walking p text limit from (cell .end) (cell .packed / 8) (cell .index) (cell .end + cell .packed % 8)
           (startState (cell .class)) false m k
       walking-again {m} {k} a y q = go (begin-char q)
         where
-          go : 1 ≤ cell .packed → Walking p text before from (cell .end) (cell .packed / 8) (cell .index) (cell .end + cell .packed % 8)
+          go : 1 ≤ cell .packed → Walking p text limit from (cell .end) (cell .packed / 8) (cell .index) (cell .end + cell .packed % 8)
               (startState (cell .class)) false m k
           go h =
               let s = reads-next h in
@@ -450,12 +450,12 @@ module _ {p : Policy} {text : List ℕ} {before from start base : ℕ} {index : 
               let i : inner (startState (classOf (cell .packed / 8))) ≡ true =
               begins-inner (classOf (cell .packed / 8)) (λ z. true≢false (sym (selector-class (cell .packed / 8) z) ∙ clean-next s))
               (λ z. q (ap startState j ∙ z)) in
-              rw j (walking-begin p text before from (cell .index) a y s (sym (c .index-is)) i)
+              rw j (walking-begin p text limit from (cell .index) a y s (sym (c .index-is)) i)
 
--- ---- where the walk begins
+-- ---- where the walk starts
 
--- The arm for the places of links and units.
-pub structured-place : (q : State) → OneOf (2 ∷ 3 ∷ 4 ∷ 5 ∷ 6 ∷ []) (tagOf the-place q) → Structured (kindOf q)
+-- In the arm for the states of links and units, the kind of the item is one of these.
+pub structured-place : (q : State) → OneOf (2 ∷ 3 ∷ 4 ∷ 5 ∷ 6 ∷ []) (tagOf the-state q) → Structured (kindOf q)
 unfolding kindOf
 structured-place plain o = absurd (miss (2 ∷ 3 ∷ 4 ∷ 5 ∷ 6 ∷ []) 0 tt o)
 structured-place selectors o = absurd (miss (2 ∷ 3 ∷ 4 ∷ 5 ∷ 6 ∷ []) 1 tt o)
@@ -465,7 +465,7 @@ structured-place unit o = inr refl
 structured-place joined o = inr refl
 structured-place leftOver o = inr refl
 
--- A run of selectors that begins an item is a finding, and all of them are unsanctioned.
+-- A run of selectors at the start of an item is a finding, and all of them are unsanctioned.
 pub selectors-find : (p : Policy) {text : List ℕ} {at v w : ℕ} → Step text at v w → startState (classOf v) ≡ selectors
     → {counts : NonCanonicality} (end n : ℕ)
     → end ≡ at + 3 * length (leading (chars (drop at text))) → n ≡ (end - at) / 3 → counts ≡ unsanctioned n → Counted p text at end counts

@@ -1,5 +1,5 @@
--- Where formatting changes a text (document 01, "Replacement and text"): bytes that stay, and the next change from an offset on. The
--- formatted text and the totals are those of crate analysis, specs/CellView.antt, of the text from an offset on.
+-- Contracts of helper functions: where formatting changes a text (document 01, "Replacement and text"). `NextChange` says which bytes stay
+-- from an offset on, and what the next change is. The formatted text and the totals are those of crates/analysis/specs/CellView.antt.
 use mathlib.Core.Path.{_≡_}
 use mathlib.Core.Logic.{_⊎_}
 use mathlib.Core.Bool.{true, false, not}
@@ -26,55 +26,59 @@ use Rattle.analysis.specs.declared.singleton.Outcome.{Outcome}
 use Rattle.analysis.specs.declared.singleton.Slot.{Slot}
 use Rattle.text_pass.specs.declared.Change.{Change}
 
--- The bytes of the selector that stands somewhere, if one does.
+-- The bytes of a selector; `NoSelector` has none.
 abbrev pub selectorBytes : FromSelector → List ℕ
 selectorBytes s = encodeAll (map asSelector (runWith s 1))
 
+-- The offset `to` is not before `from`, lies inside the text if `from` does, and all bytes between the two are characters.
+pub record Advances (text : List ℕ) (from to : ℕ) : Type 0 where
+  pub on : from ≤ to
+  pub inside : from ≤ length text → to ≤ length text
+  pub valid : validUpTo (drop from text) ≡ (to - from) + validUpTo (drop to text)
+
 module _ (p : Policy) (text : List ℕ) where
-  -- What formatting makes of the text from an offset on ..
+  -- What formatting makes of the text from an offset on.
   abbrev pub formattedFrom : ℕ → List ℕ
   formattedFrom at = encodeAll (formatCells p (chars (drop at text)))
 
-  -- .. and the sum of its eight totals.
+  -- The sum of the eight totals of the text from an offset on.
   abbrev pub totalFrom : ℕ → ℕ
   totalFrom at = total (totalCells p (chars (drop at text)))
 
-  -- The bytes from an offset up to another stay as they are, and nothing is counted of them.
+  -- Formatting keeps the bytes between two offsets, and the rules count nothing in them.
   pub record UnchangedBetween (from to : ℕ) : Type 0 where
-    pub on : from ≤ to
-    pub inside : from ≤ length text → to ≤ length text
+    pub advances : Advances text from to
     pub formatted : formattedFrom from ≡ take (to - from) (drop from text) ++ formattedFrom to
     pub counted : totalFrom from ≡ totalFrom to
-    pub valid : validUpTo (drop from text) ≡ (to - from) + validUpTo (drop to text)
 
-  -- From an offset on the bytes stay up to `kept`; from there up to `end` formatting has the selector, or nothing, and that is a change.
+  -- The first change from the offset `from` on is `c`. Formatting keeps the bytes before the change's start, and has its selector, or
+  -- nothing, for the bytes from its start up to its end. The rules count something in these bytes.
   pub record IsNextChange (from : ℕ) (c : Change) : Type 0 where
+    pub advances : Advances text from (c .end)
     pub on : from ≤ c .start
     pub after : c .start ≤ c .end
     pub moves : from < c .end
-    pub inside : from ≤ length text → c .end ≤ length text
     pub formatted : formattedFrom from ≡ take (c .start - from) (drop from text) ++ (selectorBytes (c .selector) ++ formattedFrom (c .end))
     pub counted : totalFrom (c .end) < totalFrom from
-    pub valid : validUpTo (drop from text) ≡ (c .end - from) + validUpTo (drop (c .end) text)
 
-  -- From an offset on all bytes stay, up to the end or the first place where no character begins.
+  -- Formatting keeps all bytes from an offset on, up to the end of the text or the first offset at which no character begins.
   pub record NoChangeFrom (from : ℕ) (c : Change) : Type 0 where
     pub stays : UnchangedBetween from (c .end)
     pub ends : chars (drop (c .end) text) ≡ []
-    pub all-kept : c .start ≡ c .end
+    pub start-is-end : c .start ≡ c .end
     pub no-selector : c .selector ≡ NoSelector
 
-  -- A change at an offset, or bytes that stay from there on.
+  -- If a change is present, it is the first one from the offset `at` on. If not, formatting keeps at least one byte from there on.
   abbrev pub ChangeAt : ℕ → Change → Type 0
   ChangeAt at c = (c .present ≡ true → IsNextChange at c) × (c .present ≡ false → UnchangedBetween at (c .end) × (at < c .end))
 
-  -- The next change, or that there is none.
+  -- If a change is present, it is the first one from the offset `from` on. If not, formatting changes nothing from there on.
   abbrev pub NextChange : ℕ → Change → Type 0
   NextChange from c = (c .present ≡ true → IsNextChange from c) × (c .present ≡ false → NoChangeFrom from c)
 
 -- ---- plain text
 
--- The policy keeps the ASCII bases bare.
+-- The policy keeps the ASCII bases bare: where such a base has no selector and no keycap follows, formatting adds none.
 abbrev pub AsciiBare : Policy → Type 0
 AsciiBare p =
     (c : ℕ) → c ≤ 0x7F → hasVariationSequence c ≡ true
@@ -82,36 +86,37 @@ AsciiBare p =
 
 -- ---- a base with a variation entry
 
--- Two classes are one to the rules, which ask for a modifier, tags or 20E3.
+-- The rules do not distinguish two classes. They ask only whether a class is that of a modifier, of a tag or of 20E3.
 pub record SameRules (j k : Class) : Type 0 where
   pub modifier : byModifier j ≡ byModifier k
   pub tags : byTags j ≡ byTags k
   pub keycap : byKeycap j ≡ byKeycap k
 
--- A selector, or none, by number.
+-- The number of a selector.
 unfoldable pub selectorNumber : FromSelector → ℕ
 selectorNumber NoSelector = 0
 selectorNumber (Selector Text) = 1
 selectorNumber (Selector Emoji) = 2
 
--- The selector, or none, of a number.
+-- The selector that has a number.
 unfoldable pub selectorOf : ℕ → FromSelector
 selectorOf zero = NoSelector
 selectorOf (suc zero) = Selector Text
 selectorOf (suc (suc n)) = Selector Emoji
 
--- The number of what a rule leaves of the selectors after a base (document 01, "Replacement and text"), by the rule's slot.
+-- A rule whose slot is `s` leaves the selector with the number `r` after a base (document 01, "Replacement and text").
 pub record LeavesSelector (s : Slot) (r : ℕ) : Type 0 where
   pub few : r ≤ 2
   pub left : runWith (selectorOf r) 1 ≡ chosen s []
 
--- What the rules say of a base whose selectors begin at an offset.
+-- The outcome of the rules for a base whose selectors begin at an offset.
 abbrev pub outcomeFrom : Policy → List ℕ → ℕ → ℕ → Outcome
 outcomeFrom p text base at = outcome p base (following (cells (chars (drop at text)))) (leading (chars (drop at text)))
 
--- What becomes of them: all are taken together, the selector that the rules leave stays, and it is a change if something is counted.
+-- What formatting does with the selectors of a base, which begin at an offset: it writes the selector that the rules leave for all of them.
+-- This is a change if the rules count something.
 pub record BaseChange (p : Policy) (text : List ℕ) (base at : ℕ) (c : Change) : Type 0 where
-  pub kept-is : c .start ≡ at
+  pub start-is : c .start ≡ at
   pub end-is : c .end ≡ at + 3 * length (leading (chars (drop at text)))
   pub selector-is : runWith (c .selector) 1 ≡ chosen (outcomeFrom p text base at .slot) []
   pub present-is : c .present ≡ not (eqb (total (outcomeFrom p text base at .counts)) 0)

@@ -1,3 +1,3 @@
--- Where formatting changes a text, and where its next finding is.
+-- Contracts of helper functions: the next change and the next finding of a text.
 pub mod Changes
 pub mod Findings

@@ -1,5 +1,6 @@
-// What becomes of the selectors after a base that has a variation entry (document 01, "Counts and finding", rules 2 to 6): the
-// selector that stays, and whether that is a change. `base_change` meets `BaseChange` of specs/Changes.antt.
+// The selectors after a base that has a variation entry (document 01, "Counts and finding", rules 2 to 6): which selector stays, and
+// whether this changes the text. `base_change` meets `BaseChange` of specs/Changes.antt. Selectors have numbers here: 0 is no selector, 1 is
+// FE0E, and 2 is FE0F.
 ghost use mathlib.Core.Path.{_≡_};
 ghost use mathlib.Core.Bool.{Bool, _&&_, cond, not};
 ghost use mathlib.Core.List.{List, []};
@@ -31,7 +32,7 @@ use unicode::COMBINING_ENCLOSING_KEYCAP;
 use unicode::presentation::FromSelector;
 use unicode::presentation::Presentation;
 
-// What a character after a base is to the rules: a modifier, a tag, the keycap, or any other.
+// The class of a character after a base, as far as the rules distinguish classes: modifier, tag, keycap, or other.
 fn rule_class(ch: u32) -> Class
     ensures { λ r. ⌜ SameRules r (classOf ch) ⌝ }
 {
@@ -50,14 +51,14 @@ fn rule_class(ch: u32) -> Class
     Class::Other
 }
 
-// The same of the character at an offset; 0 stands for none.
+// The class, for the rules, of the character at an offset. Where no character begins, `decode` gives 0, and the class is `Other`.
 fn rule_class_at(text: &[u8], at: usize) -> Class
     ensures { λ r. ⌜ SameRules r (classInFront (chars (drop at (now (text .entry))))) ⌝ }
 {
     rule_class(utf8::decode(text, at) / 8)
 }
 
-// What rule 6 leaves, by the numbers of selectors in two bits each, lowest first: of none, of a first FE0E, and of a first FE0F.
+// The selector that rule 6 leaves for each number of the first selector: two bits each, those for number 0 lowest.
 fn kept_word(rule: SingletonRule) -> u32
     ensures { λ r. ⌜ ((f : FirstSelector) (n : ℕ) → LeavesSelector (rule6 rule (runWith f n) .slot) (r / 2 ^ (2 * selectorNumber f) % 4)) ⌝ }
 {
@@ -69,7 +70,7 @@ fn kept_word(rule: SingletonRule) -> u32
     }
 }
 
-// Rule 6: the number of what stays, by what the policy says of the base and the number of the first selector.
+// Rule 6: the number of the selector that stays, by the policy's rule for the base and the number of the first selector.
 fn by_policy(rule: SingletonRule, first: u32) -> u32
     requires { ⌜ first ≤ 2 ⌝ }
     ensures { λ r. ⌜ ((f : FirstSelector) → first ≡ selectorNumber f → (n : ℕ) → LeavesSelector (rule6 rule (runWith f n) .slot) r) ⌝ }
@@ -77,7 +78,7 @@ fn by_policy(rule: SingletonRule, first: u32) -> u32
     (kept_word(rule) >> (2 * first)) % 4
 }
 
-// Rules 2 and 3: the number of what stays of the selectors before a modifier.
+// Rules 2 and 3: the number of the selector that stays before a modifier.
 fn before_modifier(first: u32) -> u32
     ensures { λ r. ⌜ ((f : FirstSelector) → first ≡ selectorNumber f → (b : Bool) (n : ℕ)
         → LeavesSelector (cond (textFirst (runWith f n)) (rule2 (runWith f n)) (rule3 b (runWith f n)) .slot) r) ⌝ }
@@ -88,7 +89,7 @@ fn before_modifier(first: u32) -> u32
     0
 }
 
-// Rules 4 and 5: the number of what stays of the selectors before tags.
+// Rules 4 and 5: the number of the selector that stays before tags.
 fn before_tags(is_emoji_default: bool) -> u32
     ensures { λ r. ⌜ ((s : List Selected) → LeavesSelector (cond «is_emoji_default» (rule4 s) (rule5 s) .slot) r) ⌝ }
 {
@@ -98,11 +99,12 @@ fn before_tags(is_emoji_default: bool) -> u32
     2
 }
 
-// The number of what stays of the selectors after a base, by the class of what follows them and the number of the first of them.
+// The number of the selector that stays after a base. `next` is the class of the character after the selectors, and `first` the number of
+// the first selector.
 pub(crate) fn kept_number(policy: &[u8], base: u32, index: usize, next: Class, first: u32) -> u32
     requires { ⌜ (variationSequenceIndex base ≡ At index) × (first ≤ 2) ⌝ }
     ensures few { λ r. ⌜ r ≤ 2 ⌝ }
-    ensures start { λ r. ⌜ ((f : FirstSelector) → first ≡ selectorNumber f → (n : ℕ) → runWith (selectorOf r) 1
+    ensures kept { λ r. ⌜ ((f : FirstSelector) → first ≡ selectorNumber f → (n : ℕ) → runWith (selectorOf r) 1
         ≡ chosen (outcome (policyOf (now (policy .entry))) base next (runWith f n) .slot) []) ⌝ }
 {
     match next {
@@ -115,7 +117,7 @@ pub(crate) fn kept_number(policy: &[u8], base: u32, index: usize, next: Class, f
     }
 }
 
-// A selector, or none, by number.
+// The number of a selector.
 pub(crate) fn number_of(selector: FromSelector) -> u32
     ensures { λ r. ⌜ (r ≡ selectorNumber selector) × (r ≤ 2) ⌝ }
 {
@@ -128,7 +130,7 @@ pub(crate) fn number_of(selector: FromSelector) -> u32
     }
 }
 
-// The selector, or none, of a number.
+// The selector that has a number.
 fn selector_of(number: u32) -> FromSelector
     ensures { λ r. ⌜ r ≡ selectorOf number ⌝ }
 {
@@ -141,11 +143,12 @@ fn selector_of(number: u32) -> FromSelector
     FromSelector::Selector(Presentation::Emoji)
 }
 
-// Whether selectors of so many bytes, of which the first is known by its number, are other ones than the selector that stays.
-pub(crate) fn is_change(first: u32, bytes: usize, start: u32) -> bool
-    ensures { λ r. ⌜ r ≡ not (eqb first start && leb bytes 3) ⌝ }
+// Whether the selectors after a base are others than the selector with the number `kept`. `first` is the number of the first of them, and
+// `bytes` is the length of all.
+pub(crate) fn is_change(first: u32, bytes: usize, kept: u32) -> bool
+    ensures { λ r. ⌜ r ≡ not (eqb first kept && leb bytes 3) ⌝ }
 {
-    if first != start {
+    if first != kept {
         return true;
     }
     if SELECTOR_BYTES < bytes {
@@ -154,7 +157,7 @@ pub(crate) fn is_change(first: u32, bytes: usize, start: u32) -> bool
     false
 }
 
-// The end of the selectors from an offset on, of which the first, or that there is none, is known.
+// The end of the selectors from an offset on. The caller knows the first of them, or that there is none.
 pub(crate) fn selectors_after(text: &[u8], at: usize, first: FromSelector) -> usize
     requires { ⌜ first ≡ firstSelector (chars (drop at (now text))) ⌝ }
     ensures { λ r. ⌜ r ≡ at + size width (selectorsAt (chars (drop at (now (text .entry))))) ⌝ }
@@ -165,7 +168,7 @@ pub(crate) fn selectors_after(text: &[u8], at: usize, first: FromSelector) -> us
     }
 }
 
-// What becomes of the selectors from an offset on, which stand after a base with a variation entry.
+// The change, if it is one, of the selectors from an offset on, which stand after a base with a variation entry.
 pub(crate) fn base_change(text: &[u8], policy: &[u8], base: u32, index: usize, at: usize) -> Change
     requires { ⌜ variationSequenceIndex base ≡ At index ⌝ }
     ensures { λ r. ⌜ BaseChange (policyOf (now (policy .entry))) (now (text .entry)) base at r ⌝ }
@@ -174,9 +177,9 @@ pub(crate) fn base_change(text: &[u8], policy: &[u8], base: u32, index: usize, a
     let first = number_of(selector);
     let end = selectors_after(text, at, selector);
     let next = rule_class_at(text, end);
-    let start = kept_number(policy, base, index, next, first);
-    let present = is_change(first, end - at, start);
-    let stays = selector_of(start);
+    let kept = kept_number(policy, base, index, next, first);
+    let present = is_change(first, end - at, kept);
+    let stays = selector_of(kept);
     Change {
         start: at,
         selector: stays,

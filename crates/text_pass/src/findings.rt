@@ -1,7 +1,7 @@
-// The next finding of a text from an offset on: the items are gone through cell by cell, each character is read once, and of each cell
-// it is asked whether something is counted of it, and what only of a finding that is looked for (document 01, "Item", "Counts and
-// finding"; analysis.rs of the crate evfmt counts every item instead). `next_finding` meets `NextFinding` of specs/Findings.antt for every
-// text, policy, limit and offset.
+// The next finding of a text from an offset on (document 01, "Item", "Counts and finding"). `next_finding` walks through the items cell by
+// cell and reads each character once. For each cell it decides whether the rules count anything. It adds up the counts only for items that
+// do not start before the limit; analysis.rs of the crate evfmt counts every item instead. `next_finding` meets `NextFinding` of
+// specs/Findings.antt for every text, policy, limit and offset.
 ghost use mathlib.Core.Path.{_≡_};
 ghost use mathlib.Core.Bool.{true, _&&_, cond, not};
 ghost use mathlib.Core.List.{List};
@@ -40,8 +40,8 @@ use scanner::state::State;
 use unicode::VariationSequenceIndex;
 use unicode::presentation::FromSelector;
 
-// The next finding, if there is one more: its bytes, from start up to end, and the eight counts; else both are the end of the well-formed
-// text, and there is no count. So many findings were passed before it.
+// The next finding: its bytes, from `start` up to `end`, and its eight counts. Where no finding is left, `present` is false, both offsets
+// are the end of the longest well-formed beginning, and the counts are empty. `passed` is the number of findings passed before it.
 pub struct FindingSpan {
     pub start: usize,
     pub end: usize,
@@ -50,8 +50,8 @@ pub struct FindingSpan {
     pub passed: usize,
 }
 
-// A cell after its character: where its selectors end, the first of them, whether something is counted of it, and what stands after
-// it: a character's packed number, or 0, its class and its place among the variation entries.
+// The rest of a cell, after its character: where its selectors end, the first of them, and whether the rules count anything. Then the
+// character after the cell: its packed number (0 where there is none), its class and its index among the variation entries.
 struct CellEnd {
     end: usize,
     first: FromSelector,
@@ -61,7 +61,8 @@ struct CellEnd {
     index: VariationSequenceIndex,
 }
 
-// Whether something is counted of a base whose selectors have so many bytes, by the class of what follows them and the first of them.
+// Whether the rules count anything for a base. `next` is the class of the character after its selectors, `first` is the first selector, and
+// `bytes` is the length of all selectors.
 fn cell_changes(
     policy: &[u8],
     base: u32,
@@ -83,7 +84,7 @@ fn cell_changes(
     }
 }
 
-// Reads the cell whose character is the base and whose selectors begin at the offset, and what stands after it.
+// Reads the rest of a cell, and the character after it. The cell's character is `base`, and its selectors begin at the offset.
 fn read_cell(
     text: &[u8],
     policy: &[u8],
@@ -109,17 +110,17 @@ fn read_cell(
     }
 }
 
-// Whether it is asked what is counted: something is, and the item does not start before the limit.
-fn is_wanted(changes: bool, before: usize, start: usize) -> bool
-    ensures { λ r. ⌜ r ≡ changes && leb before start ⌝ }
+// Whether counts are wanted: the rules count something, and the item does not start before the limit.
+fn is_wanted(changes: bool, limit: usize, start: usize) -> bool
+    ensures { λ r. ⌜ r ≡ changes && leb limit start ⌝ }
 {
     if !changes {
         return false;
     }
-    before <= start
+    limit <= start
 }
 
-// The counts with those of a cell, where they are wanted; its selectors have so many bytes.
+// Adds the counts of a cell if they are wanted. `bytes` is the length of the cell's selectors.
 fn add_cell(
     counts: NonCanonicality,
     wanted: bool,
@@ -139,7 +140,7 @@ fn add_cell(
     counts.add(outcome.counts)
 }
 
-// How many findings an item is.
+// The number of findings that an item is: 1 if the rules count something in it, else 0.
 fn findings_of(changed: bool) -> usize
     ensures { λ r. ⌜ (r ≡ cond changed 1 0) × (r ≤ 1) ⌝ }
 {
@@ -149,12 +150,12 @@ fn findings_of(changed: bool) -> usize
     0
 }
 
-// From an item of links or units on, whose first character is known, past items that are no findings or start before the limit: up to a
-// finding, or to the end of the last item before plain text.
+// Walks through items, from one of links or units on, whose first character is known. It passes items that are no findings and findings
+// that start before the limit. It ends at another finding, or at the end of the last item before plain text.
 fn walk_items(
     text: &[u8],
     policy: &[u8],
-    before: usize,
+    limit: usize,
     from: usize,
     ch: u32,
     width: usize,
@@ -163,7 +164,7 @@ fn walk_items(
 ) -> FindingSpan
     requires { ⌜ (readChar (drop from (now text)) ≡ Char ch width) × (variationSequenceIndex ch ≡ «first_index»)
         × (first ≡ startState (classOf ch)) × Structured (kindOf first) ⌝ }
-    ensures { λ r. ⌜ WalkedFrom (policyOf (now (policy .entry))) (now (text .entry)) before from r ⌝ }
+    ensures { λ r. ⌜ WalkedFrom (policyOf (now (policy .entry))) (now (text .entry)) limit from r ⌝ }
 {
     let mut start = from;
     let mut base = ch;
@@ -178,7 +179,7 @@ fn walk_items(
         let end = cell.end;
         let class = cell.class;
         let selector = cell.first;
-        let wanted = is_wanted(cell.changes, before, start);
+        let wanted = is_wanted(cell.changes, limit, start);
         counts = add_cell(counts, wanted, policy, base, class, selector, end - at);
         if cell.changes {
             changed = true;
@@ -188,7 +189,7 @@ fn walk_items(
                 state = next;
             }
             Next::Stop => {
-                if is_wanted(changed, before, start) {
+                if is_wanted(changed, limit, start) {
                     return FindingSpan {
                         start,
                         end,
@@ -218,7 +219,7 @@ fn walk_items(
     }
 }
 
-// Past ASCII where a character of it stands and the policy keeps the ASCII bases bare.
+// Skips ASCII characters where one stands at the offset and the policy keeps the ASCII bases bare.
 fn skip_bare_ascii(text: &[u8], bare: bool, from: usize) -> usize
     ensures { λ r. ⌜ ((p : Policy) → (bare ≡ true → AsciiBare p) → PlainBetween p (now (text .entry)) from r) ⌝ }
 {
@@ -234,9 +235,9 @@ fn skip_bare_ascii(text: &[u8], bare: bool, from: usize) -> usize
     skip_ascii(text, from)
 }
 
-// The next finding of a text from an offset on that does not start before a limit; those that do are passed and counted.
-pub fn next_finding(text: &[u8], policy: &[u8], before: usize, from: usize) -> FindingSpan
-    ensures { λ r. ⌜ NextFinding (policyOf (now (policy .entry))) (now (text .entry)) before from r ⌝ }
+// Finds the next finding of a text, from an offset on, that does not start before the limit. It passes findings that do, and counts them.
+pub fn next_finding(text: &[u8], policy: &[u8], limit: usize, from: usize) -> FindingSpan
+    ensures { λ r. ⌜ NextFinding (policyOf (now (policy .entry))) (now (text .entry)) limit from r ⌝ }
 {
     let bare = policy::policy_bytes::ascii_keys_bare(policy);
     let mut at = from;
@@ -263,7 +264,7 @@ pub fn next_finding(text: &[u8], policy: &[u8], before: usize, from: usize) -> F
             }
             State::Selectors => {
                 let end = selectors_end(text, at);
-                if before <= at {
+                if limit <= at {
                     return FindingSpan {
                         start: at,
                         end,
@@ -282,7 +283,7 @@ pub fn next_finding(text: &[u8], policy: &[u8], before: usize, from: usize) -> F
                     counts,
                     present,
                     passed: walked,
-                } = walk_items(text, policy, before, at, ch, width, index, state);
+                } = walk_items(text, policy, limit, at, ch, width, index, state);
                 passed += walked;
                 if present {
                     return FindingSpan {

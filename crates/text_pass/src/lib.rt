@@ -1,6 +1,6 @@
-// Where formatting changes a text: the next change from an offset on. Formatting asks for one change after the other and copies what
-// lies between them (document 01, "Replacement and text"; formatter.rs of the crate evfmt builds each item instead). `next_change`
-// meets `NextChange` of specs/Changes.antt for every text, policy and offset.
+// Where formatting changes a text (document 01, "Replacement and text"): `next_change` finds the next change from an offset on. Formatting
+// copies the bytes between two changes; formatter.rs of the crate evfmt builds each item anew instead. `next_change` meets `NextChange` of
+// specs/Changes.antt for every text, policy and offset.
 mod base_selectors;
 pub mod findings;
 mod plain;
@@ -19,8 +19,8 @@ use unicode::VariationSequenceIndex;
 use unicode::presentation::FromSelector;
 use unicode::presentation::Presentation;
 
-// Up to `kept` all bytes stay. There the selector, if it is one, takes the place of the bytes up to `end`. Without a change more, both
-// are the end of the well-formed text.
+// A change of a text: formatting keeps the bytes before `start`, and writes `selector`, or nothing, for the bytes from `start` up to
+// `end`. Where no change is left, `present` is false, and both offsets are the end of the longest well-formed beginning.
 pub struct Change {
     pub start: usize,
     pub selector: FromSelector,
@@ -28,8 +28,9 @@ pub struct Change {
     pub present: bool,
 }
 
-// What becomes of the character at an offset, of so many bytes, and of the selectors after it: a selector goes with all after it, a
-// base with a variation entry takes the selectors after it with it, any other character stays, and more links or tags after it.
+// What formatting does at the character `ch`, which stands at the offset `at` and has `width` bytes. It removes a selector and all
+// selectors after it. After a base with a variation entry it keeps the selector that the rules leave. Any other character stays, and so do
+// the links after a link and the tags after a tag.
 fn change_at(text: &[u8], policy: &[u8], at: usize, ch: u32, width: usize) -> Change
     requires { ⌜ readChar (drop at (now text)) ≡ Char ch width ⌝ }
     ensures { λ r. ⌜ ChangeAt (policyOf (now (policy .entry))) (now (text .entry)) at r ⌝ }
@@ -57,7 +58,7 @@ fn change_at(text: &[u8], policy: &[u8], at: usize, ch: u32, width: usize) -> Ch
     }
 }
 
-// The next change of a text from an offset on.
+// Finds the next change of a text from an offset on.
 pub fn next_change(text: &[u8], policy: &[u8], from: usize) -> Change
     ensures { λ r. ⌜ NextChange (policyOf (now (policy .entry))) (now (text .entry)) from r ⌝ }
 {

@@ -1,6 +1,6 @@
-// Plain text, which stays as it is, has no finding, and is passed over without looking at each character's tables: characters by
-// their first byte, and ASCII in runs where the policy keeps the ASCII bases bare. Nothing here tests what is well-formed: `utf8::char_len`
-// does.
+// Plain text, which formatting keeps and in which no finding begins. These functions skip it without a lookup in the tables: characters by
+// their first byte, and ASCII in runs where the policy keeps the ASCII bases bare. They leave the test of what is well-formed to
+// `utf8::char_len`.
 ghost use mathlib.Core.Path.{_≡_};
 ghost use mathlib.Core.Bool.{true, false};
 ghost use Prim.Native.Nat.{ℕ, _<_, _≤_};
@@ -14,8 +14,8 @@ ghost use Rattle.text_pass.specs.Changes.{AsciiBare, UnchangedBetween};
 ghost use Rattle.text_pass.specs.Findings.{PlainBetween};
 use unicode::ZWJ;
 
-// Whether the character at an offset is plain by its first byte: one of two bytes from C0 on, or one of three bytes that lies
-// neither among 2000 to 2FFF, nor in the blocks of 3030 and 3297, nor after EFFF.
+// Whether the character at an offset is plain by its first bytes. It has two bytes and is at least C0, or it has three bytes and lies
+// neither between 2000 and 2FFF, nor in the blocks of 3030 and 3297, nor after EFFF.
 fn is_plain_at(text: &[u8], at: usize) -> bool
     requires { ⌜ at < length (now text) ⌝ }
     ensures { λ r. ⌜ (r ≡ true → (v w : ℕ) → readChar (drop at (now (text .entry))) ≡ Char v w → classOf v ≡ other) ⌝ }
@@ -40,7 +40,7 @@ fn is_plain_at(text: &[u8], at: usize) -> bool
     true
 }
 
-// Past the characters that are plain by their first bytes.
+// Skips characters that are plain by their first bytes.
 pub(crate) fn skip_letters(text: &[u8], from: usize) -> usize
     ensures { λ r. ⌜ ((p : Policy) → PlainBetween p (now (text .entry)) from r) ⌝ }
 {
@@ -58,7 +58,7 @@ pub(crate) fn skip_letters(text: &[u8], from: usize) -> usize
     at
 }
 
-// Whether an ASCII character is a base: # * and the digits.
+// Whether an ASCII character is a base: #, * and the digits are.
 fn is_ascii_base(ch: u8) -> bool
     ensures { λ r. ⌜ (r ≡ false → ch ≤ 0x7F → classOf ch ≡ other) ⌝ }
 {
@@ -77,10 +77,10 @@ fn is_ascii_base(ch: u8) -> bool
     ch == 0x2A
 }
 
-// Past the ASCII characters from one on: a base that stands last before another character is left.
+// Skips the run of ASCII characters from one on. It does not skip a base at the end of the run, unless the text ends there.
 pub(crate) fn skip_ascii(text: &[u8], from: usize) -> usize
     requires { ⌜ (from < length (now text)) × (getD (now text) from 0 ≤ 0x7F) ⌝ }
-    ensures state { λ r. ⌜ (from ≤ r) × (r ≤ length (now (text .entry))) ⌝ }
+    ensures bounds { λ r. ⌜ (from ≤ r) × (r ≤ length (now (text .entry))) ⌝ }
     ensures skips { λ r. ⌜ ((p : Policy) → AsciiBare p → PlainBetween p (now (text .entry)) from r) ⌝ }
 {
     let end = utf8::ascii::ascii_end(text, from + 1);
@@ -93,7 +93,7 @@ pub(crate) fn skip_ascii(text: &[u8], from: usize) -> usize
     end
 }
 
-// Past plain text; ASCII in runs only where the policy keeps the ASCII bases bare.
+// Skips plain text. It skips ASCII only where the policy keeps the ASCII bases bare.
 pub(crate) fn skip_plain(text: &[u8], bare: bool, from: usize) -> usize
     ensures { λ r. ⌜ ((p : Policy) → (bare ≡ true → AsciiBare p) → UnchangedBetween p (now (text .entry)) from r) ⌝ }
 {
@@ -114,7 +114,7 @@ pub(crate) fn skip_plain(text: &[u8], bare: bool, from: usize) -> usize
     at
 }
 
-// Past links.
+// Skips links.
 fn skip_links(text: &[u8], from: usize) -> usize
     ensures { λ r. ⌜ ((p : Policy) → UnchangedBetween p (now (text .entry)) from r) ⌝ }
 {
@@ -125,7 +125,7 @@ fn skip_links(text: &[u8], from: usize) -> usize
     at
 }
 
-// Past tags.
+// Skips tags.
 fn skip_tags(text: &[u8], from: usize) -> usize
     ensures { λ r. ⌜ ((p : Policy) → UnchangedBetween p (now (text .entry)) from r) ⌝ }
 {
@@ -136,8 +136,8 @@ fn skip_tags(text: &[u8], from: usize) -> usize
     at
 }
 
-// Past the links after a link, or the tags after a tag: formatting leaves them, though they are part of an item. Each has as many
-// bytes as the one before it, so that no step waits for what the last one read.
+// Skips the links after a link, or the tags after a tag: formatting keeps them, though they are part of an item. Every link has three bytes
+// and every tag four, so that the next offset does not depend on the character read last.
 pub(crate) fn skip_alike(text: &[u8], from: usize, ch: u32) -> usize
     ensures { λ r. ⌜ ((p : Policy) → UnchangedBetween p (now (text .entry)) from r) ⌝ }
 {

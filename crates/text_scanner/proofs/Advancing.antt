@@ -1,4 +1,5 @@
--- The verdict on a text with its start, and a cursor's answer with the offset after it, by the cases of a match.
+-- The cases of `open_text` and `advance`: the verdict on a text with the scanner's first offset, and a cursor's answer with the
+-- offset after it.
 use mathlib.Core.Path.{_≡_, ap, sym, _∙_}
 use mathlib.Core.List.{List}
 use Prim.Native.Nat.{ℕ}
@@ -6,7 +7,8 @@ use lib.ListN.{length}
 use Rattle.base.specs.declared.Check.{Check}
 use Rattle.base.specs.declared.Check.the-variants.{Passed, Refused}
 use Rattle.base.specs.declared.Refusal.{Refusal}
-use Rattle.text_scanner.specs.Scanner.{advanced, offsetAfterStep, opened, startOf, verdictOf}
+use Rattle.text_scanner.specs.Helpers.{advanced, opened}
+use Rattle.text_scanner.specs.Scanner.{offsetAfterStep, startOf, verdictOf}
 use Rattle.scanner.specs.Spans.{scanAt}
 use Rattle.scanner.specs.declared.ScanItem.{ScanItem}
 use Rattle.scanner.specs.declared.ScanStep.{ScanStep}

@@ -1,4 +1,4 @@
--- Call after call a scanner hands out the items of its text; the bytes of the items, joined, are the text.
+-- Successive calls of a scanner answer the items of its text. The bytes of all items, one after the other, are the text.
 use mathlib.Core.Path.{_≡_, refl, ap, sym, _∙_, subst}
 use mathlib.Core.List.{List, [], _∷_, _++_}
 use Prim.Native.Nat.{ℕ, zero, suc, _+_, _-_, _≤_, _<_}
@@ -13,19 +13,8 @@ use Rattle.utf8.proofs.Folds.{chars-end}
 use Rattle.utf8.proofs.Fronts.{readChar-nil}
 use Rattle.utf8.proofs.Texts.{validUpTo-le}
 use Rattle.scanner.specs.Items.{Item, items}
-use Rattle.text_scanner.specs.Scanner.{
-  offsetAfterStep,
-  itemOf,
-  itemsOf,
-  joinRaw,
-  leftAfter,
-  nthItem,
-  offsetAfter,
-  part,
-  rawOf,
-  startOf,
-  verdictOf,
-}
+use Rattle.text_scanner.specs.Helpers.{itemOf, leftAfter}
+use Rattle.text_scanner.specs.Scanner.{offsetAfterStep, itemsOf, joinRaw, nthItem, offsetAfter, part, rawOf, startOf, verdictOf}
 use Rattle.scanner.specs.Spans.{firstOf, scan, scanAt, scanFrom, spans}
 use Rattle.scanner.specs.Theorems.{Spells, Tiles}
 use Rattle.scanner.specs.declared.ScanItem.{ScanItem}
@@ -33,9 +22,9 @@ use Rattle.scanner.specs.declared.ScanStep.{ScanStep}
 use Rattle.scanner.specs.declared.ScanStep.the-variants as Step
 use Rattle.scanner.proofs.Spans.{scan-after, scan-spells, scan-tiles, spells-first}
 
--- ---- call after call
+-- ---- successive calls
 
--- After its answer a scanner has the items after the first.
+-- After an answer the scanner's items are those after the first.
 after-one : (text : List ℕ) (at : ℕ) → scanFrom text (offsetAfterStep (scanAt text at) at) ≡ drop 1 (scanFrom text at)
 unfolding scanAt firstOf
 after-one text at = go (scanFrom text at) refl
@@ -58,7 +47,7 @@ pub hands-out : (text : List ℕ) (at n : ℕ) → scanAt text (offsetAfter text
 unfolding scanAt
 hands-out text at n = ap firstOf (after-calls text at n)
 
--- ---- calls that are left
+-- ---- the number of calls left
 
 -- At the end the offset stays.
 at-end : (text : List ℕ) (at n : ℕ) → scanAt text at ≡ Step.End → offsetAfter text at n ≡ at
@@ -66,7 +55,7 @@ unfolding offsetAfter
 at-end text at zero e = refl
 at-end text at (suc n) e = ap (λ (s : ScanStep). offsetAfter text (offsetAfterStep s at) n) e ∙ at-end text at n e
 
--- One call, and as many as are then left, come to where all of them come to.
+-- One call, and then the calls that are left after its answer, lead to the same offset as all n calls.
 pub one-call : (text : List ℕ) (at n : ℕ) → 0 < n → offsetAfter text (offsetAfterStep (scanAt text at) at) (leftAfter (scanAt text at) n)
     ≡ offsetAfter text at n
 unfolding offsetAfter
@@ -87,9 +76,9 @@ pub fewer-left : (s : ScanStep) (n : ℕ) → 0 < n → leftAfter s n < n
 fewer-left (Step.Item x) n l = omega arith
 fewer-left Step.End n l = l
 
--- ---- the scanner that is made
+-- ---- the scanner that `scan` makes
 
--- After the end of a text there is no item.
+-- No item begins at the end of a text.
 none-after : (text : List ℕ) → scanFrom text (length text) ≡ []
 unfolding scanFrom spans items
 none-after text = ap (λ (t : List ℕ). spans (length text) (items t)) (ap chars (drop-length text) ∙ chars-end [] readChar-nil)
@@ -102,14 +91,14 @@ scan-gives-items text = go (verdictOf text)
     go Passed = refl
     go (Refused r) = none-after text
 
--- After n calls the scanner that is made answers the n-th item.
+-- After n calls the scanner that `scan` makes answers the n-th item.
 pub nth-answer : (text : List ℕ) (n : ℕ) → scanAt text (offsetAfter text (startOf (verdictOf text) text) n) ≡ nthItem text n .step
 nth-answer text n = hands-out text (startOf (verdictOf text) text) n
     ∙ ap (λ (xs : List ScanItem). firstOf (drop n xs)) (scan-gives-items text)
 
 -- ---- the bytes of an item
 
--- A span within the text has its bytes.
+-- A part within the text has the bytes of the text there.
 part-is : (text : List ℕ) (start end : ℕ) → start ≤ end → end ≤ length text → part text start end ≡ take (end - start) (drop start text)
 part-is text start end l m = simp (le-leb start end l, le-leb end (length text) m)
 
@@ -121,7 +110,7 @@ tiles-le : {a b : ℕ} (xs : List ScanItem) → Tiles a xs b → a ≤ b
 tiles-le [] e = omega arith
 tiles-le (x ∷ xs) t = let l = tiles-le xs (t .2) in omega (arith, t .0, t .1)
 
--- The item that a scanner hands out lies in the text.
+-- An item that a scanner answers lies within the text.
 within : (text : List ℕ) (at : ℕ) (x : ScanItem) (xs : List ScanItem) → scanFrom text at ≡ x ∷ xs → (x .start ≤ x .end)
     × (x .end ≤ length text)
 within text at x xs e =
@@ -144,7 +133,7 @@ raw-is-item-bytes text at x i is e f = go (scanFrom text at) refl e
         (subst (Spells text (scanFrom text at)) f (scan-spells text at)) in
         ap (λ (z : ScanItem). part text (z .start) (z .end)) (sym g) ∙ part-is text (y .start) (y .end) (w .0) (w .1) ∙ spells-first s
 
--- The bytes of spans that go from one place to another, joined, are the bytes between them.
+-- The bytes of spans that tile the text from a to b, one after the other, are the bytes from a to b.
 pub join-raw : (text : List ℕ) (a : ℕ) (xs : List ScanItem) (b : ℕ) → Tiles a xs b → b ≤ length text → joinRaw text xs
     ≡ take (b - a) (drop a text)
 join-raw text a [] b e m = let z : 0 ≡ b - a = omega arith in ap (λ (n : ℕ). take n (drop a text)) z

@@ -1,5 +1,5 @@
--- A scanner in a local is lent to `next` by `&mut`, and comes back after the answer.
--- The loan's lifetime is a new one within the text's, as the signature of `next` asks; half of the text's token goes into it.
+-- A scanner in a local is lent to `next` by `&mut`, and is whole again after the answer.
+-- The loan has a new lifetime within the text's, as the signature of `next` asks. Half of the text's token goes into it.
 use mathlib.Core.Path.{_≡_, refl}
 use mathlib.Core.List.{List, [], _∷_}
 use Prim.Native.Nat.{ℕ}
@@ -78,7 +78,7 @@ B κ = T.the-row (record { mir = named 1; lft = κ })
 abbrev pub Own : Lft → Scanner → Fml
 Own κ h = B κ .own h (T′.lowered h ∷ [])
 
--- the type of the loan: a struct after a reference is known by its name
+-- the type of the loan: in a reference, a struct is known by its name
 abbrev pub loan : Ty
 loan = tyRef erased mut (pointee (T.the-row (record { mir = erased; lft = [] }) .written))
 
@@ -94,7 +94,7 @@ abbrev pub answerOf : Scanner → ScanStep
 answerOf h = scanAt (now (h .text)) (h .offset)
 
 module _ {M : Type 1} (𝓤 : URA M) (H : Heap 𝓤) (A : Atoms 𝓤) (run-mem : Memory → SProp 𝓤) (run : Routine → Fun 𝓤) where
-  -- the contract that is cited
+  -- the contract of `next`
   abbrev pub Next : Contract 𝓤
   Next = tripleOf 𝓤 H A next.signature (next.spec 𝓤 H A run-mem run)
 

@@ -1,4 +1,4 @@
--- The laws of the scanner that borrows a text, and the theorems.
+-- Proofs about the scanner that borrows a text, and the proofs of the statements.
 pub mod Advancing
 pub mod HandingOut
 pub mod Lending

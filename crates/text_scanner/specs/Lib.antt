@@ -1,2 +1,3 @@
--- The scanner that borrows a text: document 01, "Item".
+-- Definitions for the scanner that borrows a text (document 01, "Item"), and statements about it.
 pub mod Scanner
+pub mod Helpers

@@ -1,14 +1,15 @@
 // The scanner of scanner.rs of the crate evfmt: it borrows the text and remembers one offset (document 01, "Item").
 // The crate `scanner` says what an item is, and its `next_item` reads one.
-// `scan` makes one and tests the text; `next` and `raw` are thin over the covered `advance` and `part`, which take the
-// slice and numbers. The functions over the struct are proved by walks of their code, and so is a caller that holds one
-// (`put_items` of the crate listing); any other takes `nth_item` and `nth_raw`, whose parameters are plain. Each equals a
-// definition of specs/Scanner.antt, for all inputs.
+// `scan` tests the text and makes a scanner. `next` and `raw` are thin functions over `advance` and `part`, which take the slice
+// and numbers.
+// The functions that take or return the struct are proved by walks of their code, and so is a caller that holds a scanner
+// (`put_items` of the crate listing). Other callers use `nth_item` and `nth_raw`, whose parameters are plain.
+// Each function equals a definition of specs/Scanner.antt or specs/Helpers.antt for all inputs.
 ghost use mathlib.Core.Path.{_≡_};
 ghost use Rattle.base.specs.Answers.{Answers, checkRow};
 ghost use Rattle.scanner.specs.Spans.{scanAt};
-ghost use Rattle.text_scanner.specs.Scanner.{advanced, atOffset, offsetAfterStep, itemOf, leftAfter, nthItem};
-ghost use Rattle.text_scanner.specs.Scanner.{opened, part, rawOf, scanned, skipped, verdictOf};
+ghost use Rattle.text_scanner.specs.Helpers.{advanced, itemOf, leftAfter, opened, skipped};
+ghost use Rattle.text_scanner.specs.Scanner.{atOffset, nthItem, offsetAfterStep, part, rawOf, scanned, verdictOf};
 use base::Check;
 use scanner::ScanItem;
 use scanner::ScanKind;
@@ -16,13 +17,13 @@ use scanner::ScanStep;
 use scanner::next_item;
 use scanner::text_check::check_text;
 
-// A text, and the offset where the next item is looked for.
+// A text, and the offset from which the next item is read.
 pub struct Scanner<'a> {
     pub text: &'a [u8],
     pub offset: usize,
 }
 
-// A scanner, and beside it the verdict on its text.
+// A scanner, and the verdict on its text.
 pub struct Scanned<'a> {
     pub verdict: Check,
     pub scanner: Scanner<'a>,
@@ -34,7 +35,7 @@ pub struct Opened {
     pub offset: usize,
 }
 
-// The answer of a cursor, and the offset after it.
+// The answer of a cursor, and the scanner's offset after it.
 pub struct Advanced {
     pub step: ScanStep,
     pub offset: usize,
@@ -46,7 +47,7 @@ pub struct NthItem {
     pub step: ScanStep,
 }
 
-// Tests a text: its scanner starts at 0, or on a refusal at the end.
+// Tests a text. Its scanner starts at 0, or at the end of the text if the text is refused.
 fn open_text(text: &[u8]) -> Opened
     ensures { λ r. ⌜ r ≡ opened (now (text .entry)) ⌝ }
 {
@@ -60,7 +61,7 @@ fn open_text(text: &[u8]) -> Opened
     }
 }
 
-// The item at an offset, and the offset after it; at the end the offset stays.
+// The item at an offset, and the offset after it. At the end the offset stays.
 fn advance(text: &[u8], at: usize) -> Advanced
     ensures { λ r. ⌜ r ≡ advanced (now (text .entry)) at ⌝ }
 {
@@ -74,7 +75,7 @@ fn advance(text: &[u8], at: usize) -> Advanced
     }
 }
 
-// The bytes of a text from start up to end, or none where the text has no such part.
+// The bytes of a text from start up to end; empty if the text has no such part.
 fn part(text: &[u8], start: usize, end: usize) -> &[u8]
     ensures { λ r. ⌜ now r ≡ part (now (text .entry)) start end ⌝ }
 {
@@ -87,7 +88,7 @@ fn part(text: &[u8], start: usize, end: usize) -> &[u8]
     &text[start..end]
 }
 
-// A scanner of a text, which is tested. On a refusal the scanner says end at once.
+// Tests a text and makes its scanner. The scanner of a refused text answers the end at every call.
 pub fn scan<'a>(text: &'a [u8]) -> Scanned<'a>
     ensures { λ r. ⌜ (r ≡ scanned (text .entry)) × Answers checkRow (verdictOf (now (text .entry))) (r .verdict) ⌝ }
 {
@@ -101,7 +102,7 @@ pub fn scan<'a>(text: &'a [u8]) -> Scanned<'a>
     }
 }
 
-// The next item; after the last, the end on each call.
+// The next item; after the last one, the end at every call.
 pub fn next<'s, 'a>(s: &'s mut Scanner<'a>) -> ScanStep
     ensures { λ r. ⌜ (r ≡ scanAt (now (now (s .entry) .text)) (now (s .entry) .offset))
         × (now (s .exit) ≡ atOffset (now (s .entry)) (offsetAfterStep r (now (s .entry) .offset))) ⌝ }
@@ -119,7 +120,7 @@ pub fn raw<'a>(s: Scanner<'a>, item: ScanItem) -> &'a [u8]
     part(s.text, item.start, item.end)
 }
 
-// How many calls are left after an answer, of so many: one less, and none after the end.
+// How many of `left` calls are left after one more answer: one fewer after an item, none after the end.
 fn left_after(step: ScanStep, left: usize) -> usize
     ensures { λ r. ⌜ r ≡ leftAfter step left ⌝ }
 {
@@ -134,7 +135,7 @@ fn left_after(step: ScanStep, left: usize) -> usize
     }
 }
 
-// The item of an answer; at the end an empty one.
+// The item in an answer; an empty item if the answer is the end.
 fn item_of(step: ScanStep) -> ScanItem
     ensures { λ r. ⌜ r ≡ itemOf step ⌝ }
 {
@@ -162,7 +163,7 @@ fn skip<'a>(s: Scanner<'a>, n: usize) -> Scanner<'a>
     scanner
 }
 
-// The verdict on a text and its n-th item, counted from 0, or the end: a scanner is made, moved past n items, and asked.
+// The verdict on a text and its n-th item, counted from 0, or the end. It makes a scanner, skips n items and reads the next.
 pub fn nth_item(text: &[u8], n: usize) -> NthItem
     ensures { λ r. ⌜ r ≡ nthItem (now (text .entry)) n ⌝ }
 {
@@ -175,7 +176,7 @@ pub fn nth_item(text: &[u8], n: usize) -> NthItem
     }
 }
 
-// The bytes of the n-th item of a text, as a part of it, or none.
+// The bytes of the n-th item of a text, as a part of the text; empty if there is no such item.
 pub fn nth_raw<'a>(text: &'a [u8], n: usize) -> &'a [u8]
     ensures { λ r. ⌜ now r ≡ rawOf (now (text .entry)) (nthItem (now (text .entry)) n .step) ⌝ }
 {

@@ -1,4 +1,4 @@
--- A text has no more items and findings than bytes, and a finding wants no more decisions than it has bytes.
+-- A text has at most as many items, and at most as many findings, as it has bytes. A finding wants at most as many decisions as it has bytes.
 use mathlib.Core.Path.{_≡_, refl, ap, sym}
 use mathlib.Core.Logic.{_⊎_, inl, inr}
 use mathlib.Core.Bool.{Bool, true, false, cond}
@@ -35,7 +35,7 @@ items-few : {xs : List Item} → Filled xs → length xs ≤ length (join xs)
 items-few no-item = omega arith
 items-few (and-item {x = x} {xs = xs} c s l h) = omega (arith, items-few h, length-append (x .chars) (join xs), ap length l)
 
--- There are no more items than bytes.
+-- A text has at most as many items as bytes.
 pub few-items : (text : List ℕ) → length (items (chars text)) ≤ length text
 few-items text =
     let t = chars text in
@@ -46,12 +46,12 @@ unfolding spans
 spans-number at [] = refl
 spans-number at (x ∷ xs) = ap suc (spans-number (at + size width (x .chars)) xs)
 
--- The same of the items by their bytes.
+-- Scanning a text gives at most as many items as the text has bytes.
 pub few-spans : (text : List ℕ) → length (scan text) ≤ length text
 unfolding scan scanFrom
 few-spans text = omega (arith, spans-number 0 (items (chars text)), few-items text)
 
--- No more items pass a test than there are.
+-- At most all items pass a test.
 pub few-found : (test : Item → Bool) (n : ℕ) (xs : List Item) → length (found test width n xs) ≤ length xs
 unfolding found
 few-found test n [] = omega arith
@@ -64,7 +64,7 @@ few-found test n (x ∷ xs) = go (test x) (few-found test (n + size width (x .ch
     go true h = omega arith
     go false h = omega arith
 
--- An item that is found is one of them.
+-- An item that is found at an offset is one of the items.
 pub found-item : (test : Item → Bool) (o n : ℕ) (xs : List Item) (x : Item) → findingAt o (found test width n xs) ≡ some x → List·Memᴰ x xs
 unfolding found findingAt
 found-item test o n [] x e = let z : _≡_ {A = ℕ} 0 1 = cc in absurd (omega arith)
@@ -82,7 +82,7 @@ found-item test o n (y ∷ ys) x e = go (test y) (found-item test o (n + size wi
     go true h e = there (eqb n o) h e
     go false h e = List·Memᴰ·tail (h e)
 
--- An item is no longer than all of them.
+-- An item is at most as long as all items together.
 pub within-all : (x : Item) (xs : List Item) → List·Memᴰ x xs → size width (x .chars) ≤ size width (join xs)
 within-all x [] h = absurd (List·Memᴰ·not-nil h)
 within-all x (y ∷ ys) h = go (List·Memᴰ·cases-cons h) (within-all x ys)
@@ -95,7 +95,7 @@ within-all x (y ∷ ys) h = go (List·Memᴰ·cases-cons h) (within-all x ys)
 -- ---- decisions
 
 module _ (p : Policy) where
-  -- No more decisions than cells.
+  -- The rules count at most one decision for each cell.
   few-defaults : (xs : List Cell) → length (defaultsOfCells p xs) ≤ length (charsOf xs)
   unfolding defaultsOfCells
   few-defaults [] = omega arith
@@ -116,7 +116,7 @@ module _ (p : Policy) where
   few-of LinksOnly t = omega (arith, few-defaults (cells t), ap length (strip-split t), length-parts t)
   few-of EmojiHeaded t = omega (arith, few-defaults (cells t), ap length (strip-split t), length-parts t)
 
-  -- A finding wants no more decisions than it has bytes.
+  -- A finding wants at most as many decisions as it has bytes.
   pub few-wanted : (x : Item) → wanted p x ≤ size width (x .chars)
   unfolding defaultDecisions
   few-wanted x = omega (arith, default-number p x, few-of (x .kind) (x .chars), bytes-some (x .chars))

@@ -1,4 +1,4 @@
--- What a call leaves is its answer, as a word, and its buffer.
+-- If a call ends with an outcome, its word and its buffer are those of the outcome.
 use mathlib.Core.Path.{_≡_, ap, _∙_}
 use mathlib.Core.List.{List}
 use Prim.Native.Nat.{ℕ}

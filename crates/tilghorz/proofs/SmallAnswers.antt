@@ -1,4 +1,4 @@
--- The values of answers are small: none passes six times the longest text that is taken, and so none 2^56.
+-- The values of answers are small: each is at most six times the limit of a text, and so below 2^56.
 use mathlib.Core.Path.{_≡_, refl, ap, sym, _∙_, subst}
 use mathlib.Core.Bool.{Bool, true, false, cond, not}
 use mathlib.Core.List.{List, [], _∷_, _++_, map, List·Memᴰ}
@@ -58,11 +58,11 @@ use Rattle.tilghorz.proofs.FewItems.{few-found, few-items, few-spans, f
 
 -- ---- the tests of a call
 
--- The bound.
+-- The bound of all values.
 abbrev pub most : ℕ
 most = 6 * textLimit
 
--- A refusal if there is one, or what comes next.
+-- If the value of the refusal is at most the bound, and that of the answer without a refusal too, so is the value of the answer.
 tested : {R A : Type 0} (row : R → RefusalRow) (refused : Refusal → R) → ((r : Refusal) → row (refused r) ≡ refusalRow r)
     → (o : Option Refusal) (out : List A) (next : After R A) → ((r : Refusal) → o ≡ some r → refusalRow r .value ≤ most)
     → (o ≡ none → row (next .answer) .value ≤ most)
@@ -70,7 +70,7 @@ tested : {R A : Type 0} (row : R → RefusalRow) (refused : Refusal → R) → (
 tested row refused same (some r) out next h k = omega (arith, h r refl, ap (λ (w : RefusalRow). w .value) (same r))
 tested row refused same none out next h k = k refl
 
--- The tests of a text and a policy, by their answers: a refusal's value is small, and a text that passes is short.
+-- The tests of a text and a policy: a refusal has a small value, and a text that passes them is within the limit.
 tests-small : (fault : Refusal) → refusalRow fault .value ≤ most → (text : List ℕ) (a b f : Bool) → leb (length text) textLimit ≡ a
     → (r : Refusal) → byTests a b f fault text ≡ some r → refusalRow r .value ≤ most
 tests-small fault s text a b f p r e = go a b f p e
@@ -113,7 +113,7 @@ format-small text policy out =
     go false true h k = omega arith
     go false false h k = omega arith
 
--- Rows in a table, of which there are no more than bytes of the text.
+-- Listing rows into a table: there are at most as many rows as the text has bytes.
 table-small : {A : Type 0} (numbers : A → List ℕ) (k : ℕ) (rows : List A) (table text : List ℕ) → length rows ≤ length text
     → length text ≤ textLimit
     → listRow (fillTable numbers k rows table .answer) .value ≤ most
@@ -162,7 +162,7 @@ module _ (text policy : List ℕ) (offset : ℕ) (decisions out : List ℕ) wher
       go false f e = let z : WrongNumberOfDecisions (wanted P x) ≡ r = cc in subst (λ (r : Refusal). refusalRow r .value ≤ most) z
           (omega arith)
 
-  -- The text with the replacement of a finding.
+  -- The length of the text with a finding exchanged for its replacement.
   exchanged-small : (a : Accepted policy text) (x : Item) → List·Memᴰ x (items (chars text))
       → length (exchanged text P offset (map meaning decisions) (some x)) ≤ most
   exchanged-small a x m =
@@ -214,7 +214,7 @@ module _ (text policy : List ℕ) (offset : ℕ) (decisions out : List ℕ) wher
           room true h = omega arith
           room false h = omega arith
 
--- A policy is 24 words.
+-- The bytes of a policy are those of 24 words.
 default-bytes : length (policyBytes defaultPolicy) ≡ 24 * 8
 unfolding policyBytes policyWords keyWords defaultPolicy preferBare preferBareKeycap bareAsText bareAsTextKeycap
 default-bytes = length-bytesOf (policyWords defaultPolicy)

@@ -1,4 +1,4 @@
--- A word of a small value tells its row, and a row tells the answer.
+-- The word of a row with a small value determines the row, and a row determines its answer.
 use mathlib.Core.Path.{_≡_, refl, ap}
 use Prim.Native.Nat.{_/_, _%_, _^_, _<_}
 use native.Mathlib.Omega.{arith}
@@ -38,7 +38,7 @@ tell row answer small rows = record {
   value = λ i. value-of (row (answer i)) (small i);
 }
 
--- ---- rows: a refusal has a number from 1 to 254, so none of the other two answers
+-- ---- rows: a refusal's number is from 1 to 254, and so different from those of the other two answers
 
 pub format-rows : (a b : FormatAnswer) → formatRow a ≡ formatRow b → a ≡ b
 unfolding formatRow

@@ -1,4 +1,4 @@
--- What is claimed of the answer words. It is proved in proofs/Claims.antt.
+-- The theorem about the answer words. It is proved in proofs/Claims.antt.
 use mathlib.Core.Path.{_≡_}
 use mathlib.Core.List.{List}
 use Prim.Native.Nat.{ℕ, _/_, _%_, _^_}
@@ -16,14 +16,14 @@ use Rattle.formatter.specs.Format.{formatRow}
 use Rattle.tilghorz.specs.AnswerWord.{word}
 use Rattle.unicode.specs.Rows.{entryRow}
 
--- The words of a function tell its answers: two outcomes with one word have the same answer, whatever was handed in; and a word's
--- top 8 bits are the answer's number, its low 56 bits the answer's value.
+-- The words of a C function determine its answers: if two calls return the same word, their answers are equal, whatever the arguments. The
+-- top 8 bits of a word are the answer's number, and its low 56 bits are the answer's value.
 pub record Tell {I A : Type 0} (row : A → RefusalRow) (answer : I → A) : Type 0 where
   pub same : (i j : I) → word (row (answer i)) ≡ word (row (answer j)) → answer i ≡ answer j
   pub number : (i : I) → word (row (answer i)) / 2 ^ 56 ≡ row (answer i) .number
   pub value : (i : I) → word (row (answer i)) % 2 ^ 56 ≡ row (answer i) .value
 
--- So it is with every function: formatting, listing, mending, listing items, the default policy, an entry.
+-- The words of each C function determine its answers: formatting, listing findings, mending, listing items, the default policy, an entry.
 unfoldable pub WordsDetermineAnswers : Type 0
 WordsDetermineAnswers =
     Tell formatRow (λ (c : List ℕ × List ℕ × List ℕ). format (c .0) (c .1) (c .2) .answer)

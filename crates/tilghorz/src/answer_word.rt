@@ -1,4 +1,4 @@
-// Answers as words: each function equals `word` of the row that specs/AnswerWord.antt gives for its answer.
+// Answers as words of 64 bits. Each function gives `word` (specs/AnswerWord.antt) of the row of its answer.
 ghost use mathlib.Core.Path.{_≡_};
 ghost use Prim.Native.Nat.{_≤_};
 ghost use Rattle.base.specs.Refusals.{refusalRow};
@@ -16,13 +16,13 @@ use base::refusals::refusal_value;
 use formatter::FormatAnswer;
 use unicode::VariationEntry;
 
-// One more than the largest value.
+// One more than the largest value of a word: values have 56 bits.
 const VALUES: u64 = 0x100_0000_0000_0000;
 
-// Nothing to do: no change is needed, or there is no such entry.
+// The number of an answer that says "nothing to do": the text needs no change, or there is no such entry.
 const NOTHING: u64 = 255;
 
-// A word of a number and a value.
+// The word of a number and a value.
 fn word_of(number: u64, value: usize) -> u64
     requires { ⌜ number ≤ 255 ⌝ }
     ensures { λ r. ⌜ r ≡ word (record { number = number; value = value }) ⌝ }
@@ -78,7 +78,7 @@ pub fn write_word(answer: WriteAnswer) -> u64
     }
 }
 
-// The word of an entry.
+// The word of a variation entry.
 pub fn entry_word(entry: VariationEntry) -> u64
     ensures { λ r. ⌜ r ≡ word (entryRow entry) ⌝ }
 {

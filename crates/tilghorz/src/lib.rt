@@ -1,6 +1,6 @@
 // The C functions, on byte slices and numbers (document 01: "The intake host, written in Rust, calls formatting, listing and mending
-// through C functions"). Each is one call of a layer below, its answer turned into one word: specs/AnswerWord.antt. A slice
-// passes as a pointer and a length; include/tilghorz.h says the same for C.
+// through C functions"). Each makes one call of another crate and returns the answer as one word (specs/AnswerWord.antt). A slice is passed
+// as a pointer and a length. include/tilghorz.h describes the same functions for C.
 pub mod answer_word;
 
 ghost use mathlib.Core.Path.{_≡_};
@@ -23,7 +23,7 @@ use answer_word::mend_word;
 use answer_word::write_word;
 use policy::Policy;
 
-// Formats a text under a policy: refusals 1, 2, 3 and 8, or nothing to do.
+// Formats a text under a policy. It may answer "nothing to do", or refusals 1, 2, 3 and 8.
 #[no_mangle]
 pub extern "C" fn tilghorz_format(text: &[u8], policy: &[u8], out: &mut [u8]) -> u64
     ensures word { λ r. ⌜ r ≡ word (formatRow (format (now (text .entry)) (now (policy .entry)) (now (out .entry)) .answer)) ⌝ }
@@ -32,7 +32,8 @@ pub extern "C" fn tilghorz_format(text: &[u8], policy: &[u8], out: &mut [u8]) ->
     format_word(formatting::format_text(text, policy, out))
 }
 
-// Lists the findings of a text under a policy: ten numbers of 8 bytes each, start, end and the eight counts. Refusals 1, 2, 3 and 7.
+// Lists the findings of a text under a policy. A row is ten numbers of 8 bytes each: start, end and the eight counts. It may answer
+// refusals 1, 2, 3 and 7.
 #[no_mangle]
 pub extern "C" fn tilghorz_list(text: &[u8], policy: &[u8], table: &mut [u8]) -> u64
     ensures word { λ r. ⌜ r ≡ word (listRow (listBytes (now (text .entry)) (now (policy .entry)) (now (table .entry)) .answer)) ⌝ }
@@ -41,7 +42,7 @@ pub extern "C" fn tilghorz_list(text: &[u8], policy: &[u8], table: &mut [u8]) ->
     list_word(listing::list_findings(text, policy, table))
 }
 
-// Mends the finding that starts at an offset: refusals 1, 2, 3, 4, 5, 6 and 8.
+// Mends the finding that starts at an offset. It may answer refusals 1, 2, 3, 4, 5, 6 and 8.
 #[no_mangle]
 pub extern "C" fn tilghorz_mend(
     text: &[u8],
@@ -58,7 +59,8 @@ pub extern "C" fn tilghorz_mend(
     mend_word(mending::mend(text, policy, offset as usize, decisions, out))
 }
 
-// Lists the items of a text: four numbers of 8 bytes each, start, end, kind and whether its tags are complete. Refusals 1, 3 and 7.
+// Lists the items of a text. A row is four numbers of 8 bytes each: start, end, kind and whether the tags are complete. It may answer
+// refusals 1, 3 and 7.
 #[no_mangle]
 pub extern "C" fn tilghorz_scan(text: &[u8], table: &mut [u8]) -> u64
     ensures word { λ r. ⌜ r ≡ word (listRow (listItems (now (text .entry)) (now (table .entry)) .answer)) ⌝ }
@@ -67,7 +69,7 @@ pub extern "C" fn tilghorz_scan(text: &[u8], table: &mut [u8]) -> u64
     list_word(listing::items::list_items(text, table))
 }
 
-// Writes the default policy's words: refusal 8.
+// Writes the bytes of the default policy. It may answer refusal 8.
 #[no_mangle]
 pub extern "C" fn tilghorz_default_policy(out: &mut [u8]) -> u64
     ensures word { λ r. ⌜ r ≡ word (writeRow (answerOf (policyBytes defaultPolicy) (now (out .entry)))) ⌝ }
@@ -76,7 +78,7 @@ pub extern "C" fn tilghorz_default_policy(out: &mut [u8]) -> u64
     write_word(policy::write_policy(Policy::default(), out))
 }
 
-// The code point of a variation entry, or nothing where there is no such entry.
+// Gives the code point of the variation entry at an index, or "nothing to do" if there is no such entry.
 #[no_mangle]
 pub extern "C" fn tilghorz_variation_entry(index: u64) -> u64
     ensures { λ r. ⌜ r ≡ word (entryRow (variationEntry index)) ⌝ }

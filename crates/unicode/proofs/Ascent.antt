@@ -1,4 +1,4 @@
--- Ascending lists, and where a number stands in one.
+-- Ascending lists, and the index of a number in one.
 use mathlib.Core.Path.{_≡_, refl, sym, ap, _∙_, subst}
 use mathlib.Core.Logic.{⊎-elim}
 use mathlib.Core.Bool.{Bool, true, false, cond, _||_}
@@ -15,7 +15,7 @@ use Rattle.unicode.specs.declared.VariationSequenceIndex.{VariationSeque
 use Rattle.unicode.specs.declared.VariationSequenceIndex.the-variants as Index
 use Rattle.base.proofs.Tests.{both-true, le-or-lt}
 
--- every element is above the number that the list ascends from
+-- Every element is above the number before the list.
 above : (a : ℕ) (xs : List ℕ) → ascendingFrom a xs ≡ true → (k : ℕ) → k < length xs → a < getD xs k 0
 unfolding ascendingFrom
 above a [] t k h = absurd (not-suc-le-zero h)
@@ -31,7 +31,7 @@ unfolding ascending ascendingFrom
 ascending-tail x [] t = refl
 ascending-tail x (y ∷ xs) t = both-true (ltb x y) (ascendingFrom y xs) t .1
 
--- an earlier element is below a later one
+-- An earlier element is below a later one.
 pub ascending-lt : (xs : List ℕ) → ascending xs ≡ true → (j k : ℕ) → j < k → k < length xs → getD xs j 0 < getD xs k 0
 unfolding ascending
 ascending-lt [] t j k h l = absurd (not-suc-le-zero l)
@@ -49,14 +49,14 @@ ascending-le (x ∷ xs) t zero (suc k) h l = let p : x < getD xs k 0 = above x x
 ascending-le (x ∷ xs) t (suc j) (suc k) h l =
     ascending-le xs (ascending-tail x xs t) j k (le-of-suc-le-suc h) (le-of-suc-le-suc l)
 
--- no element is c
+-- If no element is c, c has no index.
 pub index-none : (c : ℕ) (xs : List ℕ) → ((k : ℕ) → k < length xs → getD xs k 0 ≡ c → ⊥) → indexOf c xs ≡ Index.NoEntry
 unfolding indexOf next
 index-none c [] h = refl
 index-none c (x ∷ xs) h =
     simp (ne-eqb x c (h zero (suc-le-suc zero-le)), index-none c xs (λ k l. h (suc k) (suc-le-suc l)))
 
--- the first element that is c stands at k
+-- If element k is c and no earlier element is, the index of c is k.
 pub index-first : (c : ℕ) (xs : List ℕ) (k : ℕ) → k < length xs → getD xs k 0 ≡ c → ((j : ℕ) → j < k → getD xs j 0 ≡ c → ⊥)
     → indexOf c xs ≡ Index.At k
 unfolding indexOf next
@@ -68,7 +68,7 @@ index-first c (x ∷ xs) (suc k) l e h =
       index-first c xs k (le-of-suc-le-suc l) e (λ j m. h (suc j) (suc-le-suc m)),
     )
 
--- a place was found
+-- The search found an index.
 unfoldable pub isAt : VariationSequenceIndex → Bool
 isAt (Index.At i) = true
 isAt Index.NoEntry = false
@@ -78,7 +78,7 @@ unfolding isAt next
 isAt-next (Index.At i) = refl
 isAt-next Index.NoEntry = refl
 
--- a number is in a list exactly when it has a place there
+-- A list contains a number exactly when the number has an index.
 pub member-index : (c : ℕ) (xs : List ℕ) → member c xs ≡ isAt (indexOf c xs)
 unfolding member indexOf isAt
 member-index c [] = refl
@@ -88,7 +88,7 @@ member-index c (x ∷ xs) = go (eqb x c) (member-index c xs)
     go true h = refl
     go false h = h ∙ sym (isAt-next (indexOf c xs))
 
--- the number at a place of the list, and none past its end
+-- The entry at an index is the element there. From the list's length on there is no entry.
 pub entry-in : (i : ℕ) (xs : List ℕ) → i < length xs → entryAt i xs ≡ Entry.Char (getD xs i 0)
 unfolding entryAt
 entry-in i [] h = absurd (not-suc-le-zero h)
@@ -101,7 +101,7 @@ entry-out i [] h = refl
 entry-out zero (x ∷ xs) h = absurd (not-suc-le-zero h)
 entry-out (suc i) (x ∷ xs) h = entry-out i xs (le-of-suc-le-suc h)
 
--- where a number was found, it stands
+-- The entry at the index of c is c.
 pub index-holds : (c : ℕ) (xs : List ℕ) (i : ℕ) → indexOf c xs ≡ Index.At i → entryAt i xs ≡ Entry.Char c
 unfolding indexOf entryAt next
 index-holds c [] i e = cc
@@ -116,7 +116,7 @@ index-holds c (x ∷ xs) i e = go (eqb x c) refl (indexOf c xs) refl i e (λ k. 
         subst (λ (m : ℕ). entryAt m (x ∷ xs) ≡ Entry.Char c) n (ih k q)
     go false p Index.NoEntry q i e ih = cc
 
--- in an ascending list a number stands at one place only
+-- In an ascending list, a number occurs at one index only.
 pub place-is-index : (xs : List ℕ) → ascending xs ≡ true → (c i : ℕ) → entryAt i xs ≡ Entry.Char c → indexOf c xs ≡ Index.At i
 place-is-index xs t c i e =
     ⊎-elim (λ h. let z : Entry.NoEntry ≡ Entry.Char c = sym (entry-out i xs h) ∙ e in cc)

@@ -1,4 +1,4 @@
--- Facts between tables of any length: a test over one of them, and what it says of every number.
+-- Laws between tables of any length: a computed test over one table implies a fact about every number.
 use mathlib.Core.Path.{_≡_, refl, subst}
 use mathlib.Core.Logic.{⊎-elim}
 use mathlib.Core.Bool.{Bool, true, false, _&&_, _||_, or-true, and-false}
@@ -11,7 +11,7 @@ use Rattle.unicode.specs.Tables.{inRanges, member}
 use Rattle.base.specs.Ranges.{within}
 use Rattle.base.proofs.Tests.{both-true, either-true}
 
--- each number of a list passes a test
+-- Each number of a list passes a test.
 unfoldable pub every : (ℕ → Bool) → List ℕ → Bool
 every p [] = true
 every p (x ∷ xs) = p x && every p xs
@@ -24,19 +24,19 @@ every-member p (x ∷ xs) t c m =
     ⊎-elim (λ e. subst (λ (y : ℕ). p y ≡ true) (eqb-true x c e) (s .0)) (λ r. every-member p xs (s .1) c r)
     (either-true (eqb x c) (member c xs) m)
 
--- each range of a list passes a test
+-- Each range of a list passes a test.
 unfoldable pub everyRange : (ℕ → ℕ → Bool) → List ℕ → Bool
 everyRange p [] = true
 everyRange p (first ∷ []) = true
 everyRange p (first ∷ last ∷ rs) = p first last && everyRange p rs
 
--- one range lies in one of the ranges
+-- The range from a to e lies inside one of the ranges.
 unfoldable pub liesIn : List ℕ → ℕ → ℕ → Bool
 liesIn [] a e = false
 liesIn (first ∷ []) a e = false
 liesIn (first ∷ last ∷ rs) a e = (leb first a && leb e last) || liesIn rs a e
 
--- one range meets none of the ranges
+-- The range from a to e has no number in common with the ranges.
 unfoldable pub liesOut : List ℕ → ℕ → ℕ → Bool
 liesOut [] a e = true
 liesOut (first ∷ []) a e = true
@@ -70,7 +70,7 @@ module _ (a e c : ℕ) (m : within a e c ≡ true) where
       (λ p. simp (lt-leb c last (omega (arith, low, ltb-true last a p)), and-false, lies-out rs (s .1)))
       (either-true (ltb e first) (ltb last a) (s .0))
 
--- a test of each range that gives a fact of each number in the range gives it of each number in the ranges
+-- If a test of a range implies a fact about each number of the range, then the test of all ranges implies it for each number in them.
 pub every-range : (p : ℕ → ℕ → Bool) (Q : ℕ → Type 0) → ((a e c : ℕ) → within a e c ≡ true → p a e ≡ true → Q c)
     → (rs : List ℕ) → everyRange p rs ≡ true → (c : ℕ) → inRanges c rs ≡ true → Q c
 unfolding everyRange inRanges

@@ -1,5 +1,5 @@
--- The numbers whose bits are one, over blocks of any words: whether a number is among them is one bit, and its place
--- the rank of its block and the ones below its bit.
+-- The list of the numbers whose bits are 1 in blocks of any words. A number is in the list where its bit is 1. Its index is the rank of
+-- its block plus the number of ones below its bit.
 use mathlib.Core.Path.{_≡_, refl, sym, ap, ap₂, _∙_}
 use mathlib.Core.Logic.{_⊎_, inl, inr, ⊎-elim}
 use mathlib.Core.Bool.{Bool, true, false, cond, _&&_}
@@ -24,7 +24,7 @@ use Rattle.unicode.specs.declared.blocks.Block.{Block}
 use Rattle.unicode.proofs.Ascent.{isAt}
 use Rattle.unicode.proofs.BlockSearch.{ascendFrom}
 
--- n places further on
+-- The index plus n.
 unfoldable pub plus : ℕ → VariationSequenceIndex → VariationSequenceIndex
 plus n (Index.At i) = Index.At (n + i)
 plus n Index.NoEntry = Index.NoEntry
@@ -49,17 +49,17 @@ unfolding plus isAt
 isAt-plus n (Index.At i) = refl
 isAt-plus n Index.NoEntry = refl
 
--- a number in front, where a test passes
+-- Puts a number before a list if a test is true.
 unfoldable pub keep : Bool → ℕ → List ℕ → List ℕ
 keep true a xs = a ∷ xs
 keep false a xs = xs
 
--- of the n numbers from a on, those at whose place the word has a one, lowest first
+-- Of the n numbers from a on, those whose bit in the word is 1, in ascending order.
 unfoldable pub onesFrom : ℕ → ℕ → ℕ → List ℕ
 onesFrom a zero w = []
 onesFrom a (suc n) w = keep (eqb (w % 2) 1) a (onesFrom (suc a) n (w / 2))
 
--- a number that is none of the n
+-- A number that is not one of the n numbers has the index that it has in the rest of the list, plus the number of ones.
 outside : (c n a w : ℕ) (xs : List ℕ) → (c < a) ⊎ (a + n ≤ c)
     → indexOf c (onesFrom a n w ++ xs) ≡ plus (length (onesFrom a n w)) (indexOf c xs)
 unfolding onesFrom keep indexOf
@@ -81,7 +81,7 @@ outside c (suc n) a w xs h = go (eqb (w % 2) 1) (outside c n (suc a) (w / 2) xs 
     go true ih = rw (ne-eqb a c (differs h)) (ap next ih ∙ next-plus (length (onesFrom (suc a) n (w / 2))) (indexOf c xs))
     go false ih = ih
 
--- the place that bit j of a word has among its ones
+-- The index of bit j among the ones of a word.
 unfoldable pub placeInWord : ℕ → ℕ → VariationSequenceIndex
 placeInWord j w = cond (one j w) (Index.At (ones (w % 2 ^ j))) Index.NoEntry
 
@@ -118,7 +118,7 @@ isAt-place j w = go (one j w)
     go true = refl
     go false = refl
 
--- number j of the n, where it stands nowhere after them
+-- The index of number j of the n numbers, if the rest of the list does not contain it.
 inside : (j n a w c : ℕ) (xs : List ℕ) → c ≡ a + j → j < n → indexOf c xs ≡ Index.NoEntry
     → indexOf c (onesFrom a n w ++ xs) ≡ placeInWord j w
 unfolding onesFrom keep indexOf plus
@@ -144,7 +144,7 @@ inside (suc j) (suc n) a w c xs q h e =
         let o : w % 2 ≡ 0 = omega (arith, eqb-false (w % 2) 1 p) in
         ih ∙ plus-zero (placeInWord j (w / 2)) ∙ sym (later-place j w ∙ ap (λ (n : ℕ). plus n (placeInWord j (w / 2))) o)
 
--- the numbers whose bits are one in a word of each block
+-- The numbers whose bits are 1 in a word of each block.
 unfoldable pub onesOf : (Block → ℕ) → List BlockRow → List ℕ
 onesOf word [] = []
 onesOf word (r ∷ rs) = onesFrom (64 * r .key) 64 (word (r .block)) ++ onesOf word rs
@@ -157,7 +157,7 @@ module _ (word : Block → ℕ) (c : ℕ) where
       outside c 64 (64 * r .key) (word (r .block)) (onesOf word rs)
       (⊎-elim inr (λ h. ⊎-elim (λ l. absurd (n (omega arith))) inl (le-or-lt (64 * r .key) c)) (le-or-lt (64 * r .key + 64) c))
 
-  -- blocks after that of c do not have it
+  -- Blocks after the block of c do not contain c.
   not-after : (n : ℕ) (rs : List BlockRow) → ascendFrom n rs ≡ true → c / 64 < n → indexOf c (onesOf word rs) ≡ Index.NoEntry
   unfolding ascendFrom onesOf indexOf plus
   not-after n [] t h = refl
@@ -174,7 +174,7 @@ module _ (word : Block → ℕ) (c : ℕ) where
       inside (c % 64) 64 (64 * r .key) (word (r .block)) c (onesOf word rs) (omega arith) (omega arith)
       (not-after (suc (r .key)) rs t (omega arith))
 
-  -- a number is among the ones where its bit is one in the word of its block
+  -- A number is in the list exactly where its bit is 1 in the word of its block.
   pub found-in-block : (n : ℕ) (rs : List BlockRow) → ascendFrom n rs ≡ true → word noBlock ≡ 0
       → isAt (indexOf c (onesOf word rs)) ≡ one (c % 64) (word (blockIn (c / 64) rs))
   unfolding ascendFrom blockIn onesOf indexOf isAt
@@ -191,7 +191,7 @@ module _ (word : Block → ℕ) (c : ℕ) where
           ap isAt (other-block r rs (eqb-false (r .key) (c / 64) e))
           ∙ isAt-plus (length (onesFrom (64 * r .key) 64 (word (r .block)))) (indexOf c (onesOf word rs)) ∙ ih
 
--- each block's rank is the number of the entries before it, of which n stand before the first
+-- Each block's rank is the number of entries before it. The first argument is the number of entries before the first block.
 unfoldable pub rankFrom : ℕ → List BlockRow → Bool
 rankFrom n [] = true
 rankFrom n (r ∷ rs) = eqb (r .block .rank) n && rankFrom (n + length (onesFrom (64 * r .key) 64 (r .block .entries))) rs
@@ -206,7 +206,7 @@ rank-place j b = go (one j (b .entries))
     go true = refl
     go false = refl
 
--- the place of a number among the entries is its rank, and the entries of its block below it
+-- The index of a number in the list of entries is what `entryIn` gives for its block.
 pub entry-in-block : (c m n : ℕ) (rs : List BlockRow) → ascendFrom m rs ≡ true → rankFrom n rs ≡ true
     → plus n (indexOf c (onesOf (λ b. b .entries) rs)) ≡ entryIn (c % 64) (blockIn (c / 64) rs)
 unfolding ascendFrom rankFrom blockIn onesOf indexOf plus noBlock

@@ -1,4 +1,4 @@
--- The search for a block: what the arms of a `match` say of it, where it may stop, and where moved blocks are found.
+-- The search for a block in a list: from the arms of a `match`, in a list of several groups, and in a list with moved numbers.
 use mathlib.Core.Path.{_≡_, refl, sym, ap, _∙_}
 use mathlib.Core.Bool.{Bool, true, cond, _&&_}
 use mathlib.Core.List.{List, [], _∷_, _++_}
@@ -9,7 +9,7 @@ use borrow.Author.Tests.{eq-eqb, eqb-true, leb-true, ltb-true, ne-eqb}
 use Rattle.base.proofs.Tests.{both-true, same-test}
 use Rattle.unicode.specs.Blocks.{BlockRow, blockIn, moved, noBlock}
 
--- what the last arm of a `match` knows, after an arm for each block: that k is none of them
+-- The facts that the last arm of a `match` has, after one arm for each block: k is the number of none of them.
 abbrev pub NoneOf : ℕ → Type 0 → List BlockRow → Type 0
 NoneOf k known [] = known
 NoneOf k known (r ∷ rs) = NoneOf k (known × (k ≡ r .key → ⊥)) rs
@@ -21,24 +21,24 @@ none-of k known (r ∷ rs) h =
     let t = none-of k (known × (k ≡ r .key → ⊥)) rs h in
     (t .0 .0, rw (ne-eqb (r .key) k (λ e. t .0 .1 (sym e))) (t .1))
 
--- At the number of an arm the list has what it has at that number.
+-- In an arm for the number j, block k is block j.
 pub in-arm : {j k : ℕ} (rs : List BlockRow) → j ≡ k → blockIn k rs ≡ blockIn j rs
 in-arm rs e = sym (ap (λ (k : ℕ). blockIn k rs) e)
 
 pub in-no-arm : (k : ℕ) (rs : List BlockRow) → NoneOf k Unit rs → blockIn k rs ≡ noBlock
 in-no-arm k rs h = none-of k Unit rs h .1
 
--- every block of a list is before block n
+-- Every block of the list is before block n.
 unfoldable pub allBefore : ℕ → List BlockRow → Bool
 allBefore n [] = true
 allBefore n (r ∷ rs) = ltb (r .key) n && allBefore n rs
 
--- the blocks of a list ascend, from block n on
+-- The numbers of the blocks ascend, and the first is at least n.
 unfoldable pub ascendFrom : ℕ → List BlockRow → Bool
 ascendFrom n [] = true
 ascendFrom n (r ∷ rs) = leb n (r .key) && ascendFrom (suc (r .key)) rs
 
--- blocks before n do not have block k
+-- If all blocks of a list are before block n, the search for block k, n ≤ k, goes past them.
 pub search-past : (n : ℕ) (qs rs : List BlockRow) → allBefore n qs ≡ true → (k : ℕ) → n ≤ k → blockIn k (qs ++ rs) ≡ blockIn k rs
 unfolding allBefore blockIn
 search-past n [] rs t k h = refl
@@ -47,7 +47,7 @@ search-past n (q ∷ qs) rs t k h =
     let l = ltb-true (q .key) n (s .0) in
     rw (ne-eqb (q .key) k (λ e. omega arith)) (search-past n qs rs (s .1) k h)
 
--- blocks from n on do not have block k
+-- If all blocks of a list are from block n on, block k, k < n, is not in it.
 pub none-from : (n : ℕ) (rs : List BlockRow) → ascendFrom n rs ≡ true → (k : ℕ) → k < n → blockIn k rs ≡ noBlock
 unfolding ascendFrom blockIn
 none-from n [] t k h = refl
@@ -61,12 +61,12 @@ unfolding blockIn
 search-stops n [] rs t k h = none-from n rs t k h
 search-stops n (q ∷ qs) rs t k h = ap (cond (eqb (q .key) k) (q .block)) (search-stops n qs rs t k h)
 
--- between blocks before n and blocks from m on
+-- The search for block k in the middle one of three groups.
 pub search-within : (n m : ℕ) (qs rs ss : List BlockRow) → allBefore n qs ≡ true → ascendFrom m ss ≡ true → (k : ℕ) → n ≤ k → k < m
     → blockIn k (qs ++ (rs ++ ss)) ≡ blockIn k rs
 search-within n m qs rs ss t u k l h = search-past n qs (rs ++ ss) t k l ∙ search-stops m rs ss u k h
 
--- numbers from n on are the same if they are when n is taken from both
+-- Subtracting n from two numbers that are at least n does not change whether they are equal.
 eqb-less : (n a b : ℕ) → n ≤ a → n ≤ b → eqb (a - n) (b - n) ≡ eqb a b
 eqb-less n a b l h =
     same-test
@@ -75,7 +75,7 @@ eqb-less n a b l h =
     (λ e. eq-eqb a b (omega (arith, eqb-true (a - n) (b - n) e)))
     (λ e. eq-eqb (a - n) (b - n) (ap (λ (j : ℕ). j - n) (eqb-true a b e)))
 
--- where blocks from m on are moved by n, block k stands at k - n
+-- With n subtracted from each block's number, block k has the number k - n.
 pub search-moved : (n m : ℕ) (rs : List BlockRow) → n ≤ m → ascendFrom m rs ≡ true → (k : ℕ) → n ≤ k → blockIn (k - n) (moved n rs)
     ≡ blockIn k rs
 unfolding ascendFrom blockIn moved

@@ -1,5 +1,5 @@
--- The blocks hold the tables: the numbers of each word, in order, are the table's, by one computed test; so each
--- question of a character is one bit of its block.
+-- The blocks hold the tables. One computed test shows that the ones of the blocks are the numbers of the table, in order. So each
+-- predicate is one bit of the character's block.
 use mathlib.Core.Path.{_≡_, refl, ap, _∙_}
 use mathlib.Core.Bool.{true}
 use Prim.Native.Nat.{ℕ, _/_, _%_}

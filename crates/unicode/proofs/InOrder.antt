@@ -1,4 +1,4 @@
--- The one computed test of each table: it is strictly ascending, or its ranges never touch or overlap.
+-- The computed test of each table: it is strictly ascending, or its ranges never touch or overlap.
 use mathlib.Core.Path.{_≡_, refl}
 use mathlib.Core.Bool.{true}
 use Rattle.unicode.specs.Tables.{ascending, ascendingFrom, rangesApart, rangesApartFrom}

@@ -1,4 +1,4 @@
--- Laws about tables of any length, the one test of each table, and the theorems.
+-- Laws about tables of any length, the computed test of each table, and the theorems.
 pub mod Ascent
 pub mod Ranges
 pub mod Between

@@ -1,4 +1,4 @@
--- The numbers of ranges, written out: to be in one of the ranges is to be among them.
+-- The list of all numbers of some ranges: a number is in the list exactly when it lies in one of the ranges.
 use mathlib.Core.Path.{_≡_, refl, sym, _∙_}
 use mathlib.Core.Logic.{_⊎_, inl, inr, ⊎-elim}
 use mathlib.Core.Bool.{true, and-false, or-false, or-true}
@@ -10,12 +10,12 @@ use Rattle.base.specs.Ranges.{within}
 use Rattle.base.proofs.Tests.{le-or-lt}
 use Rattle.unicode.specs.Tables.{inRanges, member}
 
--- the n numbers from a on
+-- The n numbers from a on.
 unfoldable pub numbersFrom : ℕ → ℕ → List ℕ
 numbersFrom a zero = []
 numbersFrom a (suc n) = a ∷ numbersFrom (suc a) n
 
--- the numbers of ranges
+-- The numbers of the ranges.
 unfoldable pub numbersOf : List ℕ → List ℕ
 numbersOf [] = []
 numbersOf (first ∷ []) = []

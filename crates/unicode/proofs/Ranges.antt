@@ -1,4 +1,4 @@
--- Ranges that ascend and never touch. Range k has its first number at 2 k and its last at 2 k + 1.
+-- Ranges that ascend and never touch. The first number of range k has the index 2 k in the list, its last number 2 k + 1.
 use mathlib.Core.Path.{_≡_, refl, sym, ap, subst}
 use mathlib.Core.Logic.{_⊎_, inl, inr, ⊎-elim}
 use mathlib.Core.Bool.{true, false, _&&_, and-false, or-true}
@@ -12,7 +12,7 @@ use borrow.Author.Tests.{leb-true, le-leb, lt-leb}
 use Rattle.unicode.specs.Tables.{inRanges, rangesApart, rangesApartFrom}
 use Rattle.base.proofs.Tests.{both-true, le-or-lt}
 
--- the first and the last number of range k
+-- The first and the last number of range k.
 abbrev pub first : List ℕ → ℕ → ℕ
 first rs k = getD rs (2 * k) 0
 
@@ -34,7 +34,7 @@ last-zero a e rs =
     let p : 2 * zero + 1 ≡ suc zero = omega arith in
     ap (λ (i : ℕ). getD (a ∷ e ∷ rs) i 0) p
 
--- what the test says of the first range and of the others
+-- The facts that the test gives for the first range and for the others.
 record Head (low a e : ℕ) (rs : List ℕ) : Type 0 where
   from : low ≤ a
   ordered : a ≤ e
@@ -47,12 +47,12 @@ head low a e rs t =
     let q = both-true (leb a e) (rangesApartFrom (suc (suc e)) rs) (p .1) in
     record { from = leb-true low a (p .0); ordered = leb-true a e (q .0); rest = q .1 }
 
--- the numbers come in pairs
+-- The length of the list is even.
 odd : (low a : ℕ) → rangesApartFrom low (a ∷ []) ≡ true → ⊥
 unfolding rangesApartFrom
 odd low a t = let z : _≡_ {A = ℕ} 0 1 = cc in omega arith
 
--- a range starts at low or later, and ends where it starts or later
+-- A range starts at `low` or later, and its first number is at most its last.
 pub range-ordered : (low : ℕ) (rs : List ℕ) → rangesApartFrom low rs ≡ true → (k : ℕ) → k < length rs / 2
     → (low ≤ first rs k) × (first rs k ≤ last rs k)
 range-ordered low [] t k l = absurd (omega arith)
@@ -67,7 +67,7 @@ range-ordered low (a ∷ e ∷ rs) t (suc k) l =
     let f = h .from in
     omega (arith, first-suc a e rs k, last-suc a e rs k)
 
--- a range ends at least two before a later one starts
+-- Of two ranges, the earlier ends at least two numbers before the later starts.
 pub ranges-lt : (low : ℕ) (rs : List ℕ) → rangesApartFrom low rs ≡ true → (j k : ℕ) → j < k → k < length rs / 2
     → suc (last rs j) < first rs k
 ranges-lt low [] t j k h l = absurd (omega arith)
@@ -81,21 +81,21 @@ ranges-lt low (a ∷ e ∷ rs) t (suc j) (suc k) h l =
     omega (arith, first-suc a e rs k, last-suc a e rs j)
 
 module _ (rs : List ℕ) (t : rangesApart rs ≡ true) (c j k : ℕ) (h : j ≤ k) (l : k < length rs / 2) where
-  -- with a range that ends before c, the ones before it do
+  -- If a range ends before c, the ranges before it do.
   pub ends-before : last rs k < c → last rs j < c
   unfolding rangesApart
   ends-before p =
       ⊎-elim (λ (q : k ≤ j). let e : j ≡ k = omega arith in rw e p)
       (λ (q : j < k). omega (arith, ranges-lt 0 rs t j k q l, range-ordered 0 rs t k l)) (le-or-lt k j)
 
-  -- with a range that starts after c, the ones after it do
+  -- If a range starts after c, the ranges after it do.
   pub starts-after : c < first rs j → c < first rs k
   unfolding rangesApart
   starts-after p =
       ⊎-elim (λ (q : k ≤ j). let e : j ≡ k = omega arith in rw e at p)
       (λ (q : j < k). omega (arith, ranges-lt 0 rs t j k q l, range-ordered 0 rs t j (omega arith))) (le-or-lt k j)
 
--- c lies in no range
+-- A number that lies in no range.
 pub in-no-range : (c : ℕ) (rs : List ℕ) → ((k : ℕ) → k < length rs / 2 → (c < first rs k) ⊎ (last rs k < c)) → inRanges c rs ≡ false
 unfolding inRanges
 in-no-range c [] h = refl
@@ -108,7 +108,7 @@ in-no-range c (a ∷ e ∷ rs) h =
     (λ (p : last (a ∷ e ∷ rs) 0 < c). simp (lt-leb c e (omega (arith, last-zero a e rs)), rest, and-false))
     (h zero (omega arith))
 
--- c lies in range k
+-- A number that lies in range k.
 pub in-range : (c : ℕ) (rs : List ℕ) (k : ℕ) → k < length rs / 2 → first rs k ≤ c → c ≤ last rs k → inRanges c rs ≡ true
 unfolding inRanges
 in-range c [] k l p q = absurd (omega arith)

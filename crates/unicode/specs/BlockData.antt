@@ -1,17 +1,18 @@
--- The emoji and the variation entries of Unicode 15.0 as words, made by tools/unicode_tables.py: of
--- each block of 64 code points that has any, its number, the word of its emoji, the word of its variation
--- entries, and the number of entries before it.
+-- Contracts of helper functions (src/blocks.rt); no public contract rests on this file.
+-- The emoji and the variation entries of Unicode 15.0 as bit sets. For each block of 64 code points that has any,
+-- a row has the block's number, the bits of its emoji, the bits of its variation entries, and the number of entries before
+-- the block. tools/unicode_tables.py makes this file.
 use mathlib.Core.List.{List, [], _∷_, _++_}
 use Prim.Native.Nat.{ℕ, _-_}
 use Rattle.unicode.specs.Blocks.{BlockRow, moved, row}
 
--- the blocks before the symbols: 2
+-- The 2 blocks before the symbols.
 unfoldable pub lowBlocks : List BlockRow
 lowBlocks =
     row 0x0 0x03FF040800000000 0x03FF040800000000 0 ∷
     row 0x2 0x0000420000000000 0x0000420000000000 12 ∷ []
 
--- the blocks of the symbols, 2000 to 27BF: 16
+-- The 16 blocks of the symbols, 2000 to 27BF.
 unfoldable pub symbolBlocks : List BlockRow
 symbolBlocks =
     row 0x80 0x1000000000000000 0x1000000000000000 14 ∷
@@ -31,7 +32,7 @@ symbolBlocks =
     row 0x9D 0x0000001800B85090 0x0000001800880090 145 ∷
     row 0x9E 0x8001000200E00000 0x0000000200000000 151 ∷ []
 
--- the blocks between the symbols and the pictographs: 5
+-- The 5 blocks between the symbols and the pictographs.
 unfoldable pub middleBlocks : List BlockRow
 middleBlocks =
     row 0xA4 0x0030000000000000 0x0030000000000000 152 ∷
@@ -40,7 +41,7 @@ middleBlocks =
     row 0xC0 0x2001000000000000 0x2001000000000000 161 ∷
     row 0xCA 0x0000000002800000 0x0000000002800000 163 ∷ []
 
--- the blocks of the pictographs, from 1F000 on: 31
+-- The 31 blocks of the pictographs, from 1F000 on.
 unfoldable pub pictographBlocks : List BlockRow
 pictographBlocks =
     row 0x7C0 0x0000000000000010 0x0000000000000010 165 ∷
@@ -75,11 +76,11 @@ pictographBlocks =
     row 0x7EA 0xBFFFFFFFFFFF01FF 0x0000000000000000 354 ∷
     row 0x7EB 0x01FF01FF0FFFC03F 0x0000000000000000 354 ∷ []
 
--- all blocks
+-- All blocks.
 unfoldable pub blocks : List BlockRow
 blocks = lowBlocks ++ (symbolBlocks ++ (middleBlocks ++ pictographBlocks))
 
--- the first block of each group but the low one
+-- The first block of each group after the low one.
 abbrev pub symbolFirst : ℕ
 symbolFirst = 0x80
 
@@ -89,7 +90,7 @@ middleFirst = 0x9F
 abbrev pub pictographFirst : ℕ
 pictographFirst = 0x7C0
 
--- the symbols, and after their places the pictographs, as one `match` has them
+-- The blocks that one `match` of the code holds: the symbols, and after them the pictographs. Each has the number of its arm.
 abbrev pub symbolPlaces : ℕ
 symbolPlaces = middleFirst - symbolFirst
 

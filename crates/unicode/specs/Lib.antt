@@ -1,4 +1,5 @@
--- What a character is: the tables of Unicode's data files, and the questions that the formatter asks of them.
+-- The properties of a character: the tables of Unicode's data files, and the predicates over them. Blocks and BlockData state contracts
+-- of helper functions only.
 pub mod UnicodeData
 pub mod Tables
 pub mod Blocks

@@ -7,15 +7,15 @@ use Rattle.unicode.specs.declared.presentation.FromSelector.the-variants
 use Rattle.unicode.specs.declared.presentation.Presentation.{Presentation}
 use Rattle.unicode.specs.declared.presentation.Presentation.the-variants.{Emoji, Text}
 
--- the selector that asks for a presentation
+-- The selector that requests a presentation.
 unfoldable pub asSelector : Presentation → ℕ
 asSelector Text = 0xFE0E
 asSelector Emoji = 0xFE0F
 
--- the presentation that a character asks for as a selector
+-- The presentation that a character requests, if it is a selector.
 unfoldable pub fromSelector : ℕ → FromSelector
 fromSelector c = cond (eqb c 0xFE0E) (Selector Text) (cond (eqb c 0xFE0F) (Selector Emoji) NoSelector)
 
--- a character is a selector
+-- The character is a selector.
 unfoldable pub isSelector : ℕ → Bool
 isSelector c = eqb c 0xFE0E || eqb c 0xFE0F

@@ -4,7 +4,7 @@ use Rattle.base.specs.Refusals.{RefusalRow}
 use Rattle.unicode.specs.declared.VariationEntry.{VariationEntry}
 use Rattle.unicode.specs.declared.VariationEntry.the-variants.{Char, NoEntry}
 
--- The code point, or no such entry.
+-- The row of a lookup: the code point as a value, or the number 255.
 unfoldable pub entryRow : VariationEntry → RefusalRow
 entryRow (Char c) = done c
 entryRow NoEntry = nothing

@@ -1,5 +1,5 @@
--- What document 01, "Character", says of the tables, each sentence a statement about every number, and what the
--- tests of their order mean, for tables of any length. The proofs are in proofs/Claims.antt.
+-- The sentences of document 01, "Character", about the tables, each as a statement about every number; and the meaning of the two tests
+-- of order, for tables of any length. The proofs are in proofs/Claims.antt.
 use mathlib.Core.Path.{_≡_}
 use mathlib.Core.Logic.{_↔_}
 use mathlib.Core.Bool.{true, false}
@@ -40,13 +40,13 @@ TablesInOrder =
     × (rangesApart riRanges ≡ true)
     × (ascending variationEntries ≡ true)
 
--- What the first test means: of any two places of the table, the earlier holds the smaller number.
+-- The meaning of `ascending`: of two numbers of the table, the earlier is the smaller.
 unfoldable pub AscendingMeans : Type 0
 AscendingMeans =
     (t : List ℕ) → ascending t ≡ true → (j k : ℕ) → j < k → k < length t → getD t j 0 < getD t k 0
 
--- What the second test means: a range runs up, and of any two ranges the earlier ends two or more before the
--- later starts.
+-- The meaning of `rangesApart`: a range's first number is at most its last, and of two ranges, the earlier ends at least two numbers
+-- before the later starts.
 unfoldable pub RangesApartMeans : Type 0
 RangesApartMeans =
     (t : List ℕ) → rangesApart t ≡ true
@@ -77,18 +77,19 @@ NoRegionalIndicatorIsEntry = (c : ℕ) → isRi c ≡ true → hasVariationSeque
 unfoldable pub NoModifierIsEntry : Type 0
 NoModifierIsEntry = (c : ℕ) → isEmojiModifier c ≡ true → hasVariationSequence c ≡ false
 
--- Not in document 01, and true of these tables: every variation entry is emoji.
+-- Every variation entry is emoji. Document 01 does not say so; the tables of this Unicode version do.
 unfoldable pub VariationEntriesAreEmoji : Type 0
 VariationEntriesAreEmoji = (c : ℕ) → hasVariationSequence c ≡ true → isEmoji c ≡ true
 
--- A character's index is the one place that holds it, and only a character without an entry has none.
+-- The index of a character is the only index whose entry is the character. A character has no index exactly when it is no variation
+-- entry.
 unfoldable pub IndexIsPlace : Type 0
 IndexIsPlace = (c i : ℕ) → (variationSequenceIndex c ≡ Index.At i) ↔ (variationEntry i ≡ Entry.Char c)
 
 unfoldable pub NoIndexNoEntry : Type 0
 NoIndexNoEntry = (c : ℕ) → (variationSequenceIndex c ≡ Index.NoEntry) ↔ (hasVariationSequence c ≡ false)
 
--- A selector and the presentation that it asks for give each other back; every other character asks for none.
+-- `asSelector` and `fromSelector` are inverse: each presentation has one selector, and no other character requests it.
 unfoldable pub SelectorsArePresentations : Type 0
 SelectorsArePresentations =
     ((p : Presentation) → fromSelector (asSelector p) ≡ Selector p)

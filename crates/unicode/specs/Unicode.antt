@@ -1,4 +1,4 @@
--- The questions of unicode.rs, for every number: document 01, "Character".
+-- The predicates of unicode.rs, for every number: document 01, "Character".
 use mathlib.Core.Bool.{Bool, _&&_, not}
 use Prim.Native.Nat.{ℕ}
 use Rattle.base.specs.Ranges.{within}
@@ -18,7 +18,7 @@ use Rattle.unicode.specs.declared.VariationSequenceIndex.{VariationSeque
 unfoldable pub isTag : ℕ → Bool
 isTag c = within 0xE0020 0xE007F c
 
--- the properties Emoji, Emoji_Presentation, Emoji_Modifier and Emoji_Modifier_Base of emoji-data.txt
+-- The properties Emoji, Emoji_Presentation, Emoji_Modifier and Emoji_Modifier_Base of emoji-data.txt.
 unfoldable pub isEmoji : ℕ → Bool
 isEmoji c = inRanges c emojiRanges
 
@@ -31,11 +31,11 @@ isEmojiModifier c = member c emojiModifiers
 unfoldable pub isEmojiModifierBase : ℕ → Bool
 isEmojiModifierBase c = member c emojiModifierBases
 
--- a regional indicator
+-- The character is a regional indicator.
 unfoldable pub isRi : ℕ → Bool
 isRi c = inRanges c riRanges
 
--- a variation entry
+-- The character is a variation entry.
 unfoldable pub hasVariationSequence : ℕ → Bool
 hasVariationSequence c = member c variationEntries
 
@@ -43,11 +43,11 @@ hasVariationSequence c = member c variationEntries
 unfoldable pub isEmojiDefault : ℕ → Bool
 isEmojiDefault c = hasVariationSequence c && isEmojiPresentation c
 
--- the other variation entries
+-- The variation entries that are not emoji-default.
 unfoldable pub isTextDefault : ℕ → Bool
 isTextDefault c = hasVariationSequence c && not (isEmojiPresentation c)
 
--- the place of a character among the variation entries, and the entry at a place: "entry i"
+-- The index of a character in the list of the variation entries, and the entry at an index: "entry i".
 unfoldable pub variationSequenceIndex : ℕ → VariationSequenceIndex
 variationSequenceIndex c = indexOf c variationEntries
 

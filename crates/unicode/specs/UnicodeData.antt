@@ -1,5 +1,5 @@
--- The tables of Unicode 15.0 as lists, made by tools/unicode_tables.py from emoji-data.txt and
--- emoji-variation-sequences.txt: the numbers that document 01, "Character", takes from these files.
+-- The tables of Unicode 15.0 as lists: the numbers that document 01, "Character", takes from emoji-data.txt and
+-- emoji-variation-sequences.txt. tools/unicode_tables.py makes this file from the two data files.
 use mathlib.Core.List.{List, [], _∷_}
 use Prim.Native.Nat.{ℕ}
 

@@ -1,6 +1,6 @@
-// The emoji and the variation entries of Unicode 15.0 as words, a block of 64 code points to an arm,
-// made by tools/unicode_tables.py. A `match` becomes a table in read-only memory, while a read of a constant
-// array copies the array. Each function equals the search in the list of the same blocks, in specs/BlockData.antt.
+// The emoji and the variation entries of Unicode 15.0 as bit sets: one `match` arm for each block of 64 code
+// points. A `match` is compiled to a table in read-only memory, while reading a constant array copies the array. Each
+// function equals the search in a list of specs/BlockData.antt. tools/unicode_tables.py makes this file.
 ghost use mathlib.Core.Path.{_≡_};
 ghost use Rattle.unicode.specs.Blocks.{blockIn};
 ghost use Rattle.unicode.specs.BlockData.{
@@ -10,15 +10,15 @@ ghost use Rattle.unicode.specs.BlockData.{
   middleBlocks,
 };
 
-// Bit j of `emoji` says that character j of the block is emoji, bit j of `entries` that it is a variation
-// entry; `rank` entries stand before the block.
+// Bit j of `emoji` is 1 if character j of the block is emoji. Bit j of `entries` is 1 if character j is a variation
+// entry. `rank` is the number of variation entries before the block.
 pub(crate) struct Block {
     pub(crate) emoji: u64,
     pub(crate) entries: u64,
     pub(crate) rank: u32,
 }
 
-// The blocks before the symbols: 2.
+// Returns one of the 2 blocks before the symbols.
 fn low_block(k: u32) -> Block
     ensures { λ r. ⌜ r ≡ blockIn k lowBlocks ⌝ }
 {
@@ -41,7 +41,7 @@ fn low_block(k: u32) -> Block
     }
 }
 
-// The blocks between the symbols and the pictographs: 5.
+// Returns one of the 5 blocks between the symbols and the pictographs.
 fn middle_block(k: u32) -> Block
     ensures { λ r. ⌜ r ≡ blockIn k middleBlocks ⌝ }
 {
@@ -79,7 +79,7 @@ fn middle_block(k: u32) -> Block
     }
 }
 
-// The blocks of the symbols, block k at k - 0x80, and of the pictographs, block k at k - 0x7A1: 47.
+// Returns one of the 47 blocks of the symbols, block k at k - 0x80, and of the pictographs, block k at k - 0x7A1.
 fn dense_block(i: u32) -> Block
     ensures { λ r. ⌜ r ≡ blockIn i denseBlocks ⌝ }
 {
@@ -327,7 +327,7 @@ fn dense_block(i: u32) -> Block
     }
 }
 
-// The block k. The last `if` only chooses what is taken from k, so that the compiler makes no branch of it.
+// Returns block k. The last `if` only chooses the number to subtract, so that the compiler makes no branch of it.
 pub(crate) fn block_of(k: u32) -> Block
     ensures { λ r. ⌜ r ≡ blockIn k blocks ⌝ }
 {

@@ -1,9 +1,10 @@
-// What a character is to the formatter: unicode.rs of the crate evfmt; document 01, "Character".
-// Each function answers for every number, and equals membership in the lists of specs/UnicodeData.antt.
-// A predicate over a table lends the constant to the one search of its kind. The search asks that its table is in order:
-// one computed test of the whole table (proofs/InOrder.antt), which the proof of each caller cites.
-// Questions that every character of a text is asked also have a fast form, with the same contract: by the words of the
-// character's block of 64 code points (blocks.rt), or by the first and the last number of the table.
+// The properties of a character: unicode.rs of the crate evfmt; document 01, "Character". Each function is defined for
+// every number and equals membership in a list of specs/UnicodeData.antt.
+// A predicate over a table passes the constant table to `in_char_table` or `in_ranges`. These require that the table is
+// in order. One computed test for each table shows it (proofs/InOrder.antt).
+// The scanner tests every character of a text. For these tests there are fast forms with the same contracts. They look
+// up the bits of the character's block of 64 code points (blocks.rt), or compare with the first and the last number of
+// the table.
 mod blocks;
 pub mod presentation;
 pub mod unicode_data;
@@ -45,10 +46,10 @@ pub const EMOJI_PRESENTATION_SELECTOR: u32 = 0xFE0F;
 
 pub const COMBINING_ENCLOSING_KEYCAP: u32 = 0x20E3;
 
-// The zero-width joiner: document 01's link.
+// The zero-width joiner. Document 01 calls it the link.
 pub const ZWJ: u32 = 0x200D;
 
-// Where a character stands among the variation entries.
+// The index of a character in the list of the variation entries.
 pub enum VariationSequenceIndex {
     At(usize),
     NoEntry,
@@ -60,13 +61,13 @@ pub enum VariationEntry {
     NoEntry,
 }
 
-// What its block tells of a character: whether it is emoji, and where it stands among the variation entries.
+// The data that a block has for a character: whether it is emoji, and its index in the list of the variation entries.
 pub struct EmojiData {
     pub is_emoji: bool,
     pub index: VariationSequenceIndex,
 }
 
-// The place of a number in an ascending table.
+// Returns the index of a number in an ascending table.
 fn binary_search(table: &[u32], ch: u32) -> VariationSequenceIndex
     requires { ⌜ ascending (now table) ≡ true ⌝ }
     ensures { λ r. ⌜ r ≡ indexOf ch (now (table .entry)) ⌝ }
@@ -88,7 +89,7 @@ fn binary_search(table: &[u32], ch: u32) -> VariationSequenceIndex
     VariationSequenceIndex::NoEntry
 }
 
-// Whether an ascending table has a number.
+// Tests whether an ascending table contains a number.
 fn in_char_table(table: &[u32], ch: u32) -> bool
     requires { ⌜ ascending (now table) ≡ true ⌝ }
     ensures { λ r. ⌜ r ≡ member ch (now (table .entry)) ⌝ }
@@ -99,7 +100,7 @@ fn in_char_table(table: &[u32], ch: u32) -> bool
     }
 }
 
-// Whether a number lies in one of the ranges of a table.
+// Tests whether a number lies in one of the ranges of a table.
 fn in_ranges(ranges: &[u32], ch: u32) -> bool
     requires { ⌜ rangesApart (now ranges) ≡ true ⌝ }
     ensures { λ r. ⌜ r ≡ inRanges ch (now (ranges .entry)) ⌝ }
@@ -121,7 +122,7 @@ fn in_ranges(ranges: &[u32], ch: u32) -> bool
     false
 }
 
-// Whether a number is one from first to last.
+// Tests whether a number is at least `first` and at most `last`.
 fn is_within(first: u32, last: u32, ch: u32) -> bool
     ensures { λ r. ⌜ r ≡ within first last ch ⌝ }
 {
@@ -131,14 +132,14 @@ fn is_within(first: u32, last: u32, ch: u32) -> bool
     ch <= last
 }
 
-// The number of ones of a word below bit i mod 64.
+// Counts the ones of a word below bit i mod 64.
 fn ones_below(w: u64, i: u32) -> u32
     ensures { λ r. ⌜ (r ≡ ones (w % 2 ^ (i % 64))) × (r ≤ 64) ⌝ }
 {
     u64::count_ones(w % (1u64 << (i % 64)))
 }
 
-// The place among the variation entries of a character in a block.
+// Returns the index of a character in the list of the variation entries, from the character's block.
 fn entry_in(block: Block, ch: u32) -> VariationSequenceIndex
     ensures { λ r. ⌜ r ≡ entryIn (ch % 64) block ⌝ }
 {
@@ -150,14 +151,14 @@ fn entry_in(block: Block, ch: u32) -> VariationSequenceIndex
     }
 }
 
-// Whether a character is a tag, from E0020 to E007F.
+// Tests whether a character is a tag, from E0020 to E007F.
 pub fn is_tag(ch: u32) -> bool
     ensures { λ r. ⌜ r ≡ isTag ch ⌝ }
 {
     is_within(0xE0020, 0xE007F, ch)
 }
 
-// The variation entry at an index.
+// Returns the variation entry at an index.
 pub fn variation_entry(index: usize) -> VariationEntry
     ensures { λ r. ⌜ r ≡ variationEntry index ⌝ }
 {
@@ -168,28 +169,28 @@ pub fn variation_entry(index: usize) -> VariationEntry
     }
 }
 
-// Where a character stands among the variation entries.
+// Returns the index of a character in the list of the variation entries.
 pub fn variation_sequence_index(ch: u32) -> VariationSequenceIndex
     ensures { λ r. ⌜ r ≡ variationSequenceIndex ch ⌝ }
 {
     binary_search(&VARIATION_ENTRIES, ch)
 }
 
-// Whether a character is a variation entry.
+// Tests whether a character is a variation entry.
 pub fn has_variation_sequence(ch: u32) -> bool
     ensures { λ r. ⌜ r ≡ hasVariationSequence ch ⌝ }
 {
     in_char_table(&VARIATION_ENTRIES, ch)
 }
 
-// Whether a character has the property Emoji_Presentation.
+// Tests whether a character has the property Emoji_Presentation.
 pub fn is_emoji_presentation(ch: u32) -> bool
     ensures { λ r. ⌜ r ≡ isEmojiPresentation ch ⌝ }
 {
     in_ranges(&EMOJI_PRESENTATION_RANGES, ch)
 }
 
-// Whether a character is a variation entry that defaults to text presentation.
+// Tests whether a character is a variation entry that defaults to text presentation.
 pub fn is_text_default(ch: u32) -> bool
     ensures { λ r. ⌜ r ≡ isTextDefault ch ⌝ }
 {
@@ -199,7 +200,7 @@ pub fn is_text_default(ch: u32) -> bool
     false
 }
 
-// Whether a character is a variation entry that defaults to emoji presentation.
+// Tests whether a character is a variation entry that defaults to emoji presentation.
 pub fn is_emoji_default(ch: u32) -> bool
     ensures { λ r. ⌜ r ≡ isEmojiDefault ch ⌝ }
 {
@@ -209,35 +210,35 @@ pub fn is_emoji_default(ch: u32) -> bool
     false
 }
 
-// Whether a character has the property Emoji_Modifier.
+// Tests whether a character has the property Emoji_Modifier.
 pub fn is_emoji_modifier(ch: u32) -> bool
     ensures { λ r. ⌜ r ≡ isEmojiModifier ch ⌝ }
 {
     in_char_table(&EMOJI_MODIFIERS, ch)
 }
 
-// Whether a character has the property Emoji_Modifier_Base.
+// Tests whether a character has the property Emoji_Modifier_Base.
 pub fn is_emoji_modifier_base(ch: u32) -> bool
     ensures { λ r. ⌜ r ≡ isEmojiModifierBase ch ⌝ }
 {
     in_char_table(&EMOJI_MODIFIER_BASES, ch)
 }
 
-// Whether a character has the property Emoji.
+// Tests whether a character has the property Emoji.
 pub fn is_emoji(ch: u32) -> bool
     ensures { λ r. ⌜ r ≡ isEmoji ch ⌝ }
 {
     in_ranges(&EMOJI_RANGES, ch)
 }
 
-// Whether a character is a regional indicator.
+// Tests whether a character is a regional indicator.
 pub fn is_ri(ch: u32) -> bool
     ensures { λ r. ⌜ r ≡ isRi ch ⌝ }
 {
     in_ranges(&RI_RANGES, ch)
 }
 
-// The fast form of `is_emoji` and `variation_sequence_index`, by the character's block.
+// The fast form of `is_emoji` and `variation_sequence_index`: one lookup of the character's block.
 pub fn emoji_data(ch: u32) -> EmojiData
     ensures emoji { λ r. ⌜ r .«is_emoji» ≡ isEmoji ch ⌝ }
     ensures index { λ r. ⌜ r .index ≡ variationSequenceIndex ch ⌝ }
@@ -248,14 +249,14 @@ pub fn emoji_data(ch: u32) -> EmojiData
     EmojiData { is_emoji, index }
 }
 
-// The fast form of `variation_sequence_index`, by the character's block.
+// The fast form of `variation_sequence_index`: a lookup of the character's block.
 pub fn variation_sequence_index_by_block(ch: u32) -> VariationSequenceIndex
     ensures { λ r. ⌜ r ≡ variationSequenceIndex ch ⌝ }
 {
     entry_in(blocks::block_of(ch / 64), ch)
 }
 
-// The fast form of `has_variation_sequence`, by the character's block.
+// The fast form of `has_variation_sequence`: a lookup of the character's block.
 pub fn has_variation_sequence_by_block(ch: u32) -> bool
     ensures { λ r. ⌜ r ≡ hasVariationSequence ch ⌝ }
 {
@@ -263,7 +264,7 @@ pub fn has_variation_sequence_by_block(ch: u32) -> bool
     base::has_bit(block.entries, ch as usize)
 }
 
-// The fast form of `is_emoji_default`: the entry by the character's block.
+// The fast form of `is_emoji_default`: a lookup of the character's block, and a search for entries only.
 pub fn is_emoji_default_by_block(ch: u32) -> bool
     ensures { λ r. ⌜ r ≡ isEmojiDefault ch ⌝ }
 {
@@ -273,14 +274,14 @@ pub fn is_emoji_default_by_block(ch: u32) -> bool
     false
 }
 
-// The fast form of `is_emoji_modifier`, by the first and the last modifier.
+// The fast form of `is_emoji_modifier`: a comparison with the first and the last modifier.
 pub fn is_emoji_modifier_by_ends(ch: u32) -> bool
     ensures { λ r. ⌜ r ≡ isEmojiModifier ch ⌝ }
 {
     is_within(EMOJI_MODIFIERS[0], EMOJI_MODIFIERS[4], ch)
 }
 
-// The fast form of `is_ri`, by the first and the last regional indicator.
+// The fast form of `is_ri`: a comparison with the first and the last regional indicator.
 pub fn is_ri_by_ends(ch: u32) -> bool
     ensures { λ r. ⌜ r ≡ isRi ch ⌝ }
 {

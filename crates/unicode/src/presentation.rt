@@ -1,6 +1,8 @@
-// The presentation that a selector asks for: presentation.rs of the crate evfmt; document 01, "Character":
-// FE0E is Text, FE0F is Emoji.
+// The presentation that a selector requests: presentation.rs of the crate evfmt; document 01, "Character": FE0E is
+// Text, FE0F is Emoji.
 ghost use mathlib.Core.Path.{_≡_};
+ghost use mathlib.Core.Logic.{_↔_};
+ghost use mathlib.Core.Bool.{true};
 ghost use Rattle.unicode.specs.Presentation.{asSelector, fromSelector};
 use crate::EMOJI_PRESENTATION_SELECTOR;
 use crate::TEXT_PRESENTATION_SELECTOR;
@@ -10,14 +12,14 @@ pub enum Presentation {
     Emoji,
 }
 
-// What a character asks for as a selector.
+// The presentation that a character requests, if it is a selector.
 pub enum FromSelector {
     Selector(Presentation),
     NoSelector,
 }
 
 impl Presentation {
-    // The selector that asks for this presentation.
+    // Returns the selector that requests this presentation.
     pub fn as_selector(self) -> u32
         ensures { λ r. ⌜ r ≡ asSelector self ⌝ }
     {
@@ -27,7 +29,7 @@ impl Presentation {
         }
     }
 
-    // The presentation that a selector asks for.
+    // Returns the presentation that a character requests, if it is a selector.
     pub fn from_selector(ch: u32) -> FromSelector
         ensures { λ r. ⌜ r ≡ fromSelector ch ⌝ }
     {
@@ -38,5 +40,12 @@ impl Presentation {
             return FromSelector::Selector(Presentation::Emoji);
         }
         FromSelector::NoSelector
+    }
+
+    // Whether two presentations are equal.
+    pub fn eq(self, rhs: Self) -> bool
+        ensures { λ r. ⌜ (r ≡ true) ↔ (self ≡ rhs) ⌝ }
+    {
+        Presentation::as_selector(self) == Presentation::as_selector(rhs)
     }
 }

@@ -1,5 +1,5 @@
-// The tables of Unicode 15.0, made by tools/unicode_tables.py from emoji-data.txt and
-// emoji-variation-sequences.txt. The crate evfmt has them in a file of this name, made when it is built.
+// The tables of Unicode 15.0. tools/unicode_tables.py makes this file from emoji-data.txt and
+// emoji-variation-sequences.txt. The crate evfmt makes a file of the same name when it is built.
 pub const UNICODE_VERSION_MAJOR: u32 = 15;
 
 pub const UNICODE_VERSION_MINOR: u32 = 0;

@@ -1,4 +1,4 @@
--- What `writeChar` and `afterWriteChar` are in each of the three cases.
+-- `writeChar` and `afterWriteChar` in each of the three cases of the answer.
 use mathlib.Core.Path.{_≡_, refl, sym}
 use mathlib.Core.Bool.{true, false}
 use mathlib.Core.List.{List}
@@ -31,7 +31,7 @@ module _ (v : ℕ) (o : List ℕ) (at : ℕ) where
       let l = le-leb (at + length (encode v)) (length o) h in
       (answers (simp (e, l, p)), simp (e, l))
 
--- What a caller that knows of the room goes by.
+-- The buffer after the call where the encoding fits.
 pub afterWriteChar-sets : (v : ℕ) (o : List ℕ) (at : ℕ) → isScalar v ≡ true → at + length (encode v) ≤ length o → afterWriteChar v o at
     ≡ sets o at (encode v)
 afterWriteChar-sets v o at e h = sym (written v o at (length (encode v)) refl e h .1)

@@ -1,4 +1,4 @@
--- Runs of ASCII: how a run goes on, where the longest ends, and each byte of a run is a character of its own.
+-- Runs of ASCII bytes: a run can be extended, a run that cannot be extended is the longest, and each byte of a run is a character.
 use mathlib.Core.Path.{_≡_, refl, sym, ap, _∙_, subst}
 use mathlib.Core.Logic.{⊎-elim}
 use mathlib.Core.Bool.{Bool, true, false, cond, true≢false}
@@ -14,7 +14,7 @@ use Rattle.base.proofs.Tests.{le-or-lt, within-in, within-true}
 use Rattle.utf8.proofs.Fronts.{readFour-1, readFour-at}
 use Rattle.utf8.proofs.Places.{Step, step}
 
--- ---- a run and how it goes on
+-- ---- a run and its extensions
 
 pub run-none : (s : List ℕ) (from : ℕ) → AsciiRun s from from
 run-none s from = record { from-le = omega arith; inside = λ h. h; after = λ h. refl; ascii = λ k l h. absurd (omega arith) }
@@ -46,7 +46,7 @@ ascii-up-to a h = within-in 0x00 0x7F a h .high
 ascii-above : (a : ℕ) → utf8-1 a ≡ false → 0x7F < a
 ascii-above a h = ⊎-elim (λ l. absurd (true≢false (sym (ascii-1 a l) ∙ h))) (λ l. l) (le-or-lt a 0x7F)
 
--- The ASCII bytes in front: they are bytes of s, they are ASCII, and the byte past them is not.
+-- The first n bytes of s are ASCII, and the byte after them, if there is one, is not.
 record Front (s : List ℕ) (n : ℕ) : Type 0 where
   room : n ≤ length s
   ascii : (k : ℕ) → k < n → getD s k 0 ≤ 0x7F
@@ -65,7 +65,7 @@ front (b ∷ s) = go (utf8-1 b) refl (front s)
         each zero h = ascii-up-to b e
         each (suc k) h = f .ascii k (omega arith)
 
--- From a place on.
+-- The run up to `asciiEnd`, from any offset.
 run-longest : (s : List ℕ) (from : ℕ) → AsciiRun s from (asciiEnd s from)
 unfolding asciiEnd
 run-longest s from =
@@ -90,7 +90,7 @@ pub longest-at : {s : List ℕ} {from end : ℕ} → end ≡ asciiEnd s from →
 longest-at {s} {from} e =
     subst (λ (n : ℕ). AsciiRun s from n × NoAsciiAt s n) (sym e) (run-longest s from, longest-ends s from)
 
--- A run that cannot go on is the longest: neither of the two ends lies in the other's run.
+-- A run that cannot be extended is the longest: neither of the two ends lies inside the other run.
 pub at-longest : {s : List ℕ} {from end : ℕ} → AsciiRun s from end → NoAsciiAt s end → end ≡ asciiEnd s from
 at-longest {s} {from} {end} r stop = ⊎-elim within-bytes past (le-or-lt from (length s))
   where
@@ -117,7 +117,7 @@ readChar-ascii-at s at l h =
     sym (readFour-at s at l)
     ∙ readFour-1 (getD s at 0) (getD s (at + 1) 0) (getD s (at + 2) 0) (getD s (at + 3) 0) (ascii-1 (getD s at 0) h)
 
--- What goes on from each byte of a run to the next goes on from its first place to its end.
+-- A property that passes from each byte of a run to the next holds at the end of the run if it holds at the start.
 module _ {s : List ℕ} {from end : ℕ} (run : AsciiRun s from end) (h : from ≤ length s)
     (P : ℕ → Type 0) (on : (k : ℕ) → Step s k (getD s k 0) 1 → P k → P (k + 1)) (begin : P from) where
   up-to : (n : ℕ) → from + n ≤ end → P (from + n)
@@ -132,7 +132,7 @@ module _ {s : List ℕ} {from end : ℕ} (run : AsciiRun s from end) (h : from �
   through-run = let e : from + (end - from)
       ≡ end = omega (arith, run .from-le) in subst P e (up-to (end - from) (omega (arith, run .from-le)))
 
--- The longest well-formed beginning goes on through a run.
+-- The longest well-formed prefix contains a run of ASCII bytes that starts in it.
 pub validUpTo-past : {s : List ℕ} {from end total : ℕ} → AsciiRun s from end → from ≤ length s
     → from + validUpTo (drop from s) ≡ total → end + validUpTo (drop end s) ≡ total
 validUpTo-past {s} {from} {end} {total} run h e =

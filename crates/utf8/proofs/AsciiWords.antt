@@ -1,5 +1,5 @@
--- ASCII in a word of eight bytes: a byte is ASCII where its highest bit is zero, and the zeros below the lowest one of
--- these bits tell how many such bytes stand in front, and that the byte past them is none.
+-- ASCII bytes in a word of eight bytes. A byte is ASCII where its highest bit is 0. So the lowest 1 among these highest bits gives the
+-- number of ASCII bytes before the first other byte.
 use mathlib.Core.Path.{_≡_, sym, ap, ap₂, _∙_, subst}
 use mathlib.Core.Logic.{⊎-elim}
 use mathlib.Core.Bool.{true, false, true≢false}
@@ -19,7 +19,7 @@ use Rattle.base.proofs.ByteBits.{bit-of-bytes}
 use Rattle.base.proofs.Tests.{le-or-lt}
 use Rattle.utf8.specs.Ascii.{AllUpTo}
 
--- the highest bit of each of n bytes
+-- The word that has a 1 at the highest bit of each of its n bytes.
 highBits : ℕ → ℕ
 highBits zero = 0
 highBits (suc n) = 0x80 + 256 * highBits n
@@ -34,7 +34,7 @@ high-bit (suc n) (suc i) h =
     let rest : w / 2 ^ 8 ≡ highBits n = omega arith in
     ap (λ (x : ℕ). one x w) place ∙ shifted-bit 8 (i * 8 + 7) w ∙ ap (one (i * 8 + 7)) rest ∙ high-bit n i (omega arith)
 
--- .. and no other bit
+-- `highBits` has a 0 at every other bit.
 high-zero : (n i : ℕ) → i % 8 < 7 → one i (highBits n) ≡ false
 unfolding highBits trailingZeros
 high-zero zero i h = zero-one i
@@ -62,7 +62,7 @@ other-byte : (b : ℕ) → one 7 b ≡ true → 0x7F < b
 unfolding one
 other-byte b e = omega (arith, eqb-true (b / 2 ^ 7 % 2) 1 e)
 
--- the highest bits of a word's bytes
+-- The highest bits of the bytes of a word.
 abbrev pub high : ℕ → ℕ
 high w = bitAnd w 0x8080808080808080
 
@@ -77,7 +77,7 @@ module _ (s : List ℕ) (at : ℕ) {w : ℕ} (e : w ≡ number (take 8 (drop at 
       ∙ sym (bit-of-bytes 8 (i * 8 + 7) (drop at s) bytes (omega arith)) ∙ ap (one (i * 8 + 7)) (sym e)
       ∙ sym (and-bit (i * 8 + 7) w 0x8080808080808080 (high-bit 8 i h))
 
-  -- after the first p of the word's bytes stand n ASCII bytes
+  -- After the first p bytes of the word, n bytes are ASCII.
   pub low-bytes : (p n : ℕ) → p + n ≤ 8 → n ≤ trailingZeros 64 (high w / 2 ^ (8 * p)) / 8
       → AllUpTo 0x7F s (at + p) n
   low-bytes p n h t = record {
@@ -93,13 +93,13 @@ module _ (s : List ℕ) (at : ℕ) {w : ℕ} (e : w ≡ number (take 8 (drop at 
         omega (arith, same, ascii-byte (getD (drop at s) i 0) (omega (arith, same, f k)) clear);
   }
 
-  -- .. and where none has been passed
+  -- The same for p = 0.
   pub front-bytes : (n : ℕ) → n ≤ trailingZeros 64 (high w) / 8 → AllUpTo 0x7F s at n
   front-bytes n h =
       subst (λ (k : ℕ). AllUpTo 0x7F s k n) (add-zero at)
       (low-bytes 0 n (omega (arith, trailing-le 64 (high w))) (omega (arith, ap (trailingZeros 64) (div-one (high w)))))
 
-  -- the byte past these is not ASCII, if it is one of the word's
+  -- The byte after these is not ASCII, if it belongs to the word.
   pub next-byte : (p : ℕ) → p + trailingZeros 64 (high w / 2 ^ (8 * p)) / 8 < 8
       → 0x7F < getD s (at + p + trailingZeros 64 (high w / 2 ^ (8 * p)) / 8) 0
   unfolding highBits
@@ -117,7 +117,7 @@ module _ (s : List ℕ) (at : ℕ) {w : ℕ} (e : w ≡ number (take 8 (drop at 
       let same = getD-drop at s i 0 ∙ ap (λ (x : ℕ). getD s x 0) here in
       omega (arith, same, other-byte (getD (drop at s) i 0) (byte-bit i h ∙ ap (λ (x : ℕ). one x (high w)) place ∙ set))
 
-  -- .. and where none has been passed
+  -- The same for p = 0.
   pub front-next : (high w ≡ 0 → ⊥) → 0x7F < getD s (at + trailingZeros 64 (high w) / 8) 0
   front-next n =
       let t = trailingZeros 64 (high w) in

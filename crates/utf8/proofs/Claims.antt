@@ -1,4 +1,4 @@
--- The statements of specs/Theorems, each proved under its own name.
+-- The proof of each statement of specs/Theorems, under the statement's name.
 use mathlib.Core.Path.{refl, ap, _∙_}
 use Rattle.utf8.specs.Rfc3629.{
   utf8-1,

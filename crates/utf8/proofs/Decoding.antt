@@ -1,4 +1,4 @@
--- The encoding of a scalar value is a character of section 4 of RFC 3629, and is read back.
+-- The encoding of a scalar value is a character by section 4 of RFC 3629, and reading it gives the value.
 use mathlib.Core.Path.{_≡_, ap, _∙_}
 use mathlib.Core.Logic.{_⊎_, inl, inr, ⊎-elim}
 use mathlib.Core.Bool.{true}
@@ -28,7 +28,7 @@ use Rattle.utf8.proofs.Scalars.{isScalar-bounds}
 use Rattle.utf8.proofs.Encoding.{encode-1, encode-2, encode-3, encode-4}
 
 module _ (v : ℕ) where
-  -- The last byte and those before it: the digits of v to the base 64.
+  -- The last byte and the bytes before it: the digits of v in base 64.
   abbrev last : ℕ
   last = 0x80 + v % 64
 
@@ -83,7 +83,7 @@ module _ (v : ℕ) where
       (λ p. four-F4 first₄ last₃ last₂ last (omega arith) ∙ and-both _ _ (within-true 0x80 0x8F last₃ (omega arith) (omega arith)) tails)
       (le-or-lt v 0xFFFFF)) (le-or-lt v 0x3FFFF)
 
-  -- The value is that of its digits.
+  -- The value of the bytes is v.
   value-4-digits : value-4 first₄ last₃ last₂ last ≡ v
   value-4-digits =
       let p : v / 4096 ≡ v / 262144 * 64 + v / 4096 % 64 = omega arith in
@@ -91,7 +91,7 @@ module _ (v : ℕ) where
       let r : v ≡ v / 64 * 64 + v % 64 = omega arith in
       omega arith
 
-  -- By the four lengths of an encoding.
+  -- A case distinction by the four lengths of an encoding.
   by-length : {P : Type 0} → isScalar v ≡ true
       → (v ≤ 0x7F → P)
       → (0x80 ≤ v → v ≤ 0x7FF → P)

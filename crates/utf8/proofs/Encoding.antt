@@ -1,4 +1,4 @@
--- A character's value and its bytes: the bytes that section 4 of RFC 3629 accepts are the encoding of the value that section 3 gives them.
+-- Bytes that are a character by section 4 of RFC 3629 are the encoding of the value that section 3 gives them.
 use mathlib.Core.Path.{_≡_, refl, ap, _∙_, subst}
 use mathlib.Core.Logic.{⊎-elim}
 use mathlib.Core.Bool.{true}
@@ -34,7 +34,7 @@ pub encode-4 : (v : ℕ) → 0x10000 ≤ v
 unfolding encode
 encode-4 v l = simp (lt-leb v 0x7F (omega arith), lt-leb v 0x7FF (omega arith), lt-leb v 0xFFFF (omega arith))
 
--- One to four bytes.
+-- An encoding has one to four bytes.
 pub encode-few : (v : ℕ) → (1 ≤ length (encode v)) × (length (encode v) ≤ 4)
 encode-few v =
     ⊎-elim (λ h. omega (arith, ap length (encode-1 v h)))
@@ -63,7 +63,7 @@ pub encode-value-4 : (a b c d : ℕ) → In 0xF0 0xF4 a → Tail b → Tail c �
     ≡ a ∷ b ∷ c ∷ d ∷ []
 encode-value-4 a b c d p q r s l = encode-4 (value-4 a b c d) l ∙ same-4 (omega arith) (omega arith) (omega arith) (omega arith)
 
--- s begins with the character v: v is a scalar value, and its w bytes are its encoding.
+-- The bytes s begin with the character v: v is a scalar value, and the first w bytes are its encoding.
 pub record BeginsWith (s : List ℕ) (v w : ℕ) : Type 0 where
   pub is-scalar : isScalar v ≡ true
   pub width : length (encode v) ≡ w
@@ -71,13 +71,13 @@ pub record BeginsWith (s : List ℕ) (v w : ℕ) : Type 0 where
   pub some : 1 ≤ w
   pub few : w ≤ 4
 
--- What an answer of `readChar` says of s.
+-- The fact about s that a result of `readChar` states.
 abbrev pub Says : List ℕ → ReadChar → Type 0
 Says s (Char v w) = BeginsWith s v w
 Says s IllFormed = Unit {0}
 Says s End = s ≡ []
 
--- Bytes that are not 0 are there.
+-- A byte that is not 0 is not after the end of s.
 first-1 : (s : List ℕ) → 1 ≤ getD s 0 0 → getD s 0 0 ∷ drop 1 s ≡ s
 first-1 [] h = absurd (omega arith)
 first-1 (b ∷ s) h = refl
@@ -124,7 +124,7 @@ module _ (a : ℕ) (s : List ℕ) where
       (omega arith)
       (ap (λ (x : List ℕ). a ∷ x) (first-3 s (omega arith) (omega arith) (omega arith)))
 
-  -- What the row says: the bytes that it asks for are there, and are the encoding of the value.
+  -- The fact that a row states: its bytes are in the text, and are the encoding of the value.
   pub row-says : {r : ReadChar} → Row a b c d r → Says (a ∷ s) r
   row-says (one p) = begins a (a ∷ []) (encode-1 a (p .high)) (isScalar-low a (omega arith)) (omega arith) (omega arith) refl
   row-says (two p q) =

@@ -1,4 +1,4 @@
--- What the first byte says of the tests of RFC 3629, section 4: the row that it picks.
+-- The tests of RFC 3629, section 4, for a known first byte: at most one of them can pass.
 use mathlib.Core.Path.{_≡_}
 use mathlib.Core.Bool.{false, _&&_, or-false}
 use Prim.Native.Nat.{ℕ, _≤_}
@@ -28,7 +28,7 @@ module _ (a : ℕ) where
         within-above 0xEE 0xEF a (omega arith),
       )
 
-  -- ---- the test of the row, which the further bytes decide
+  -- ---- the test of the row, which depends on the bytes after the first
 
   pub two-C2-DF : (b : ℕ) → 0xC2 ≤ a → a ≤ 0xDF → utf8-2 a b ≡ utf8-tail b
   unfolding utf8-2

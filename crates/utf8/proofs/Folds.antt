@@ -1,4 +1,4 @@
--- How a fold over the characters goes on from the front: at a character, at no character, at the end.
+-- One step of a fold over the characters: at a character, where no character begins, and at the end.
 use mathlib.Core.Path.{_≡_, refl, ap, _∙_, subst}
 use mathlib.Core.List.{List, [], _∷_}
 use Prim.Native.Nat.{ℕ, zero, suc, _+_, _-_, _≤_}
@@ -39,7 +39,7 @@ module _ {A : Type 0} (stop : A) (more : ℕ → ℕ → A → A) where
       ap (λ (r : ReadChar). foldStep stop more r (λ w. foldChars stop more (w - 1) s)) e
       ∙ ap (more v w) (foldChars-skip (w - 1) s ∙ ap (foldChars stop more 0) (drop-past w a s (char-begins (a ∷ s) v w e .some)))
 
--- ---- the characters, and the longest well-formed beginning
+-- ---- the characters, and the longest well-formed prefix
 
 pub chars-ill-formed : (s : List ℕ) → readChar s ≡ IllFormed → chars s ≡ []
 unfolding chars
@@ -65,7 +65,7 @@ pub validUpTo-char : (s : List ℕ) (v w : ℕ) → readChar s ≡ Char v w → 
 unfolding validUpTo
 validUpTo-char s v w e = foldChars-char 0 (λ v w r. w + r) s v w e
 
--- ---- a text, character by character: what inductions over a text go by
+-- ---- a text, character by character: the induction principle
 
 pub data Reading : List ℕ → Type 0 where
   read-end : {s : List ℕ} → readChar s ≡ End → Reading s

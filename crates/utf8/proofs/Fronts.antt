@@ -1,4 +1,4 @@
--- What is read at the front of a list of bytes and at a place, by the four tests of RFC 3629, section 4.
+-- The result of reading at the front of a list and at an offset, by the four tests of RFC 3629, section 4.
 use mathlib.Core.Path.{_≡_, refl, sym, ap, ap₂, _∙_}
 use mathlib.Core.Bool.{true, false}
 use mathlib.Core.List.{List, [], _∷_}
@@ -27,7 +27,7 @@ readChar-readFour (a ∷ t) h = refl
 first-at : (s : List ℕ) (at : ℕ) → getD s at 0 ≡ getD (drop at s) 0 0
 first-at s at = ap (λ (n : ℕ). getD s n 0) (sym (add-zero at)) ∙ sym (getD-drop at s 0 0)
 
--- Before the end, what is read is read of the four bytes from the place on.
+-- Before the end of the text, reading at an offset is reading the four bytes there.
 pub readFour-at : (s : List ℕ) (at : ℕ) → at < length s
     → readFour (getD s at 0) (getD s (at + 1) 0) (getD s (at + 2) 0) (getD s (at + 3) 0) ≡ readChar (drop at s)
 readFour-at s at h =

@@ -1,4 +1,4 @@
--- The RFC's grammar and the decoder agree: WellFormed by UTF8-octets, and read to the end.
+-- The RFC's grammar and the decoder agree: a text is UTF8-octets exactly when the decoder reads it to the end.
 use mathlib.Core.Path.{_≡_, refl, sym, ap, _∙_, subst}
 use mathlib.Core.Bool.{true}
 use mathlib.Core.List.{List, [], _∷_, _++_, append-nil}
@@ -14,7 +14,7 @@ use Rattle.utf8.proofs.Folds.{validUpTo-end}
 use Rattle.utf8.proofs.Fronts.{readChar-nil}
 use Rattle.utf8.proofs.Texts.{validUpTo-encode, encodeAll-chars, encodeAll-chars-take, chars-allScalar, none-longer-whole}
 
--- bs are the bytes of a scalar value.
+-- The bytes bs are the encoding of a scalar value.
 record Encodes (bs : List ℕ) : Type 0 where
   value : ℕ
   is-scalar : isScalar value ≡ true
@@ -50,7 +50,7 @@ well-formed-whole (more bs s e w) =
     let k = validUpTo-utf8-char bs s e in
     omega (arith, length-append bs s)
 
--- ---- and back
+-- ---- from the decoder to the grammar
 
 pub encodeAll-well-formed : (vs : List ℕ) → allScalar vs ≡ true → WellFormed (encodeAll vs)
 unfolding allScalar encodeAll
@@ -65,7 +65,7 @@ encoding-well-formed s e = subst WellFormed e (encodeAll-well-formed (chars s) (
 pub whole-well-formed : (s : List ℕ) → validUpTo s ≡ length s → WellFormed s
 whole-well-formed s e = encoding-well-formed s (encodeAll-chars s e)
 
--- ---- the longest well-formed beginning
+-- ---- the longest well-formed prefix
 
 pub longest-well-formed : (s : List ℕ) → WellFormed (take (validUpTo s) s)
 longest-well-formed s = subst WellFormed (encodeAll-chars-take s) (encodeAll-well-formed (chars s) (chars-allScalar s))

@@ -1,4 +1,4 @@
--- The laws. Other crates go by Places (loops over a text) and Texts (texts as a whole).
+-- The laws of UTF-8. Proofs of other crates use Places (loops over a text), Packed (`decode`), AsciiRuns and Texts (whole texts).
 pub mod FirstBytes
 pub mod Fronts
 pub mod Rows

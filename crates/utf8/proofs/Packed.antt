@@ -1,4 +1,4 @@
--- The length and the packed number of what is read at a place: what the callers of `char_len` and `decode` go by.
+-- The length and the packed number of the character at an offset, for callers of `char_len` and `decode`.
 use mathlib.Core.Path.{_≡_, refl, sym, ap, _∙_}
 use mathlib.Core.List.{List}
 use Prim.Native.Nat.{ℕ, _+_, _*_, _/_, _%_, _≤_, _<_}
@@ -10,9 +10,9 @@ use Rattle.utf8.specs.declared.ReadChar.the-variants.{Char, IllFormed, E
 use Rattle.utf8.proofs.Encoding.{char-begins}
 use Rattle.utf8.proofs.Places.{Step, step, Stop, stop-ill-formed, stop-end, end-past}
 
--- ---- a length of 1 or more is that of a character, and 0 says that none begins
+-- ---- the length: it is 0 exactly where no character begins
 
--- At the front of t a character of w bytes is read.
+-- Reading at the front of t gives a character of w bytes.
 pub record ReadsLen (t : List ℕ) (w : ℕ) : Type 0 where
   pub value : ℕ
   pub reads : readChar t ≡ Char value w
@@ -35,7 +35,7 @@ stop-len s at w e h = go (readChar (drop at s)) refl e
     go IllFormed p q = stop-ill-formed s at p
     go End p q = stop-end s at p
 
--- The character of w bytes at a place, and how the text goes on after it.
+-- At the offset `at`, s has a character of w bytes, and the text after it is read from the offset at + w on.
 pub record StepLen (s : List ℕ) (at w : ℕ) : Type 0 where
   pub value : ℕ
   pub on : Step s at value w
@@ -66,7 +66,7 @@ packed-none s at n e h l = go (readChar (drop at s)) refl e
     go IllFormed p q = p
     go End p q = absurd (omega (arith, end-past s at p))
 
--- The packed number holds the length, too.
+-- The packed number mod 8 is the length.
 pub packed-len : (t : List ℕ) (n : ℕ) → n ≡ packed (readChar t) → n % 8 ≡ charLen (readChar t)
 unfolding charLen packed
 packed-len t n e = go (readChar t) refl e
@@ -76,10 +76,10 @@ packed-len t n e = go (readChar t) refl e
     go IllFormed p q = let m : n % 8 ≡ 0 = omega arith in m ∙ ap charLen (sym p)
     go End p q = let m : n % 8 ≡ 0 = omega arith in m ∙ ap charLen (sym p)
 
--- The packed number 0 says that no character begins, or none is left.
+-- If the packed number is 0, no character begins at the offset.
 pub packed-stop : (s : List ℕ) (at n : ℕ) → n ≡ packed (readChar (drop at s)) → n ≡ 0 → Stop s at
 packed-stop s at n e h = stop-len s at (n % 8) (packed-len (drop at s) n e) (omega arith)
 
--- Any other number is that of the character that stands there.
+-- Any other packed number is that of the character at the offset.
 pub packed-step : (s : List ℕ) (at n : ℕ) → n ≡ packed (readChar (drop at s)) → (n ≡ 0 → ⊥) → Step s at (n / 8) (n % 8)
 packed-step s at n e h = step s at (n / 8) (n % 8) (packed-reads (drop at s) n e (omega arith))

@@ -1,4 +1,4 @@
--- What is read at a place of a text, and how chars and validUpTo go on from there: what a loop over the bytes of a text goes by.
+-- Reading at an offset of a text, and one step of `chars` and `validUpTo` from there. Loops over the bytes of a text use it.
 use mathlib.Core.Path.{_≡_, sym, ap, _∙_}
 use mathlib.Core.Bool.{true}
 use mathlib.Core.List.{List, [], _∷_, _++_}
@@ -11,7 +11,7 @@ use Rattle.utf8.specs.declared.ReadChar.the-variants.{Char, IllFormed, E
 use Rattle.utf8.proofs.Encoding.{char-begins, end-empty}
 use Rattle.utf8.proofs.Folds.{chars-ill-formed, chars-end, chars-char, validUpTo-ill-formed, validUpTo-end, validUpTo-char}
 
--- At the place `at` of s stands the character v of w bytes, and the text goes on after it.
+-- At the offset `at`, s has the character v of w bytes, and the text after it is read from the offset at + w on.
 pub record Step (s : List ℕ) (at v w : ℕ) : Type 0 where
   pub some : 1 ≤ w
   pub few : w ≤ 4
@@ -39,7 +39,7 @@ step s at v w e =
       chars-on = chars-char t v w e ∙ ap (λ (l : List ℕ). v ∷ chars l) d;
     }
 
--- At the place `at` of s no character stands.
+-- At the offset `at`, no character of s begins.
 pub record Stop (s : List ℕ) (at : ℕ) : Type 0 where
   pub validUpTo-zero : validUpTo (drop at s) ≡ 0
   pub chars-none : chars (drop at s) ≡ []
@@ -50,6 +50,6 @@ stop-ill-formed s at e = record { validUpTo-zero = validUpTo-ill-formed (drop at
 pub stop-end : (s : List ℕ) (at : ℕ) → readChar (drop at s) ≡ End → Stop s at
 stop-end s at e = record { validUpTo-zero = validUpTo-end (drop at s) e; chars-none = chars-end (drop at s) e }
 
--- The end is read only at or past the text's length.
+-- The end is read only at or after the text's length.
 pub end-past : (s : List ℕ) (at : ℕ) → readChar (drop at s) ≡ End → length s ≤ at
 end-past s at e = omega (arith, length-drop at s, ap length (end-empty (drop at s) e))

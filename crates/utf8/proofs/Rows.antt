@@ -1,4 +1,4 @@
--- Which row of RFC 3629's table (section 4) four bytes begin with: `row` finds it for every answer of `readFour`.
+-- The row of RFC 3629's table (section 4) that four bytes match: `row` gives it for every result of `readFour`.
 use mathlib.Core.Path.{_≡_, refl}
 use mathlib.Core.Logic.{⊎-elim}
 use mathlib.Core.Bool.{Bool, true, false, cond, _&&_}
@@ -9,11 +9,11 @@ use Rattle.utf8.specs.declared.ReadChar.{ReadChar}
 use Rattle.utf8.specs.declared.ReadChar.the-variants.{Char, IllFormed}
 use Rattle.base.proofs.Tests.{both-true, either-true, In, within-in}
 
--- A byte that may stand after the second.
+-- A byte that may stand after the second byte of a character.
 abbrev pub Tail : ℕ → Type 0
 Tail b = In 0x80 0xBF b
 
--- The rows in the table's order, with the ranges of their bytes and the character that is read.
+-- The rows in the table's order, with the ranges of their bytes and the character that they encode.
 pub data Row (a b c d : ℕ) : ReadChar → Type 0 where
   one : In 0x00 0x7F a → Row a b c d (Char a 1)
   two : In 0xC2 0xDF a → Tail b → Row a b c d (Char (value-2 a b) 2)

@@ -1,4 +1,4 @@
--- Scalar values by their bounds.
+-- Scalar values from their bounds.
 use mathlib.Core.Path.{_≡_}
 use mathlib.Core.Logic.{_⊎_, inl, inr, ⊎-elim}
 use mathlib.Core.Bool.{true, false}

@@ -1,5 +1,5 @@
--- Texts as a whole: their characters, the encoding of these, their longest well-formed beginning, and texts one after the other.
--- A text s is well-formed where validUpTo s ≡ length s (Grammar shows that this is the RFC's grammar).
+-- Whole texts: their characters, the encoding of these, the longest well-formed prefix, and two texts one after the other. A text s is
+-- well-formed where validUpTo s ≡ length s (Grammar proves that this is the RFC's grammar).
 use mathlib.Core.Path.{_≡_, refl, sym, ap, ap₂, _∙_}
 use mathlib.Core.Logic.{_↔_}
 use mathlib.Core.Bool.{Bool, true, _&&_}
@@ -64,7 +64,7 @@ chars-encodeAll-alone vs e =
     ap chars (sym (append-nil (encodeAll vs))) ∙ chars-encodeAll vs [] e ∙ ap (λ (r : List ℕ). vs ++ r) (chars-end [] readChar-nil)
     ∙ append-nil vs
 
--- ---- the characters are scalar values, and their encoding is the longest well-formed beginning
+-- ---- the characters are scalar values, and their encoding is the longest well-formed prefix
 
 reading-allScalar : {s : List ℕ} → Reading s → allScalar (chars s) ≡ true
 unfolding allScalar
@@ -120,7 +120,7 @@ encodeAll-chars-take s =
 pub encodeAll-chars : (s : List ℕ) → validUpTo s ≡ length s → encodeAll (chars s) ≡ s
 encodeAll-chars s e = encodeAll-chars-take s ∙ ap (λ (n : ℕ). take n s) e ∙ take-length s
 
--- ---- what follows a well-formed text is read by itself
+-- ---- the bytes after a well-formed text are read as a text of their own
 
 pub validUpTo-append : (s t : List ℕ) → validUpTo s ≡ length s → validUpTo (s ++ t) ≡ length s + validUpTo t
 validUpTo-append s t e =
@@ -128,7 +128,7 @@ validUpTo-append s t e =
     ap (λ (l : List ℕ). validUpTo (l ++ t)) (sym p) ∙ validUpTo-encodeAll (chars s) t (chars-allScalar s)
     ∙ ap (λ (l : List ℕ). length l + validUpTo t) p
 
--- ---- an encoding is well-formed, and no well-formed beginning is longer than validUpTo
+-- ---- an encoding is well-formed, and no well-formed prefix is longer than validUpTo
 
 pub encodeAll-whole : (vs : List ℕ) → allScalar vs ≡ true → validUpTo (encodeAll vs) ≡ length (encodeAll vs)
 encodeAll-whole vs e =
@@ -143,7 +143,7 @@ none-longer-whole s n h e =
     let q = validUpTo-append (take n s) (drop n s) e in
     omega (arith, length-take n s)
 
--- ---- the encoding of values one after the other
+-- ---- the encoding of two lists of values one after the other
 
 pub encodeAll-append : (us vs : List ℕ) → encodeAll (us ++ vs) ≡ encodeAll us ++ encodeAll vs
 unfolding encodeAll

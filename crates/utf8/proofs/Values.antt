@@ -1,5 +1,5 @@
--- What `decode` goes by: which bytes are a character, told by the value of three and four bytes instead of by the
--- ranges of the second byte in the table of RFC 3629, section 4.
+-- Laws for the proof of `decode`. `decode` tests the value of three and four bytes, where the table of RFC 3629, section 4, tests the
+-- range of the second byte.
 use mathlib.Core.Path.{_≡_, refl, sym, ap, _∙_, subst}
 use mathlib.Core.Bool.{true}
 use mathlib.Core.List.{List, [], _∷_, _++_}
@@ -17,7 +17,7 @@ use Rattle.utf8.proofs.Fronts.{readFour-at, readChar-past-end}
 use Rattle.utf8.proofs.Encoding.{encode-1, encode-value-2, encode-value-3, encode-value-4}
 use Rattle.utf8.proofs.Decoding.{readChar-encode}
 
--- ---- bytes that are read: they are the encoding of their value
+-- ---- accepted bytes: they are the encoding of their value
 
 reads : (v : ℕ) (bs s : List ℕ) → encode v ≡ bs → isScalar v ≡ true → Char v (length bs) ≡ readChar (bs ++ s)
 reads v bs s e p = sym (subst (λ (l : List ℕ). readChar (l ++ s) ≡ Char v (length l)) e (readChar-encode v s p))
@@ -46,7 +46,7 @@ module _ (a b c d : ℕ) where
       (reads (value-4 a b c d) (a ∷ b ∷ c ∷ d ∷ []) [] (encode-value-4 a b c d p q r t (i .low))
       (isScalar-high (value-4 a b c d) (omega arith) (i .high)))
 
--- ---- bytes that are refused: they are no character of one, two, three or four bytes
+-- ---- rejected bytes: they are no character of one, two, three or four bytes
 
 abbrev pub Not1 : ℕ → Type 0
 Not1 a = a ≤ 0x7F → ⊥
@@ -84,7 +84,7 @@ ill-formed-80-C1 a b c d l h =
     by-row (row a b c d)
     (λ p. omega arith) (λ p q. omega arith) (λ p q r v n. omega arith) (λ p q r t v. omega arith)
 
--- ---- at a place of a text
+-- ---- at an offset of a text
 
 pub packed-past-end : (s : List ℕ) (at : ℕ) → length s ≤ at → 0 ≡ packed (readChar (drop at s))
 unfolding packed
@@ -115,7 +115,7 @@ module _ (s : List ℕ) (at : ℕ) (h : at < length s) where
   pub refused-at : Not1 a → Not2 a b → Not3 a b c → Not4 a b c d → 0 ≡ packed (readChar (drop at s))
   refused-at f g i k = refused a b c d f g i k ∙ at-place
 
-  -- The packed number of numbers that are the bytes at the place.
+  -- The packed number of numbers that equal the bytes at the offset.
   pub packed-at : {x y z t n : ℕ} → n ≡ packed (readFour x y z t) → x ≡ a → y ≡ b → z ≡ c → t ≡ d
       → n ≡ packed (readChar (drop at s))
   packed-at e p q r u = cc at-place

@@ -1,4 +1,4 @@
--- Characters as bytes: RFC 3629.
+-- UTF-8 as in RFC 3629, runs of ASCII bytes, and writing a character.
 pub mod Rfc3629
 pub mod Write
 pub mod Ascii

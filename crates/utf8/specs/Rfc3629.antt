@@ -1,4 +1,4 @@
--- UTF-8 as in RFC 3629: the ABNF of section 4, the values and the encoding of section 3, and what both make of a list of bytes.
+-- UTF-8 as in RFC 3629: the grammar of section 4, the values and the encoding of section 3, and the characters of a list of bytes.
 -- Document 01, "Character": a text is well-formed UTF-8 as in RFC 3629, with shortest forms, no surrogates, at most 10FFFF.
 use mathlib.Core.Path.{_≡_}
 use mathlib.Core.Bool.{Bool, true, false, cond, _&&_, _||_}
@@ -63,7 +63,7 @@ value-3 a b c = ((a - 0xE0) * 64 + (b - 0x80)) * 64 + (c - 0x80)
 abbrev pub value-4 : ℕ → ℕ → ℕ → ℕ → ℕ
 value-4 a b c d = (((a - 0xF0) * 64 + (b - 0x80)) * 64 + (c - 0x80)) * 64 + (d - 0x80)
 
--- The character that four bytes begin with: which by section 4, its value by section 3.
+-- The character at the front of four bytes. Section 4 says which bytes are a character, and section 3 gives its value.
 unfoldable pub readFour : ℕ → ℕ → ℕ → ℕ → ReadChar
 readFour a b c d =
     cond (utf8-1 a) (Char a 1)
@@ -72,43 +72,43 @@ readFour a b c d =
     (cond (utf8-4 a b c d) (Char (value-4 a b c d) 4)
     IllFormed)))
 
--- What stands at the front of a list of bytes. A byte that is not there counts as 0, which is no UTF8-tail.
+-- The result of reading at the front of a list of bytes. After the end of the list a byte counts as 0, which is no UTF8-tail.
 unfoldable pub readChar : List ℕ → ReadChar
 readChar [] = End
 readChar (a ∷ s) = readFour a (getD s 0 0) (getD s 1 0) (getD s 2 0)
 
--- How many bytes the character read has; 0 where none is.
+-- The number of bytes of the character read, or 0 if no character was read.
 unfoldable pub charLen : ReadChar → ℕ
 charLen (Char v w) = w
 charLen IllFormed = 0
 charLen End = 0
 
--- The character read as one number, 8 times its value and its width, which is at most 4; 0 where none is.
+-- The packed number of the character read: 8 times its value plus its width, which is at most 4. It is 0 if no character was read.
 unfoldable pub packed : ReadChar → ℕ
 packed (Char v w) = 8 * v + w
 packed IllFormed = 0
 packed End = 0
 
--- A value made of the characters from the front on, until the end or the first place where none begins (document 01, "Item").
--- `more` takes a character's value, its width, and what is made of the bytes after it; `stop` is made where no character begins.
+-- A fold over the characters from the front of a list on. It stops at the end, or where no character begins (document 01, "Item").
+-- `more` takes a character's value, its width and the fold of the bytes after it. `stop` is the fold where no character begins.
 module _ {A : Type 0} (stop : A) (more : ℕ → ℕ → A → A) where
-  -- What is made where `readChar` gave this answer; `rest w` is what is made of the bytes after the first w.
+  -- One step of the fold, from the result of `readChar`. `rest w` is the fold of the bytes after the first w.
   unfoldable pub foldStep : ReadChar → (ℕ → A) → A
   foldStep (Char v w) rest = more v w (rest w)
   foldStep IllFormed rest = stop
   foldStep End rest = stop
 
-  -- The number counts the bytes that still belong to the character before.
+  -- The fold of a list whose first `skip` bytes belong to the character before it.
   unfoldable pub foldChars : ℕ → List ℕ → A
   foldChars skip [] = stop
   foldChars zero (a ∷ s) = foldStep (readChar (a ∷ s)) (λ w. foldChars (w - 1) s)
   foldChars (suc skip) (a ∷ s) = foldChars skip s
 
--- The values of the characters, up to the end or the first place where none begins.
+-- The values of the characters up to the end, or up to the first offset where no character begins.
 unfoldable pub chars : List ℕ → List ℕ
 chars s = foldChars [] (λ v w r. v ∷ r) 0 s
 
--- The length of the longest well-formed beginning (document 01, "Turned back", number 3).
+-- The length of the longest well-formed prefix (document 01, "Turned back", number 3).
 unfoldable pub validUpTo : List ℕ → ℕ
 validUpTo s = foldChars 0 (λ v w r. w + r) 0 s
 
@@ -121,7 +121,7 @@ unfoldable pub allScalar : List ℕ → Bool
 allScalar [] = true
 allScalar (v ∷ vs) = isScalar v && allScalar vs
 
--- Section 3's table, from the value to the bytes: the first row whose range has the value.
+-- Section 3's table, from the value to the bytes: the first row whose range contains the value.
 unfoldable pub encode : ℕ → List ℕ
 encode v =
     cond (leb v 0x7F) (v ∷ [])
@@ -129,7 +129,7 @@ encode v =
     (cond (leb v 0xFFFF) ((0xE0 + v / 4096) ∷ (0x80 + v / 64 % 64) ∷ (0x80 + v % 64) ∷ [])
     ((0xF0 + v / 262144) ∷ (0x80 + v / 4096 % 64) ∷ (0x80 + v / 64 % 64) ∷ (0x80 + v % 64) ∷ [])))
 
--- The bytes of the values, one character after the other.
+-- The encodings of the values, one after the other.
 unfoldable pub encodeAll : List ℕ → List ℕ
 encodeAll [] = []
 encodeAll (v ∷ vs) = encode v ++ encodeAll vs

@@ -1,5 +1,4 @@
--- What is claimed of UTF-8 as set out in Rfc3629. Each statement is proved in proofs/Claims, under the same name in lower case with
--- hyphens.
+-- Statements about UTF-8 as defined in Rfc3629. proofs/Claims proves each of them under the same name in lower case with hyphens.
 use mathlib.Core.Path.{_≡_}
 use mathlib.Core.Logic.{_↔_}
 use mathlib.Core.Bool.{true}
@@ -10,21 +9,21 @@ use Rattle.utf8.specs.Rfc3629.{WellFormed, readChar, chars, validUpTo, i
 use Rattle.utf8.specs.Ascii.{AsciiRun, NoAsciiAt, asciiEnd}
 use Rattle.utf8.specs.declared.ReadChar.the-variants.{Char, IllFormed, End}
 
--- Decoding the bytes of scalar values gives them back.
+-- Decoding the encoding of scalar values gives these values.
 unfoldable pub DecodeEncode : Type 0
 DecodeEncode = (vs : List ℕ) → allScalar vs ≡ true → chars (encodeAll vs) ≡ vs
 
--- A text is well-formed by the RFC's grammar exactly when it is the encoding of its characters:
--- so there are no forms but the shortest, and none of surrogates or of values above 10FFFF.
+-- A text is well-formed by the RFC's grammar exactly when it is the encoding of its characters. So a well-formed text has no overlong
+-- form, no surrogate and no value above 10FFFF.
 unfoldable pub WellFormedIffEncoding : Type 0
 WellFormedIffEncoding = (s : List ℕ) → WellFormed s ↔ (encodeAll (chars s) ≡ s)
 
--- A text is well-formed by the RFC's grammar exactly when its longest well-formed beginning is the whole text.
+-- A text is well-formed by the RFC's grammar exactly when its longest well-formed prefix is the whole text.
 unfoldable pub WellFormedIffWhole : Type 0
 WellFormedIffWhole = (s : List ℕ) → WellFormed s ↔ (validUpTo s ≡ length s)
 
--- validUpTo is the length of the longest well-formed beginning: it is no longer than the text,
--- the beginning of that length is well-formed, and every well-formed beginning is at most as long.
+-- `validUpTo` is the length of the longest well-formed prefix: it is at most the text's length, the prefix of that length is
+-- well-formed, and no well-formed prefix is longer.
 unfoldable pub LongestBeginning : Type 0
 LongestBeginning =
     (s : List ℕ)
@@ -40,17 +39,17 @@ ReadCharIff =
 unfoldable pub CharsAreScalar : Type 0
 CharsAreScalar = (s : List ℕ) → allScalar (chars s) ≡ true
 
--- The end is read exactly where no byte is left.
+-- `readChar` gives the end exactly for the empty list.
 unfoldable pub ReadEnd : Type 0
 ReadEnd = (s : List ℕ) → (readChar s ≡ End) ↔ (s ≡ [])
 
--- asciiEnd is the end of the longest run of ASCII bytes: the bytes up to it are ASCII, and no byte is left there or the byte there is
--- above 7F. No other place is such an end.
+-- `asciiEnd` is the end of the longest run of ASCII bytes: the bytes up to it are ASCII, and the text ends there or the byte there is
+-- above 7F. No other offset has both properties.
 unfoldable pub AsciiEndIsLongest : Type 0
 AsciiEndIsLongest =
     (s : List ℕ) (from end : ℕ) → (end ≡ asciiEnd s from) ↔ (AsciiRun s from end × NoAsciiAt s end)
 
--- The examples of RFC 3629, section 7, both ways; the forms that sections 3 and 10 rule out; the bounds of each length.
+-- The examples of RFC 3629, section 7, decoded and encoded; the forms that sections 3 and 10 exclude; the bounds of each length.
 unfoldable pub Rfc3629Examples : Type 0
 Rfc3629Examples =
     -- A<NOT IDENTICAL TO><ALPHA>. ; the Japanese "nihongo"; a byte order mark and U+233B4
@@ -62,7 +61,7 @@ Rfc3629Examples =
     ≡ ((0x41 ∷ 0x2262 ∷ 0x391 ∷ 0x2E ∷ []) ∷ (0x65E5 ∷ 0x672C ∷ 0x8A9E ∷ []) ∷ (0xFEFF ∷ 0x233B4 ∷ []) ∷ []))
     × (encodeAll (0x41 ∷ 0x2262 ∷ 0xFEFF ∷ 0x233B4 ∷ [])
     ≡ (0x41 ∷ 0xE2 ∷ 0x89 ∷ 0xA2 ∷ 0xEF ∷ 0xBB ∷ 0xBF ∷ 0xF0 ∷ 0xA3 ∷ 0x8E ∷ 0xB4 ∷ []))
-    -- too long forms of 0 and 2F, a surrogate pair, 110000, a tail alone, a cut character, no byte
+    -- overlong forms of 0 and 2F, a surrogate pair, 110000, a tail alone, a character without its last byte, no byte
     × (map readChar
     ((0xC0 ∷ 0x80 ∷ [])
     ∷ (0xE0 ∷ 0x80 ∷ 0xAF ∷ [])
@@ -73,7 +72,7 @@ Rfc3629Examples =
     ∷ []
     ∷ [])
     ≡ (IllFormed ∷ IllFormed ∷ IllFormed ∷ IllFormed ∷ IllFormed ∷ IllFormed ∷ End ∷ []))
-    -- the first and the last value of each length, and those beside the surrogates
+    -- the first and the last value of each length, and the values beside the surrogates
     × (map readChar
     ((0x7F ∷ [])
     ∷ (0xC2 ∷ 0x80 ∷ [])

@@ -1,4 +1,4 @@
--- What writing a character at a place of a lent buffer answers, and what the buffer then holds.
+-- Writing a character at an offset of a lent buffer: the answer, and the buffer's contents after the call.
 use mathlib.Core.Bool.{cond, _&&_}
 use mathlib.Core.List.{List}
 use Prim.Native.Nat.{ℕ}
@@ -12,17 +12,18 @@ use Rattle.utf8.specs.Rfc3629.{isScalar, encode}
 use Rattle.utf8.specs.declared.WriteChar.{WriteChar}
 use Rattle.utf8.specs.declared.WriteChar.the-variants.{Written, TooShort, NotScalar}
 
--- The answer: the width written, the width that has no room, or that v is no scalar value, which has no bytes (RFC 3629, section 3).
+-- The answer: the number of bytes written, the number of bytes that do not fit, or that v is no scalar value and so has no encoding
+-- (RFC 3629, section 3).
 unfoldable pub writeChar : ℕ → List ℕ → ℕ → WriteChar
 writeChar v out at =
     cond (isScalar v) (cond (roomFor (encode v) out at) (Written (length (encode v))) (TooShort (length (encode v)))) NotScalar
 
--- The bytes written, refusal 8, or a value that has no bytes.
+-- The answer's row: the number of bytes written, refusal 8, or the number 255 for a value that has no encoding.
 unfoldable pub charRow : WriteChar → RefusalRow
 charRow (Written w) = done w
 charRow (TooShort w) = refusalRow (OutputTooShort w)
 charRow NotScalar = nothing
 
--- The buffer afterwards: the bytes of v from the place on, and all others as they were; a refusal leaves them all.
+-- The buffer after the call. A success writes the encoding of v at the offset and changes no other byte. A refusal changes no byte.
 unfoldable pub afterWriteChar : ℕ → List ℕ → ℕ → List ℕ
 afterWriteChar v out at = cond (isScalar v && roomFor (encode v) out at) (sets out at (encode v)) out

@@ -1,6 +1,6 @@
-// ASCII in words: the bytes up to 7F, each a character of its own (RFC 3629, section 4, UTF8-1), passed eight at a time.
-// Not in the Rust crate, which gets a `str`. `ascii_end` gives where the longest run of such bytes ends (`asciiEnd` of
-// specs/Ascii).
+// Finds the end of a run of ASCII bytes, eight bytes at a time. ASCII bytes are the bytes up to 7F; each is a character
+// of one byte (RFC 3629, section 4, UTF8-1). `ascii_end` equals `asciiEnd` in specs/Ascii. The Rust crate has no such
+// function, since it gets a `str`.
 ghost use mathlib.Core.Path.{_≡_};
 ghost use Prim.Native.Nat.{_+_, _/_, _≤_, _<_};
 ghost use lib.Count.{trailingZeros};
@@ -8,17 +8,18 @@ ghost use lib.ListN.{getD};
 ghost use Rattle.utf8.specs.Ascii.{AllUpTo, asciiEnd};
 use base::WORD_BYTES;
 
-// The highest bit of each byte of a word, which is one where the byte is above 7F.
+// The highest bit of each byte of a word. It is 1 where the byte is above 7F.
 const HIGH_BITS: u64 = 0x8080_8080_8080_8080;
 
-// How many bytes of a word, lowest first, are zero before one is not.
+// Counts the zero bytes of a word before the first byte that is not zero, lowest byte first.
 fn zero_bytes(w: u64) -> usize
     ensures { λ r. ⌜ (r ≡ trailingZeros 64 w / 8) × (r ≤ 8) ⌝ }
 {
     (u64::trailing_zeros(w) / 8) as usize
 }
 
-// How many ASCII bytes stand after the first few of the eight bytes from a place on, before one that is none.
+// Reads the eight bytes at the offset `at`, skips the first `passed` of them, and counts the ASCII bytes before the
+// first other byte.
 fn ascii_in_word(s: &[u8], at: usize, passed: usize) -> usize
     requires { ⌜ passed ≤ 7 ⌝ }
     ensures ascii { λ r. ⌜ (AllUpTo 0x7F (now (s .entry)) (at + passed) r) × (passed + r ≤ 8) ⌝ }
@@ -33,7 +34,7 @@ fn ascii_in_word(s: &[u8], at: usize, passed: usize) -> usize
     low
 }
 
-// The end of the run of ASCII bytes from a place on, byte by byte.
+// Returns the end of the run of ASCII bytes that starts at an offset. It looks at one byte at a time.
 fn run_end(s: &[u8], from: usize) -> usize
     ensures { λ r. ⌜ r ≡ asciiEnd (now (s .entry)) from ⌝ }
 {
@@ -47,8 +48,8 @@ fn run_end(s: &[u8], from: usize) -> usize
     at
 }
 
-// The end of the run of ASCII bytes from a place on. The last word ends where the bytes end, so some of its bytes may
-// have been passed.
+// Returns the end of the run of ASCII bytes that starts at an offset. The last word ends where the bytes end, so it may
+// overlap the word before it.
 pub fn ascii_end(s: &[u8], from: usize) -> usize
     ensures { λ r. ⌜ r ≡ asciiEnd (now (s .entry)) from ⌝ }
 {

@@ -1,8 +1,7 @@
-// Characters as bytes: which bytes are a character and which value it has, and the bytes of a value.
-// From RFC 3629, sections 3 and 4; added by document 01 ("Character"), since the Rust crate gets a `str`.
-// `read_char` equals `readChar`, `char_len` and `decode` are the width and the packed number of it, `valid_up_to`
-// equals `validUpTo` and `is_scalar` equals `isScalar` of specs/Rfc3629, `char_width` is the length of `encode`, and
-// `write_char` equals `writeChar` and `afterWriteChar` of specs/Write.
+// Decodes and encodes characters as in RFC 3629, sections 3 and 4. Document 01 ("Character") adds this to the port,
+// since the Rust crate gets a `str`. The functions equal definitions of specs/Rfc3629 and specs/Write: `read_char` is
+// `readChar`, `char_len` its width, `decode` its packed number; `valid_up_to` is `validUpTo`, `is_scalar` is
+// `isScalar`, `char_width` the length of `encode`; `write_char` is `writeChar` and `afterWriteChar`.
 ghost use mathlib.Core.Path.{_≡_};
 ghost use mathlib.Core.List.{[], _∷_};
 ghost use Prim.Native.Nat.{ℕ, _+_, _/_, _%_, _≤_};
@@ -14,28 +13,28 @@ ghost use Rattle.utf8.specs.Write.{charRow, writeChar, afterWriteChar};
 
 pub mod ascii;
 
-// What stands at a place of a text.
+// The result of reading at an offset of a text: a character, no character, or the end of the text.
 pub enum ReadChar {
     Char { value: u32, width: usize },
     IllFormed,
     End,
 }
 
-// The answer to writing a character: its width, or why nothing was written.
+// The answer to writing a character: its width, or the reason why nothing was written.
 pub enum WriteChar {
     Written { width: usize },
     TooShort { width: usize },
     NotScalar,
 }
 
-// A byte as a wider number.
+// Converts a byte to a wider number.
 fn wide(b: u8) -> u32
     ensures { λ r. ⌜ r ≡ b ⌝ }
 {
     b as u32
 }
 
-// The packed number of three bytes, or 0 if their value is too small for three bytes or a surrogate.
+// Returns the packed number of three bytes. It is 0 if their value is a surrogate or has a shorter encoding.
 fn pack_3(a: u32, b: u32, c: u32) -> u32
     requires { ⌜ (0xE0 ≤ a) × (a ≤ 0xEF) × (0x80 ≤ b) × (b ≤ 0xBF) × (0x80 ≤ c) × (c ≤ 0xBF) ⌝ }
     ensures { λ r. ⌜ ((d : ℕ) → r ≡ packed (readFour a b c d)) ⌝ }
@@ -53,8 +52,8 @@ fn pack_3(a: u32, b: u32, c: u32) -> u32
     8 * value + 3
 }
 
-// The packed number of four bytes, or 0 if the last is no tail, or their value is too small for four bytes or above
-// 10FFFF.
+// Returns the packed number of four bytes. It is 0 if the last byte is no UTF8-tail, or if their value is above 10FFFF
+// or has a shorter encoding.
 fn pack_4(a: u32, b: u32, c: u32, d: u32) -> u32
     requires { ⌜ (0xF0 ≤ a) × (a ≤ 0xF4) × (0x80 ≤ b) × (b ≤ 0xBF) × (0x80 ≤ c) × (c ≤ 0xBF) ⌝ }
     ensures { λ r. ⌜ r ≡ packed (readFour a b c d) ⌝ }
@@ -75,7 +74,7 @@ fn pack_4(a: u32, b: u32, c: u32, d: u32) -> u32
     8 * value + 4
 }
 
-// `decode` at two bytes that begin a character of three or four.
+// Decodes at an offset whose first two bytes begin a character of three or four bytes.
 fn decode_long(s: &[u8], at: usize, a: u32, b: u32) -> u32
     requires bytes { ⌜ (at + 2 ≤ length (now s)) × (a ≡ getD (now s) at 0) × (b ≡ getD (now s) (at + 1) 0) ⌝ }
     requires ranges { ⌜ (0xE0 ≤ a) × (a ≤ 0xF4) × (0x80 ≤ b) × (b ≤ 0xBF) ⌝ }
@@ -100,9 +99,10 @@ fn decode_long(s: &[u8], at: usize, a: u32, b: u32) -> u32
     pack_4(a, b, c, wide(s[at + 3]))
 }
 
-// The character at a place as one number, 8 times its value and its width, or 0 where none begins. A number comes
-// back in a register, and an enum through memory. Forms that are too long, surrogates and values above 10FFFF are
-// told by the value, which costs fewer steps than the ranges of the second byte.
+// Decodes the character at an offset. The result is the packed number, 8 times the value plus the width, or 0 if no
+// character begins there. A number is returned in a register, and an enum through memory. The function finds overlong
+// forms, surrogates and values above 10FFFF by comparing the value, which takes fewer steps than comparing the second
+// byte.
 pub fn decode(s: &[u8], at: usize) -> u32
     ensures { λ r. ⌜ r ≡ packed (readChar (drop at (now (s .entry)))) ⌝ }
 {
@@ -135,14 +135,14 @@ pub fn decode(s: &[u8], at: usize) -> u32
     decode_long(s, at, a, b)
 }
 
-// How many bytes the character at a place has, or 0 where none begins.
+// Returns the number of bytes of the character at an offset, or 0 if no character begins there.
 pub fn char_len(s: &[u8], at: usize) -> usize
     ensures { λ r. ⌜ r ≡ charLen (readChar (drop at (now (s .entry)))) ⌝ }
 {
     (decode(s, at) % 8) as usize
 }
 
-// What stands at a place of a text: a character, no character, or the end.
+// Reads at an offset of a text: a character, no character, or the end.
 pub fn read_char(s: &[u8], at: usize) -> ReadChar
     ensures { λ r. ⌜ r ≡ readChar (drop at (now (s .entry))) ⌝ }
 {
@@ -158,7 +158,8 @@ pub fn read_char(s: &[u8], at: usize) -> ReadChar
     ReadChar::Char { value, width }
 }
 
-// The length of the longest well-formed beginning. After an ASCII character, ASCII is passed in words.
+// Returns the length of the longest well-formed prefix. After an ASCII character it skips the run of ASCII bytes by
+// words.
 pub fn valid_up_to(s: &[u8]) -> usize
     ensures { λ r. ⌜ r ≡ validUpTo (now (s .entry)) ⌝ }
 {
@@ -175,7 +176,7 @@ pub fn valid_up_to(s: &[u8]) -> usize
     }
 }
 
-// A scalar value: at most 10FFFF and no surrogate.
+// Tests whether a number is a scalar value: at most 10FFFF and no surrogate.
 pub fn is_scalar(ch: u32) -> bool
     ensures { λ r. ⌜ r ≡ isScalar ch ⌝ }
 {
@@ -191,7 +192,7 @@ pub fn is_scalar(ch: u32) -> bool
     true
 }
 
-// How many bytes a character has.
+// Returns the number of bytes that encode a character.
 pub fn char_width(ch: u32) -> usize
     ensures { λ r. ⌜ r ≡ length (encode ch) ⌝ }
 {
@@ -207,7 +208,7 @@ pub fn char_width(ch: u32) -> usize
     4
 }
 
-// A byte, and after it the tail with the lowest six bits of a number.
+// Stores a byte, and after it the UTF8-tail that holds the lowest six bits of a number.
 fn put_pair(first: u32, ch: u32, out: &mut [u8], at: usize)
     requires { ⌜ (first ≤ 0xFF) × (at + 2 ≤ length (now out)) ⌝ }
     ensures { λ _. ⌜ now (out .exit) ≡ sets (now (out .entry)) at (first ∷ (0x80 + ch % 64) ∷ []) ⌝ }
@@ -216,7 +217,7 @@ fn put_pair(first: u32, ch: u32, out: &mut [u8], at: usize)
     out[at + 1] = (0x80 + ch % 64) as u8;
 }
 
-// The stores of one, two, three and four bytes (RFC 3629, section 3).
+// The next four functions store a character of one, two, three and four bytes (RFC 3629, section 3).
 fn put_1(ch: u32, out: &mut [u8], at: usize)
     requires { ⌜ (ch ≤ 0x7F) × (at + 1 ≤ length (now out)) ⌝ }
     ensures { λ _. ⌜ now (out .exit) ≡ sets (now (out .entry)) at (ch ∷ []) ⌝ }
@@ -248,7 +249,7 @@ fn put_4(ch: u32, out: &mut [u8], at: usize)
     put_pair(0x80 + ch / 64 % 64, ch, out, at + 2);
 }
 
-// Writes the bytes of a character, for which there is room.
+// Stores the bytes of a character. The caller shows that they fit.
 fn put_char(ch: u32, out: &mut [u8], at: usize)
     requires { ⌜ (ch ≤ 0x10FFFF) × (at + length (encode ch) ≤ length (now out)) ⌝ }
     ensures { λ _. ⌜ now (out .exit) ≡ sets (now (out .entry)) at (encode ch) ⌝ }
@@ -268,7 +269,7 @@ fn put_char(ch: u32, out: &mut [u8], at: usize)
     put_4(ch, out, at);
 }
 
-// Writes the bytes of a character at a place, or refuses.
+// Writes the bytes of a character at an offset, or refuses.
 pub fn write_char(ch: u32, out: &mut [u8], at: usize) -> WriteChar
     ensures answer { λ r. ⌜ Answers charRow (writeChar ch (now (out .entry)) at) r ⌝ }
     ensures buffer { λ _. ⌜ now (out .exit) ≡ afterWriteChar ch (now (out .entry)) at ⌝ }

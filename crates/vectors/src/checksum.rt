@@ -1,10 +1,10 @@
-// The Adler-32 of a text, as zlib has it (RFC 1950): it tells a text from any other that differs
-// from it in one byte, also where the answer of a line would be the same.
+// The Adler-32 of a text, as in zlib (RFC 1950). Two texts that differ in one byte have different checksums. So a
+// changed byte is noticed even if no answer changes.
 ghost use Prim.Native.Nat.{_<_};
 
 const MODULUS: u32 = 65521;
 
-// The sum, below the modulus, of two numbers below it.
+// Returns the sum of two numbers modulo the modulus. Both are below it.
 fn sum(a: u32, b: u32) -> u32
     requires { ⌜ (a < 65521) × (b < 65521) ⌝ }
     ensures { λ r. ⌜ r < 65521 ⌝ }
@@ -12,7 +12,7 @@ fn sum(a: u32, b: u32) -> u32
     (a + b) % MODULUS
 }
 
-// The sum and a byte.
+// Returns the sum with a byte added.
 fn with_byte(a: u32, b: u8) -> u32
     requires { ⌜ a < 65521 ⌝ }
     ensures { λ r. ⌜ r < 65521 ⌝ }
@@ -20,7 +20,7 @@ fn with_byte(a: u32, b: u8) -> u32
     (a + b as u32) % MODULUS
 }
 
-// The Adler-32 of the text: the sum of its bytes and 1, and the sum of all such sums.
+// Returns the Adler-32 of the text: the sum of its bytes plus 1, and the sum of all these sums.
 pub(crate) fn adler_32(text: &[u8]) -> u32 {
     let mut low: u32 = 1;
     let mut high: u32 = 0;

@@ -1,5 +1,5 @@
-// What the findings of a line must be: the proved analysis gives the counts, the choices and the
-// replacements of the items of the text, and each is held to what stands in the line.
+// Compares the findings of a text with a line. The proved analysis gives the counts, the choices and the replacements
+// of the text's items. Each function matches one of them at a place of the line (see notation.rt).
 use crate::notation::Read;
 use crate::notation::bytes_of;
 use crate::notation::is_end;
@@ -22,17 +22,17 @@ use replacing::render::canonical_replacement_with_decisions;
 use replacing::render::default_canonical_replacement;
 use unicode::presentation::Presentation;
 
-// The room for a replacement.
+// The length of the buffer for a replacement.
 const ROOM: usize = 2048;
 
-// Lists of decisions, of which the front is taken: all text, all emoji, emoji and text by turns.
+// Lists of decisions: all text, all emoji, emoji and text in turn. A call uses the first decisions of a list.
 const ALL_TEXT: [u8; 8] = *b"\x00\x00\x00\x00\x00\x00\x00\x00";
 
 const ALL_EMOJI: [u8; 8] = *b"\x01\x01\x01\x01\x01\x01\x01\x01";
 
 const BY_TURNS: [u8; 8] = *b"\x01\x00\x01\x00\x01\x00\x01\x00";
 
-// A count after its letter, or nothing where it is 0.
+// Matches a count after its letter, or nothing if it is 0.
 fn count(line: &[u8], place: Place, letter: u8, n: usize) -> Place {
     if n == 0 {
         return place;
@@ -40,7 +40,7 @@ fn count(line: &[u8], place: Place, letter: u8, n: usize) -> Place {
     number(line, mark(line, place, letter), n)
 }
 
-// The first four counts.
+// Matches the first four counts.
 fn first_counts(line: &[u8], place: Place, counts: NonCanonicality) -> Place {
     let u = count(line, place, b'u', counts.unsanctioned_selectors);
     let m = count(line, u, b'm', counts.modifier_defective_selectors);
@@ -48,7 +48,7 @@ fn first_counts(line: &[u8], place: Place, counts: NonCanonicality) -> Place {
     count(line, a, b'c', counts.tag_conflicting_selectors)
 }
 
-// The last four counts.
+// Matches the last four counts.
 fn last_counts(line: &[u8], place: Place, counts: NonCanonicality) -> Place {
     let f = count(line, place, b'f', counts.tag_forced_presentations);
     let r = count(line, f, b'r', counts.tag_redundant_selectors);
@@ -56,7 +56,7 @@ fn last_counts(line: &[u8], place: Place, counts: NonCanonicality) -> Place {
     count(line, p, b'd', counts.presentation_decisions)
 }
 
-// A replacement after a sign, which was written at the front of the bytes.
+// Matches a replacement after a sign. The replacement is at the front of the bytes.
 fn written(line: &[u8], place: Place, sign: u8, answer: MendAnswer, bytes: &[u8]) -> Place {
     let MendAnswer::Mended { len } = answer else {
         return Place::Missing;
@@ -67,7 +67,7 @@ fn written(line: &[u8], place: Place, sign: u8, answer: MendAnswer, bytes: &[u8]
     bytes_of(line, mark(line, place, sign), &bytes[0..len])
 }
 
-// The unit at an offset of the bytes of an item, with a decision.
+// Matches the replacement of the unit at an offset of an item's bytes, for a decision.
 fn chosen(
     line: &[u8],
     place: Place,
@@ -81,7 +81,7 @@ fn chosen(
     written(line, place, b'+', answer, &bytes)
 }
 
-// The choices of the bytes of an item, each its default and its two replacements.
+// Matches the choices of an item's bytes: for each its default and its two replacements.
 fn choices(line: &[u8], place: Place, raw: &[u8], policy: Policy) -> Place {
     let mut past = place;
     let mut at = 0;
@@ -115,14 +115,14 @@ fn choices(line: &[u8], place: Place, raw: &[u8], policy: Policy) -> Place {
     past
 }
 
-// The replacement of the finding at an offset, every decision at its default.
+// Matches the replacement of the finding at an offset, with the default for every decision.
 fn by_default(line: &[u8], place: Place, text: &[u8], at: usize, policy: Policy) -> Place {
     let mut bytes = [0u8; ROOM];
     let answer = default_canonical_replacement(text, at, policy, &mut bytes);
     written(line, place, b'=', answer, &bytes)
 }
 
-// The replacement of the finding at an offset under decisions.
+// Matches the replacement of the finding at an offset, with the given decisions.
 fn decided(
     line: &[u8],
     place: Place,
@@ -136,7 +136,7 @@ fn decided(
     written(line, place, b'=', answer, &bytes)
 }
 
-// The replacement of the finding at an offset under the first n of a list of decisions.
+// Matches the replacement of the finding at an offset, with the first n decisions of a list.
 fn decided_by(
     line: &[u8],
     place: Place,
@@ -152,7 +152,7 @@ fn decided_by(
     decided(line, place, text, at, policy, &list[0..n])
 }
 
-// The replacements under n decisions, beside that by default.
+// Matches the replacements with n decisions from each list, after the replacement by default.
 fn replacements(
     line: &[u8],
     place: Place,
@@ -172,7 +172,7 @@ fn replacements(
     decided_by(line, past_emoji, text, at, policy, &BY_TURNS, n)
 }
 
-// A finding, after a blank.
+// Matches a finding after a blank.
 fn finding_at(line: &[u8], place: Place, text: &[u8], finding: Finding, policy: Policy) -> Place {
     let start = finding.start;
     let end = finding.end;
@@ -198,7 +198,7 @@ fn finding_at(line: &[u8], place: Place, text: &[u8], finding: Finding, policy: 
     )
 }
 
-// The finding of the text at an offset, or nothing where the item there has none.
+// Matches the finding of the item at an offset of the text, or nothing if it has none.
 fn finding_of(line: &[u8], place: Place, text: &[u8], at: usize, policy: Policy) -> Read {
     match analyze_scan_item(text, at, policy) {
         ItemAnalysis::End => Read::Apart,
@@ -210,7 +210,7 @@ fn finding_of(line: &[u8], place: Place, text: &[u8], at: usize, policy: Policy)
     }
 }
 
-// The findings of the text.
+// Matches the findings of the text.
 fn findings(line: &[u8], place: Place, text: &[u8], policy: Policy) -> Place {
     let mut past = place;
     let mut at = 0;
@@ -231,7 +231,7 @@ fn findings(line: &[u8], place: Place, text: &[u8], policy: Policy) -> Place {
     past
 }
 
-// Whether the findings of the text are those of the line from `at` on.
+// Tests whether the findings of the text are those of the line from `at` on.
 pub(crate) fn findings_agree(line: &[u8], at: usize, text: &[u8], policy: Policy) -> bool {
     is_end(line, findings(line, Place::Past(at), text, policy))
 }

@@ -1,5 +1,5 @@
-// What the items of a line must be: the proved scanner gives the items of the text, and each is held
-// to what stands in the line, byte by byte.
+// Compares the items of a text with a line, byte by byte. The proved scanner gives the items. Each function matches a
+// part of an item at a place of the line (see notation.rt).
 use crate::notation::Read;
 use crate::notation::is_end;
 use crate::notation::mark;
@@ -14,7 +14,7 @@ use scanner::ScanKind;
 use scanner::ScanStep;
 use scanner::selectors::consume_presentation_selectors;
 
-// The letter of a kind.
+// Returns the letter of a kind.
 fn kind_letter(kind: ScanKind) -> u8 {
     match kind {
         ScanKind::Passthrough => b'p',
@@ -24,7 +24,7 @@ fn kind_letter(kind: ScanKind) -> u8 {
     }
 }
 
-// A unit and what stands after it up to the end of an item.
+// Matches a unit and the parts after it, up to the end of an item.
 fn emoji_headed(line: &[u8], place: Place, text: &[u8], at: usize, item_end: usize) -> Place {
     match unit(line, place, text, at) {
         Read::To {
@@ -35,7 +35,7 @@ fn emoji_headed(line: &[u8], place: Place, text: &[u8], at: usize, item_end: usi
     }
 }
 
-// The nested structure of an item of a kind.
+// Matches the nested structure of an item of a kind.
 fn structure(
     line: &[u8],
     place: Place,
@@ -56,7 +56,7 @@ fn structure(
     }
 }
 
-// The tag report of an item.
+// Matches the letter that says whether the tags of an item are complete.
 fn tag_report(line: &[u8], place: Place, tags_complete: bool) -> Place {
     if tags_complete {
         return place;
@@ -64,7 +64,7 @@ fn tag_report(line: &[u8], place: Place, tags_complete: bool) -> Place {
     mark(line, place, b'!')
 }
 
-// An item, after a blank.
+// Matches an item after a blank.
 fn item_at(line: &[u8], place: Place, text: &[u8], item: ScanItem) -> Place {
     let kind = item.kind;
     let past_kind = mark(line, mark(line, place, b' '), kind_letter(kind));
@@ -73,7 +73,7 @@ fn item_at(line: &[u8], place: Place, text: &[u8], item: ScanItem) -> Place {
     structure(line, past_tags, text, kind, item.start, item.end)
 }
 
-// The item of the text at an offset.
+// Matches the item at an offset of the text.
 fn item_of(line: &[u8], place: Place, text: &[u8], at: usize) -> Read {
     match scanner::next_item(text, at) {
         ScanStep::Item(item) => read_to(item_at(line, place, text, item), item.end),
@@ -81,7 +81,7 @@ fn item_of(line: &[u8], place: Place, text: &[u8], at: usize) -> Read {
     }
 }
 
-// The items of the text.
+// Matches the items of the text.
 fn items(line: &[u8], place: Place, text: &[u8]) -> Place {
     let mut past = place;
     let mut at = 0;
@@ -102,7 +102,7 @@ fn items(line: &[u8], place: Place, text: &[u8]) -> Place {
     past
 }
 
-// Whether the items of the text are those of the line from `at` on.
+// Tests whether the items of the text are those of the line from `at` on.
 pub(crate) fn items_agree(line: &[u8], at: usize, text: &[u8]) -> bool {
     is_end(line, items(line, Place::Past(at), text))
 }

@@ -1,5 +1,5 @@
-// The files of items: what becomes of a line. Policies are kept for the lines that speak of their
-// numbers; a line `under` is about the text of the last line `text`.
+// Replays a line of the files of items. The policies are stored, since other lines name them by number. A line `under`
+// is about the text of the last line `text`.
 use crate::finding_answers::findings_agree;
 use crate::item_answers::items_agree;
 use crate::item_format::END;
@@ -16,7 +16,7 @@ use crate::parse::Place;
 use crate::parse::VALUES;
 use crate::parse::ends_with;
 use crate::parse::fields_at;
-use crate::policy_bytes::crosses;
+use crate::policy_bytes::round_trips;
 use crate::policy_format::POLICIES;
 use crate::policy_store::STORE_WORDS;
 use crate::policy_store::keep_policy;
@@ -29,8 +29,8 @@ use crate::walk::Outcome;
 use crate::walk::compared;
 use policy::Policy;
 
-// Keeps the policy whose words are the values, and answers whether it is one: it crosses as bytes,
-// and the first is the default policy.
+// Stores the policy whose words are the values. Tests whether it is a policy that is equal after writing and reading
+// its bytes; the first must be the default policy.
 fn policy_agrees(number: u64, values: &[u64; VALUES], store: &mut [u64; STORE_WORDS]) -> bool {
     let policy = policy_at(values, 0);
     keep_policy(store, number, policy);
@@ -39,10 +39,10 @@ fn policy_agrees(number: u64, values: &[u64; VALUES], store: &mut [u64; STORE_WO
             return false;
         }
     }
-    crosses(policy, values, 0)
+    round_trips(policy, values, 0)
 }
 
-// What becomes of a line `policy` after so many.
+// Replays a line `policy`. `number` is the number of such lines before it.
 fn policy_outcome(line: &[u8], number: u64, store: &mut [u64; STORE_WORDS]) -> Outcome {
     if number >= POLICIES as u64 {
         return Outcome::Malformed;
@@ -59,7 +59,7 @@ fn policy_outcome(line: &[u8], number: u64, store: &mut [u64; STORE_WORDS]) -> O
     compared(policy_agrees(number, &values, store))
 }
 
-// The items of the text of a line.
+// Compares the items of the text of a line.
 fn text_outcome(line: &[u8]) -> Outcome {
     let mut bytes = [0u8; TEXT_ROOM];
     let TextRead::Text { len, end } = text_of(line, &mut bytes) else {
@@ -72,7 +72,7 @@ fn text_outcome(line: &[u8]) -> Outcome {
     compared(items_agree(line, end, text) && scanner_agrees(text))
 }
 
-// The findings of a line from `at` on, in the text of the line `subject`.
+// Compares the findings of a line from `at` on with those of the text of the line `subject`.
 fn findings_outcome(line: &[u8], at: usize, subject: &[u8], policy: Policy) -> Outcome {
     let mut bytes = [0u8; TEXT_ROOM];
     let TextRead::Text { len, end: _ } = text_of(subject, &mut bytes) else {
@@ -84,7 +84,7 @@ fn findings_outcome(line: &[u8], at: usize, subject: &[u8], policy: Policy) -> O
     compared(findings_agree(line, at, &bytes[0..len], policy))
 }
 
-// The findings of a line under one of so many policies.
+// Compares the findings of a line under one of the stored policies.
 fn under_outcome(
     line: &[u8],
     subject: &[u8],
@@ -101,7 +101,7 @@ fn under_outcome(
     findings_outcome(line, at, subject, policy_of(store, values[0]))
 }
 
-// What becomes of the last line.
+// Replays the last line.
 fn end_outcome(line: &[u8]) -> Outcome {
     if word_end(line, 0) == line.len() {
         Outcome::AsStored
@@ -110,8 +110,8 @@ fn end_outcome(line: &[u8]) -> Outcome {
     }
 }
 
-// What becomes of a line of this kind after one of the kind `last`, where the last line `text` is
-// `subject` and so many lines of each kind came before.
+// Replays a line of this kind after a line of the kind `last`. `subject` is the last line `text`. The counts say how
+// many lines of each kind came before.
 pub(crate) fn outcome_of(
     subject: &[u8],
     line: &[u8],

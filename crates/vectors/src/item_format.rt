@@ -1,6 +1,5 @@
-// The grammar of the files of items, as the comments at their heads have it: which line may stand
-// after which, and the text that a line has. What items and findings must be is decided in
-// `item_answers` and `finding_answers`.
+// The grammar of the files of items, as in the comments at the start of each file: the order of the lines, and the text
+// of a line. The modules `item_answers` and `finding_answers` compare items and findings.
 use crate::lines::COMMENT;
 use crate::lines::word_end;
 use crate::parse::Field;
@@ -9,10 +8,10 @@ use crate::parse::after_blank;
 use crate::parse::after_mark;
 use crate::parse::digits_at;
 
-// The keywords; the first stands for comments.
+// The keywords. The first stands for comments.
 pub const KEYWORDS: [u8; 23] = *b"# policy text under end";
 
-// The kinds of lines, after the comments.
+// The kinds of lines after the comments.
 pub const POLICY: usize = 1;
 
 pub const TEXT: usize = 2;
@@ -21,10 +20,10 @@ pub const UNDER: usize = 3;
 
 pub const END: usize = 4;
 
-// The room for a text, which must be shorter.
+// The length of the buffer for a text. The text must be shorter.
 pub const TEXT_ROOM: usize = 512;
 
-// Whether a line may stand after one of the kind `last`.
+// Tests whether a line may follow a line of the kind `last`.
 pub(crate) fn may_follow(last: usize, kind: usize) -> bool {
     match kind {
         COMMENT => last == COMMENT,
@@ -36,20 +35,20 @@ pub(crate) fn may_follow(last: usize, kind: usize) -> bool {
     }
 }
 
-// The text of a line: how many bytes it has, and where it ends in the line.
+// The text of a line: its number of bytes, and the offset of its end in the line.
 pub enum TextRead {
     Text { len: usize, end: usize },
     NoText,
 }
 
-// Puts a byte, if there is room for it.
+// Stores a byte, if it fits.
 fn put_byte(bytes: &mut [u8], i: usize, value: u64) {
     if i < bytes.len() {
         bytes[i] = (value % 256) as u8;
     }
 }
 
-// Puts the bytes whose digits stand at `at` up to a full stop.
+// Reads the bytes whose digits start at `at` and end at a full stop.
 fn text_at(line: &[u8], at: usize, bytes: &mut [u8]) -> TextRead {
     let mut i = at;
     let mut len = 0;
@@ -67,7 +66,7 @@ fn text_at(line: &[u8], at: usize, bytes: &mut [u8]) -> TextRead {
     TextRead::NoText
 }
 
-// Puts the text after the keyword of a line.
+// Reads the text after the keyword of a line.
 pub(crate) fn text_of(line: &[u8], bytes: &mut [u8]) -> TextRead {
     match after_blank(line, word_end(line, 0)) {
         Place::Past(start) => text_at(line, start, bytes),

@@ -1,18 +1,18 @@
-// The lines of a text, and the words of a line: a line ends with a line feed, and between two words
-// stands one blank. A list of words, as the keywords of a file, is a line too.
+// The lines of a text, and the words of a line. A line ends with a line feed. One blank stands between two words. A
+// list of words, such as the keywords of a file, is a line too.
 ghost use Prim.Native.Nat.{_≤_, _<_};
 ghost use lib.ListN.{length};
 
-// The number of a word in a list of words.
+// The number of a word in a list of words, or not in the list.
 pub enum Listed {
     At(usize),
     Unlisted,
 }
 
-// The kind of a comment, which begins with `#`.
+// The kind of a comment, which starts with `#`.
 pub const COMMENT: usize = 0;
 
-// Where the run of bytes other than `stop` that starts at `at` ends.
+// Returns the end of the run of bytes other than `stop` that starts at `at`.
 fn run_end(text: &[u8], at: usize, stop: u8) -> usize
     requires { ⌜ at ≤ length (now text) ⌝ }
     ensures { λ r. ⌜ (at ≤ r) × (r ≤ length (now (text .entry))) ⌝ }
@@ -27,7 +27,7 @@ fn run_end(text: &[u8], at: usize, stop: u8) -> usize
     i
 }
 
-// Where the run after that at `at` starts.
+// Returns the start of the run after the run at `at`.
 fn next_run(text: &[u8], at: usize, stop: u8) -> usize
     requires { ⌜ at < length (now text) ⌝ }
     ensures { λ r. ⌜ (at < r) × (r ≤ length (now (text .entry))) ⌝ }
@@ -39,7 +39,7 @@ fn next_run(text: &[u8], at: usize, stop: u8) -> usize
     text.len()
 }
 
-// The line that starts at `at`, without its line feed.
+// Returns the line that starts at `at`, without its line feed.
 pub(crate) fn line_at(text: &[u8], at: usize) -> &[u8]
     requires { ⌜ at ≤ length (now text) ⌝ }
 {
@@ -47,7 +47,7 @@ pub(crate) fn line_at(text: &[u8], at: usize) -> &[u8]
     &text[at..end]
 }
 
-// Where the line after that at `at` starts.
+// Returns the start of the line after the line at `at`.
 pub(crate) fn next_line(text: &[u8], at: usize) -> usize
     requires { ⌜ at < length (now text) ⌝ }
     ensures { λ r. ⌜ (at < r) × (r ≤ length (now (text .entry))) ⌝ }
@@ -55,7 +55,7 @@ pub(crate) fn next_line(text: &[u8], at: usize) -> usize
     next_run(text, at, b'\n')
 }
 
-// Whether the text ends with a line feed.
+// Tests whether the text ends with a line feed.
 pub(crate) fn is_ended(text: &[u8]) -> bool {
     if text.len() == 0 {
         return false;
@@ -63,7 +63,7 @@ pub(crate) fn is_ended(text: &[u8]) -> bool {
     text[text.len() - 1] == b'\n'
 }
 
-// Where the word that starts at `at` ends: before a blank, or at the end.
+// Returns the end of the word that starts at `at`: a blank, or the end of the line.
 pub(crate) fn word_end(text: &[u8], at: usize) -> usize
     requires { ⌜ at ≤ length (now text) ⌝ }
     ensures { λ r. ⌜ (at ≤ r) × (r ≤ length (now (text .entry))) ⌝ }
@@ -71,7 +71,7 @@ pub(crate) fn word_end(text: &[u8], at: usize) -> usize
     run_end(text, at, b' ')
 }
 
-// The word that starts at `at`.
+// Returns the word that starts at `at`.
 pub(crate) fn word_at(text: &[u8], at: usize) -> &[u8]
     requires { ⌜ at ≤ length (now text) ⌝ }
 {
@@ -79,7 +79,7 @@ pub(crate) fn word_at(text: &[u8], at: usize) -> &[u8]
     &text[at..end]
 }
 
-// Whether two words are the same.
+// Tests whether two words are the same.
 pub(crate) fn is_word(a: &[u8], b: &[u8]) -> bool {
     if a.len() != b.len() {
         return false;
@@ -94,7 +94,7 @@ pub(crate) fn is_word(a: &[u8], b: &[u8]) -> bool {
     true
 }
 
-// The number of a word in a list with a blank between the words, counted from 0.
+// Returns the number of a word in a list, counted from 0. The list has a blank between two words.
 pub(crate) fn number_of(list: &[u8], word: &[u8]) -> Listed {
     let mut at = 0;
     let mut number = 0;
@@ -108,7 +108,7 @@ pub(crate) fn number_of(list: &[u8], word: &[u8]) -> Listed {
     Listed::Unlisted
 }
 
-// Where the word after that at `at` starts, or the end of the list.
+// Returns the start of the word after the word at `at`, or the end of the list.
 fn next_word(list: &[u8], at: usize) -> usize
     requires { ⌜ at ≤ length (now list) ⌝ }
     ensures { λ r. ⌜ r ≤ length (now (list .entry)) ⌝ }
@@ -119,7 +119,7 @@ fn next_word(list: &[u8], at: usize) -> usize
     next_run(list, at, b' ')
 }
 
-// Where the word of this number starts, or the end of the list.
+// Returns the start of the word with this number, or the end of the list.
 pub(crate) fn word_start(list: &[u8], number: usize) -> usize
     ensures { λ r. ⌜ r ≤ length (now (list .entry)) ⌝ }
 {
@@ -132,8 +132,8 @@ pub(crate) fn word_start(list: &[u8], number: usize) -> usize
     at
 }
 
-// The kind of a line: the number of its keyword in a list whose first word stands for comments, or
-// `none` where it is not listed.
+// Returns the kind of a line: the number of its keyword in a list whose first word stands for comments, or `none` if
+// the list does not have it.
 pub(crate) fn kind_of(keywords: &[u8], line: &[u8], none: usize) -> usize {
     if line.len() > 0 {
         if line[0] == b'#' {

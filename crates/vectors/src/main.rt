@@ -1,6 +1,6 @@
-// Replays the stored answers of the crate evfmt, which stand in data/, with no Rust at hand: for each
-// line the answer is computed with the proved functions and held to the stored one. It writes a line
-// for each kind of line with how many are as stored, and where one differs, its number.
+// Replays the stored answers of the crate evfmt, in data/, without Rust. For each line it computes the answer with the
+// proved functions and compares it with the stored one. It writes one line for each kind of line, with the number of
+// lines that are as stored. If a line differs, it writes the line's number.
 mod checksum;
 mod finding_answers;
 mod item_answers;
@@ -23,7 +23,7 @@ mod walk;
 use report::say_file;
 use walk::Form;
 
-// The room for a file, which must be shorter.
+// The length of the buffer for a file. The file must be shorter.
 const ROOM: usize = 262144;
 
 // Reads a file and replays it.
@@ -43,7 +43,7 @@ fn replay_file(name: &[u8], form: Form) {
     walk::replay(form, name, &buf[..n]);
 }
 
-// Tries the policies that stand in no file, and replays each file.
+// Tries the policies that no file has, and replays each file.
 fn main() {
     policy_bytes::try_policies();
     replay_file(b"policy.txt", Form::Policy);

@@ -1,6 +1,5 @@
-// The pieces that items and findings are written with. Each function takes the place in a line where
-// a piece should stand, and answers where it ends; where something else stands, and after such a
-// place, nothing is found.
+// The parts of which items and findings are written. Each function takes a place in a line and returns the place after
+// its part. If the line has something else there, or if the given place is missing, it returns `Missing`.
 use crate::parse::Field;
 use crate::parse::Place;
 use crate::parse::after_bytes;
@@ -11,13 +10,13 @@ use scanner::selectors::PresentationSelectors;
 use unicode::presentation::FromSelector;
 use unicode::presentation::Presentation;
 
-// How far a line and a text were read together, or that they differ.
+// The places up to which a line and a text were read together, or that they differ.
 pub enum Read {
     To { place: usize, at: usize },
     Apart,
 }
 
-// The place where the line was read to, beside an offset of the text.
+// Returns the place in the line together with an offset of the text.
 pub(crate) fn read_to(place: Place, at: usize) -> Read {
     match place {
         Place::Past(end) => Read::To { place: end, at },
@@ -25,7 +24,7 @@ pub(crate) fn read_to(place: Place, at: usize) -> Read {
     }
 }
 
-// The end of a field, if it has this value.
+// Returns the end of a field, if it has this value.
 fn end_of(field: Field, wanted: u64) -> Place {
     let Field::Value(value, end) = field else {
         return Place::Missing;
@@ -36,7 +35,7 @@ fn end_of(field: Field, wanted: u64) -> Place {
     Place::Past(end)
 }
 
-// A letter or a sign.
+// Matches a letter or a sign.
 pub(crate) fn mark(line: &[u8], place: Place, b: u8) -> Place {
     let Place::Past(at) = place else {
         return Place::Missing;
@@ -44,7 +43,7 @@ pub(crate) fn mark(line: &[u8], place: Place, b: u8) -> Place {
     after_mark(line, at, b)
 }
 
-// A number in base 10.
+// Matches a number in base 10.
 pub(crate) fn number(line: &[u8], place: Place, n: usize) -> Place {
     let Place::Past(at) = place else {
         return Place::Missing;
@@ -52,7 +51,7 @@ pub(crate) fn number(line: &[u8], place: Place, n: usize) -> Place {
     end_of(number_at(line, at), n as u64)
 }
 
-// A code point, five hexadecimal digits.
+// Matches a code point: five hexadecimal digits.
 fn code_point(line: &[u8], place: Place, ch: u32) -> Place {
     let Place::Past(at) = place else {
         return Place::Missing;
@@ -60,7 +59,7 @@ fn code_point(line: &[u8], place: Place, ch: u32) -> Place {
     end_of(digits_at(line, at, 5, 16), ch as u64)
 }
 
-// Bytes, two hexadecimal digits each.
+// Matches bytes: two hexadecimal digits for each.
 pub(crate) fn bytes_of(line: &[u8], place: Place, bytes: &[u8]) -> Place {
     let Place::Past(at) = place else {
         return Place::Missing;
@@ -68,12 +67,12 @@ pub(crate) fn bytes_of(line: &[u8], place: Place, bytes: &[u8]) -> Place {
     after_bytes(line, at, bytes)
 }
 
-// A span: its start, `-`, and its end.
+// Matches a span: its start, `-`, and its end.
 pub(crate) fn span(line: &[u8], place: Place, start: usize, end: usize) -> Place {
     number(line, mark(line, number(line, place, start), b'-'), end)
 }
 
-// The letter of a selector.
+// Matches the letter of a selector.
 pub(crate) fn selector(line: &[u8], place: Place, presentation: Presentation) -> Place {
     match presentation {
         Presentation::Text => mark(line, place, b't'),
@@ -81,7 +80,7 @@ pub(crate) fn selector(line: &[u8], place: Place, presentation: Presentation) ->
     }
 }
 
-// The letter of a selector, or nothing where there is none.
+// Matches the letter of a selector, or nothing if there is none.
 fn selector_if_any(line: &[u8], place: Place, found: FromSelector) -> Place {
     match found {
         FromSelector::Selector(presentation) => selector(line, place, presentation),
@@ -89,7 +88,7 @@ fn selector_if_any(line: &[u8], place: Place, found: FromSelector) -> Place {
     }
 }
 
-// A run of selectors: the letters of the first two and how many there are, or nothing.
+// Matches a run of selectors: the letters of the first two and the number of selectors, or nothing if there is none.
 pub(crate) fn selectors(line: &[u8], place: Place, run: PresentationSelectors) -> Place {
     if run.count == 0 {
         return place;
@@ -100,7 +99,7 @@ pub(crate) fn selectors(line: &[u8], place: Place, run: PresentationSelectors) -
     number(line, selector_if_any(line, past_first, second), run.count)
 }
 
-// A letter, a character and its selectors.
+// Matches a letter, a character and its selectors.
 pub(crate) fn character(
     line: &[u8],
     place: Place,
@@ -111,7 +110,7 @@ pub(crate) fn character(
     selectors(line, code_point(line, mark(line, place, letter), ch), run)
 }
 
-// A letter and selectors.
+// Matches a letter and selectors.
 pub(crate) fn mark_and_selectors(
     line: &[u8],
     place: Place,
@@ -121,7 +120,7 @@ pub(crate) fn mark_and_selectors(
     selectors(line, mark(line, place, letter), run)
 }
 
-// Whether the line ends at a place.
+// Tests whether the line ends at a place.
 pub(crate) fn is_end(line: &[u8], place: Place) -> bool {
     match place {
         Place::Past(end) => end == line.len(),

@@ -1,24 +1,24 @@
-// The fields of a line of a file of stored answers, each after one blank. What fields a line has is
-// told by letters, a letter for a field, as in the comments at the head of the file: N, D, B, C and
-// W. Their values are put into an array, in order; a text, T, is compared where it stands.
+// The fields of a line of a file of stored answers, each after one blank. A list of letters says which fields a line
+// has, one letter for a field, as in the comments at the start of the file: N, D, B, C and W. Their values are stored
+// into an array, in order. A text, T, is compared in the line.
 ghost use Prim.Native.Nat.{_≤_};
 
-// Where something that was looked for ends.
+// The offset after a match, or no match.
 pub enum Place {
     Past(usize),
     Missing,
 }
 
-// The value of a field, and where its digits end.
+// The value of a field and the offset after its digits, or no field.
 pub enum Field {
     Value(u64, usize),
     NoField,
 }
 
-// How many values a line has at most.
+// The largest number of values of a line.
 pub const VALUES: usize = 24;
 
-// Where the byte b ends, if it stands at `at`.
+// Returns the offset after the byte b, if the line has it at `at`.
 pub(crate) fn after_mark(line: &[u8], at: usize, b: u8) -> Place {
     if at >= line.len() {
         return Place::Missing;
@@ -29,12 +29,12 @@ pub(crate) fn after_mark(line: &[u8], at: usize, b: u8) -> Place {
     Place::Past(at + 1)
 }
 
-// Where the blank at `at` ends, if one stands there.
+// Returns the offset after the blank at `at`, if there is one.
 pub(crate) fn after_blank(line: &[u8], at: usize) -> Place {
     after_mark(line, at, b' ')
 }
 
-// The value of a digit `0` to `9` or `A` to `F`, and 16 for any other byte.
+// Returns the value of a digit `0` to `9` or `A` to `F`, or 16 for any other byte.
 fn digit_value(b: u8) -> u64
     ensures { λ r. ⌜ r ≤ 16 ⌝ }
 {
@@ -45,7 +45,7 @@ fn digit_value(b: u8) -> u64
     }
 }
 
-// `value` with one digit more in base 16, or else in base 10, where a field has few digits.
+// Returns `value` with one more digit in base 16, or else in base 10, where a field has few digits.
 fn with_digit(value: u64, base: u64, digit: u64) -> u64
     requires { ⌜ digit ≤ 16 ⌝ }
 {
@@ -58,7 +58,7 @@ fn with_digit(value: u64, base: u64, digit: u64) -> u64
     value * 10 + digit
 }
 
-// The number that so many digits at `at` make. A digit is less than the base.
+// Returns the number of the `width` digits at `at`. Each digit is less than the base.
 pub(crate) fn digits_at(line: &[u8], at: usize, width: usize, base: u64) -> Field {
     let mut value = 0;
     let mut i = at;
@@ -78,7 +78,7 @@ pub(crate) fn digits_at(line: &[u8], at: usize, width: usize, base: u64) -> Fiel
     Field::Value(value, i)
 }
 
-// The code point at `at`.
+// Returns the code point at `at`.
 fn code_point_at(line: &[u8], at: usize) -> Field {
     let Field::Value(value, end) = digits_at(line, at, 6, 16) else {
         return Field::NoField;
@@ -89,7 +89,7 @@ fn code_point_at(line: &[u8], at: usize) -> Field {
     Field::Value(value, end)
 }
 
-// The field of a letter, after a blank at `at`.
+// Returns the field of a letter, after a blank at `at`.
 fn field_at(line: &[u8], at: usize, letter: u8) -> Field {
     let Place::Past(start) = after_blank(line, at) else {
         return Field::NoField;
@@ -104,14 +104,14 @@ fn field_at(line: &[u8], at: usize, letter: u8) -> Field {
     }
 }
 
-// Puts a value, if there is room for it.
+// Stores a value, if it fits.
 pub(crate) fn put_value(values: &mut [u64; VALUES], i: usize, value: u64) {
     if i < VALUES {
         values[i] = value;
     }
 }
 
-// Puts the values of the fields of these letters, and answers where the last field ends.
+// Stores the values of the fields of these letters. Returns the offset after the last field.
 pub(crate) fn fields_at(
     line: &[u8],
     at: usize,
@@ -131,7 +131,7 @@ pub(crate) fn fields_at(
     Place::Past(next)
 }
 
-// Puts the values of the fields of these letters, and answers whether the line ends with them.
+// Stores the values of the fields of these letters. Returns whether the line ends with them.
 pub(crate) fn ends_with(
     line: &[u8],
     at: usize,
@@ -144,7 +144,7 @@ pub(crate) fn ends_with(
     }
 }
 
-// Whether the rest of the line is a text, two digits a byte.
+// Tests whether the rest of the line is a text: two digits for each byte.
 pub(crate) fn is_text(line: &[u8], at: usize) -> bool {
     let mut i = at;
     while i < line.len() {
@@ -159,7 +159,7 @@ pub(crate) fn is_text(line: &[u8], at: usize) -> bool {
     true
 }
 
-// Where the two digits of the byte b end, if they stand at `at`.
+// Returns the offset after the two digits of the byte b, if the line has them at `at`.
 fn after_byte(line: &[u8], at: usize, b: u8) -> Place {
     let Field::Value(value, end) = digits_at(line, at, 2, 16) else {
         return Place::Missing;
@@ -170,7 +170,7 @@ fn after_byte(line: &[u8], at: usize, b: u8) -> Place {
     Place::Past(end)
 }
 
-// Where the digits of these bytes end, if they stand at `at`.
+// Returns the offset after the digits of these bytes, if the line has them at `at`.
 pub(crate) fn after_bytes(line: &[u8], at: usize, bytes: &[u8]) -> Place {
     let mut next = at;
     let mut i = 0;
@@ -184,7 +184,7 @@ pub(crate) fn after_bytes(line: &[u8], at: usize, bytes: &[u8]) -> Place {
     Place::Past(next)
 }
 
-// Whether the rest of the line is the text of these bytes.
+// Tests whether the rest of the line is the text of these bytes.
 pub(crate) fn text_is(line: &[u8], at: usize, bytes: &[u8]) -> bool {
     match after_bytes(line, at, bytes) {
         Place::Past(end) => end == line.len(),
@@ -192,7 +192,7 @@ pub(crate) fn text_is(line: &[u8], at: usize, bytes: &[u8]) -> bool {
     }
 }
 
-// Where the run of decimal digits at `at` ends.
+// Returns the end of the run of decimal digits at `at`.
 fn digits_end(line: &[u8], at: usize) -> usize {
     let mut i = at;
     while i < line.len() {
@@ -204,7 +204,7 @@ fn digits_end(line: &[u8], at: usize) -> usize {
     i
 }
 
-// The number in base 10 at `at`, to the last of its digits.
+// Returns the number in base 10 at `at`, with all its digits.
 pub(crate) fn number_at(line: &[u8], at: usize) -> Field {
     let end = digits_end(line, at);
     if end <= at {

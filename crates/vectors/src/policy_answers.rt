@@ -1,5 +1,5 @@
-// What the answers of a line of policy.txt must be: each function computes one with the proved
-// functions and holds it to the values of the line. The shapes of the lines are in `policy_format`.
+// Compares the answers of a line of policy.txt. Each function computes an answer with the proved functions and compares
+// it with the values of the line. The module `policy_format` has the grammar of the lines.
 use crate::parse;
 use crate::parse::VALUES;
 use crate::policy_bytes;
@@ -16,15 +16,15 @@ use policy_key_set::named_sets::CHARSET_WORDS;
 use unicode::VariationEntry;
 use unicode::unicode_data::VARIATION_ENTRY_COUNT;
 
-// The room for a text.
+// The length of the buffer for a text.
 const TEXT_BYTES: usize = 8600;
 
-// 1 for true, and 0 for false.
+// Returns 1 for true and 0 for false.
 pub(crate) fn truth(b: bool) -> u64 {
     if b { 1 } else { 0 }
 }
 
-// A code point of a line.
+// Returns a code point of a line.
 pub(crate) fn char_of(value: u64) -> u32 {
     if value > 0x10_FFFF {
         return 0x11_0000;
@@ -32,7 +32,7 @@ pub(crate) fn char_of(value: u64) -> u32 {
     value as u32
 }
 
-// Whether there is an entry at a place.
+// Tests whether there is an entry at an index.
 fn has_entry(i: usize) -> bool {
     match unicode::variation_entry(i) {
         VariationEntry::Char(_) => true,
@@ -40,7 +40,7 @@ fn has_entry(i: usize) -> bool {
     }
 }
 
-// The number of entries, with none after the last, and of words.
+// Compares the number of entries, with no entry after the last, and the number of words.
 pub(crate) fn entries_agree(values: &[u64; VALUES]) -> bool {
     if values[0] != VARIATION_ENTRY_COUNT as u64 {
         return false;
@@ -54,7 +54,7 @@ pub(crate) fn entries_agree(values: &[u64; VALUES]) -> bool {
     !has_entry(VARIATION_ENTRY_COUNT)
 }
 
-// The sizes of the four sets of the default policy.
+// Compares the sizes of the four sets of the default policy.
 pub(crate) fn sizes_agree(values: &[u64; VALUES]) -> bool {
     let policy = Policy::default();
     if sets::has_sizes(policy.prefer_bare, values[0], values[1]) {
@@ -63,16 +63,16 @@ pub(crate) fn sizes_agree(values: &[u64; VALUES]) -> bool {
     false
 }
 
-// The words of the default policy, also as bytes.
+// Compares the words of the default policy, and their bytes.
 pub(crate) fn default_agrees(values: &[u64; VALUES]) -> bool {
     let policy = Policy::default();
     if sets::same_policy(policy, sets::policy_at(values, 0)) {
-        return policy_bytes::crosses(policy, values, 0);
+        return policy_bytes::round_trips(policy, values, 0);
     }
     false
 }
 
-// The named set of this number, in the order of the names.
+// Returns the named set with this number, in the order of the names.
 pub(crate) fn named(number: u64) -> PolicyKeySet {
     match number {
         0 => policy_key_set::ascii(),
@@ -87,13 +87,14 @@ pub(crate) fn named(number: u64) -> PolicyKeySet {
     }
 }
 
-// Whether each bit of the set is an entry's: what it has in common with the set of all is itself.
+// Tests whether each bit of the set belongs to an entry: the intersection with the set of all entries is the set
+// itself.
 pub(crate) fn set_agrees(values: &[u64; VALUES]) -> bool {
     let set = sets::keys_at(values, 1);
     is_stored(PolicyKeySet::bitand(set, PolicyKeySet::all()), values, 1)
 }
 
-// Whether the set holds the ordinary key, and the keycap key.
+// Compares whether the set holds the ordinary key, and whether it holds the keycap key.
 pub(crate) fn contains_agrees(set: PolicyKeySet, values: &[u64; VALUES]) -> bool {
     let ch = char_of(values[1]);
     if truth(PolicyKeySet::contains(set, ch)) != values[2] {
@@ -102,7 +103,7 @@ pub(crate) fn contains_agrees(set: PolicyKeySet, values: &[u64; VALUES]) -> bool
     truth(PolicyKeySet::contains_keycap(set, ch)) == values[3]
 }
 
-// Whether each byte is b.
+// Tests whether each byte is b.
 fn are_all(bytes: &[u8; TEXT_BYTES], b: u8) -> bool {
     let mut i = 0;
     while i < TEXT_BYTES {
@@ -114,7 +115,7 @@ fn are_all(bytes: &[u8; TEXT_BYTES], b: u8) -> bool {
     true
 }
 
-// How many bytes are wanted where there is room for so many only, or 0 where those are enough.
+// Returns the number of bytes wanted if only `room` bytes are lent, or 0 if these are enough.
 fn wanted_beyond(set: PolicyKeySet, bytes: &mut [u8], room: usize) -> usize {
     if room > bytes.len() {
         return 0;
@@ -125,7 +126,7 @@ fn wanted_beyond(set: PolicyKeySet, bytes: &mut [u8], room: usize) -> usize {
     }
 }
 
-// Whether a buffer one byte too short for a text of so many bytes is refused and left as it was.
+// Tests whether a buffer that is one byte too short for a text of `len` bytes is refused and does not change.
 fn is_refused(set: PolicyKeySet, len: usize) -> bool {
     if len == 0 {
         return false;
@@ -137,7 +138,7 @@ fn is_refused(set: PolicyKeySet, len: usize) -> bool {
     are_all(&bytes, b'-')
 }
 
-// Whether the text of the set is the one that stands in the line at `text`.
+// Tests whether the text of the set is the one that the line has at `text`.
 pub(crate) fn display_agrees(set: PolicyKeySet, line: &[u8], text: usize) -> bool {
     let mut bytes = [0u8; TEXT_BYTES];
     let WriteAnswer::Written { len } = PolicyKeySet::fmt(set, &mut bytes) else {
@@ -152,7 +153,7 @@ pub(crate) fn display_agrees(set: PolicyKeySet, line: &[u8], text: usize) -> boo
     is_refused(set, len)
 }
 
-// The operation on two sets that a kind of line is about.
+// Returns the result of the operation on two sets that a kind of line is about.
 pub(crate) fn operation(kind: usize, a: PolicyKeySet, b: PolicyKeySet) -> PolicyKeySet {
     match kind {
         UNION => PolicyKeySet::bitor(a, b),
@@ -162,7 +163,7 @@ pub(crate) fn operation(kind: usize, a: PolicyKeySet, b: PolicyKeySet) -> Policy
     }
 }
 
-// A rule by the number that stands for it in a line.
+// Returns the number of a rule in a line.
 fn rule_number(rule: SingletonRule) -> u64 {
     match rule {
         SingletonRule::BareToEmoji => 0,
@@ -172,7 +173,7 @@ fn rule_number(rule: SingletonRule) -> u64 {
     }
 }
 
-// The rule for the base, ordinary and before a keycap.
+// Compares the rule for the base, as an ordinary and as a keycap base.
 pub(crate) fn rule_agrees(policy: Policy, values: &[u64; VALUES]) -> bool {
     let base = char_of(values[1]);
     if rule_number(Policy::singleton_rule(policy, base, false)) != values[2] {

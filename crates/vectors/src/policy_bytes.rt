@@ -1,6 +1,6 @@
-// Policies as bytes: `write_policy` and `read_policy`. A policy crosses as the bytes of its words,
-// lowest first, and is read back as it was. Of the bytes that are tried here only 192 are a policy,
-// and only if no bit is set that is no entry's.
+// Policies as bytes: `write_policy` and `read_policy`. A policy is written as the bytes of its words, lowest byte
+// first, and reading the bytes gives the same policy. Bytes are a policy only if there are 192 and every bit that is
+// set belongs to an entry. This module also tries bytes that are not a policy.
 ghost use Prim.Native.Nat.{_<_};
 use crate::report;
 use crate::sets::same_policy;
@@ -12,24 +12,24 @@ use policy::Policy;
 use std::num::wrapping_add_u64;
 use unicode::unicode_data::VARIATION_ENTRY_COUNT;
 
-// The bytes of a character set, and its last bit.
+// The number of bytes of a character set, and its last bit.
 const SET_BYTES: usize = POLICY_BYTES / 4;
 
 const LAST_BIT: usize = 8 * SET_BYTES - 1;
 
-// Byte i of a word, counted from the lowest.
+// Returns byte i of a word, counted from the lowest.
 fn byte_of(w: u64, i: usize) -> u64
     requires { ⌜ i < 8 ⌝ }
 {
     (w >> (8 * i)) % 256
 }
 
-// Whether a byte is the number n.
+// Tests whether a byte is the number n.
 fn is_number(b: u8, n: u64) -> bool {
     b as u64 == n
 }
 
-// Whether the bytes are those of the words from a place on.
+// Tests whether the bytes are those of the words from an index on.
 fn are_bytes_of(bytes: &[u8; POLICY_BYTES], words: &[u64], at: usize) -> bool {
     let mut i = 0;
     while i < POLICY_BYTES {
@@ -42,7 +42,7 @@ fn are_bytes_of(bytes: &[u8; POLICY_BYTES], words: &[u64], at: usize) -> bool {
     true
 }
 
-// Whether the policy is read back from its bytes.
+// Tests whether reading the bytes gives the policy.
 fn is_read_back(bytes: &[u8; POLICY_BYTES], policy: Policy) -> bool {
     let read = policy::read_policy(bytes);
     if read.accepted {
@@ -51,8 +51,9 @@ fn is_read_back(bytes: &[u8; POLICY_BYTES], policy: Policy) -> bool {
     false
 }
 
-// Whether the policy, whose words stand from a place on, is written as their bytes and read back.
-pub(crate) fn crosses(policy: Policy, words: &[u64], at: usize) -> bool {
+// Tests whether the policy is written as the bytes of the words from an index on, and whether reading these bytes gives
+// the policy.
+pub(crate) fn round_trips(policy: Policy, words: &[u64], at: usize) -> bool {
     let mut bytes = [0u8; POLICY_BYTES];
     let WriteAnswer::Written { len } = policy::write_policy(policy, &mut bytes) else {
         return false;
@@ -66,14 +67,14 @@ pub(crate) fn crosses(policy: Policy, words: &[u64], at: usize) -> bool {
     false
 }
 
-// How many were accepted and how many were not, and for how many of them that is wrong.
+// The number of byte strings accepted, the number not accepted, and the number for which that is wrong.
 pub struct Tried {
     pub accepted: u64,
     pub refused: u64,
     pub wrong: u64,
 }
 
-// One more, which was accepted or not.
+// Counts a byte string that was accepted or not.
 fn counted(tried: Tried, accepted: bool) -> Tried {
     if accepted {
         return Tried {
@@ -89,8 +90,8 @@ fn counted(tried: Tried, accepted: bool) -> Tried {
     }
 }
 
-// One more, which should have been answered otherwise.
-fn mistaken(tried: Tried) -> Tried {
+// Counts a wrong answer.
+fn with_mistake(tried: Tried) -> Tried {
     Tried {
         accepted: tried.accepted,
         refused: tried.refused,
@@ -98,17 +99,17 @@ fn mistaken(tried: Tried) -> Tried {
     }
 }
 
-// With bytes that should be accepted or not.
+// Tries bytes that should be accepted or not.
 fn with_bytes(tried: Tried, bytes: &[u8], is_policy: bool) -> Tried {
     let read = policy::read_policy(bytes);
     let next = counted(tried, read.accepted);
     if read.accepted == is_policy {
         return next;
     }
-    mistaken(next)
+    with_mistake(next)
 }
 
-// With the policy that has one bit of one set.
+// Tries the policy that has one bit of one set.
 fn with_bit(tried: Tried, set: usize, bit: usize, is_policy: bool) -> Tried
     requires { ⌜ (set < 4) × (bit < 384) ⌝ }
 {
@@ -117,7 +118,7 @@ fn with_bit(tried: Tried, set: usize, bit: usize, is_policy: bool) -> Tried
     with_bytes(tried, &bytes, is_policy)
 }
 
-// With the last used bit of a set, and the first and the last unused one.
+// Tries the last used bit of a set, and the first and the last unused bit.
 fn with_set(tried: Tried, set: usize) -> Tried
     requires { ⌜ set < 4 ⌝ }
 {
@@ -126,7 +127,7 @@ fn with_set(tried: Tried, set: usize) -> Tried
     with_bit(unused, set, LAST_BIT, false)
 }
 
-// With policies of four lengths, without a key where they have the right one.
+// Tries bytes of four lengths. Those of the right length are the policy without a key.
 fn with_lengths(tried: Tried) -> Tried {
     let bytes = [0u8; POLICY_BYTES + 1];
     let empty = with_bytes(tried, &bytes[..0], false);
@@ -135,7 +136,7 @@ fn with_lengths(tried: Tried) -> Tried {
     with_bytes(right, &bytes, false)
 }
 
-// Tries the policies and says how they fared.
+// Tries the policies and writes the counts.
 pub(crate) fn try_policies() {
     let none = Tried {
         accepted: 0,

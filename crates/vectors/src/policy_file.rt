@@ -1,5 +1,5 @@
-// policy.txt: what becomes of a line. Lines `set` and `policy` are kept for the lines that speak of
-// their numbers. Each set has a line `complement`, which shows a wrong bit of it.
+// Replays a line of policy.txt. The sets and policies of the lines `set` and `policy` are stored, since other lines
+// name them by number. Each set has a line `complement`, which shows a wrong bit of the set.
 use crate::parse::VALUES;
 use crate::policy_answers;
 use crate::policy_answers::char_of;
@@ -39,7 +39,7 @@ use crate::walk::compared;
 use policy::Policy;
 use policy_key_set::PolicyKeySet;
 
-// Keeps what the lines below speak of by its number.
+// Stores a set or a policy, if lines after this one name it by number.
 fn keep(kind: usize, values: &[u64; VALUES], store: &mut [u64; STORE_WORDS]) {
     let number = values[0];
     if kind == SET {
@@ -56,8 +56,8 @@ fn keep(kind: usize, values: &[u64; VALUES], store: &mut [u64; STORE_WORDS]) {
     }
 }
 
-// Whether the answer is the one that the line has. Where its first two values are numbers of sets,
-// a and b are these sets.
+// Tests whether the computed answer is the one of the line. If its first two values are numbers of sets, a and b are
+// these sets.
 fn agrees(kind: usize, line: &[u8], values: &[u64; VALUES], store: &[u64; STORE_WORDS]) -> bool {
     let first = values[0];
     let a = set_of(store, first);
@@ -79,13 +79,13 @@ fn agrees(kind: usize, line: &[u8], values: &[u64; VALUES], store: &[u64; STORE_
             2,
         ),
         EQUAL => truth(PolicyKeySet::eq(a, b)) == values[2],
-        POLICY => policy_bytes::crosses(policy_of(store, first), store, policy_place(first)),
+        POLICY => policy_bytes::round_trips(policy_of(store, first), store, policy_place(first)),
         RULE => policy_answers::rule_agrees(policy_of(store, first), values),
         _ => true,
     }
 }
 
-// What becomes of a line of this kind after one of the kind `last`.
+// Replays a line of this kind after a line of the kind `last`.
 pub(crate) fn outcome_of(
     line: &[u8],
     last: usize,

@@ -1,6 +1,6 @@
-// The grammar of policy.txt, as the comments at its head have it: which line may stand after which,
-// and which fields a line has. A kind of line is the number of its keyword in `KEYWORDS`, where the
-// keywords stand in the order of the lines. What the answers must be is decided in `policy_answers`.
+// The grammar of policy.txt, as in the comments at its start: the order of the lines, and the fields of a line. The
+// kind of a line is the number of its keyword in `KEYWORDS`, which has the keywords in the order of the lines. The
+// module `policy_answers` compares the answers.
 use crate::lines::COMMENT;
 use crate::lines::Listed;
 use crate::lines::number_of;
@@ -15,11 +15,11 @@ use crate::parse::is_text;
 use crate::parse::put_value;
 use crate::walk::KINDS;
 
-// The keywords; the first stands for comments.
+// The keywords. The first stands for comments.
 pub const KEYWORDS: [u8; 139] =
     *b"# entries size default named singleton keycap set complement contains display union intersection symmetric difference equal policy rule end";
 
-// The kinds of lines, after the comments.
+// The kinds of lines after the comments.
 pub const ENTRIES: usize = 1;
 
 pub const SIZE: usize = 2;
@@ -60,18 +60,18 @@ pub const END: usize = 18;
 const NAMES: [u8; 127] =
     *b"ASCII TEXT_DEFAULTS EMOJI_DEFAULTS VARIATION_BASES KEYCAP_TEXT_DEFAULTS KEYCAP_EMOJI_DEFAULTS KEYCAP_VARIATION_BASES KEYCAP_RGI";
 
-// Which value of a line `named` is the number of its name: that after its words and sizes.
+// The index of the number of the name among the values of a line `named`, after its words and sizes.
 pub const NAME_VALUE: usize = 14;
 
-// Which value of a line `display` is the place of its text.
+// The index of the offset of the text among the values of a line `display`.
 pub const TEXT_VALUE: usize = 1;
 
-// How many sets, and how many policies, there are at most.
+// The largest number of sets, and of policies.
 pub const SETS: usize = 25;
 
 pub const POLICIES: usize = 8;
 
-// Whether lines of this kind stand one after the other.
+// Tests whether several lines of this kind may follow one another.
 fn repeats(kind: usize) -> bool {
     match kind {
         COMMENT | NAMED | SET | COMPLEMENT | CONTAINS | DISPLAY | RULE => true,
@@ -79,7 +79,7 @@ fn repeats(kind: usize) -> bool {
     }
 }
 
-// Whether a line may stand after one of the kind `last`.
+// Tests whether a line may follow a line of the kind `last`.
 fn may_follow(last: usize, kind: usize) -> bool {
     if kind == last {
         return repeats(kind);
@@ -95,7 +95,7 @@ fn may_follow(last: usize, kind: usize) -> bool {
     }
 }
 
-// The fields of a line `named`.
+// Reads the fields of a line `named`.
 fn named_fields(line: &[u8], at: usize, values: &mut [u64; VALUES]) -> bool {
     let Place::Past(start) = after_blank(line, at) else {
         return false;
@@ -110,7 +110,7 @@ fn named_fields(line: &[u8], at: usize, values: &mut [u64; VALUES]) -> bool {
     ends_with(line, word_end(line, start), b"WWWWWWWWWWWWNN", values)
 }
 
-// The fields of a line `display`.
+// Reads the fields of a line `display`.
 fn display_fields(line: &[u8], at: usize, values: &mut [u64; VALUES]) -> bool {
     let Place::Past(end) = fields_at(line, at, b"N", values) else {
         return false;
@@ -122,7 +122,7 @@ fn display_fields(line: &[u8], at: usize, values: &mut [u64; VALUES]) -> bool {
     is_text(line, text)
 }
 
-// Puts the values of the fields that a line of this kind has, and answers whether it has them.
+// Stores the values of the fields of a line of this kind. Returns whether the line has these fields.
 fn has_fields(kind: usize, line: &[u8], at: usize, values: &mut [u64; VALUES]) -> bool {
     match kind {
         COMMENT => true,
@@ -145,7 +145,7 @@ fn has_fields(kind: usize, line: &[u8], at: usize, values: &mut [u64; VALUES]) -
     }
 }
 
-// Whether a line of this kind, after one of the kind `last`, follows the grammar. Puts its values.
+// Tests whether a line of this kind follows the grammar after a line of the kind `last`. Stores its values.
 pub(crate) fn is_well_formed(
     line: &[u8],
     last: usize,
@@ -158,9 +158,8 @@ pub(crate) fn is_well_formed(
     has_fields(kind, line, word_end(line, 0), values)
 }
 
-// Whether a line has the numbers that it may have, where so many lines of each kind came before:
-// names, sets, complements and policies are counted from 0, any other set is one that is known, and
-// the policy of a rule is the last.
+// Tests the numbers of a line. `seen` has the number of lines of each kind before it. Names, sets, complements and
+// policies are counted from 0. Any other set must be a known one, and the policy of a rule is the last one.
 pub(crate) fn has_known_numbers(kind: usize, values: &[u64; VALUES], seen: &[u64; KINDS]) -> bool {
     let first = values[0];
     let sets = seen[SET];

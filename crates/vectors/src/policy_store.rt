@@ -1,5 +1,5 @@
-// The sets and policies that the lines of policy.txt speak of by their numbers: the words of the
-// sets and, after them, of the policies.
+// The sets and policies that lines of policy.txt name by number: the words of the sets and, after them, the words of
+// the policies.
 ghost use Prim.Native.Nat.{_≤_};
 use crate::policy_format::POLICIES;
 use crate::policy_format::SETS;
@@ -12,12 +12,12 @@ use policy_key_set::PolicyKeySet;
 use policy_key_set::char_set::CharSet;
 use policy_key_set::named_sets::CHARSET_WORDS;
 
-// Where the policies start, and how many words there are.
+// The index of the first policy's words, and the number of words.
 const POLICIES_AT: usize = SETS * KEY_SET_WORDS;
 
 pub const STORE_WORDS: usize = POLICIES_AT + POLICIES * POLICY_WORDS;
 
-// The set of this number, or no key where there is none.
+// Returns the set with this number, or the empty set if there is none.
 pub(crate) fn set_of(store: &[u64; STORE_WORDS], number: u64) -> PolicyKeySet {
     if number >= SETS as u64 {
         return PolicyKeySet::none();
@@ -25,7 +25,7 @@ pub(crate) fn set_of(store: &[u64; STORE_WORDS], number: u64) -> PolicyKeySet {
     keys_at(store, number as usize * KEY_SET_WORDS)
 }
 
-// Where the words of a policy start, or the end of the store.
+// Returns the index of a policy's words, or the end of the store.
 pub(crate) fn policy_place(number: u64) -> usize
     ensures { λ r. ⌜ r ≤ 492 ⌝ }
 {
@@ -35,19 +35,19 @@ pub(crate) fn policy_place(number: u64) -> usize
     POLICIES_AT + number as usize * POLICY_WORDS
 }
 
-// The policy of this number, or one that holds no key where there is none.
+// Returns the policy with this number, or the policy without keys if there is none.
 pub(crate) fn policy_of(store: &[u64; STORE_WORDS], number: u64) -> Policy {
     policy_at(store, policy_place(number))
 }
 
-// Puts a word, if there is room for it.
+// Stores a word, if it fits.
 fn put_word(store: &mut [u64; STORE_WORDS], at: usize, w: u64) {
     if at < STORE_WORDS {
         store[at] = w;
     }
 }
 
-// Puts the words of a character set from a place on, where there is room.
+// Stores the words of a character set from an index on, as far as they fit.
 fn put_chars(store: &mut [u64; STORE_WORDS], at: usize, set: CharSet)
     requires { ⌜ at ≤ 1000 ⌝ }
 {
@@ -59,7 +59,7 @@ fn put_chars(store: &mut [u64; STORE_WORDS], at: usize, set: CharSet)
     }
 }
 
-// Puts the words of a key set from a place on, where there is room.
+// Stores the words of a key set from an index on, as far as they fit.
 fn put_keys(store: &mut [u64; STORE_WORDS], at: usize, set: PolicyKeySet)
     requires { ⌜ at ≤ 900 ⌝ }
 {
@@ -67,14 +67,14 @@ fn put_keys(store: &mut [u64; STORE_WORDS], at: usize, set: PolicyKeySet)
     put_chars(store, at + CHARSET_WORDS, set.keycap_chars);
 }
 
-// Keeps the words of a set.
+// Stores the words of a set.
 pub(crate) fn keep_set(store: &mut [u64; STORE_WORDS], number: u64, set: PolicyKeySet) {
     if number < SETS as u64 {
         put_keys(store, number as usize * KEY_SET_WORDS, set);
     }
 }
 
-// Keeps the words of a policy.
+// Stores the words of a policy.
 pub(crate) fn keep_policy(store: &mut [u64; STORE_WORDS], number: u64, policy: Policy) {
     let at = policy_place(number);
     put_keys(store, at, policy.prefer_bare);

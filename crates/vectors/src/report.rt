@@ -1,5 +1,5 @@
-// What the program writes to standard output: lines that begin with the name of the file that they
-// are about. Counts stand in the order of the keywords, the first for comments, that at `end` for the
+// The lines that the program writes to standard output. Each starts with the name of the file that it is about. An
+// array of counts is in the order of the keywords: its first count is for comments, and the one at `end` is for the
 // end.
 use crate::lines::word_at;
 use crate::lines::word_start;
@@ -7,17 +7,17 @@ use libc::STDOUT_FILENO;
 use std::num::wrapping_add_u64;
 use std::num::wrapping_sub_u64;
 
-// A part of a line.
+// Writes a part of a line.
 fn say(text: &[u8]) {
     io::write_all(STDOUT_FILENO, text);
 }
 
-// A number in base 10.
+// Writes a number in base 10.
 fn say_number(n: u64) {
     io::print_decimal(STDOUT_FILENO, n);
 }
 
-// What is wrong with a file: "policy.txt: cannot be opened".
+// Writes an error in a file: "policy.txt: cannot be opened".
 pub(crate) fn say_file(name: &[u8], what: &[u8]) {
     say(name);
     say(b": ");
@@ -25,7 +25,7 @@ pub(crate) fn say_file(name: &[u8], what: &[u8]) {
     say(b"\n");
 }
 
-// What is wrong with a line: "policy.txt: line 24 differs".
+// Writes an error in a line: "policy.txt: line 24 differs".
 pub(crate) fn say_line(name: &[u8], number: usize, what: &[u8]) {
     say(name);
     say(b": line ");
@@ -35,7 +35,7 @@ pub(crate) fn say_line(name: &[u8], number: usize, what: &[u8]) {
     say(b"\n");
 }
 
-// How many are as stored, and how many differ if any does: "37 as stored, 1 not".
+// Writes the number of lines as stored, and the number that differ, if any: "37 as stored, 1 not".
 fn say_counts(seen: u64, differ: u64) {
     say_number(wrapping_sub_u64(seen, differ));
     say(b" as stored");
@@ -46,7 +46,7 @@ fn say_counts(seen: u64, differ: u64) {
     }
 }
 
-// A kind of line: "policy.txt: union 38 as stored".
+// Writes the counts of a kind of line: "policy.txt: union 38 as stored".
 fn say_kind(name: &[u8], keyword: &[u8], seen: u64, differ: u64) {
     say(name);
     say(b": ");
@@ -56,7 +56,7 @@ fn say_kind(name: &[u8], keyword: &[u8], seen: u64, differ: u64) {
     say(b"\n");
 }
 
-// The count of a kind, or 0 where there is no such kind.
+// Returns the count of a kind, or 0 if there is no such kind.
 fn count_of(counts: &[u64], kind: usize) -> u64 {
     if kind < counts.len() {
         return counts[kind];
@@ -64,7 +64,7 @@ fn count_of(counts: &[u64], kind: usize) -> u64 {
     0
 }
 
-// Each kind of line after the comments and before the end.
+// Writes the counts of each kind of line after the comments and before the end.
 pub(crate) fn say_kinds(name: &[u8], keywords: &[u8], end: usize, seen: &[u64], differ: &[u64]) {
     let mut kind = 1;
     while kind < end {
@@ -74,7 +74,7 @@ pub(crate) fn say_kinds(name: &[u8], keywords: &[u8], end: usize, seen: &[u64], 
     }
 }
 
-// The sum of the counts of the same kinds.
+// Returns the sum of the counts of the same kinds.
 fn total(counts: &[u64], end: usize) -> u64 {
     let mut sum = 0;
     let mut kind = 1;
@@ -85,7 +85,7 @@ fn total(counts: &[u64], end: usize) -> u64 {
     sum
 }
 
-// The last line of a file: "policy.txt: in all 601 as stored, Adler-32 0123abcd".
+// Writes the last line of a file: "policy.txt: in all 601 as stored, Adler-32 0123abcd".
 pub(crate) fn say_total(name: &[u8], end: usize, seen: &[u64], differ: &[u64], checksum: u32) {
     say(name);
     say(b": in all ");
@@ -95,8 +95,8 @@ pub(crate) fn say_total(name: &[u8], end: usize, seen: &[u64], differ: &[u64], c
     say(b"\n");
 }
 
-// How the bytes fared that were tried as policies:
-// "policy bytes: 5 accepted, 11 not accepted, as it should be".
+// Writes the counts of the bytes that were tried as policies: "policy bytes: 5 accepted, 11 not accepted, as it should
+// be".
 pub(crate) fn say_policy_bytes(accepted: u64, refused: u64, wrong: u64) {
     say(b"policy bytes: ");
     say_number(accepted);

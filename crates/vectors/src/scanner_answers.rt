@@ -1,5 +1,5 @@
-// The scanner that borrows the text against the cursor: item by item they must answer the same, with the same bytes,
-// and after the last item the scanner says end on each call. A text that is cut inside a character is turned back.
+// Compares the scanner that borrows the text with the cursor. Both must give the same items with the same bytes, and
+// after the last item the scanner must give the end on each call. A text that ends inside a character must be refused.
 use crate::lines::is_word;
 use base::Check;
 use scanner::ScanItem;
@@ -8,8 +8,8 @@ use text_scanner::NthItem;
 use text_scanner::nth_item;
 use text_scanner::nth_raw;
 
-// Whether the scanner's n-th item of a text that passes is this one, with its bytes.
-fn hands_out(text: &[u8], n: usize, item: ScanItem) -> bool {
+// Tests whether the n-th item of the scanner is this item, with its bytes.
+fn gives_item(text: &[u8], n: usize, item: ScanItem) -> bool {
     let NthItem { verdict, step } = nth_item(text, n);
     let Check::Passed = verdict else {
         return false;
@@ -25,8 +25,8 @@ fn hands_out(text: &[u8], n: usize, item: ScanItem) -> bool {
     ScanItem::eq(found, item) && is_word(nth_raw(text, n), &text[start..end])
 }
 
-// Whether the scanner's n-th answer is the end, with no bytes.
-fn says_end(text: &[u8], n: usize) -> bool {
+// Tests whether the n-th answer of the scanner is the end, with no bytes.
+fn gives_end(text: &[u8], n: usize) -> bool {
     let NthItem { verdict: _, step } = nth_item(text, n);
     match step {
         ScanStep::Item(_) => false,
@@ -34,17 +34,17 @@ fn says_end(text: &[u8], n: usize) -> bool {
     }
 }
 
-// Whether a text that ends inside a character is turned back, and its scanner says end at once.
-fn turned_back(text: &[u8]) -> bool {
+// Tests whether a text that ends inside a character is refused, and its scanner gives the end at once.
+fn text_is_refused(text: &[u8]) -> bool {
     let NthItem { verdict, step: _ } = nth_item(text, 0);
     match verdict {
         Check::Passed => false,
-        Check::Refused(_) => says_end(text, 0),
+        Check::Refused(_) => gives_end(text, 0),
     }
 }
 
-// Whether a text without its last byte is turned back, if that byte is not a character of its own.
-fn cut_is_turned_back(text: &[u8]) -> bool {
+// Tests whether the text without its last byte is refused, if this byte is not a character by itself.
+fn cut_is_refused(text: &[u8]) -> bool {
     let len = text.len();
     if len == 0 {
         return true;
@@ -53,10 +53,10 @@ fn cut_is_turned_back(text: &[u8]) -> bool {
     if text[last] < 0x80 {
         return true;
     }
-    turned_back(&text[0..last])
+    text_is_refused(&text[0..last])
 }
 
-// Whether the scanner hands out the items that the cursor gives, and then the end.
+// Tests whether the scanner gives the items of the cursor, and then the end.
 pub(crate) fn scanner_agrees(text: &[u8]) -> bool {
     let mut at = 0;
     let mut n = 0;
@@ -64,7 +64,7 @@ pub(crate) fn scanner_agrees(text: &[u8]) -> bool {
         let ScanStep::Item(item) = scanner::next_item(text, at) else {
             return false;
         };
-        if !hands_out(text, n, item) {
+        if !gives_item(text, n, item) {
             return false;
         }
         let end = item.end;
@@ -74,5 +74,5 @@ pub(crate) fn scanner_agrees(text: &[u8]) -> bool {
         at = end;
         n += 1;
     }
-    says_end(text, n) && says_end(text, text.len()) && cut_is_turned_back(text)
+    gives_end(text, n) && gives_end(text, text.len()) && cut_is_refused(text)
 }

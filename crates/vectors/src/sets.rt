@@ -1,5 +1,5 @@
-// Key sets and policies as words, and how they are compared: a key set is 12 words, those of its
-// ordinary and of its keycap character set, and a policy is 24, those of its two key sets.
+// Key sets and policies as words, and their comparison. A key set is 12 words: those of its ordinary and of its keycap
+// character set. A policy is 24 words: those of its two key sets.
 ghost use Prim.Native.Nat.{_≤_};
 use policy::Policy;
 use policy_key_set::PolicyKeySet;
@@ -10,7 +10,7 @@ pub const KEY_SET_WORDS: usize = 2 * CHARSET_WORDS;
 
 pub const POLICY_WORDS: usize = 2 * KEY_SET_WORDS;
 
-// The word i after the place at, or 0 where there is none.
+// Returns the word at the index at + i, or 0 if there is none.
 pub(crate) fn word(words: &[u64], at: usize, i: usize) -> u64 {
     if words.len() <= at {
         return 0;
@@ -21,7 +21,7 @@ pub(crate) fn word(words: &[u64], at: usize, i: usize) -> u64 {
     words[at + i]
 }
 
-// The character set whose words stand from a place on.
+// Returns the character set whose words start at an index.
 fn chars_at(words: &[u64], at: usize) -> CharSet {
     let mut bits = [0u64; CHARSET_WORDS];
     let mut i = 0;
@@ -32,7 +32,7 @@ fn chars_at(words: &[u64], at: usize) -> CharSet {
     CharSet { bits }
 }
 
-// The key set whose words stand from a place on.
+// Returns the key set whose words start at an index.
 pub(crate) fn keys_at(words: &[u64], at: usize) -> PolicyKeySet
     requires { ⌜ at ≤ 1000 ⌝ }
 {
@@ -42,7 +42,7 @@ pub(crate) fn keys_at(words: &[u64], at: usize) -> PolicyKeySet
     }
 }
 
-// The policy whose words stand from a place on.
+// Returns the policy whose words start at an index.
 pub(crate) fn policy_at(words: &[u64], at: usize) -> Policy
     requires { ⌜ at ≤ 900 ⌝ }
 {
@@ -52,7 +52,7 @@ pub(crate) fn policy_at(words: &[u64], at: usize) -> Policy
     }
 }
 
-// Whether two character sets have the same words.
+// Tests whether two character sets have the same words.
 fn same_chars(a: CharSet, b: CharSet) -> bool {
     let x = a.bits;
     let y = b.bits;
@@ -66,7 +66,7 @@ fn same_chars(a: CharSet, b: CharSet) -> bool {
     true
 }
 
-// Whether two key sets have the same words.
+// Tests whether two key sets have the same words.
 pub(crate) fn same_keys(a: PolicyKeySet, b: PolicyKeySet) -> bool {
     if same_chars(a.chars, b.chars) {
         return same_chars(a.keycap_chars, b.keycap_chars);
@@ -74,7 +74,7 @@ pub(crate) fn same_keys(a: PolicyKeySet, b: PolicyKeySet) -> bool {
     false
 }
 
-// Whether two policies have the same words.
+// Tests whether two policies have the same words.
 pub(crate) fn same_policy(a: Policy, b: Policy) -> bool {
     if same_keys(a.prefer_bare, b.prefer_bare) {
         return same_keys(a.bare_as_text, b.bare_as_text);
@@ -82,7 +82,7 @@ pub(crate) fn same_policy(a: Policy, b: Policy) -> bool {
     false
 }
 
-// Whether the two character sets of a key set have these sizes.
+// Tests whether the two character sets of a key set have these sizes.
 pub(crate) fn has_sizes(set: PolicyKeySet, ordinary: u64, keycap: u64) -> bool {
     if CharSet::size(set.chars) as u64 != ordinary {
         return false;
@@ -93,7 +93,7 @@ pub(crate) fn has_sizes(set: PolicyKeySet, ordinary: u64, keycap: u64) -> bool {
     PolicyKeySet::size(set) as u64 == ordinary + keycap
 }
 
-// Whether a key set has the words and then the sizes that stand from a place on.
+// Tests whether a key set has the words, and then the sizes, that start at an index.
 pub(crate) fn is_stored(set: PolicyKeySet, words: &[u64], at: usize) -> bool
     requires { ⌜ at ≤ 1000 ⌝ }
 {

@@ -1,5 +1,5 @@
-// The nested structure of an item: it is read from the text by the scanner's functions, part by part,
-// and held to what stands in the line.
+// Compares the nested structure of an item with a line. The scanner's functions read the structure from the text, part
+// by part. Each function matches a part at a place of the line (see notation.rt).
 use crate::notation::Read;
 use crate::notation::bytes_of;
 use crate::notation::character;
@@ -18,7 +18,7 @@ use scanner::parts::consume_emoji_modification;
 use scanner::parts::consume_emoji_tag_run;
 use scanner::parts::consume_sequence_part;
 
-// The tags of the text from an offset up to another, after their letter.
+// Matches a letter and the tags of the text from one offset up to another.
 fn tags(line: &[u8], place: Place, text: &[u8], at: usize, end: usize) -> Place {
     if end < at {
         return Place::Missing;
@@ -29,7 +29,7 @@ fn tags(line: &[u8], place: Place, text: &[u8], at: usize, end: usize) -> Place 
     bytes_of(line, mark(line, place, b'r'), &text[at..end])
 }
 
-// A run of tags with its selectors.
+// Matches a run of tags with its selectors.
 fn tag_run(line: &[u8], place: Place, text: &[u8], at: usize) -> Read {
     match consume_emoji_tag_run(text, at) {
         EmojiTagRun::Run {
@@ -43,7 +43,7 @@ fn tag_run(line: &[u8], place: Place, text: &[u8], at: usize) -> Read {
     }
 }
 
-// The runs of tags from an offset up to another.
+// Matches the runs of tags from one offset up to another.
 fn tag_runs(line: &[u8], place: Place, text: &[u8], from: usize, end: usize) -> Place {
     let mut past = place;
     let mut at = from;
@@ -64,7 +64,7 @@ fn tag_runs(line: &[u8], place: Place, text: &[u8], from: usize, end: usize) -> 
     past
 }
 
-// A modification.
+// Matches a modification.
 fn modification(line: &[u8], place: Place, text: &[u8], at: usize) -> Read {
     match consume_emoji_modification(text, at) {
         EmojiModification::EmojiModifier {
@@ -83,7 +83,7 @@ fn modification(line: &[u8], place: Place, text: &[u8], at: usize) -> Read {
     }
 }
 
-// The modifications from an offset up to another.
+// Matches the modifications from one offset up to another.
 fn modifications(line: &[u8], place: Place, text: &[u8], from: usize, end: usize) -> Place {
     let mut past = place;
     let mut at = from;
@@ -104,7 +104,7 @@ fn modifications(line: &[u8], place: Place, text: &[u8], from: usize, end: usize
     past
 }
 
-// A stem.
+// Matches a stem.
 fn stem(line: &[u8], place: Place, found: EmojiStem) -> Place {
     match found {
         EmojiStem::SingletonBase {
@@ -127,7 +127,7 @@ fn stem(line: &[u8], place: Place, found: EmojiStem) -> Place {
     }
 }
 
-// A unit.
+// Matches a unit.
 pub(crate) fn unit(line: &[u8], place: Place, text: &[u8], at: usize) -> Read {
     let EmojiLike {
         stem: found,
@@ -138,7 +138,7 @@ pub(crate) fn unit(line: &[u8], place: Place, text: &[u8], at: usize) -> Read {
     read_to(modifications(line, past, text, modifiers_start, end), end)
 }
 
-// A link with the unit that it joins, or a link left over.
+// Matches a link with the unit that it joins, or a link without a unit.
 fn part(line: &[u8], place: Place, text: &[u8], at: usize, item_end: usize) -> Read {
     match consume_sequence_part(text, at, item_end) {
         SequencePart::JoiningLink(run) => unit(
@@ -155,7 +155,7 @@ fn part(line: &[u8], place: Place, text: &[u8], at: usize, item_end: usize) -> R
     }
 }
 
-// The links and joined units from an offset up to the end of an item.
+// Matches the links and joined units from an offset up to the end of an item.
 pub(crate) fn parts(line: &[u8], place: Place, text: &[u8], from: usize, item_end: usize) -> Place {
     let mut past = place;
     let mut at = from;

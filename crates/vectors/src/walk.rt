@@ -1,6 +1,6 @@
-// The walk over the lines of a file of stored answers: they are counted, and what is wrong is said.
-// What a line must be is decided in `policy_file` and `item_file`. A digit that changes no answer, as
-// one of a code point that no set holds, shows in the checksum.
+// Replays the lines of a file of stored answers, counts them, and writes what is wrong. The modules `policy_file` and
+// `item_file` decide what a line must be. The checksum shows a changed digit that changes no answer, for example in a
+// code point that no set holds.
 use crate::checksum::adler_32;
 use crate::item_file;
 use crate::item_format;
@@ -11,25 +11,24 @@ use crate::policy_store::STORE_WORDS;
 use crate::report;
 use std::num::wrapping_add_u64;
 
-// The form of a file.
+// The format of a file.
 pub enum Form {
     Policy,
     Items,
 }
 
-// What becomes of a line.
+// The result of replaying a line.
 pub enum Outcome {
     AsStored,
     Differs,
     Malformed,
 }
 
-// How many kinds of lines a file has at most: no line is of this kind.
+// The largest number of kinds of lines. No line has this kind.
 pub const KINDS: usize = 19;
 
-// The lines that were walked: the kind of the last, or `KINDS` where it does not follow its format;
-// where the line stands that the lines after it are about; how many lines of each kind there are;
-// and how many of them differ.
+// The lines replayed so far: the kind of the last line, or `KINDS` if it does not follow its format; the offset of the
+// line that the next lines are about; the number of lines of each kind; and the number of them that differ.
 pub struct Walked {
     pub last: usize,
     pub subject: usize,
@@ -37,7 +36,7 @@ pub struct Walked {
     pub differ: [u64; KINDS],
 }
 
-// What becomes of a line that follows its format.
+// Returns the result for a line that follows its format.
 pub(crate) fn compared(agrees: bool) -> Outcome {
     if agrees {
         Outcome::AsStored
@@ -46,7 +45,7 @@ pub(crate) fn compared(agrees: bool) -> Outcome {
     }
 }
 
-// The kind of a line, or `KINDS` where its keyword is none.
+// Returns the kind of a line, or `KINDS` if its first word is no keyword.
 fn kind_of(form: Form, line: &[u8]) -> usize {
     match form {
         Form::Policy => lines::kind_of(&policy_format::KEYWORDS, line, KINDS),
@@ -54,7 +53,7 @@ fn kind_of(form: Form, line: &[u8]) -> usize {
     }
 }
 
-// The line at a place, if the place is in the text.
+// Returns the line at an offset, if the text has this offset.
 fn line_of(text: &[u8], at: usize) -> &[u8] {
     if at > text.len() {
         return &text[0..0];
@@ -62,7 +61,7 @@ fn line_of(text: &[u8], at: usize) -> &[u8] {
     lines::line_at(text, at)
 }
 
-// What becomes of the line at a place, which is of this kind, after the lines that were walked.
+// Replays the line of this kind at an offset, after the lines replayed so far.
 fn outcome_of(
     form: Form,
     text: &[u8],
@@ -86,7 +85,7 @@ fn outcome_of(
     }
 }
 
-// Whether lines of this kind are what lines after them are about.
+// Tests whether lines after a line of this kind are about it.
 fn is_subject(form: Form, kind: usize) -> bool {
     match form {
         Form::Policy => false,
@@ -94,7 +93,7 @@ fn is_subject(form: Form, kind: usize) -> bool {
     }
 }
 
-// One more of a kind. The count does not wrap: a file has too few lines.
+// Adds 1 to the count of a kind. The count does not overflow, since a file has few lines.
 fn counted(counts: [u64; KINDS], kind: usize) -> [u64; KINDS] {
     let mut next = counts;
     if kind < KINDS {
@@ -103,7 +102,7 @@ fn counted(counts: [u64; KINDS], kind: usize) -> [u64; KINDS] {
     next
 }
 
-// With a line of this kind at a place.
+// Adds a line of this kind at an offset.
 fn with_line(form: Form, at: usize, kind: usize, walked: Walked) -> Walked {
     let subject = if is_subject(form, kind) {
         at
@@ -121,7 +120,7 @@ fn with_line(form: Form, at: usize, kind: usize, walked: Walked) -> Walked {
     }
 }
 
-// With a difference in a line of this kind.
+// Adds a difference in a line of this kind.
 fn with_difference(kind: usize, walked: Walked) -> Walked {
     let seen = walked.seen;
     let before = walked.differ;
@@ -134,7 +133,7 @@ fn with_difference(kind: usize, walked: Walked) -> Walked {
     }
 }
 
-// With a line that does not follow its format.
+// Adds a line that does not follow its format.
 fn with_fault(walked: Walked) -> Walked {
     let seen = walked.seen;
     let differ = walked.differ;
@@ -146,7 +145,7 @@ fn with_fault(walked: Walked) -> Walked {
     }
 }
 
-// Replays the line at a place, counts it, and says what is wrong with it.
+// Replays the line at an offset, counts it, and writes what is wrong with it.
 fn replay_line(
     form: Form,
     name: &[u8],
@@ -191,7 +190,7 @@ fn replay_lines(form: Form, name: &[u8], text: &[u8], store: &mut [u64; STORE_WO
     walked
 }
 
-// Says how the lines of each kind compare, of which the last is for the end.
+// Writes the counts of each kind of line. The last kind is the end.
 fn say_counts(name: &[u8], text: &[u8], keywords: &[u8], end: usize, walked: Walked) {
     if walked.last != end {
         report::say_file(name, b"has no line `end`");
@@ -205,7 +204,7 @@ fn say_counts(name: &[u8], text: &[u8], keywords: &[u8], end: usize, walked: Wal
     report::say_total(name, end, &seen, &differ, adler_32(text));
 }
 
-// Replays a text and says how its lines compare, if each follows the format.
+// Replays a text, and writes the counts if each line follows the format.
 pub(crate) fn replay(form: Form, name: &[u8], text: &[u8]) {
     let mut store = [0u64; STORE_WORDS];
     let walked = replay_lines(form, name, text, &mut store);

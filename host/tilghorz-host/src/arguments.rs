@@ -2,6 +2,7 @@
 
 use std::ffi::OsString;
 use std::fmt::{self, Display, Formatter};
+use std::num::NonZero;
 
 use tilghorz::{Context, KeySet, Presentation};
 
@@ -9,9 +10,12 @@ use crate::fix::Fix;
 use crate::format::{Format, Mode};
 use crate::help::Topic;
 use crate::policy::{Edit, Policy, PolicyFile};
+use crate::replace::InPlace;
 use crate::report::Report;
 use crate::show::Show;
 use crate::source::Source;
+use crate::tally::Manner;
+use crate::walk::{Pattern, Selection};
 use crate::words::{Word, Words, unknown};
 
 /// What the command is asked to do.
@@ -77,7 +81,7 @@ pub fn parse(words: impl IntoIterator<Item = OsString>) -> Result<Command, Wrong
     }
 }
 
-/// Help on a topic that may be named. That of `help` and `version` is the help on all.
+/// Help on a topic that may be named. That of `help` and `version` is the help on all; `folders` is no command.
 fn help(words: &[OsString]) -> Result<Command, String> {
     let name = match words {
         [] => return Ok(Command::Help(Topic::All)),
@@ -86,6 +90,7 @@ fn help(words: &[OsString]) -> Result<Command, String> {
     };
     let topic = match name.as_ref() {
         "help" | "version" => Some(Topic::All),
+        "folders" => Some(Topic::Folders),
         name => Topic::of(name),
     };
     let topic = topic.ok_or(format!("{name}: not a command"))?;
@@ -95,7 +100,7 @@ fn help(words: &[OsString]) -> Result<Command, String> {
 /// Reads the words after a command's name.
 fn command(topic: Topic, words: Words) -> Result<Command, String> {
     match topic {
-        Topic::All => Ok(Command::Help(topic)),
+        Topic::All | Topic::Folders => Ok(Command::Help(topic)),
         Topic::Format => format(words).map(Command::Format),
         Topic::Report => report(words).map(Command::Report),
         Topic::Fix => fix(words).map(Command::Fix),
@@ -128,24 +133,112 @@ fn set(flag: &mut bool, name: &str, option: &str) -> bool {
     option == name
 }
 
+/// Which files of folders are taken, and how they are gone through.
+#[derive(Default)]
+struct Going {
+    selection: Selection,
+    manner: Manner,
+}
+
+impl Going {
+    /// Does what an option says, if it is one of these.
+    fn take(&mut self, option: &str, words: &mut Words) -> Result<bool, String> {
+        let Self { selection, manner } = self;
+        match option {
+            "--exclude" => selection.exclude.push(pattern(option, words)?),
+            "--include" => selection.include.push(pattern(option, words)?),
+            "--jobs" => manner.jobs = Some(jobs(&words.text(option)?)?),
+            _ => {
+                return Ok(set(&mut selection.binary, "--binary", option)
+                    || set(&mut selection.no_ignore, "--no-ignore", option)
+                    || set(&mut manner.is_quiet, "--quiet", option)
+                    || set(&mut manner.is_verbose, "--verbose", option));
+            }
+        }
+        Ok(true)
+    }
+
+    /// Tests what does not go together.
+    fn test(&self) -> Result<(), String> {
+        if self.manner.is_quiet && self.manner.is_verbose {
+            return Err("--quiet and --verbose cannot be used together".to_owned());
+        }
+        Ok(())
+    }
+}
+
+/// The pattern of an option.
+fn pattern(option: &str, words: &mut Words) -> Result<Pattern, String> {
+    Pattern::of(&words.value(option)?).map_err(|fault| format!("{option} {fault}"))
+}
+
+/// A number of threads.
+fn jobs(text: &str) -> Result<NonZero<usize>, String> {
+    text.parse()
+        .map_err(|_| format!("--jobs {text}: not a number of at least 1"))
+}
+
+/// The options on changing files.
+#[derive(Default)]
+struct Changing {
+    in_place: bool,
+    new_owner: bool,
+    no_sync: bool,
+}
+
+impl Changing {
+    /// Does what an option says, if it is one of these.
+    fn take(&mut self, option: &str) -> bool {
+        set(&mut self.in_place, "--in-place", option)
+            || set(&mut self.new_owner, "--new-owner", option)
+            || set(&mut self.no_sync, "--no-sync", option)
+    }
+
+    /// How files of these names are changed, if they are.
+    fn of(&self, names: &[Source]) -> Result<Option<InPlace>, String> {
+        if self.in_place {
+            are_files(names)?;
+            return Ok(Some(InPlace {
+                new_owner: self.new_owner,
+                sync: !self.no_sync,
+            }));
+        }
+        for (is_given, option) in [(self.new_owner, "--new-owner"), (self.no_sync, "--no-sync")] {
+            if is_given {
+                return Err(format!("{option} can only be used with --in-place"));
+            }
+        }
+        Ok(None)
+    }
+}
+
 fn format(words: Words) -> Result<Format, String> {
-    let (mut check, mut in_place) = (false, false);
-    let (names, policy) = texts(words, |option, _| {
-        Ok(set(&mut check, "--check", option) || set(&mut in_place, "--in-place", option))
+    let (mut check, mut changing, mut going) = (false, Changing::default(), Going::default());
+    let (names, policy) = texts(words, |option, words| {
+        Ok(set(&mut check, "--check", option)
+            || changing.take(option)
+            || going.take(option, words)?)
     })?;
-    let mode = match (check, in_place) {
-        (true, true) => return Err("--check and --in-place: one of them".to_owned()),
+    going.test()?;
+    let mode = match (check, changing.in_place) {
+        (true, true) => {
+            return Err("--check and --in-place cannot be used together".to_owned());
+        }
         (true, false) => Mode::Check,
         (false, true) => Mode::InPlace,
         (false, false) => Mode::Write,
     };
-    if in_place {
-        are_files(&names)?;
-    }
+    let Going {
+        selection,
+        mut manner,
+    } = going;
+    manner.in_place = changing.of(&names)?;
     Ok(Format {
         mode,
         policy,
         names,
+        selection,
+        manner,
     })
 }
 
@@ -158,31 +251,35 @@ fn are_files(names: &[Source]) -> Result<(), String> {
 }
 
 fn report(words: Words) -> Result<Report, String> {
-    let (mut json, mut items) = (false, false);
-    let (names, policy) = texts(words, |option, _| {
-        Ok(set(&mut json, "--json", option) || set(&mut items, "--items", option))
+    let (mut json, mut items, mut going) = (false, false, Going::default());
+    let (names, policy) = texts(words, |option, words| {
+        Ok(set(&mut json, "--json", option)
+            || set(&mut items, "--items", option)
+            || going.take(option, words)?)
     })?;
+    going.test()?;
+    let Going { selection, manner } = going;
     Ok(Report {
         json,
         items,
         policy,
         names,
+        selection,
+        manner,
     })
 }
 
 fn fix(words: Words) -> Result<Fix, String> {
-    let (mut at, mut decisions, mut in_place) = (None, Vec::new(), false);
+    let (mut at, mut decisions, mut changing) = (None, Vec::new(), Changing::default());
     let (mut names, policy) = texts(words, |option, words| {
         match option {
             "--at" => at = Some(offset(&words.text(option)?)?),
             "--decide" => decide(words, &mut decisions)?,
-            _ => return Ok(set(&mut in_place, "--in-place", option)),
+            _ => return Ok(changing.take(option)),
         }
         Ok(true)
     })?;
-    if in_place {
-        are_files(&names)?;
-    }
+    let in_place = changing.of(&names)?;
     if names.len() > 1 {
         return Err("one text at a time".to_owned());
     }
@@ -217,8 +314,16 @@ fn decide(words: &mut Words, decisions: &mut Vec<Presentation>) -> Result<(), St
 }
 
 fn show(words: Words) -> Result<Show, String> {
-    let (names, policy) = texts(words, |_, _| Ok(false))?;
-    Ok(Show { policy, names })
+    let mut going = Going::default();
+    let (names, policy) = texts(words, |option, words| going.take(option, words))?;
+    going.test()?;
+    let Going { selection, manner } = going;
+    Ok(Show {
+        policy,
+        names,
+        selection,
+        manner,
+    })
 }
 
 fn policy(mut words: Words) -> Result<Policy, String> {

@@ -70,11 +70,13 @@ impl Console {
         }
     }
 
-    /// Writes a line to standard output while the progress line may be on the same terminal.
-    pub fn print_line(&mut self, line: &[u8]) -> io::Result<()> {
+    /// Writes what there is of a text to standard output, while the progress line may be on the same terminal.
+    pub fn print_page(&mut self, page: &[u8]) -> io::Result<()> {
+        if page.is_empty() {
+            return Ok(());
+        }
         self.clear();
-        self.out.write_all(line)?;
-        self.out.write_all(b"\n")?;
+        self.out.write_all(page)?;
         if self.progress.is_some() {
             self.out.flush()?;
         }
@@ -88,10 +90,16 @@ impl Console {
         Ok(())
     }
 
+    /// Shows no progress.
+    pub fn show_no_progress(&mut self) {
+        self.clear();
+        self.progress = None;
+    }
+
     /// Shows no progress where the results are shown too.
     pub fn keep_progress_off_terminal(&mut self) {
         if io::stdout().is_terminal() {
-            self.progress = None;
+            self.show_no_progress();
         }
     }
 

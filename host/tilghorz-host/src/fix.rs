@@ -5,9 +5,10 @@ use std::io::{self, Write};
 use tilghorz::{Presentation, Refusal};
 
 use crate::console::{Console, Status};
+use crate::interrupt;
 use crate::policy::PolicyFile;
-use crate::replace::replace;
-use crate::source::Source;
+use crate::replace::{Batch, Folders, InPlace};
+use crate::source::{Source, Text};
 
 /// The command.
 #[derive(Debug, PartialEq, Eq)]
@@ -16,8 +17,8 @@ pub struct Fix {
     pub at: usize,
     /// The decisions.
     pub decisions: Vec<Presentation>,
-    /// Whether the file is changed.
-    pub in_place: bool,
+    /// How the file is changed, if it is.
+    pub in_place: Option<InPlace>,
     /// The policy.
     pub policy: PolicyFile,
     /// The text.
@@ -30,24 +31,43 @@ impl Fix {
         let Some(policy) = self.policy.read_or_complain(console) else {
             return Ok(Status::Fault);
         };
-        let Some(text) = self.source.read_or_complain(console) else {
-            return Ok(Status::Fault);
+        let text = match self.source.read() {
+            Ok(text) => text,
+            Err(error) => {
+                console.complain(&format_args!("{}: {error}", self.source));
+                return Ok(Status::Fault);
+            }
         };
         let mended = match tilghorz::mend(&text.bytes, &policy, self.at, &self.decisions) {
             Ok(mended) => mended,
             Err(refusal) => {
-                self.source.complain(refusal, &text.bytes, console);
+                console.complain(&self.source.refused(refusal, &text.bytes));
                 self.advise(refusal, console);
                 return Ok(Status::Fault);
             }
         };
-        if !self.in_place {
+        let Some(how) = self.in_place else {
             console.out.write_all(&mended)?;
-        } else if let Err(error) = replace(&self.source, &text, &mended) {
-            console.complain(&format_args!("{}: {error}", self.source));
+            return Ok(Status::Good);
+        };
+        if let Err(fault) = self.replace(&text, &mended, how) {
+            console.complain(&fault);
             return Ok(Status::Fault);
         }
         Ok(Status::Good)
+    }
+
+    /// Changes the file.
+    fn replace(&self, text: &Text, mended: &[u8], how: InPlace) -> Result<(), String> {
+        let told = |error: io::Error| format!("{}: {error}", self.source);
+        interrupt::watch(1);
+        let folders = Folders::default();
+        let mut batch = Batch::new(how, &folders);
+        batch.prepare(&self.source, text, mended).map_err(told)?;
+        for result in batch.commit() {
+            result.map_err(told)?;
+        }
+        folders.sync().into_iter().next().map_or(Ok(()), Err)
     }
 
     /// Says what to do about a refusal.

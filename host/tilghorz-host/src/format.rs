@@ -1,15 +1,15 @@
 //! `tilghorz-host format`.
 
 use std::borrow::Cow;
-use std::io::{self, Write};
+use std::io;
 
 use tilghorz::Policy;
 
 use crate::console::{Console, Status};
 use crate::policy::PolicyFile;
-use crate::replace::replace;
-use crate::source::{Source, Sources, Text};
-use crate::tally::{self, Outcome};
+use crate::source::{Source, Text};
+use crate::tally::{self, Manner, Outcome, Page};
+use crate::walk::{Entries, Selection};
 
 /// What is done with a formatted text.
 #[derive(Debug, Clone, Copy, PartialEq, Eq)]
@@ -31,6 +31,10 @@ pub struct Format {
     pub policy: PolicyFile,
     /// The texts.
     pub names: Vec<Source>,
+    /// Which files of folders are taken.
+    pub selection: Selection,
+    /// How they are gone through.
+    pub manner: Manner,
 }
 
 impl Format {
@@ -39,21 +43,22 @@ impl Format {
         let Some(policy) = self.policy.read_or_complain(console) else {
             return Ok(Status::Fault);
         };
-        let sources = Sources::of(&self.names, console);
-        if self.mode == Mode::Write && sources.are_many {
+        let is_folder = |name: &Source| matches!(name, Source::File(path) if path.is_dir());
+        if self.mode == Mode::Write && (self.names.len() > 1 || self.names.iter().any(is_folder)) {
             console.complain(
                 &"format: several texts go with --in-place or --check; standard output takes one",
             );
             return Ok(Status::Fault);
         }
+        let entries = Entries::of(&self.names, &self.selection, self.mode == Mode::InPlace);
         let words = match self.mode {
             Mode::Check => ["would change", "would not"],
             _ => ["changed", "unchanged"],
         };
-        let one = |source: &Source, text: &Text, console: &mut Console| {
-            self.one(source, text, &policy, console)
+        let one = |source: &Source, text: &Text, page: &mut Page<'_, '_>| {
+            self.one(source, text, &policy, page)
         };
-        let tally = tally::each(&sources, words, console, one)?;
+        let tally = tally::each(&entries, words, self.manner, console, one)?;
         Ok(tally.status(match self.mode {
             Mode::Check => Status::Different,
             _ => Status::Good,
@@ -66,22 +71,25 @@ impl Format {
         source: &Source,
         text: &Text,
         policy: &Policy,
-        console: &mut Console,
+        page: &mut Page<'_, '_>,
     ) -> io::Result<Outcome> {
         let formatted = match tilghorz::format(&text.bytes, policy) {
             Ok(formatted) => formatted,
             Err(refusal) => {
-                source.complain(refusal, &text.bytes, console);
+                page.complain(source.refused(refusal, &text.bytes));
                 return Ok(Outcome::Refused);
             }
         };
         match (self.mode, &formatted) {
-            (Mode::Write, _) => console.out.write_all(&formatted)?,
+            (Mode::Write, _) => page.out.write_all(&formatted)?,
             (_, Cow::Borrowed(_)) => {}
-            (Mode::Check, Cow::Owned(_)) => console.print_line(source.name())?,
+            (Mode::Check, Cow::Owned(_)) => {
+                page.out.write_all(source.name())?;
+                page.out.write_all(b"\n")?;
+            }
             (Mode::InPlace, Cow::Owned(bytes)) => {
-                if let Err(error) = replace(source, text, bytes) {
-                    console.complain(&format_args!("{source}: {error}"));
+                if let Err(error) = page.replace(source, text, bytes) {
+                    page.complain(format!("{source}: {error}"));
                     return Ok(Outcome::Failed);
                 }
             }

@@ -15,6 +15,8 @@ pub enum Topic {
     Show,
     /// `policy`.
     Policy,
+    /// Folders. It is no command.
+    Folders,
 }
 
 impl Topic {
@@ -43,6 +45,7 @@ pub fn text(topic: Topic) -> &'static str {
         Topic::Fix => FIX,
         Topic::Show => SHOW,
         Topic::Policy => POLICY,
+        Topic::Folders => FOLDERS,
     }
 }
 
@@ -60,29 +63,66 @@ usage: tilghorz-host COMMAND [OPTIONS] [FILES]
   version   show the version
 
 A text is UTF-8 of at most 16,777,216 bytes. FILES are read as bytes; none, or -, is standard input. Of a folder every
-file is taken, with those of its folders, but for names that begin with a full stop, symbolic links and special files.
+file is taken, with those of its folders, but for binary files, ignored files, names that begin with a full stop,
+symbolic links and special files: tilghorz-host help folders.
 
 Exit status: 0 done; 1 a text would change (format --check) or two policies differ (policy compare); 2 a text was
 refused, a file could not be read or written, or the command line is wrong.
 ";
 
 const FORMAT: &str = "\
-usage: tilghorz-host format [--check | --in-place] [--policy FILE] [FILES]
+usage: tilghorz-host format [--check | --in-place] [--policy FILE] [OPTIONS] [FILES]
 
 Formats texts. Without an option one text is written to standard output; on a refusal nothing is.
 
   --check        write nothing but the names of the files that would change; status 1 if there is one
-  --in-place     change the files. The new text is written beside its file and renamed, so no file is ever half
-                 written. Permissions, owner and group are kept. A symbolic link that is named stays, and its file is
-                 changed; another hard link keeps the old text. Read-only files are left alone
+  --in-place     change the files. The new text is written beside its file, synced and renamed, so no file is ever half
+                 written, not even after a loss of power. Permissions, owner, group and extended attributes are kept,
+                 access control lists among them; a file of which they cannot be kept is left as it was, and told. A
+                 symbolic link that is named stays, and its file is changed; another hard link keeps the old text.
+                 Read-only files are left alone
+  --new-owner    with --in-place: where the owner or the group cannot be kept, the file becomes that of whoever runs
+                 the command
+  --no-sync      with --in-place: sync nothing. After a loss of power a file that was changed may be empty
   --policy FILE  the policy: 192 bytes, as `tilghorz-host policy write` writes them; else the default one
 
+More OPTIONS: --exclude, --include, --no-ignore, --binary, --jobs, --quiet, --verbose: tilghorz-host help folders.
+
 A refused file is named, with the offset where it is damaged, and the others go on. Of several files a summary is
-written to standard error.
+written to standard error. If SIGINT, SIGTERM or SIGHUP ends it, it first removes what it has written beside files and
+says how far it came.
+";
+
+const FOLDERS: &str = "\
+usage: tilghorz-host format|report|show [OPTIONS] FOLDER ..
+
+Of a folder every file is taken, with those of its folders, in the order of their paths. Passed over are: names that
+begin with a full stop, symbolic links, special files, what a .gitignore ignores, what --exclude matches and --include
+does not, and binary files, which are those with a byte 00. They are counted, and do not alter the exit status. A file
+that is named itself is always taken.
+
+  --exclude GLOB  pass over what matches, with all that is in it; may be given several times
+  --include GLOB  take only what matches, with all that is in it; may be given several times. --exclude comes first
+  --no-ignore     take what a .gitignore ignores, too
+  --binary        take binary files, too
+  --jobs N        let N threads work, at most 256; else as many as there are processors. The output is the same for
+                  each N
+  --quiet         write no summary and no progress; faults are told
+  --verbose       name each file that is passed over, and why
+
+A GLOB is a pattern as in .gitignore. * is any part of a name, ? a character, [a-z] one of a class, [!a-z] one that is
+not, and \\ takes the meaning from what follows. ** as a name is any number of folders. A GLOB with a / before its end
+counts from FOLDER, another one is for names at any depth. With a / at its end it is for folders alone.
+
+The .gitignore files are those of the folders that are gone through and, in a repository, those above them. The last
+line that matches decides, in the file that is nearest; ! takes back what was said before.
+
+With --in-place, what a killed command has left in a folder is removed: files .tilghorz-PROCESS-NUMBER.tmp of processes
+that have ended.
 ";
 
 const REPORT: &str = "\
-usage: tilghorz-host report [--json] [--items] [--policy FILE] [FILES]
+usage: tilghorz-host report [--json] [--items] [--policy FILE] [OPTIONS] [FILES]
 
 Writes a line for each finding: start, end and eight counts, and a line with the totals. The counts: unsanctioned,
 modifier-defective, additional-defective, tag-conflicting, tag-forced, tag-redundant, policy-redundant, decisions. The
@@ -94,27 +134,31 @@ number and any offset. Of several files each has a line with its name first.
   --items        the items of the text instead: start, end, kind, and whether the tags are complete; with --json, beside
                  the findings
   --policy FILE  the policy, as in format
+
+More OPTIONS: --exclude, --include, --no-ignore, --binary, --jobs, --quiet, --verbose: tilghorz-host help folders.
 ";
 
 const FIX: &str = "\
-usage: tilghorz-host fix --at OFFSET [--decide text|emoji ..] [--in-place] [--policy FILE] [FILE]
+usage: tilghorz-host fix --at OFFSET [--decide text|emoji ..] [--in-place] [--policy FILE] [OPTIONS] [FILE]
 
 Mends the finding that starts at the byte offset, and writes the whole text to standard output.
 
   --at OFFSET    a start that report has
   --decide ..    a decision, text or emoji, for each that the finding counts, in text order
-  --in-place     change the file instead, as in format
+  --in-place     change the file instead, as in format, with --new-owner and --no-sync
   --policy FILE  the policy, as in format
 ";
 
 const SHOW: &str = "\
-usage: tilghorz-host show [--policy FILE] [FILES]
+usage: tilghorz-host show [--policy FILE] [OPTIONS] [FILES]
 
 Shows texts line by line. Selectors, links, tags and control characters are shown by their code points, as <FE0F>.
 Findings are marked under the line, each with its bytes, its counts and what format would write. On a terminal it is
 coloured, unless the variable NO_COLOR is set.
 
   --policy FILE  the policy, as in format
+
+More OPTIONS: --exclude, --include, --no-ignore, --binary, --jobs, --quiet, --verbose: tilghorz-host help folders.
 ";
 
 const POLICY: &str = "\

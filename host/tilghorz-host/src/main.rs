@@ -1,24 +1,29 @@
 //! The command `tilghorz-host`: formats, reports, fixes and shows the emoji selectors of texts.
 //!
 //! `tilghorz-host help` has the commands. Everything that matters is in the library `tilghorz`; here are the command
-//! line, files, folders and standard input, and what a person reads.
+//! line, files, folders and standard input, and what a person reads. What is unsafe of it stands in the module `system`.
 
-#![forbid(unsafe_code)]
+#![deny(unsafe_code)]
 #![warn(missing_docs)]
 
 mod arguments;
 mod console;
 mod fix;
 mod format;
+mod glob;
 mod help;
+mod ignore;
+mod interrupt;
 mod json;
 mod policy;
 mod replace;
 mod report;
 mod show;
 mod source;
+mod system;
 mod tally;
 mod visible;
+mod walk;
 mod words;
 
 use std::env;

@@ -53,7 +53,7 @@ impl PolicyFile {
         }
         let policy = tilghorz::Policy::from_bytes(&bytes);
         policy
-            .inspect_err(|refusal| source.complain(*refusal, &bytes, console))
+            .inspect_err(|refusal| console.complain(&source.refused(*refusal, &bytes)))
             .ok()
     }
 }

@@ -8,8 +8,9 @@ use tilghorz::{Finding, Item, ItemKind, Policy, Refusal, Table};
 use crate::console::{Console, Status};
 use crate::json::{CountsObject, FindingObject, ItemObject, Quoted, RefusalObject};
 use crate::policy::PolicyFile;
-use crate::source::{Source, Sources, Text};
-use crate::tally::{self, Outcome};
+use crate::source::{Source, Text};
+use crate::tally::{self, Manner, Outcome, Page};
+use crate::walk::{Entries, Selection};
 
 /// The command.
 #[derive(Debug, PartialEq, Eq)]
@@ -22,6 +23,10 @@ pub struct Report {
     pub policy: PolicyFile,
     /// The texts.
     pub names: Vec<Source>,
+    /// Which files of folders are taken.
+    pub selection: Selection,
+    /// How they are gone through.
+    pub manner: Manner,
 }
 
 /// What was found in a text.
@@ -37,12 +42,13 @@ impl Report {
         let Some(policy) = self.policy.read_or_complain(console) else {
             return Ok(Status::Fault);
         };
-        let sources = Sources::of(&self.names, console);
+        let entries = Entries::of(&self.names, &self.selection, false);
         console.keep_progress_off_terminal();
         let words = ["with findings", "without"];
-        let tally = tally::each(&sources, words, console, |source, text, console| {
-            self.one(source, text, &policy, sources.are_many, console)
-        })?;
+        let one = |source: &Source, text: &Text, page: &mut Page<'_, '_>| {
+            self.one(source, text, &policy, entries.are_many, page)
+        };
+        let tally = tally::each(&entries, words, self.manner, console, one)?;
         Ok(tally.status(Status::Good))
     }
 
@@ -53,13 +59,13 @@ impl Report {
         text: &Text,
         policy: &Policy,
         are_many: bool,
-        console: &mut Console,
+        page: &mut Page<'_, '_>,
     ) -> io::Result<Outcome> {
         let found = self.find(&text.bytes, policy);
         if let Err(refusal) = found {
-            source.complain(refusal, &text.bytes, console);
+            page.complain(source.refused(refusal, &text.bytes));
         }
-        let out = &mut console.out;
+        let out = &mut *page.out;
         if self.json {
             write_json(source, text.bytes.len(), &found, out)?;
         } else {
@@ -95,7 +101,7 @@ pub fn kind_name(kind: ItemKind) -> &'static str {
 }
 
 /// Writes document 01's lines: the findings and the totals, or the refusal. Items stand in their place.
-fn write_lines(found: &Result<Found, Refusal>, out: &mut impl Write) -> io::Result<()> {
+fn write_lines(found: &Result<Found, Refusal>, out: &mut dyn Write) -> io::Result<()> {
     match found {
         Err(refusal) => {
             let value = refusal
@@ -134,7 +140,7 @@ fn write_lines(found: &Result<Found, Refusal>, out: &mut impl Write) -> io::Resu
 }
 
 /// Writes numbers, each after a blank, and ends the line.
-fn write_numbers(numbers: &[usize], out: &mut impl Write) -> io::Result<()> {
+fn write_numbers(numbers: &[usize], out: &mut dyn Write) -> io::Result<()> {
     numbers
         .iter()
         .try_for_each(|number| write!(out, " {number}"))?;
@@ -146,7 +152,7 @@ fn write_json(
     source: &Source,
     bytes: usize,
     found: &Result<Found, Refusal>,
-    out: &mut impl Write,
+    out: &mut dyn Write,
 ) -> io::Result<()> {
     let name = String::from_utf8_lossy(source.name());
     write!(out, "{{\"file\":{}", Quoted(&name))?;
@@ -173,7 +179,7 @@ fn write_json(
 fn write_array<T, D: Display>(
     rows: impl Iterator<Item = T>,
     object: impl Fn(&T) -> D,
-    out: &mut impl Write,
+    out: &mut dyn Write,
 ) -> io::Result<()> {
     write!(out, "[")?;
     for (index, row) in rows.enumerate() {

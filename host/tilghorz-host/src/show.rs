@@ -6,9 +6,10 @@ use tilghorz::{Counts, Finding, Policy};
 
 use crate::console::{Console, Status};
 use crate::policy::PolicyFile;
-use crate::source::{Source, Sources, Text};
-use crate::tally::{self, Outcome};
+use crate::source::{Source, Text};
+use crate::tally::{self, Manner, Outcome, Page};
 use crate::visible::{self, Shown};
+use crate::walk::{Entries, Selection};
 
 /// The command.
 #[derive(Debug, PartialEq, Eq)]
@@ -17,6 +18,10 @@ pub struct Show {
     pub policy: PolicyFile,
     /// The texts.
     pub names: Vec<Source>,
+    /// Which files of folders are taken.
+    pub selection: Selection,
+    /// How they are gone through.
+    pub manner: Manner,
 }
 
 /// What stands before and after the parts of a line: colours, or nothing.
@@ -53,7 +58,7 @@ impl Show {
         let Some(policy) = self.policy.read_or_complain(console) else {
             return Ok(Status::Fault);
         };
-        let sources = Sources::of(&self.names, console);
+        let entries = Entries::of(&self.names, &self.selection, false);
         console.keep_progress_off_terminal();
         let style = if Console::has_colours() {
             COLOURED
@@ -61,12 +66,13 @@ impl Show {
             PLAIN
         };
         let words = ["with findings", "without"];
-        let tally = tally::each(&sources, words, console, |source, text, console| {
-            if sources.are_many {
-                writeln!(console.out, "==> {source} <==")?;
+        let one = |source: &Source, text: &Text, page: &mut Page<'_, '_>| {
+            if entries.are_many {
+                writeln!(page.out, "==> {source} <==")?;
             }
-            one(source, text, &policy, &style, console)
-        })?;
+            one(source, text, &policy, &style, page)
+        };
+        let tally = tally::each(&entries, words, self.manner, console, one)?;
         Ok(tally.status(Status::Good))
     }
 }
@@ -77,12 +83,12 @@ fn one(
     text: &Text,
     policy: &Policy,
     style: &Style,
-    console: &mut Console,
+    page: &mut Page<'_, '_>,
 ) -> io::Result<Outcome> {
     let findings = match tilghorz::findings(&text.bytes, policy) {
         Ok(findings) => findings,
         Err(refusal) => {
-            source.complain(refusal, &text.bytes, console);
+            page.complain(source.refused(refusal, &text.bytes));
             return Ok(Outcome::Refused);
         }
     };
@@ -96,9 +102,9 @@ fn one(
             in_line.push(finding);
         }
         let line = line.strip_suffix('\n').unwrap_or(line);
-        write_line(index + 1, line, start, &in_line, style, &mut console.out)?;
+        write_line(index + 1, line, start, &in_line, style, page.out)?;
         for finding in in_line {
-            write_finding(&finding, &text.bytes, policy, style, &mut console.out)?;
+            write_finding(&finding, &text.bytes, policy, style, page.out)?;
         }
         start = end;
     }
@@ -116,7 +122,7 @@ fn write_line(
     start: usize,
     findings: &[Finding],
     style: &Style,
-    out: &mut impl Write,
+    out: &mut dyn Write,
 ) -> io::Result<()> {
     let (mut shown, mut marks, mut column) = (String::new(), String::new(), 0);
     let mut rest = findings;
@@ -171,7 +177,7 @@ fn write_finding(
     text: &[u8],
     policy: &Policy,
     style: &Style,
-    out: &mut impl Write,
+    out: &mut dyn Write,
 ) -> io::Result<()> {
     let Finding { start, end, counts } = finding;
     let Style { faint, plain, .. } = style;

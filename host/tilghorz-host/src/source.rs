@@ -1,15 +1,13 @@
-//! Where texts come from: standard input, files, and folders of files.
+//! Where texts come from: standard input and files.
 
 use std::ffi::OsStr;
 use std::fmt::{self, Display, Formatter};
-use std::fs::{self, File, Metadata};
+use std::fs::{File, Metadata};
 use std::io::{self, Read};
 use std::os::unix::ffi::OsStrExt;
 use std::path::{Path, PathBuf};
 
 use tilghorz::{LONGEST_TEXT, Refusal};
-
-use crate::console::Console;
 
 /// Where a text comes from.
 #[derive(Debug, Clone, PartialEq, Eq)]
@@ -24,20 +22,8 @@ pub enum Source {
 pub struct Text {
     /// Its bytes: all of them, or one more than a text may have.
     pub bytes: Vec<u8>,
-    /// What its file was when it was read.
-    pub metadata: Option<Metadata>,
-}
-
-/// The sources that a command line names.
-pub struct Sources {
-    /// Each.
-    pub list: Vec<Source>,
-    /// Files in folders that were passed over.
-    pub passed_over: usize,
-    /// Whether there may be several: more than one was named, or a folder.
-    pub are_many: bool,
-    /// Folders that could not be read.
-    pub failed: usize,
+    /// Its file, and what that was when it was read.
+    pub file: Option<(File, Metadata)>,
 }
 
 impl Source {
@@ -52,41 +38,56 @@ impl Source {
 
     /// Reads the text. More than the library needs to refuse it is not read.
     pub fn read(&self) -> io::Result<Text> {
-        let most = LONGEST_TEXT as u64 + 1;
-        let mut bytes = Vec::new();
-        let metadata = match self {
+        match self {
             Self::Input => {
-                io::stdin().lock().take(most).read_to_end(&mut bytes)?;
-                None
+                let mut bytes = Vec::new();
+                io::stdin().lock().take(MOST).read_to_end(&mut bytes)?;
+                Ok(Text { bytes, file: None })
             }
             Self::File(path) => {
-                let file = File::open(path)?;
-                let metadata = file.metadata()?;
-                file.take(most).read_to_end(&mut bytes)?;
-                Some(metadata)
+                let (mut file, metadata) = open(path)?;
+                let mut bytes = Vec::with_capacity(room(&metadata));
+                file.by_ref().take(MOST).read_to_end(&mut bytes)?;
+                Ok(Text {
+                    bytes,
+                    file: Some((file, metadata)),
+                })
             }
+        }
+    }
+
+    /// Reads the text, unless it has a byte 00. Of what has one among its first bytes no more is read.
+    pub fn read_unless_binary(&self) -> io::Result<Option<Text>> {
+        const FIRST: u64 = 1 << 16;
+        let Self::File(path) = self else {
+            return self.read().map(Some);
         };
-        Ok(Text { bytes, metadata })
+        let (mut file, metadata) = open(path)?;
+        let mut bytes = Vec::with_capacity(room(&metadata));
+        for most in [FIRST, MOST - FIRST] {
+            let length = file.by_ref().take(most).read_to_end(&mut bytes)?;
+            if bytes[bytes.len() - length..].contains(&0) {
+                return Ok(None);
+            }
+            if (length as u64) < most {
+                break;
+            }
+        }
+        Ok(Some(Text {
+            bytes,
+            file: Some((file, metadata)),
+        }))
     }
 
-    /// Reads the text, or says why it cannot be read.
-    pub fn read_or_complain(&self, console: &mut Console) -> Option<Text> {
-        self.read()
-            .inspect_err(|error| console.complain(&format_args!("{self}: {error}")))
-            .ok()
-    }
-
-    /// Says that the text was refused.
-    pub fn complain(&self, refusal: Refusal, text: &[u8], console: &mut Console) {
+    /// The message that the text was refused.
+    pub fn refused(&self, refusal: Refusal, text: &[u8]) -> String {
         let number = refusal.number();
         match refusal {
             Refusal::NotWellFormed { valid_up_to } => {
                 let line = line_of(text, valid_up_to);
-                console.complain(&format_args!(
-                    "{self}: refused {number}: {refusal}, in line {line}"
-                ));
+                format!("{self}: refused {number}: {refusal}, in line {line}")
             }
-            _ => console.complain(&format_args!("{self}: refused {number}: {refusal}")),
+            _ => format!("{self}: refused {number}: {refusal}"),
         }
     }
 
@@ -97,6 +98,21 @@ impl Source {
             Self::File(path) => path.as_os_str().as_bytes(),
         }
     }
+}
+
+/// The most bytes that are read of a text.
+const MOST: u64 = LONGEST_TEXT as u64 + 1;
+
+/// Opens a file.
+fn open(path: &Path) -> io::Result<(File, Metadata)> {
+    let file = File::open(path)?;
+    let metadata = file.metadata()?;
+    Ok((file, metadata))
+}
+
+/// The room to make for the bytes of a file.
+fn room(metadata: &Metadata) -> usize {
+    metadata.len().min(MOST) as usize + 1
 }
 
 /// The number of the line in which a byte is, counted from 1.
@@ -119,64 +135,5 @@ impl Display for Source {
                 }
             }
         }
-    }
-}
-
-impl Sources {
-    /// The sources of these names: standard input if there is none. A folder that cannot be read is told, and the
-    /// others go on.
-    pub fn of(names: &[Source], console: &mut Console) -> Self {
-        let mut sources = Self {
-            list: Vec::new(),
-            passed_over: 0,
-            are_many: names.len() > 1,
-            failed: 0,
-        };
-        if names.is_empty() {
-            sources.list.push(Source::Input);
-        }
-        for name in names {
-            match name {
-                Source::File(path) if path.is_dir() => {
-                    sources.are_many = true;
-                    sources.walk(path, console);
-                }
-                _ => sources.list.push(name.clone()),
-            }
-        }
-        sources
-    }
-
-    /// Adds the files of a folder and of its folders, in the order of their names.
-    fn walk(&mut self, folder: &Path, console: &mut Console) {
-        let mut left = vec![folder.to_owned()];
-        while let Some(folder) = left.pop() {
-            match self.add_files(&folder) {
-                Ok(folders) => left.extend(folders.into_iter().rev()),
-                Err(error) => {
-                    console.complain(&format_args!("{}: {error}", Source::File(folder)));
-                    self.failed += 1;
-                }
-            }
-        }
-    }
-
-    /// Adds the files of a folder, and gives the folders in it.
-    fn add_files(&mut self, folder: &Path) -> io::Result<Vec<PathBuf>> {
-        let mut entries = fs::read_dir(folder)?.collect::<io::Result<Vec<_>>>()?;
-        entries.sort_by_key(fs::DirEntry::file_name);
-        let mut folders = Vec::new();
-        for entry in entries {
-            let kind = entry.file_type()?;
-            let is_hidden = entry.file_name().as_bytes().starts_with(b".");
-            if is_hidden || !(kind.is_dir() || kind.is_file()) {
-                self.passed_over += 1;
-            } else if kind.is_dir() {
-                folders.push(entry.path());
-            } else {
-                self.list.push(Source::File(entry.path()));
-            }
-        }
-        Ok(folders)
     }
 }

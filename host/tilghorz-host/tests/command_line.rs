@@ -20,6 +20,10 @@ fn help_and_version_go_to_standard_output() {
         (&["fix", "-h"], "usage: tilghorz-host fix "),
         (&["help", "show"], "usage: tilghorz-host show "),
         (&["help", "policy"], "usage: tilghorz-host policy "),
+        (
+            &["help", "folders"],
+            "usage: tilghorz-host format|report|show ",
+        ),
         (&["help", "help"], "Puts the emoji selectors"),
         (&["help", "version"], "Puts the emoji selectors"),
         (&["version", "--help"], "Puts the emoji selectors"),
@@ -53,7 +57,7 @@ fn wrong_command_lines_are_told_on_standard_error() {
         ),
         (
             &["format", "--check", "--in-place", "a"],
-            "format: --check and --in-place: one of them",
+            "format: --check and --in-place cannot be used together",
         ),
         (
             &["format", "--in-place"],
@@ -67,6 +71,28 @@ fn wrong_command_lines_are_told_on_standard_error() {
             &["format", "a", "b"],
             "format: several texts go with --in-place or --check",
         ),
+        (
+            &["format", "--quiet", "--verbose", "a"],
+            "format: --quiet and --verbose cannot be used together",
+        ),
+        (
+            &["format", "--check", "--no-sync", "a"],
+            "format: --no-sync can only be used with --in-place",
+        ),
+        (
+            &["fix", "--at", "1", "--new-owner", "a"],
+            "fix: --new-owner can only be used with --in-place",
+        ),
+        (
+            &["report", "--jobs", "0", "a"],
+            "report: --jobs 0: not a number of at least 1",
+        ),
+        (
+            &["show", "--exclude", "[a", "a"],
+            "show: --exclude [a: not a pattern: a bracket is not closed",
+        ),
+        (&["fix", "--jobs", "1"], "fix: --jobs: not an option"),
+        (&["folders"], "folders: not a command"),
         (&["report", "--at", "1"], "report: --at: not an option"),
         (&["fix"], "fix: --at OFFSET is missing"),
         (&["fix", "--at", "x"], "fix: --at x: not an offset in bytes"),

@@ -67,7 +67,7 @@ fn links_and_hidden_files_in_a_folder_are_passed_over() {
     assert_eq!(ran.status, 0);
     assert_eq!(
         ran.err,
-        "tilghorz-host: 0 files: 0 changed, 0 unchanged, 4 passed over\n"
+        "tilghorz-host: 0 files: 0 changed, 0 unchanged; passed over: 2 hidden, 2 symbolic links\n"
     );
     assert_eq!(folder.read("elsewhere"), MESSAGE.as_bytes());
     assert_eq!(folder.read("texts/.hidden"), MESSAGE.as_bytes());

@@ -1,4 +1,4 @@
--- `base::byte_at` meets its contract: past the end of the list `getD` is 0 too.
+-- `base::byte_at` meets its contract: after the end of the list, `getD` is 0 too.
 use mathlib.Core.Path.{sym, ap}
 use mathlib.Core.List.{List}
 use Prim.Native.Nat.{ℕ}

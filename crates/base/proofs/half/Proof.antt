@@ -1,4 +1,4 @@
--- The four bytes by their weights (`number-four-at`).
+-- `base::half` meets its contract: the number of four bytes is the sum of the bytes by their weights (`number-four-at`).
 use native.Mathlib.Omega.{arith}
 use lib.ListN.{drop}
 use Rattle.base.proofs.Words.{number-four-at}

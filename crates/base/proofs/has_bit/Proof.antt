@@ -1,4 +1,4 @@
--- The bit as the definition reads it.
+-- `base::has_bit` meets its contract: the code computes the bit as the definition does.
 use borrow.Author.Needs.{needs}
 use Rattle.base.specs.Bits.{one}
 use Rattle.base.proofs.has_bit.Statement.{statement}

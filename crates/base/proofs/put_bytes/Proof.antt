@@ -1,5 +1,5 @@
--- The loop's invariant: the first `i` bytes are put. The last eight go over some of them (`sets-last`). The measure is what is left before
--- the last eight.
+-- `base::put_bytes` meets its contract. The loop's invariant: the first `i` bytes are written. The last eight bytes may overwrite some
+-- of them (`sets-last`). The measure is the number of bytes before the last eight that are not written.
 use mathlib.Core.Path.{_≡_, refl, ap, _∙_}
 use mathlib.Core.Bool.{true}
 use mathlib.Core.List.{List}
@@ -20,7 +20,7 @@ Inv-loop out₀ start bytes last i₀ out i = (i ≤ length bytes) × (out ≡ s
 abbrev μ-loop : tie.MeasureT-loop
 μ-loop out₀ start bytes last i₀ out i = length bytes - i
 
--- a word that is read from bytes and put
+-- A word that is read from bytes and written is a copy of these bytes.
 word-put : (bytes o o′ : List ℕ) (at i w : ℕ) → allBytes bytes ≡ true → i + 8 ≤ length bytes → w ≡ number (take 8 (drop i bytes)) → o′
     ≡ sets o at (wordBytes w)
     → o′ ≡ sets o at (take 8 (drop i bytes))

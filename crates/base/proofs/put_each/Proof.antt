@@ -1,4 +1,4 @@
--- `base::put_each` meets its contract: the loop writes what is left of the bytes at its place.
+-- `base::put_each` meets its contract. The loop's invariant: the first `i` bytes are written.
 use mathlib.Core.Path.{_≡_, refl}
 use mathlib.Core.List.{List, _∷_}
 use Prim.Native.Nat.{ℕ, _+_, _-_, _<_, _≤_}

@@ -1,4 +1,4 @@
--- Four stores, one after the other: each leaves the buffer as long as it was.
+-- `base::put_half` meets its contract: four stores, and none changes the buffer's length.
 use lib.ListN.{length-set}
 use native.Mathlib.Numerals.{unary-clauses}
 use native.Mathlib.Omega.{arith}

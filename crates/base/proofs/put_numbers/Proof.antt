@@ -1,4 +1,4 @@
--- `base::put_numbers` meets its contract. The loop writes the bytes of the numbers that are left at its place.
+-- `base::put_numbers` meets its contract. The loop's invariant: the bytes of the first `i` numbers are written.
 use mathlib.Core.Path.{ap, sym}
 use Prim.Native.Nat.{ℕ, _+_, _-_, _≤_}
 use native.Mathlib.Omega.{arith}

@@ -1,4 +1,4 @@
--- The two halves are the word (`sets-word`).
+-- `base::put_word` meets its contract: the two halves are the word (`sets-word`).
 use mathlib.Core.Path.{ap, _∙_}
 use mathlib.Core.List.{List}
 use Prim.Native.Nat.{ℕ, _+_, _/_}

@@ -1,4 +1,4 @@
--- The two halves make the number of the eight bytes (`number-eight`).
+-- `base::read_word` meets its contract: two numbers of four bytes make the number of eight (`number-eight`).
 use native.Mathlib.Omega.{arith}
 use lib.ListN.{drop}
 use Rattle.base.proofs.Words.{number-eight}

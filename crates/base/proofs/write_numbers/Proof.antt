@@ -1,4 +1,4 @@
--- Without room nothing is written; with room it is what `put_numbers` puts.
+-- `base::write_numbers` meets its contract: without room it writes nothing, and with room `put_numbers` writes.
 use mathlib.Core.Path.{sym, ap, _∙_}
 use mathlib.Core.Bool.{Bool, cond}
 use Prim.Native.Nat.{_+_}

@@ -1,4 +1,4 @@
--- Without room nothing is written.
+-- `base::write_word` meets its contract: without room it writes nothing, and with room `put_word` writes.
 use mathlib.Core.Path.{sym, ap, _∙_}
 use mathlib.Core.Bool.{Bool, cond}
 use Prim.Native.Nat.{_+_}

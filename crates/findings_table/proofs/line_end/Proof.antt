@@ -1,4 +1,4 @@
--- `line_end` stays within the message: the place is between where it starts and the message's end.
+-- `line_end` is safe and ends: the offset is at least the line's start and at most the message's length.
 use Prim.Native.Nat.{_-_, _≤_}
 use lib.ListN.{length}
 use borrow.Author.Needs.{needs}

@@ -1,4 +1,4 @@
--- `list_lines` is safe and ends: each turn leaves less of the message.
+-- `list_lines` is safe and ends: in each turn the rest of the message becomes shorter.
 use Prim.Native.Nat.{_-_, _≤_}
 use lib.ListN.{length}
 use borrow.Author.Needs.{needs}

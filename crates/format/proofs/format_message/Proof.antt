@@ -1,4 +1,4 @@
--- What `format_text` leaves, with room for every formatted text.
+-- `format_message` meets its contract, by the contract of `format_text` and a buffer that is long enough.
 use mathlib.Core.Path.{subst, sym, ap, _∙_}
 use mathlib.Core.List.{List}
 use Prim.Native.Nat.{ℕ}
@@ -16,7 +16,7 @@ returns c =
     let out = x .args .out .now in
     let d = c .before .before .before .before .before .put-default-policy .ensures .1 in
     let e = whole (c .before .before .format-text .ensures) ∙ ap (λ (p : List ℕ). format m p out) d in
-    record { as-format = e; told = subst (IsAnswer m) (sym e) (answers m out (x .pre)) }
+    record { result = e; meaning = subst (IsAnswer m) (sym e) (answers m out (x .pre)) }
 
 pub format-message-spec : {M : Type 1} → statement M
 format-message-spec =

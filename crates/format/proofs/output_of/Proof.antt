@@ -1,4 +1,4 @@
--- A message over the limit, and the three answers of formatting.
+-- `output_of` meets its contract: a message over the limit, and the three answers of formatting.
 use native.Mathlib.Omega.{arith}
 use Rattle.format.proofs.Filing.{changed-filed, long-filed, refused-filed, unchanged-filed}
 use borrow.Author.Needs.{needs}

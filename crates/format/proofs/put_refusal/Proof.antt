@@ -1,4 +1,4 @@
--- The line that `refusal_line` gives, for which there is room.
+-- `put_refusal` meets its contract: the line that `refusal_line` gives fits.
 use native.Mathlib.Omega.{arith}
 use Rattle.format.proofs.Filing.{line-front}
 use borrow.Author.Needs.{needs}

@@ -70,7 +70,7 @@ format-measured-requires c κs =
     let fit = sym (c .before .before .before .before .before .before .is-policy .ensures)
     ∙ not-false _ (c .before .before .before .before .before .if2 .left) in
     let f = c .before .before .before .before .next-change .ensures in
-    (short, fit, f, not-false _ (c .before .before .if3 .left))
+    record { short = short; is-policy = fit; is-next = f; is-present = not-false _ (c .before .before .if3 .left) }
 
 returns-5 : tie.Need-returns-5
 returns-5 c = ends-as (c .before .before .format-measured .ensures)
@@ -83,8 +83,10 @@ format-at-once-requires c κs =
     let short : length t ≤ textLimit = omega (arith, c .before .before .before .before .before .before .before .if1 .left) in
     let fit = sym (c .before .before .before .before .before .before .is-policy .ensures)
     ∙ not-false _ (c .before .before .before .before .before .if2 .left) in
-    let f = c .before .before .before .before .next-change .ensures in
-    (short, fit, f, not-false _ (c .before .before .if3 .left), omega (arith, c .before .if5 .left))
+    let f = c .before .before .before .before .next-change .ensures in (
+      record { short = short; is-policy = fit; is-next = f; is-present = not-false _ (c .before .before .if3 .left) },
+      omega (arith, c .before .if5 .left),
+    )
 
 returns-6 : tie.Need-returns-6
 returns-6 c = ends-as (c .before .before .format-at-once .ensures)

@@ -1,4 +1,4 @@
--- `formatting::put_change` meets its contract: one piece is put after the other.
+-- `formatting::put_change` meets its contract: it puts one piece after the other.
 use mathlib.Core.Path.{ap}
 use Prim.Native.Nat.{_-_}
 use native.Mathlib.Omega.{arith}

@@ -1,4 +1,4 @@
--- `formatting::put_selector` meets its contract: three bytes, or none.
+-- `formatting::put_selector` meets its contract: it puts three bytes, or none.
 use mathlib.Core.Path.{ap, _∙_}
 use Prim.Native.Nat.{_+_}
 use native.Mathlib.Omega.{arith}

@@ -1,5 +1,5 @@
--- `formatting::survey_text` meets its contract. The loop's invariant: what is measured, with what is left, is the whole, and
--- `change` is the next change from `at` on. The measure is the number of bytes left.
+-- `formatting::survey_text` meets its contract. The loop's invariant: the length so far and that of the rest are the whole length, and
+-- `change` is the next change from `at` on. The measure is the number of bytes after `at`.
 use Prim.Native.Nat.{_-_}
 use native.Mathlib.Omega.{arith}
 use borrow.Author.Needs.{needs}

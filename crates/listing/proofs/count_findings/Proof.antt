@@ -1,4 +1,4 @@
--- `listing::count_findings` meets its contract: all findings are passed.
+-- `listing::count_findings` meets its contract: with the end of the text as limit, all findings are passed.
 use borrow.Author.Needs.{needs}
 use Rattle.listing.proofs.NextFindings.{all-counted, all-valid}
 use Rattle.listing.proofs.count_findings.Statement.{statement}

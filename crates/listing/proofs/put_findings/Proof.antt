@@ -1,4 +1,4 @@
--- `listing::put_findings` meets its contract. The loop writes the rows of the findings from its place in the text on.
+-- `listing::put_findings` meets its contract. The loop's invariant: the rows of the findings from `at` on are still to be written.
 use mathlib.Core.Path.{ap, _∙_}
 use mathlib.Core.List.{List, map}
 use Prim.Native.Nat.{_-_, _≤_}

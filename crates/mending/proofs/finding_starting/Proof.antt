@@ -1,6 +1,5 @@
--- `mending::finding_starting` meets its contract: the next finding that does not start before the offset is the one that starts there, or
--- none
--- does. Up to where the search came the text is well-formed.
+-- `mending::finding_starting` meets its contract: the next finding that does not start before the offset starts there, or none does. Up to
+-- where the search ends, the text is well-formed.
 use mathlib.Core.Path.{ap}
 use Prim.Native.Nat.{ℕ}
 use native.Mathlib.Omega.{arith}
@@ -22,7 +21,7 @@ returns c =
     let e = n .ensures .2 m .1 in (
       none-further (x .offset) (n .ensures) m,
       (
-        omega (arith, e, n .ensures .0 .inside (omega arith)),
+        omega (arith, e, n .ensures .0 .advances .inside (omega arith)),
         omega
             (arith, e, next-valid (x .offset) (n .ensures), ap (λ (k : ℕ). validUpTo (drop k (x .text .now))) e),
       ),
@@ -30,9 +29,9 @@ returns c =
 
 returns-2 : tie.Need-returns-2
 returns-2 c =
-    let x = c .before .before .before .before .before .args in
-    let n = c .before .before .next-finding in
-    let m = not-false (n .result .present) (c .if1 .left) in
+    let x = c .before .before .before .before .before .before .args in
+    let n = c .before .before .before .next-finding in
+    let m = not-false (n .result .present) (c .before .if1 .left) in
     let f = n .ensures .1 m .1 .finds in (
       none-before (x .offset) (n .ensures) m,
       (

@@ -1,4 +1,4 @@
--- `mending::mend` meets its contract: the refusals in their order, and the finding at the offset.
+-- `mending::mend` meets its contract: the refusals come in their order, and then the finding at the offset is mended.
 use mathlib.Core.Path.{ap, sym, _∙_}
 use mathlib.Core.Option.{some}
 use Prim.Native.Nat.{ℕ, _+_, _≤_}

@@ -1,4 +1,4 @@
--- `mending::mend_finding` meets its contract: the finding's bytes are measured, the decisions tested for them, and the text put together.
+-- `mending::mend_finding` meets its contract: it measures the finding's bytes, tests the decisions, and writes the text.
 use mathlib.Core.Path.{refl, sym, _∙_}
 use mathlib.Core.List.{map}
 use native.Mathlib.Omega.{arith}

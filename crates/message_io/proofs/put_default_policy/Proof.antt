@@ -1,4 +1,4 @@
--- The buffer is as long as the policy.
+-- `put_default_policy` meets its contract: the buffer is as long as the policy.
 use mathlib.Core.Path.{_≡_, ap, _∙_}
 use lib.ListN.{length}
 use borrow.Author.Needs.{needs}

@@ -1,11 +1,11 @@
--- The loop has read `len` bytes. The buffer is as long as it was, and as it was from there on.
+-- `read_message` meets its contract. The loop's invariant: the buffer has its first length, and its bytes from `len` on are unchanged.
 use mathlib.Core.Path.{_≡_, sym, _∙_, ap, subst}
 use Prim.Native.Nat.{_-_, _≤_}
 use native.Mathlib.Omega.{arith}
 use lib.ListN.{drop, length}
 use lib.Seq.{length-take-le}
 use Rattle.message_io.specs.Message.{Reads}
-use Rattle.message_io.specs.declared.Turn.{Turn}
+use Rattle.message_io.specs.declared.ReadResult.{ReadResult}
 use Rattle.message_io.proofs.Reading.{after-pieces}
 use borrow.Author.Needs.{needs}
 use Rattle.message_io.proofs.read_message.Statement.{statement}
@@ -21,7 +21,7 @@ returns-2 : tie.Need-returns-2 Inv-loop μ-loop
 returns-2 c =
     let l = c .before .before .before .before .before .before .before .loop in
     let s = c .before .before .before .before .read-some in
-    let e = subst (λ (t : Turn). Reads (l .buf) (l .len) t (s .last .0)) (c .enum-told2 .given .1) (s .ensures) in (
+    let e = subst (λ (t : ReadResult). Reads (l .buf) (l .len) t (s .last .0)) (c .enum-told2 .given .1) (s .ensures) in (
       (omega (arith, ap length e), sym (length-take-le _ (s .last .0) (omega (arith, ap length e)))),
       omega (arith, ap length e),
       ap (drop (l .len)) e ∙ l .inv .2,
@@ -31,21 +31,21 @@ add-len : tie.Need-add-len Inv-loop μ-loop
 add-len c =
     let l = c .before .before .before .before .before .before .before .before .loop in
     let s = c .before .before .before .before .before .read-some in
-    let m = subst (λ (t : Turn). Reads (l .buf) (l .len) t (s .last .0)) (c .before .count .given .1) (s .ensures) in
+    let m = subst (λ (t : ReadResult). Reads (l .buf) (l .len) t (s .last .0)) (c .before .count .given .1) (s .ensures) in
     omega (arith, m .1)
 
 loop-less : tie.Need-loop-less Inv-loop μ-loop
 loop-less c =
     let l = c .before .before .before .before .before .before .before .before .loop in
     let s = c .before .before .before .before .before .read-some in
-    let m = subst (λ (t : Turn). Reads (l .buf) (l .len) t (s .last .0)) (c .before .count .given .1) (s .ensures) in
+    let m = subst (λ (t : ReadResult). Reads (l .buf) (l .len) t (s .last .0)) (c .before .count .given .1) (s .ensures) in
     omega (arith, m .0, m .1)
 
 loop-again : tie.Need-loop-again Inv-loop μ-loop
 loop-again c =
     let l = c .before .before .before .before .before .before .before .before .loop in
     let s = c .before .before .before .before .before .read-some in
-    let m = subst (λ (t : Turn). Reads (l .buf) (l .len) t (s .last .0)) (c .before .count .given .1) (s .ensures) in
+    let m = subst (λ (t : ReadResult). Reads (l .buf) (l .len) t (s .last .0)) (c .before .count .given .1) (s .ensures) in
     (omega (arith, m .1), search needs, after-pieces _ (l .buf) (s .last .0) (l .len) _ (l .inv .2) (m .3))
 
 pub read-message-spec : {M : Type 1} → statement M

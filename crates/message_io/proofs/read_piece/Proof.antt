@@ -1,4 +1,4 @@
--- What is put stands inside the buffer, and changes nothing else.
+-- `read_piece` meets its contract: the bytes fit, and no other byte changes.
 use lib.ListN.{take}
 use Rattle.message_io.proofs.Reading.{around-piece}
 use borrow.Author.Needs.{needs}

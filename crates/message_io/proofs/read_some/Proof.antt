@@ -1,4 +1,4 @@
--- The part of the piece that is lent has the length that there is room for.
+-- `read_some` meets its contract: the part of `piece` that is read into is as long as the bytes that fit.
 use mathlib.Core.Path.{sym}
 use native.Mathlib.Omega.{arith}
 use lib.Seq.{length-take-le}

@@ -1,4 +1,4 @@
--- What a set has in common with all entries is the set with its unused bits cleared.
+-- `policy::cleared` meets its contract: the intersection with the set of all entries clears the unused bits.
 use mathlib.Core.Path.{_≡_, refl, ap, _∙_}
 use mathlib.Core.Bool.{Bool, true, false, _&&_}
 use lib.Dec.{ltb}

@@ -1,4 +1,4 @@
--- By the domain.
+-- `policy::holds` meets its contract, for each domain.
 use mathlib.Core.Path.{ap, sym, _∙_}
 use Rattle.policy.specs.Policy.{holdsBase}
 use borrow.Author.Needs.{needs}

@@ -1,4 +1,4 @@
--- The two sets one after the other.
+-- `policy::keys_len` meets its contract: a key set is two sets.
 use native.Mathlib.Omega.{arith}
 use Rattle.base.proofs.Numbers.{length-both}
 use Rattle.policy.specs.PolicyBytes.{keyWords}

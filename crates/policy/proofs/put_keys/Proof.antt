@@ -1,4 +1,4 @@
--- The two sets one after the other.
+-- `policy::put_keys` meets its contract: it writes the two sets one after the other.
 use mathlib.Core.Path.{ap, _∙_}
 use native.Mathlib.Omega.{arith}
 use lib.ListN.{length}

@@ -1,4 +1,4 @@
--- The loop writes the bytes of the words that are left at its place.
+-- `policy::put_set` meets its contract. The loop's invariant: the bytes of the words before word `i` are written.
 use mathlib.Core.Path.{_≡_, sym, ap, _∙_}
 use Prim.Native.Nat.{_-_, _≤_}
 use native.Mathlib.Omega.{arith}

@@ -1,4 +1,4 @@
--- The four sets that were read are the policy of the bytes.
+-- `policy::read_policy` meets its contract: the four sets that were read are the sets of the policy.
 use mathlib.Core.Path.{_≡_}
 use mathlib.Core.Bool.{Bool}
 use Rattle.unicode.specs.UnicodeData.{variationEntries}

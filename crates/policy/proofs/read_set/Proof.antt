@@ -1,4 +1,4 @@
--- The invariant: the words before i are those of the bytes.
+-- `policy::read_set` meets its contract. The loop's invariant: the words before word `i` are the words of the bytes.
 use mathlib.Core.Path.{_≡_, refl, sym, _∙_}
 use Prim.Native.Nat.{ℕ, _+_, _*_, _-_, _<_, _≤_}
 use native.Mathlib.Nat.{not-suc-le-zero}

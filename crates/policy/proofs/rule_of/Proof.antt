@@ -1,4 +1,4 @@
--- By what the two sets answered.
+-- `policy::rule_of` meets its contract, for each pair of arguments.
 use Rattle.policy.specs.Policy.{ruleOf}
 use Rattle.policy.proofs.rule_of.Statement.{statement}
 use Rattle.policy.proofs.rule_of.Tie as tie

@@ -1,4 +1,4 @@
--- Six words of eight bytes: the length that a value of the type has.
+-- `policy::set_len` meets its contract: a value of the type has six words of eight bytes.
 use mathlib.Core.Path.{_≡_, sym, _∙_}
 use native.Mathlib.Omega.{arith}
 use lib.ListN.{length, length-map}

@@ -1,4 +1,4 @@
--- The two key sets one after the other.
+-- `policy::write_policy` meets its contract: it writes the two key sets one after the other.
 use native.Mathlib.Omega.{arith}
 use Rattle.base.proofs.Numbers.{length-both, put-both}
 use Rattle.base.proofs.Output.{too-short, wrote}

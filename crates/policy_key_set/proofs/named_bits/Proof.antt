@@ -1,4 +1,4 @@
--- The one computed test of each named set: its words against its rule, at every entry.
+-- `policy_key_set::named_bits` meets its contract: one computed test compares the words of each named set with its rule.
 use mathlib.Core.Path.{_≡_, refl, sym, subst}
 use borrow.Author.Needs.{needs}
 use Rattle.unicode.specs.Tables as Tables
@@ -6,7 +6,7 @@ use Rattle.unicode.specs.Unicode.{hasVariationSequence, isEmojiDefault, isEmoji
 use Rattle.unicode.specs.UnicodeData.{emojiPresentationRanges, variationEntries}
 use Rattle.base.specs.Bits.{one}
 use Rattle.policy_key_set.specs.Sets.{HoldsChars, allBelow, entryCount, member}
-use Rattle.policy_key_set.specs.KeySets.{namedEntryMatches, rightWords}
+use Rattle.policy_key_set.specs.KeySets.{namedEntryMatches, wordsMatchRule}
 use Rattle.policy_key_set.specs.declared.NamedSet.{NamedSet}
 use Rattle.policy_key_set.specs.declared.char_set.CharSet.{CharSet}
 use Rattle.policy_key_set.proofs.named_bits.Statement.{statement}
@@ -17,21 +17,21 @@ same-rule : (r : CharSet) {id o : NamedSet} → id ≡ o → HoldsChars (namedEn
 same-rule r e h = subst (λ (o : NamedSet). HoldsChars (namedEntryMatches o) (r .bits)) (sym e) h
 
 tested-requires : tie.Need-tested-requires
-unfolding rightWords allBelow member one entryCount variationEntries
+unfolding wordsMatchRule allBelow member one entryCount variationEntries
 tested-requires c κs = refl
 
 tested-requires-2 : tie.Need-tested-requires-2
-unfolding rightWords allBelow member one entryCount variationEntries isTextDefault hasVariationSequence isEmojiPresentation Tables.member
+unfolding wordsMatchRule allBelow member one entryCount variationEntries isTextDefault hasVariationSequence isEmojiPresentation Tables.member
     Tables.inRanges emojiPresentationRanges
 tested-requires-2 c κs = refl
 
 tested-requires-3 : tie.Need-tested-requires-3
-unfolding rightWords allBelow member one entryCount variationEntries isEmojiDefault hasVariationSequence isEmojiPresentation Tables.member
+unfolding wordsMatchRule allBelow member one entryCount variationEntries isEmojiDefault hasVariationSequence isEmojiPresentation Tables.member
     Tables.inRanges emojiPresentationRanges
 tested-requires-3 c κs = refl
 
 tested-requires-4 : tie.Need-tested-requires-4
-unfolding rightWords allBelow member one entryCount variationEntries
+unfolding wordsMatchRule allBelow member one entryCount variationEntries
 tested-requires-4 c κs = refl
 
 returns : tie.Need-returns

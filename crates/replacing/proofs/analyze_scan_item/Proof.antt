@@ -1,4 +1,4 @@
--- `replacing::analyze_scan_item` meets its contract: the item at the offset, and the totals of its bytes (ItemsAt).
+-- `replacing::analyze_scan_item` meets its contract: by the item at the offset and the totals of its bytes (ItemsAt).
 use mathlib.Core.Path.{sym, _∙_}
 use native.Mathlib.Omega.{arith}
 use borrow.Author.Needs.{needs}

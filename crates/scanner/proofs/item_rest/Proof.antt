@@ -1,6 +1,6 @@
--- `scanner::item_rest` meets its contract. The loop's invariant: what is left at `at` and `place` gives the end and the tags of the whole
--- (Cursor, Reading).
--- The measure is the number of bytes left.
+-- `scanner::item_rest` meets its contract. The loop's invariant: the rest from `at` and `state` on, with `tags_complete`, gives the
+-- end and the tag report of the whole rest (Cursor, Reading).
+-- The measure is the number of bytes after `at`.
 use mathlib.Core.Path.{sym, _∙_}
 use Prim.Native.Nat.{_-_}
 use native.Mathlib.Omega.{arith}
@@ -26,7 +26,7 @@ returns c =
     let l = c .before .before .before .before .before .before .before .loop in
     let p = c .before .before .before .before in
     let k = seen (x .text .now) (l .at) (sym (p .before .before .peek .ensures) ∙ p .class .given .1) in
-    reading-done (l .inv) (rest-ends k (l .state) (sym (c .before .before .step .ensures) ∙ c .enum-told .given .1))
+    reading-done (l .inv) (rest-ends k (l .state) (sym (c .before .before .transition .ensures) ∙ c .enum-told .given .1))
 
 loop-less : tie.Need-loop-less Inv-loop μ-loop
 loop-less c =
@@ -37,7 +37,7 @@ loop-less c =
     let n = c .before .before .before .before .before .next .given in
     let tags = c .before .consume-emoji-tag-runs .ensures in
     let begins = sym (c .before .before .before .begins-tags .ensures) ∙ c .before .before .if1 .taken in
-    let r = reading-tags (l .inv) k (n .0 .0) (sym (c .before .before .before .before .before .before .before .step .ensures) ∙ n .1) begins
+    let r = reading-tags (l .inv) k (n .0 .0) (sym (c .before .before .before .before .before .before .before .transition .ensures) ∙ n .1) begins
     (tags .0) (tags .1) in
     omega (arith, r .0, k .on, k .room)
 
@@ -50,7 +50,7 @@ loop-again c =
     let n = c .before .before .before .before .before .next .given in
     let tags = c .before .consume-emoji-tag-runs .ensures in
     let begins = sym (c .before .before .before .begins-tags .ensures) ∙ c .before .before .if1 .taken in
-    let r = reading-tags (l .inv) k (n .0 .0) (sym (c .before .before .before .before .before .before .before .step .ensures) ∙ n .1) begins
+    let r = reading-tags (l .inv) k (n .0 .0) (sym (c .before .before .before .before .before .before .before .transition .ensures) ∙ n .1) begins
     (tags .0) (tags .1) in
     rw (c .both .ensures) (r .1)
 
@@ -69,7 +69,7 @@ loop-again-2 c =
     let p = c .before .before .before .before .before .before .before in
     let k = seen (x .text .now) (l .at) (sym (p .before .before .peek .ensures) ∙ p .class .given .1) in
     let n = c .before .before .before .next .given in
-    reading-on (l .inv) k (n .0 .0) (sym (c .before .before .before .before .before .step .ensures) ∙ n .1)
+    reading-on (l .inv) k (n .0 .0) (sym (c .before .before .before .before .before .transition .ensures) ∙ n .1)
     (sym (c .before .begins-tags .ensures) ∙ c .if1 .left)
 
 returns-2 : tie.Need-returns-2 Inv-loop μ-loop

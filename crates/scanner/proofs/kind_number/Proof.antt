@@ -1,4 +1,4 @@
--- `scanner::kind_number` meets its contract.
+-- `scanner::kind_number` meets its contract: each arm is a line of the definition.
 use borrow.Author.Needs.{needs}
 use Rattle.scanner.specs.Spans.{kindNumber}
 use Rattle.scanner.proofs.kind_number.Statement.{statement}

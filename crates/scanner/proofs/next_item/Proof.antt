@@ -1,4 +1,4 @@
--- `scanner::next_item` meets its contract: the item's parts, one after the other (Cursor, cursor-item).
+-- `scanner::next_item` meets its contract: the item is its first character and the rest (Cursor, cursor-item).
 use mathlib.Core.Path.{sym, _∙_}
 use Rattle.scanner.proofs.Cursor.{cursor-end, cursor-item}
 use Rattle.scanner.proofs.Peek.{seen, unseen}
@@ -10,7 +10,7 @@ returns : tie.Need-returns
 returns c =
     let x = c .before .before .before .before .before .before .before .before .args in
     let i = c .before .item-rest in
-    let f = c .before .before .begin in
+    let f = c .before .before .start-state in
     let k = seen (x .text .now) (x .at) (sym (c .before .before .before .before .before .before .peek .ensures)
     ∙ c .before .before .before .before .class .given .1) in
     cursor-item k (f .result) (i .result .end) (i .result .«tags_complete») (c .kind-of .result) (f .ensures) (i .ensures .0)

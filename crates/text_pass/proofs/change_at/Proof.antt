@@ -1,4 +1,4 @@
--- `text_pass::change_at` meets its contract: a base with its selectors, a selector, or a plain character with more like it.
+-- `text_pass::change_at` meets its contract: at a base with its selectors, at a selector, and at any other character.
 use Rattle.text_pass.proofs.PlainText.{stays-plain}
 use Rattle.text_pass.proofs.Staying.{stays-on}
 use Rattle.text_pass.proofs.Bases.{change-at-base, change-at-selector, entry-no-selector, plain-char}
@@ -50,10 +50,10 @@ returns-3 c =
     let n = plain-char (x .ch) (sym (c .before .before .before .before .before .before .variation-sequence-index-by-block .ensures)
     ∙ c .before .before .before .before .enum-told .given .1)
     (sym (c .before .before .before .from-selector .ensures) ∙ c .before .enum-told3 .given .1) in
-    let present = c .skip-alike .ensures (policyOf (x .policy .now)) in (
+    let alike = c .skip-alike .ensures (policyOf (x .policy .now)) in (
       λ f. absurd (true≢false (sym f)),
       λ _.
-          (stays-on (stays-plain (policyOf (x .policy .now)) s n) present, omega (arith, s .some, present .on)),
+          (stays-on (stays-plain (policyOf (x .policy .now)) s n) alike, omega (arith, s .some, alike .advances .on)),
     )
 
 pub change-at-spec : {M : Type 1} → statement M

@@ -1,4 +1,5 @@
--- `text_pass::next_change` meets its contract. The loop's invariant: all bytes up to `at` stay. The measure is the number of bytes left.
+-- `text_pass::next_change` meets its contract. The loop's invariant: formatting keeps all bytes up to `at`. The measure is the number of
+-- bytes after `at`.
 use Rattle.text_pass.proofs.Staying.{stays-here, stays-on, stays-then}
 use Rattle.policy.proofs.ByEntry.{ascii-rule-bare}
 use Rattle.utf8.proofs.Packed.{packed-reads, packed-step, packed-stop}
@@ -31,7 +32,7 @@ returns c =
     let s = stays-on (c .before .before .before .loop .inv) (c .before .before .skip-plain .ensures (policyOf (x .policy .now)) h) in
     let z = packed-stop (x .text .now) (c .before .before .skip-plain .result) (c .before .decode .result) (c .before .decode .ensures)
     (c .if1 .taken) in
-    (λ f. absurd (true≢false (sym f)), λ _. record { stays = s; ends = z .chars-none; all-kept = refl; no-selector = refl })
+    (λ f. absurd (true≢false (sym f)), λ _. record { stays = s; ends = z .chars-none; start-is-end = refl; no-selector = refl })
 
 change-at-requires : tie.Need-change-at-requires Inv-loop μ-loop
 change-at-requires c κs =
@@ -59,7 +60,7 @@ loop-less c =
     let d = c .before .change-at .ensures .1 (c .if2 .left) in
     let k = packed-step (x .text .now) (c .before .before .before .before .skip-plain .result) (c .before .before .before .decode .result)
     (c .before .before .before .decode .ensures) (c .before .before .if1 .left) in
-    omega (arith, a .on, d .1, d .0 .inside (omega (arith, k .room)), k .room)
+    omega (arith, a .advances .on, d .1, d .0 .advances .inside (omega (arith, k .room)), k .room)
 
 loop-again : tie.Need-loop-again Inv-loop μ-loop
 loop-again c =

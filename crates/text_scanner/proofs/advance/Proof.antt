@@ -1,4 +1,4 @@
--- By what the cursor answered.
+-- `text_scanner::advance` meets its contract: by the cases of the cursor's answer.
 use borrow.Author.Needs.{needs}
 use Rattle.text_scanner.proofs.Advancing.{advance-end, advance-item}
 use Rattle.text_scanner.proofs.advance.Statement.{statement}

@@ -1,7 +1,7 @@
--- By what the answer is.
+-- `text_scanner::item_of` meets its contract: by the cases of the answer.
 use mathlib.Core.Path.{ap, sym}
 use borrow.Author.Needs.{needs}
-use Rattle.text_scanner.specs.Scanner.{itemOf}
+use Rattle.text_scanner.specs.Helpers.{itemOf}
 use Rattle.text_scanner.proofs.item_of.Statement.{statement}
 use Rattle.text_scanner.proofs.item_of.Tie as tie
 

@@ -1,9 +1,9 @@
--- By what the answer is, and by whether a call is left.
+-- `text_scanner::left_after` meets its contract: by the cases of the answer, and by whether a call is left.
 use mathlib.Core.Path.{_≡_, ap, sym, _∙_}
 use Prim.Native.Nat.{_-_}
 use native.Mathlib.Omega.{arith}
 use borrow.Author.Needs.{needs}
-use Rattle.text_scanner.specs.Scanner.{leftAfter}
+use Rattle.text_scanner.specs.Helpers.{leftAfter}
 use Rattle.scanner.specs.declared.ScanStep.{ScanStep}
 use Rattle.text_scanner.proofs.left_after.Statement.{statement}
 use Rattle.text_scanner.proofs.left_after.Tie as tie

@@ -1,6 +1,6 @@
--- `text_scanner::next` meets its contract: a walk of its MIR. The outer borrow is opened; the scanner inside is Copy, so what it
--- owns is had twice: of one copy the text's part goes to `advance`, and the other is put back with the new offset.
--- All that the proof knows of `advance` is that it meets its contract.
+-- `text_scanner::next` meets its contract: a walk of its MIR. The outer borrow is opened. The scanner inside is Copy, so what it
+-- owns is there twice: the text's part of one copy goes to `advance`, and the other copy is put back with the new offset.
+-- The proof uses nothing of `advance` but its contract.
 use mathlib.Core.Path.{_≡_, refl, ap, sym, _∙_}
 use Prim.Native.Nat.{ℕ, _<_, _^_}
 use mathlib.Core.List.{List, [], _∷_}
@@ -101,7 +101,8 @@ use denote.Triple.Entry.{Vals, onEntry}
 use denote.Triple.Spec.{Meets, tripleOf}
 use denote.Triple.Table.{entered, cited}
 use denote.Triple.Walked.{says, Stays, stay-ref, walkOf, goes-ref, Walks, ends-at, walked, walk-meets}
-use Rattle.text_scanner.specs.Scanner.{advanced, atOffset, offsetAfterStep}
+use Rattle.text_scanner.specs.Helpers.{advanced}
+use Rattle.text_scanner.specs.Scanner.{atOffset, offsetAfterStep}
 use Rattle.text_scanner.specs.declared.Advanced.{Advanced}
 use Rattle.text_scanner.specs.declared.Scanner.{Scanner}
 use Rattle.text_scanner.proofs.Scanner as T
@@ -181,7 +182,7 @@ module _ {M : Type 1} (𝓤 : URA M) (H : Heap 𝓤) (A : Atoms 𝓤) (W : Given
   asked = qed W ((‵ (flft κ′ q′) ⊛ ‵ ftrue) ∷ ‵ (owns (ShrSlice (named 0) κ′ u8 ∷ usize ∷ []) (h .text, (h .offset, tt)) passed) ∷ []) ∵
       join ! $ frame ! $ done !
 
-  -- what the scanner owns gives what the callee asks, and is kept
+  -- what the scanner owns gives what the callee asks, and stays there
   apart : h .offset < 2 ^ 64 → ent 𝓤 (sep 𝓤 (sep 𝓤 (A .lft κ′ q′) (emp 𝓤)) (sem 𝓤 H A (Own h)))
       (sep 𝓤 (Advance 𝓤 H A at-mem run .pre to) (sem 𝓤 H A (Own h)))
   apart fits =
@@ -195,12 +196,12 @@ module _ {M : Type 1} (𝓤 : URA M) (H : Heap 𝓤) (A : Atoms 𝓤) (W : Given
       move ! (1 ∷ 0 ∷ []) $ fjoin ! $
       move ! (2 ∷ 0 ∷ []) $ use2 W (raw (Advance 𝓤 H A at-mem run .pre to)) asked $ frame ! $ done !)
 
-  -- of the callee's `ensured`, the clause alone
+  -- from the callee's `ensured`, only the clause
   said : (r : Advanced) → ent 𝓤 (ensured 𝓤 H A advance.ended (advance.clauses 𝓤 H A at-mem run) (κ′, tt) (h .text, (h .offset, tt)) tt r)
       (fact 𝓤 (r ≡ found))
   said r = exE 𝓤 _ (λ ws. snd∗ 𝓤 (sem 𝓤 H A (lasts advance.ended (κ′, tt) (h .text, (h .offset, tt)) ws)) (fact 𝓤 (r ≡ found)))
 
-  -- what text owns is kept, and offset's facts are made anew
+  -- what `text` owns stays there, and the facts about `offset` are made anew
   again : (n : ℕ) → n < 2 ^ 64 → ent 𝓤 (sem 𝓤 H A (Own h)) (sem 𝓤 H A (Own (atOffset h n)))
   again n ok = qed W (‵ (Own h) ∷ []) ∵ owned ! usize (Is usize) (uint-makes 𝓤 H A W w64) n _ (refl, ok) $ move ! (1 ∷ 0 ∷ []) $
       by ! (own-put 𝓤 H A W D L 1 vd n (T′.lowered h))

@@ -1,5 +1,6 @@
--- `text_scanner::nth_item` meets its contract: a walk of its MIR. A scanner is made in a local, moved on by `skip` and lent to `next`.
--- What a `&[u8]` owns is had as often as it is wanted, and a scanner's part is put together of it.
+-- `text_scanner::nth_item` meets its contract: a walk of its MIR. A scanner is made in a local, moved on by `skip` and lent to
+-- `next`.
+-- A `&[u8]` is Copy, so what it owns can be used several times; what a scanner owns is made from it.
 use mathlib.Core.Path.{_≡_, refl, ap, _∙_}
 use mathlib.Core.List.{List, [], _∷_}
 use Prim.Native.Nat.{ℕ, _<_, _^_}
@@ -99,7 +100,8 @@ use denote.Exit.{yes}
 use Rattle.base.specs.Answers.{Answers, checkRow}
 use Rattle.base.proofs.Check as K
 use Rattle.base.proofs.Check.Laws as K′
-use Rattle.text_scanner.specs.Scanner.{scanned, skipped, verdictOf}
+use Rattle.text_scanner.specs.Helpers.{skipped}
+use Rattle.text_scanner.specs.Scanner.{scanned, verdictOf}
 use Rattle.scanner.specs.declared.ScanStep.{ScanStep}
 use Rattle.text_scanner.specs.declared.NthItem.{NthItem}
 use Rattle.text_scanner.specs.declared.Scanned.{Scanned}
@@ -147,7 +149,7 @@ module _ {M : Type 1} (𝓤 : URA M) (H : Heap 𝓤) (A : Atoms 𝓤) (mem : Mem
   abbrev Skip : Contract 𝓤
   Skip = tripleOf 𝓤 H A skip.signature (skip.spec 𝓤 H A mem run)
 
--- what is known of the three at the tables
+-- what is known of the three callees in the tables
 record Known {M : Type 1} (𝓤 : URA M) (H : Heap 𝓤) (A : Atoms 𝓤) (mem : Memory → SProp 𝓤) (run : Routine → Fun 𝓤)
     (C : Calls 𝓤 H) : Type 1 where
   pub of-scan : Triple 𝓤 (C #scan) (Scan 𝓤 H A mem run)
@@ -163,7 +165,7 @@ module _ {M : Type 1} (𝓤 : URA M) (H : Heap 𝓤) (A : Atoms 𝓤) (W : Given
   abbrev αᵉ : NamedLft
   αᵉ = record { mir = erased; lft = κ }
 
-  -- the machine value that s has, and what s owns
+  -- the machine value of s, and what s owns
   abbrev v : Val
   v = sliceVal (s .ptr) (length (s .now))
 
@@ -182,7 +184,7 @@ module _ {M : Type 1} (𝓤 : URA M) (H : Heap 𝓤) (A : Atoms 𝓤) (W : Given
   abbrev Post : Val → SProp 𝓤
   Post = walkOf 𝓤 H A nth-item.ended stayed (nth-item.clauses 𝓤 H A mem run) .post (((κ, tt), (q, tt), tt, a, at), tt)
 
-  -- what is made, and its scanner at first and after n calls
+  -- the result of `scan`, and its scanner at first and after n calls
   abbrev made : Scanned
   made = scanned s
 
@@ -220,7 +222,7 @@ module _ {M : Type 1} (𝓤 : URA M) (H : Heap 𝓤) (A : Atoms 𝓤) (W : Given
   asked-scan = qed W ((‵ (flft κ q) ⊛ ‵ ftrue) ∷ ‵ (owns (ShrSlice (named 0) κ u8 ∷ []) (s, tt) (v ∷ [], tt)) ∷ []) ∵ join ! $ frame ! $
       done !
 
-  -- what the making of a scanner ensures
+  -- what `scan` ensures of its result
   abbrev Made : Scanned → Type 0
   Made r = (r ≡ made) × Answers checkRow (verdictOf (now s)) (r .verdict)
 
@@ -253,7 +255,7 @@ module _ {M : Type 1} (𝓤 : URA M) (H : Heap 𝓤) (A : Atoms 𝓤) (W : Given
     verdict-is : Is K.the-row (made .verdict) (EL.val K.the-type K′.the-laws (made .verdict) ∷ [])
     verdict-is = LL.owed (S.the-type α₀) (S′.the-laws α₀) made _ was .0
 
-    -- from the last scanner on: it is lent to `next`, and the answer goes into the result
+    -- the part after `skip`: its scanner is lent to `next`, and the answer goes into the result
     ends : Is (T.the-row α₀) last (T′.lowered last ∷ [])
         → Sq W (‵ (Own κ last) ∷ (‵ (flft κ q) ⊛ ‵ ftrue) ∷ ‵ TO
         ∷ ‵ (froom K′.mir l₉ 0) ∷ ‵ (fdies K′.mir l₉) ∷ ‵ (froom loan l₈ 0) ∷ ‵ (fdies loan l₈) ∷ ‵ (froom (T′.mir erased) l₇ 0) ∷ ‵
@@ -301,7 +303,7 @@ module _ {M : Type 1} (𝓤 : URA M) (H : Heap 𝓤) (A : Atoms 𝓤) (W : Given
         move ! (3 ∷ 4 ∷ []) $ free1 ! $ free0 ! $
         keep ! (0 ∷ 2 ∷ []) $ by ! (exits t result e)))))))
 
-    -- from what `scan` made on: `skip` is called
+    -- the part after `scan`: `skip` is called
     skips : Sq W ((‵ (flft κ q) ⊛ ‵ ftrue) ∷ ‵ TO
         ∷ ‵ (froom K′.mir l₉ 0) ∷ ‵ (fdies K′.mir l₉) ∷ ‵ (froom loan l₈ 0) ∷ ‵ (fdies loan l₈) ∷ ‵ (froom (T′.mir erased) l₇ 0) ∷ ‵
         (fdies (T′.mir erased) l₇) ∷ ‵ (froom (T′.mir erased) l₆ 0) ∷ ‵ (fdies (T′.mir erased) l₆)

@@ -1,5 +1,5 @@
--- `text_scanner::nth_raw` meets its contract: a walk of its MIR. The item is asked of `nth_item`, and a scanner of the text is made for
--- `raw`, of a copy of what the text owns.
+-- `text_scanner::nth_raw` meets its contract: a walk of its MIR. `nth_item` gives the item. A scanner for `raw` is made from a copy
+-- of what the text owns.
 use mathlib.Core.Path.{_≡_, refl, ap, _∙_}
 use mathlib.Core.List.{List, [], _∷_}
 use Prim.Native.Nat.{ℕ, _<_, _^_}
@@ -89,7 +89,8 @@ use denote.Triple.Spec.{Meets, tripleOf}
 use denote.Triple.Table.{entered, cited}
 use denote.Triple.Walked.{says, Stays, stay-none, stay-none-slice, walkOf, goes-none, goes-none-slice, Walks, ends-at, walked, walk-meets}
 use denote.Exit.{yes}
-use Rattle.text_scanner.specs.Scanner.{itemOf, nthItem, part, rawOf}
+use Rattle.text_scanner.specs.Helpers.{itemOf}
+use Rattle.text_scanner.specs.Scanner.{nthItem, part, rawOf}
 use Rattle.scanner.specs.declared.ScanItem.{ScanItem}
 use Rattle.text_scanner.specs.declared.NthItem.{NthItem}
 use Rattle.text_scanner.specs.declared.Scanner.{Scanner}
@@ -133,7 +134,7 @@ module _ {M : Type 1} (𝓤 : URA M) (H : Heap 𝓤) (A : Atoms 𝓤) (mem : Mem
   abbrev Raw : Contract 𝓤
   Raw = tripleOf 𝓤 H A raw′.signature (raw′.spec 𝓤 H A mem run)
 
--- what is known of the three at the tables
+-- what is known of the three callees in the tables
 record Known {M : Type 1} (𝓤 : URA M) (H : Heap 𝓤) (A : Atoms 𝓤) (mem : Memory → SProp 𝓤) (run : Routine → Fun 𝓤)
     (C : Calls 𝓤 H) : Type 1 where
   pub of-nth : Triple 𝓤 (C #nth-item) (Nth 𝓤 H A mem run)
@@ -149,7 +150,7 @@ module _ {M : Type 1} (𝓤 : URA M) (H : Heap 𝓤) (A : Atoms 𝓤) (W : Given
   abbrev αᵉ : NamedLft
   αᵉ = record { mir = erased; lft = κ }
 
-  -- the machine value that s has, and what s owns
+  -- the machine value of s, and what s owns
   abbrev v : Val
   v = sliceVal (s .ptr) (length (s .now))
 
@@ -168,7 +169,7 @@ module _ {M : Type 1} (𝓤 : URA M) (H : Heap 𝓤) (A : Atoms 𝓤) (W : Given
   abbrev Post : Val → SProp 𝓤
   Post = walkOf 𝓤 H A nth-raw.ended stayed (nth-raw.clauses 𝓤 H A mem run) .post (((κ, tt), (q, tt), tt, a, at), tt)
 
-  -- the scanner that is made, and the machine value of an item
+  -- the scanner for `raw`, and the machine value of an item
   abbrev made : Scanner
   made = record { text = s; offset = 0 }
 
@@ -225,7 +226,7 @@ module _ {M : Type 1} (𝓤 : URA M) (H : Heap 𝓤) (A : Atoms 𝓤) (W : Given
   said-raw i x = exE 𝓤 _ (λ ws. snd∗ 𝓤 (sem 𝓤 H A (lasts raw′.ended (κ, tt) (made, (i, tt)) ws))
       (fact 𝓤 (now x ≡ part (now s) (i .start) (i .end))))
 
-  -- what the three say together
+  -- what the contracts of the three callees say together
   bytes : (r : NthItem) (i : ScanItem) (x : RefT (List ℕ)) → r ≡ nthItem (now s) n → i ≡ itemOf (r .step) → now x
       ≡ part (now s) (i .start) (i .end) → now x ≡ rawOf (now s) (nthItem (now s) n .step)
   bytes r i x e f g = g ∙ ap (λ (j : ScanItem). part (now s) (j .start) (j .end)) f ∙ raw-item (now s) (r .step)

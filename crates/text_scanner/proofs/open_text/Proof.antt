@@ -1,4 +1,4 @@
--- By the verdict on the text.
+-- `text_scanner::open_text` meets its contract: by the cases of the verdict on the text.
 use borrow.Author.Needs.{needs}
 use Rattle.text_scanner.proofs.Advancing.{open-passed, open-refused}
 use Rattle.text_scanner.proofs.open_text.Statement.{statement}

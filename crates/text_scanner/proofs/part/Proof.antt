@@ -1,4 +1,4 @@
--- By the comparisons of the two offsets and the length.
+-- `text_scanner::part` meets its contract: by the comparisons of the two offsets and the length.
 use borrow.Author.Needs.{needs}
 use borrow.Author.Tests.{le-leb, lt-leb}
 use Rattle.text_scanner.proofs.part.Statement.{statement}

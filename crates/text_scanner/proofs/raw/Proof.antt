@@ -1,5 +1,5 @@
--- `text_scanner::raw` meets its contract: a walk of its MIR. The struct is taken apart, and `part` is called on the slice and the
--- item's numbers; what `part` returns is handed on.
+-- `text_scanner::raw` meets its contract: a walk of its MIR. The struct is taken apart, and `part` is called with the slice and the
+-- item's numbers. The result of `part` is returned.
 use mathlib.Core.Path.{_≡_, refl}
 use Prim.Native.Nat.{ℕ, _<_, _^_}
 use mathlib.Core.List.{List, [], _∷_}
@@ -177,7 +177,7 @@ module _ {M : Type 1} (𝓤 : URA M) (H : Heap 𝓤) (A : Atoms 𝓤) (W : Given
   asked = qed W ((‵ (flft κ q) ⊛ ‵ ftrue) ∷ ‵ (owns (ShrSlice (named 0) κ u8 ∷ usize ∷ usize ∷ []) p passed) ∷ []) ∵ join ! $ frame ! $
       done !
 
-  -- what the struct owns gives what the callee asks, and is kept
+  -- what the struct owns gives what the callee asks, and stays there
   apart : it .start < 2 ^ 64 → it .end < 2 ^ 64 → ent 𝓤 (onEntry 𝓤 H A raw′.signature (κ, tt) (q, tt) a vals)
       (sep 𝓤 (Part 𝓤 H A mem run .pre to) (sem 𝓤 H A Own))
   apart fs fe =
@@ -192,7 +192,7 @@ module _ {M : Type 1} (𝓤 : URA M) (H : Heap 𝓤) (A : Atoms 𝓤) (W : Given
       owned ! usize (Is usize) (uint-makes 𝓤 H A W w64) (it .start) _ (refl, fs) $ fjoin ! $ move ! (1 ∷ 0 ∷ []) $ fjoin ! $
       move ! (2 ∷ 0 ∷ []) $ use2 W (raw (Part 𝓤 H A mem run .pre to)) asked $ frame ! $ done !)
 
-  -- of the callee's `ensured`, the clause alone
+  -- from the callee's `ensured`, only the clause
   said : (r : RefT (List ℕ)) → ent 𝓤 (ensured 𝓤 H A part.ended (part.clauses 𝓤 H A mem run) (κ, tt) p tt r) (fact 𝓤 (now r ≡ found))
   said r = exE 𝓤 _ (λ ws. snd∗ 𝓤 (sem 𝓤 H A (lasts part.ended (κ, tt) p ws)) (fact 𝓤 (now r ≡ found)))
 

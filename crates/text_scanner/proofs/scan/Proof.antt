@@ -1,5 +1,5 @@
--- `text_scanner::scan` meets its contract: a walk of its MIR. The covered test is called, and a struct that holds a slice is made
--- inside another. A `&[u8]` is Copy, so what it owns is had as often as it is wanted.
+-- `text_scanner::scan` meets its contract: a walk of its MIR. It calls `open_text`, and makes a struct that holds a slice inside
+-- another struct. A `&[u8]` is Copy, so what it owns can be used several times.
 use mathlib.Core.Path.{_≡_, refl, ap}
 use Prim.Native.Nat.{ℕ}
 use mathlib.Core.List.{List, [], _∷_}
@@ -90,7 +90,7 @@ use denote.Exit.{yes}
 use Rattle.base.proofs.Answering.{answers}
 use Rattle.base.proofs.Check as K
 use Rattle.base.proofs.Check.Laws as K′
-use Rattle.text_scanner.specs.Scanner.{opened}
+use Rattle.text_scanner.specs.Helpers.{opened}
 use Rattle.text_scanner.specs.declared.Opened.{Opened}
 use Rattle.text_scanner.specs.declared.Scanned.{Scanned}
 use Rattle.text_scanner.specs.declared.Scanner.{Scanner}
@@ -121,15 +121,15 @@ module _ {M : Type 1} (𝓤 : URA M) (H : Heap 𝓤) (A : Atoms 𝓤) (W : Given
   abbrev α : NamedLft
   α = namedLft 1 0 tt (κ, tt)
 
-  -- the struct's type as a local has it
+  -- the struct's type in a local
   abbrev αᵉ : NamedLft
   αᵉ = record { mir = erased; lft = κ }
 
-  -- the machine value that s has
+  -- the machine value of s
   abbrev v : Val
   v = sliceVal (s .ptr) (length (s .now))
 
-  -- what is made of what the callee returns, and its machine value
+  -- the scanner made from the callee's result, and its machine value
   abbrev scanner : Opened → Scanner
   scanner r = record { text = s; offset = r .offset }
 
@@ -158,7 +158,7 @@ module _ {M : Type 1} (𝓤 : URA M) (H : Heap 𝓤) (A : Atoms 𝓤) (W : Given
       (fact 𝓤 (r ≡ opened (now s)))
   said r = exE 𝓤 _ (λ ws. snd∗ 𝓤 (sem 𝓤 H A (lasts open-text.ended (κ, tt) (s, tt) ws)) (fact 𝓤 (r ≡ opened (now s))))
 
-  -- what is known of the machine value of what the callee returns
+  -- what is known of the machine value of the callee's result
   abbrev Right : Opened → Type 0
   Right r = Is P.the-row r (LL.vals P.the-type P′.the-laws r)
 

@@ -1,5 +1,6 @@
--- `text_scanner::skip` meets its contract: a walk of its MIR, with a loop. A turn lends the scanner to `next` and takes it back, and
--- asks `left_after` how many calls are left. Invariant: those calls, from where the scanner stands, come to where all of them come to.
+-- `text_scanner::skip` meets its contract: a walk of its MIR, with a loop. A turn lends the scanner to `next` and takes it back,
+-- and asks `left_after` how many calls are left. The invariant: the calls that are left lead from the scanner's offset to the
+-- offset after all n calls.
 use mathlib.Core.Path.{_≡_, refl, sym, ap, _∙_}
 use mathlib.Core.Logic.{⊎-elim}
 use mathlib.Core.Bool.{Bool}
@@ -112,7 +113,8 @@ use denote.Triple.Spec.{Meets, tripleOf}
 use denote.Triple.Table.{entered, cited}
 use denote.Triple.Walked.{says, Stays, stay-none, walkOf, goes-none, Walks, ends-at, walked, walk-meets}
 use denote.Exit.{yes}
-use Rattle.text_scanner.specs.Scanner.{atOffset, offsetAfterStep, leftAfter, offsetAfter, skipped}
+use Rattle.text_scanner.specs.Helpers.{leftAfter, skipped}
+use Rattle.text_scanner.specs.Scanner.{atOffset, offsetAfterStep, offsetAfter}
 use Rattle.scanner.specs.declared.ScanStep.{ScanStep}
 use Rattle.text_scanner.specs.declared.Scanner.{Scanner}
 use Rattle.text_scanner.proofs.HandingOut.{fewer-left, no-call, one-call}
@@ -147,7 +149,7 @@ stayed = (stay-none S yes, (stay-none (λ _. usize) yes, tt))
 abbrev LeftAfter : {M : Type 1} (𝓤 : URA M) (H : Heap 𝓤) (A : Atoms 𝓤) (mem : Memory → SProp 𝓤) (run : Routine → Fun 𝓤) → Contract 𝓤
 LeftAfter 𝓤 H A mem run = tripleOf 𝓤 H A left-after.signature (left-after.spec 𝓤 H A mem run)
 
--- what is known of the two at the tables
+-- what is known of the two callees in the tables
 record Known {M : Type 1} (𝓤 : URA M) (H : Heap 𝓤) (A : Atoms 𝓤) (mem : Memory → SProp 𝓤) (run : Routine → Fun 𝓤)
     (C : Calls 𝓤 H) : Type 1 where
   pub of-next : Triple 𝓤 (C #next) (Next 𝓤 H A mem run)
@@ -170,7 +172,7 @@ module _ {M : Type 1} (𝓤 : URA M) (H : Heap 𝓤) (A : Atoms 𝓤) (W : Given
       nothing ! $ owned ! usize (Is usize) (uint-makes 𝓤 H A W w64) n _ (refl, ok) $ fjoin ! $ move ! (2 ∷ 0 ∷ []) $ fjoin ! $ frame ! $
       done !
 
-  -- the call of `left_after`, of an answer with the machine value u
+  -- the call of `left_after` with an answer whose machine value is u
   abbrev to-left : ScanStep → Val → ℕ → LeftAfter 𝓤 H A mem run .Ghost
   to-left s u k = ((tt, tt, tt, (s, (k, tt)), (u ∷ [], (vint w64 k ∷ [], tt))), tt)
 
@@ -187,7 +189,8 @@ module _ {M : Type 1} (𝓤 : URA M) (H : Heap 𝓤) (A : Atoms 𝓤) (W : Given
   abbrev t : List ℕ
   t = now (d .text)
 
-  -- the loop's variant: the offset and the calls that are left, which fit and come to where all calls come to; by the calls that are left
+  -- the loop's variant: the offset and the number of calls left; both fit, and these calls lead to the offset after all calls. It
+  -- decreases in the number of calls left.
   abbrev State : Type 0
   State = (o : ℕ) × ((k : ℕ) × ((o < 2 ^ 64) × ((k < 2 ^ 64) × (offsetAfter t o k ≡ offsetAfter t (d .offset) n))))
 
@@ -197,7 +200,7 @@ module _ {M : Type 1} (𝓤 : URA M) (H : Heap 𝓤) (A : Atoms 𝓤) (W : Given
   Nearer-wf : WellFounded Nearer
   Nearer-wf = InvImage·wf (λ (i : State). i .1 .0) (Nat·lt-wfRel .wf)
 
-  -- the scanner, and where a turn that gets the answer s and is told r comes to
+  -- the scanner, and the variant after a turn that gets the answer s and r calls left
   abbrev here : State → Scanner
   here i = atOffset d (i .0)
 

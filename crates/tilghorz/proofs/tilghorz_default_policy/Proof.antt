@@ -1,4 +1,4 @@
--- What `write_policy` writes of the default policy, and the word of its answer.
+-- `tilghorz::tilghorz_default_policy` meets its contract, by those of `write_policy` and `write_word`.
 use borrow.Author.Needs.{needs}
 use Rattle.tilghorz.proofs.tilghorz_default_policy.Statement.{statement}
 use Rattle.tilghorz.proofs.tilghorz_default_policy.Tie as tie

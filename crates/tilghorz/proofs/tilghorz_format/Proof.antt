@@ -1,4 +1,4 @@
--- The outcome of `format_text`, and the word of its answer.
+-- `tilghorz::tilghorz_format` meets its contract, by those of `format_text` and `format_word`.
 use borrow.Author.Needs.{needs}
 use Rattle.formatter.specs.Format.{formatRow}
 use Rattle.tilghorz.proofs.Outcomes.{outcome}

@@ -1,4 +1,4 @@
--- The outcome of `list_findings`, and the word of its answer.
+-- `tilghorz::tilghorz_list` meets its contract, by those of `list_findings` and `list_word`.
 use borrow.Author.Needs.{needs}
 use Rattle.base.specs.Answers.{listRow}
 use Rattle.tilghorz.proofs.Outcomes.{outcome}

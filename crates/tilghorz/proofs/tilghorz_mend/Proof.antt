@@ -1,4 +1,4 @@
--- The outcome of `mend`, and the word of its answer.
+-- `tilghorz::tilghorz_mend` meets its contract, by those of `mend` and `mend_word`.
 use borrow.Author.Needs.{needs}
 use Rattle.analysis.specs.Decisions.{mendRow}
 use Rattle.tilghorz.proofs.Outcomes.{outcome}

@@ -1,4 +1,4 @@
--- The outcome of `list_items`, and the word of its answer.
+-- `tilghorz::tilghorz_scan` meets its contract, by those of `list_items` and `list_word`.
 use borrow.Author.Needs.{needs}
 use Rattle.base.specs.Answers.{listRow}
 use Rattle.tilghorz.proofs.Outcomes.{outcome}

@@ -1,4 +1,4 @@
--- The word of the entry at the index.
+-- `tilghorz::tilghorz_variation_entry` meets its contract, by those of `variation_entry` and `entry_word`.
 use borrow.Author.Needs.{needs}
 use Rattle.tilghorz.proofs.tilghorz_variation_entry.Statement.{statement}
 use Rattle.tilghorz.proofs.tilghorz_variation_entry.Tie as tie

@@ -1,4 +1,5 @@
--- The invariant: what stands before lo is below ch, and what stands from hi on is above it.
+-- `unicode::binary_search` meets its contract. The loop's invariant: the numbers before `lo` are below `ch`, and those from `hi` on are
+-- above it.
 use mathlib.Core.Path.{sym}
 use mathlib.Core.Logic.{⊎-elim}
 use Prim.Native.Nat.{ℕ, _<_, _≤_, _+_, _-_, _/_}

@@ -1,4 +1,4 @@
--- The character's bit and its place in one block.
+-- `unicode::emoji_data` meets its contract: the character's bit and its index come from one block (BlockTables).
 use mathlib.Core.Path.{sym, ap, _∙_}
 use Prim.Native.Nat.{_%_}
 use borrow.Author.Needs.{needs}

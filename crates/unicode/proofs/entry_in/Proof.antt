@@ -1,4 +1,4 @@
--- By whether the character's bit is one.
+-- `unicode::entry_in` meets its contract, by whether the character's bit is 1.
 use mathlib.Core.Path.{sym}
 use borrow.Author.Needs.{needs}
 use Rattle.unicode.specs.Blocks.{entryIn}

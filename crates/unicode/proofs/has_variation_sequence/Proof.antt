@@ -1,4 +1,4 @@
--- The table is in order, by the one test of it.
+-- `unicode::has_variation_sequence` meets its contract: the table is in order (InOrder).
 use borrow.Author.Needs.{needs}
 use Rattle.unicode.specs.Unicode.{hasVariationSequence}
 use Rattle.unicode.specs.UnicodeData.{variationEntries}

@@ -1,4 +1,4 @@
--- The character's bit in its block.
+-- `unicode::has_variation_sequence_by_block` meets its contract: the character's bit is in its block (BlockTables).
 use mathlib.Core.Path.{sym, ap, _∙_}
 use Prim.Native.Nat.{_%_}
 use borrow.Author.Needs.{needs}

@@ -1,4 +1,4 @@
--- A number is in the table exactly when the search finds its place.
+-- `unicode::in_char_table` meets its contract: a table contains a number exactly when the search finds its index.
 use mathlib.Core.Path.{sym, ap, _∙_}
 use borrow.Author.Needs.{needs}
 use Rattle.unicode.proofs.Ascent.{isAt, member-index}

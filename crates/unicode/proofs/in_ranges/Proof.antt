@@ -1,4 +1,5 @@
--- The invariant: a range before lo ends before ch, and one from hi on starts after it.
+-- `unicode::in_ranges` meets its contract. The loop's invariant: a range before `lo` ends before `ch`, and a range from `hi` on starts
+-- after it.
 use mathlib.Core.Path.{sym}
 use mathlib.Core.Logic.{inl, inr, ⊎-elim}
 use Prim.Native.Nat.{ℕ, _<_, _≤_, _+_, _-_, _/_}

@@ -1,4 +1,4 @@
--- The table is in order, by the one test of it.
+-- `unicode::is_emoji` meets its contract: the table is in order (InOrder).
 use borrow.Author.Needs.{needs}
 use Rattle.unicode.specs.Unicode.{isEmoji}
 use Rattle.unicode.specs.UnicodeData.{emojiRanges}

@@ -1,4 +1,4 @@
--- The modifiers are the numbers of one range.
+-- `unicode::is_emoji_modifier_by_ends` meets its contract: the modifiers are the numbers of one range.
 use mathlib.Core.Path.{_∙_}
 use mathlib.Core.List.{[], _∷_}
 use borrow.Author.Needs.{needs}

@@ -1,4 +1,4 @@
--- The one range of the table.
+-- `unicode::is_ri_by_ends` meets its contract: the table has one range.
 use mathlib.Core.Path.{_∙_}
 use borrow.Author.Needs.{needs}
 use Rattle.unicode.specs.Unicode.{isRi}

@@ -1,4 +1,4 @@
--- A range, as the definition has it.
+-- `unicode::is_tag` meets its contract: the definition is a range too.
 use borrow.Author.Needs.{needs}
 use Rattle.unicode.specs.Unicode.{isTag}
 use Rattle.unicode.proofs.is_tag.Statement.{statement}

@@ -1,4 +1,4 @@
--- By what the two questions answered.
+-- `unicode::is_text_default` meets its contract, by the results of the two tests.
 use mathlib.Core.Path.{sym}
 use borrow.Author.Needs.{needs}
 use Rattle.unicode.specs.Unicode.{isTextDefault}

@@ -1,4 +1,4 @@
--- The two tests, in the code's order.
+-- `unicode::is_within` meets its contract, by the results of the two tests.
 use borrow.Author.Tests.{le-leb, lt-leb}
 use Rattle.unicode.proofs.is_within.Statement.{statement}
 use Rattle.unicode.proofs.is_within.Tie as tie

@@ -1,4 +1,4 @@
--- The word with the ones below the bit.
+-- `unicode::ones_below` meets its contract: the remainder by a power of two keeps the bits below the bit.
 use mathlib.Core.Path.{_≡_, ap, _∙_}
 use Prim.Native.Nat.{ℕ, _*_, _%_, _^_, _<_}
 use native.Mathlib.Nat.{mod-le, one-mul}
@@ -9,7 +9,7 @@ use borrow.Author.Needs.{needs}
 use Rattle.unicode.proofs.ones_below.Statement.{statement}
 use Rattle.unicode.proofs.ones_below.Tie as tie
 
--- a bit of a word is a power of two
+-- A word that has one bit is a power of two.
 power : (k : ℕ) → k < 64 → 1 * 2 ^ k % 2 ^ 64 ≡ 2 ^ k
 power k h = shl-exact 1 k 64 (omega arith) (omega arith) ∙ one-mul (2 ^ k)
 

@@ -1,4 +1,4 @@
--- The array is the list of the entries, and 354 of them are all.
+-- `unicode::variation_entry` meets its contract: the array is the list of the 354 entries.
 use mathlib.Core.Path.{sym}
 use borrow.Author.Needs.{needs}
 use Rattle.unicode.specs.Unicode.{variationEntry}

@@ -1,4 +1,4 @@
--- The character's place in its block.
+-- `unicode::variation_sequence_index_by_block` meets its contract: the character's index comes from its block (BlockTables).
 use mathlib.Core.Path.{sym, ap, _∙_}
 use Prim.Native.Nat.{_%_}
 use borrow.Author.Needs.{needs}

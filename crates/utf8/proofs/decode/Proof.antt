@@ -1,4 +1,4 @@
--- `utf8::decode` meets its contract: each answer is that of the bytes at the place (Values).
+-- `utf8::decode` meets its contract: each returned number is the packed number of the bytes at the offset (Values).
 use Prim.Native.Nat.{_+_}
 use native.Mathlib.Omega.{arith}
 use lib.ListN.{List·getD-eq-default}

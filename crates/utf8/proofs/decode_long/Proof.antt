@@ -1,4 +1,4 @@
--- `utf8::decode_long` meets its contract: a byte that is not there counts as 0, which is no tail (Values).
+-- `utf8::decode_long` meets its contract: after the end of the text a byte counts as 0, which is no UTF8-tail (Values).
 use mathlib.Core.Path.{refl}
 use Prim.Native.Nat.{_+_}
 use native.Mathlib.Omega.{arith}

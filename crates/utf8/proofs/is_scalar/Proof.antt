@@ -1,4 +1,4 @@
--- `utf8::is_scalar` meets its contract: a value below, between, above and after the bounds.
+-- `utf8::is_scalar` meets its contract: below the surrogates, among them, above them, and above 10FFFF.
 use mathlib.Core.Path.{sym}
 use native.Mathlib.Omega.{arith}
 use Rattle.utf8.proofs.Scalars.{isScalar-low, surrogate-not-scalar, above-not-scalar, isScalar-high}

@@ -1,4 +1,5 @@
--- `utf8::pack_3` meets its contract: the value tells whether three bytes with their marks are a character (Values).
+-- `utf8::pack_3` meets its contract: three bytes with the right high bits are a character exactly where their value passes the tests
+-- (Values).
 use native.Mathlib.Omega.{arith}
 use Rattle.utf8.specs.Rfc3629.{value-3}
 use Rattle.utf8.proofs.Scalars.{isScalar-low, isScalar-high}

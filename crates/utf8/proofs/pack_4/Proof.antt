@@ -1,4 +1,5 @@
--- `utf8::pack_4` meets its contract: the value tells whether four bytes with their marks are a character (Values).
+-- `utf8::pack_4` meets its contract: four bytes with the right high bits are a character exactly where their value passes the tests
+-- (Values).
 use native.Mathlib.Omega.{arith}
 use Rattle.utf8.proofs.Values.{reads-4, refused}
 use borrow.Author.Needs.{needs}

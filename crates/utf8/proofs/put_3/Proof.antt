@@ -1,4 +1,4 @@
--- `utf8::put_3` meets its contract: a byte, and a pair after it.
+-- `utf8::put_3` meets its contract: it stores a byte, and a pair after it.
 use mathlib.Core.Path.{ap, _∙_}
 use mathlib.Core.List.{[], _∷_}
 use Prim.Native.Nat.{ℕ, _+_, _/_, _%_}

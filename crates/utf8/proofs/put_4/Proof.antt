@@ -1,4 +1,4 @@
--- `utf8::put_4` meets its contract: two pairs.
+-- `utf8::put_4` meets its contract: it stores two pairs.
 use mathlib.Core.Path.{ap, sym, _∙_}
 use mathlib.Core.List.{List, [], _∷_}
 use Prim.Native.Nat.{ℕ, _+_, _/_, _%_}

@@ -1,4 +1,4 @@
--- `utf8::put_char` meets its contract: in each row of section 3's table the bytes stored are the encoding.
+-- `utf8::put_char` meets its contract: in each row of section 3's table, the stored bytes are the encoding.
 use mathlib.Core.Path.{sym, ap, _∙_}
 use native.Mathlib.Omega.{arith}
 use lib.ListN.{length}

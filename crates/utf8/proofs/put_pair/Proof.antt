@@ -1,4 +1,4 @@
--- `utf8::put_pair` meets its contract: two stores are `sets` of two bytes.
+-- `utf8::put_pair` meets its contract: two stores are one `sets` of two bytes.
 use native.Mathlib.Numerals.{unary-clauses}
 use native.Mathlib.Omega.{arith}
 use lib.ListN.{length-set}

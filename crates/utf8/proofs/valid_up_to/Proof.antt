@@ -1,6 +1,5 @@
--- `utf8::valid_up_to` meets its contract. The loop's invariant: `at`, with the longest well-formed beginning from there on, is `validUpTo`
--- of the text.
--- The measure is the number of bytes left.
+-- `utf8::valid_up_to` meets its contract. The loop's invariant: `at` plus the longest well-formed prefix of the bytes from `at` on is
+-- `validUpTo` of the text. The measure is the number of bytes left.
 use mathlib.Core.Path.{_≡_}
 use Prim.Native.Nat.{_+_, _-_, _%_, _≤_}
 use native.Mathlib.Omega.{arith}

@@ -1,4 +1,4 @@
--- `utf8::write_char` meets its contract: each answer is a case of Answers.
+-- `utf8::write_char` meets its contract: each returned answer is one of the three cases in Answers.
 use borrow.Author.Tests.{not-true, not-false}
 use mathlib.Core.Path.{sym, _∙_}
 use native.Mathlib.Omega.{arith}

@@ -5,6 +5,8 @@
 use std::ffi::OsStr;
 use std::fs;
 use std::io::Write;
+use std::os::unix::fs::{MetadataExt, lchown};
+use std::os::unix::process::CommandExt;
 use std::path::{Path, PathBuf};
 use std::process::{Command, Stdio};
 
@@ -15,6 +17,14 @@ pub const COMMAND: &str = env!("CARGO_BIN_EXE_tilghorz-host");
 pub const MESSAGE: &str = "1\u{FE0E} \u{2764}";
 /// What it becomes.
 pub const FORMATTED: &str = "1 \u{2764}\u{FE0E}";
+
+/// The number of a user and a group that own nothing.
+pub const NOBODY: u32 = 65534;
+
+/// Whether this user is root.
+pub fn is_root() -> bool {
+    fs::metadata("/proc/self").is_ok_and(|own| own.uid() == 0)
+}
 
 /// A folder that is empty at first, and goes away at the end of a test that passes.
 pub struct Folder(PathBuf);
@@ -70,6 +80,26 @@ impl Folder {
         names
     }
 
+    /// The paths of the files in it and in its folders, in order.
+    pub fn paths(&self) -> Vec<String> {
+        let mut paths = Vec::new();
+        let mut left = vec![self.0.clone()];
+        while let Some(folder) = left.pop() {
+            for entry in fs::read_dir(folder).expect("a folder") {
+                let entry = entry.expect("an entry");
+                if entry.file_type().expect("a kind").is_dir() {
+                    left.push(entry.path());
+                } else {
+                    let path = entry.path();
+                    let path = path.strip_prefix(&self.0).expect("a path in it");
+                    paths.push(path.to_string_lossy().into_owned());
+                }
+            }
+        }
+        paths.sort();
+        paths
+    }
+
     /// Runs the command in it, with nothing on standard input.
     pub fn run<S: AsRef<OsStr>>(&self, arguments: &[S]) -> Ran {
         self.run_with(arguments, b"")
@@ -78,7 +108,41 @@ impl Folder {
     /// Runs the command in it, with bytes on standard input.
     pub fn run_with<S: AsRef<OsStr>>(&self, arguments: &[S], input: &[u8]) -> Ran {
         let mut command = Command::new(COMMAND);
-        command.args(arguments).current_dir(&self.0);
+        command.args(arguments);
+        self.run_command(command, input)
+    }
+
+    /// Makes all in it that of the user nobody, and gives the command as that user runs it; for a user who is not root it
+    /// is the command as it is. There is none where nobody cannot reach the folder.
+    pub fn as_nobody(&self) -> Option<Command> {
+        let mut command = Command::new(COMMAND);
+        if !is_root() {
+            return Some(command);
+        }
+        let give = |path: &Path| lchown(path, Some(NOBODY), Some(NOBODY)).expect("given");
+        let mut left = vec![self.0.clone()];
+        while let Some(folder) = left.pop() {
+            give(&folder);
+            for entry in fs::read_dir(folder).expect("a folder") {
+                let entry = entry.expect("an entry");
+                give(&entry.path());
+                if entry.file_type().expect("a kind").is_dir() {
+                    left.push(entry.path());
+                }
+            }
+        }
+        command.uid(NOBODY).gid(NOBODY);
+        let mut trial = Command::new(COMMAND);
+        trial.uid(NOBODY).gid(NOBODY).current_dir(&self.0);
+        let trial = trial.arg("version").output();
+        trial
+            .is_ok_and(|output| output.status.success())
+            .then_some(command)
+    }
+
+    /// Runs a command in it, with bytes on standard input.
+    pub fn run_command(&self, mut command: Command, input: &[u8]) -> Ran {
+        command.current_dir(&self.0);
         command
             .stdin(Stdio::piped())
             .stdout(Stdio::piped())

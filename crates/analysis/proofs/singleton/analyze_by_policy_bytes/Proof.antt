@@ -1,4 +1,4 @@
--- `analysis::singleton::analyze_by_policy_bytes` meets its contract: the rule for the entry is that for its base.
+-- `analysis::singleton::analyze_by_policy_bytes` meets its contract: the policy's rule for the entry is its rule for the base.
 use mathlib.Core.Path.{ap, sym, _∙_}
 use mathlib.Core.Bool.{Bool}
 use borrow.Author.Needs.{needs}

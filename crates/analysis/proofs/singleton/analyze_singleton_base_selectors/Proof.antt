@@ -1,4 +1,4 @@
--- `analysis::singleton::analyze_singleton_base_selectors` meets its contract: with a variation entry or without.
+-- `analysis::singleton::analyze_singleton_base_selectors` meets its contract: by whether the base has a variation entry.
 use mathlib.Core.Path.{ap, sym, _∙_}
 use mathlib.Core.Bool.{Bool}
 use borrow.Author.Needs.{needs}

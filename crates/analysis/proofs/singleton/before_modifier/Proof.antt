@@ -1,4 +1,4 @@
--- `analysis::singleton::before_modifier` meets its contract: rules 2 and 3 by the number.
+-- `analysis::singleton::before_modifier` meets its contract: rules 2 and 3 by the number of selectors.
 use mathlib.Core.Path.{sym, _∙_}
 use Rattle.analysis.specs.Rules.{byFirst, rule3, runWith, textFirst}
 use Rattle.analysis.proofs.NumberRules.{emoji-23, text-23}

@@ -1,4 +1,4 @@
--- `analysis::singleton::before_tags` meets its contract.
+-- `analysis::singleton::before_tags` meets its contract: by whether the base is emoji-default.
 use borrow.Author.Needs.{needs}
 use Rattle.analysis.proofs.singleton.before_tags.Statement.{statement}
 use Rattle.analysis.proofs.singleton.before_tags.Tie as tie

@@ -1,4 +1,4 @@
--- `analysis::singleton::before_tags_bare` meets its contract: rule 4 by the number.
+-- `analysis::singleton::before_tags_bare` meets its contract: rule 4 by the number of selectors.
 use Rattle.analysis.specs.Rules.{byFirst, rule4, runWith}
 use Rattle.analysis.proofs.NumberRules.{emoji-4, text-4}
 use borrow.Author.Needs.{needs}

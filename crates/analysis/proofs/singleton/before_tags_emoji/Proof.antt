@@ -1,4 +1,4 @@
--- `analysis::singleton::before_tags_emoji` meets its contract: rule 5 by the number.
+-- `analysis::singleton::before_tags_emoji` meets its contract: rule 5 by the number of selectors.
 use Rattle.analysis.specs.Rules.{rule5, runWith}
 use Rattle.analysis.proofs.NumberRules.{emoji-5, text-5}
 use borrow.Author.Needs.{needs}

@@ -1,4 +1,4 @@
--- `analysis::singleton::by_policy` meets its contract: rule 6 by the number.
+-- `analysis::singleton::by_policy` meets its contract: rule 6 by the number of selectors.
 use mathlib.Core.Path.{sym, _∙_}
 use Rattle.analysis.specs.Rules.{rule6, runWith}
 use Rattle.analysis.proofs.NumberRules.{first-6}

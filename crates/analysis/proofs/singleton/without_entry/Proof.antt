@@ -1,4 +1,4 @@
--- `analysis::singleton::without_entry` meets its contract: rule 1 by the number.
+-- `analysis::singleton::without_entry` meets its contract: rule 1 by the number of selectors.
 use Rattle.analysis.specs.Rules.{rule1, runWith}
 use Rattle.analysis.proofs.NumberRules.{first-1}
 use borrow.Author.Needs.{needs}

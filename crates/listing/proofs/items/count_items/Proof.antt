@@ -1,4 +1,4 @@
--- `listing::items::count_items` meets its contract. The loop's invariant: the items counted and those from here on are all.
+-- `listing::items::count_items` meets its contract. The loop's invariant: the items counted so far and those from `at` on are all.
 use mathlib.Core.Path.{_≡_, sym, ap, _∙_}
 use Prim.Native.Nat.{_+_, _-_, _≤_}
 use native.Mathlib.Omega.{arith}

@@ -1,5 +1,5 @@
 -- `listing::items::put_items` meets its contract: a walk of its MIR, by hand, with a loop. A turn lends the scanner to `next` and takes
--- it back, lends the table again to `put_step`, and takes it back. The invariant is Going (ItemRows): the rows of the items from the
+-- it back, lends the table again to `put_step`, and takes it back. The invariant is `Going` (`ItemRows`): the rows of the items from the
 -- scanner's offset on are still to be put.
 use mathlib.Core.Path.{_≡_, refl, ap}
 use mathlib.Core.Bool.{Bool, true, false}
@@ -97,17 +97,17 @@ lentTy = sliceTy byteTy
 abbrev stayed : Stays (put-items.ended .signature .params) (put-items.ended .kept)
 stayed = (stay-none-slice (0 ∷ []) tt (plain (λ _. u8)) yes, (stay-slice (1 ∷ []) tt (plain (λ _. u8)), tt))
 
--- The contract that the proof cites beside that of `next`.
+-- The contract of `put_step`, which the proof cites together with that of `next`.
 abbrev PutStep : {M : Type 1} (𝓤 : URA M) (H : Heap 𝓤) (A : Atoms 𝓤) (mem : Memory → SProp 𝓤) (run : Routine → Fun 𝓤) → Contract 𝓤
 PutStep 𝓤 H A mem run = tripleOf 𝓤 H A put-step.signature (put-step.spec 𝓤 H A mem run)
 
--- What is known of the two at the tables.
+-- Both callees are in the table of calls, with their contracts.
 record Known {M : Type 1} (𝓤 : URA M) (H : Heap 𝓤) (A : Atoms 𝓤) (mem : Memory → SProp 𝓤) (run : Routine → Fun 𝓤)
     (C : Calls 𝓤 H) : Type 1 where
   pub of-next : Triple 𝓤 (C #next) (Next 𝓤 H A mem run)
   pub of-put : Triple 𝓤 (C #put-step) (PutStep 𝓤 H A mem run)
 
--- The loop's variant: the offset, the rows, and the table that they are put into.
+-- The index of the loop's invariant: the offset, the rows, and the table that they are put into.
 record State (t ys : List ℕ) : Type 0 where
   pub o : ℕ
   pub rows : PutRows
@@ -182,7 +182,7 @@ module _ {M : Type 1} (𝓤 : URA M) (H : Heap 𝓤) (A : Atoms 𝓤) (W : Given
   abbrev St : Type 0
   St = State t ys
 
-  -- What `put_step` says of the rows and the table after it.
+  -- What the contract of `put_step` says of the rows and the table after the call.
   abbrev Put : St → ScanStep → PutRows → List ℕ → Type 0
   Put i st r l = PutAt (i .zs) (i .rows .to) (stepBytes st) l (r .to) × (r .more ≡ isItem st)
 
@@ -195,7 +195,7 @@ module _ {M : Type 1} (𝓤 : URA M) (H : Heap 𝓤) (A : Atoms 𝓤) (W : Given
   abbrev here : St → Scanner
   here i = record { text = x; offset = i .o }
 
-  -- Where a turn comes to that gets the answer st.
+  -- The index after a turn in which the scanner gives st.
   abbrev onward : (i : St) (st : ScanStep) → st ≡ answerOf (here i) → (r : PutRows) (l : List ℕ) → Put i st r l → r .to < 2 ^ 64 → St
   onward i st e r l f fits = record {
     o = moved (here i) st .offset;

@@ -1,4 +1,4 @@
--- `listing::table::first_finding` meets its contract. The loop's invariant: the findings from here on are those from the start on.
+-- `listing::table::first_finding` meets its contract. The loop's invariant: the findings from `at` on are those from `start` on.
 use mathlib.Core.Path.{_≡_, refl, sym, ap, _∙_}
 use mathlib.Core.List.{map}
 use Prim.Native.Nat.{_-_}

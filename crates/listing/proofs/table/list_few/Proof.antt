@@ -1,6 +1,5 @@
--- `listing::table::list_few` meets its contract: a walk of its MIR, by hand. The local array is lent as a table for a
--- lifetime made here, `list_into_table` stores the findings in it, the lifetime ends, and the array is the function's
--- own again and is handed on by value.
+-- `listing::table::list_few` meets its contract: a walk of its MIR, by hand. The walk makes a lifetime and lends the local array as a table
+-- for it. `list_into_table` stores the findings in the table. The lifetime ends, the function owns the array again, and passes it by value.
 use mathlib.Core.Path.{_≡_, refl, ap, subst, _∙_}
 use mathlib.Core.List.{[], _∷_, List}
 use Prim.Native.Nat.{ℕ, _<_, _^_}
@@ -172,14 +171,14 @@ module _ {M : Type 1} (𝓤 : URA M) (H : Heap 𝓤) (A : Atoms 𝓤) (mem : Mem
   abbrev Few : Contract 𝓤
   Few = tripleOf 𝓤 H A few-findings.signature (few-findings.spec 𝓤 H A mem run)
 
--- What is known of the three at the tables.
+-- The three callees are in the table of calls, with their contracts.
 record Known {M : Type 1} (𝓤 : URA M) (H : Heap 𝓤) (A : Atoms 𝓤) (mem : Memory → SProp 𝓤) (run : Routine → Fun 𝓤)
     (C : Calls 𝓤 H) : Type 1 where
   pub of-none : Triple 𝓤 (C #no-finding) (NoFinding 𝓤 H A mem run)
   pub of-list : Triple 𝓤 (C #list-into-table) (Listing 𝓤 H A mem run)
   pub of-few : Triple 𝓤 (C #few-findings) (Few 𝓤 H A mem run)
 
--- The outcome of listing into eight places, handed on.
+-- The result is the outcome of listing into eight places.
 outcome : (text policy : List ℕ) {r : ListAnswer} {zs : List Finding} → record { answer = r; buffer = zs }
     ≡ list text policy (replicate 8 (noFinding 0))
     → record { answer = r; findings = zs } ≡ fewFindings text policy
@@ -188,12 +187,12 @@ outcome text policy e =
     let handed : After ListAnswer Finding → FewFindings = λ after. record { answer = after .answer; findings = after .buffer } in
     ap handed e
 
--- Eight findings have room.
+-- Eight findings fit into memory.
 room8 : Room R 8
 room8 = (lit< tt, lit< tt)
 
 module _ {M : Type 1} (𝓤 : URA M) (H : Heap 𝓤) (A : Atoms 𝓤) (W : Given 𝓤 H A) where
-  -- An array that was written whole is a row of findings, which can be lent as a table.
+  -- An array with all places written can be lent as a table of findings.
   in-cells : (l : ℕ) (xs : List Finding) (v : Val)
       → ent 𝓤 (sep 𝓤 (sem 𝓤 H A (fat fullShare arrayTy l 0 v)) (sem 𝓤 H A (Eight .own xs (v ∷ [])))) (sem 𝓤 H A (cells (inMemory R) xs l 0))
   unfolding partOf
@@ -204,7 +203,7 @@ module _ {M : Type 1} (𝓤 : URA M) (H : Heap 𝓤) (A : Atoms 𝓤) (W : Given
       use1 W (‵ (arr-parts (shares R) 8 .part fullShare xs l 0)) (array-apart 𝓤 H A W R fullShare tt 8 xs l 0) $
       fsplit ! $ drop ! $ by ! (whole-in 𝓤 H A W R xs l 0)
 
-  -- And back.
+  -- A table of findings of that length is the array again.
   whole-array : (l : ℕ) (xs : List Finding)
       → ent 𝓤 (sem 𝓤 H A (Arr (inMemory R) 8 .lies xs l 0)) (sem 𝓤 H A (partAt Eight fullShare xs l 0))
   whole-array l xs =
@@ -306,7 +305,7 @@ module _ {M : Type 1} (𝓤 : URA M) (H : Heap 𝓤) (A : Atoms 𝓤) (W : Given
     En = (F′.mir, l₀) ∷ (textTy, l₁) ∷ (policyTy, l₂) ∷ (arrayTy, l₃) ∷ (E′.mir, l₄) ∷ (T′.mir, l₅) ∷ (refTy, l₆) ∷ (tableTy, l₇)
         ∷ (arrayTy, l₈) ∷ []
 
-    -- the array is the function's own again: it is handed on, and the frame is released
+    -- the function owns the array again: it passes the array by value, and the frame is released
     hands-on : (r : ListAnswer) (zs : List Finding) (w u : Val) → record { answer = r; buffer = zs }
         ≡ list (x .now) (z .now) (replicate 8 (noFinding 0))
         → Sq W (‵ (E.the-row .own r (w ∷ []))

@@ -1,7 +1,6 @@
--- `listing::table::list_into_table` meets its contract: a walk of its MIR, by hand, with a loop and two calls of
--- covered functions. A turn calls `first_finding`, opens the table's borrow, stores the finding at its place, and closes
--- the borrow. The invariant: the table is owned with the first k findings stored, and the findings from the offset on
--- are those after them.
+-- `listing::table::list_into_table` meets its contract: a walk of its MIR, by hand, with a loop and two calls of covered functions. A turn
+-- calls `first_finding`, opens the table's borrow, stores the finding at its place, and closes the borrow. The invariant: the table is owned
+-- with the first k findings stored, and the findings from the offset on are those after them.
 use mathlib.Core.Path.{_≡_, refl, sym, ap, subst, _∙_}
 use mathlib.Core.Logic.{⊎-elim}
 use mathlib.Core.Bool.{Bool}
@@ -194,13 +193,13 @@ module _ {M : Type 1} (𝓤 : URA M) (H : Heap 𝓤) (A : Atoms 𝓤) (mem : Mem
   abbrev NextFinding : Contract 𝓤
   NextFinding = tripleOf 𝓤 H A first-finding.signature (first-finding.spec 𝓤 H A mem run)
 
--- What is known of the two at the tables.
+-- The two callees are in the table of calls, with their contracts.
 record Known {M : Type 1} (𝓤 : URA M) (H : Heap 𝓤) (A : Atoms 𝓤) (mem : Memory → SProp 𝓤) (run : Routine → Fun 𝓤)
     (C : Calls 𝓤 H) : Type 1 where
   pub of-plan : Triple 𝓤 (C #plan-listing) (PlanListing 𝓤 H A mem run)
   pub of-next : Triple 𝓤 (C #first-finding) (NextFinding 𝓤 H A mem run)
 
--- Where the loop stands: k findings are stored, and the findings from the offset on are the rows after those.
+-- The index of the loop's invariant: k findings are stored, and the findings from the offset on are the rows after those.
 record Going (p : Policy) (text : List ℕ) (n k at : ℕ) : Type 0 where
   pub within : k ≤ n
   pub fits : at < 2 ^ 64
@@ -241,7 +240,7 @@ module _ {M : Type 1} (𝓤 : URA M) (H : Heap 𝓤) (A : Atoms 𝓤) (W : Given
   abbrev PO : Fml
   PO = ShrSlice (named 1) κ₁ u8 .own z (pv ∷ [])
 
-  -- What is had of the references where the table holds l.
+  -- What is owned of the references if the table holds l.
   abbrev Refs : List Finding → List (Item 𝓤)
   Refs l = ‵ (fobs γ (codedHoleys R .code (heres R l))) ∷ ‵ (fbor κ₂ (Held R (length l) b o γ))
       ∷ ‵ (flft κ₂ q₂) ∷ (‵ (flft κ₀ q₀) ⊛ ‵ ftrue) ∷ ‵ TO ∷ (‵ (flft κ₁ q₁) ⊛ ‵ ftrue) ∷ ‵ PO ∷ []
@@ -330,7 +329,7 @@ module _ {M : Type 1} (𝓤 : URA M) (H : Heap 𝓤) (A : Atoms 𝓤) (W : Given
     said-next at r = exE 𝓤 _ (λ ws. snd∗ 𝓤 (sem 𝓤 H A (lasts first-finding.ended (κ₀, tt) (x, (at, (p, tt))) ws))
         (fact 𝓤 (r ≡ firstFinding p (x .now) at)))
 
-    -- The loop's variant: how many are stored, and the offset, by what is left.
+    -- The loop's variant: the number of stored findings, and the offset.
     abbrev Turn : Type 0
     Turn = (k : ℕ) × ((at : ℕ) × Going p (x .now) n k at)
 
@@ -384,7 +383,7 @@ module _ {M : Type 1} (𝓤 : URA M) (H : Heap 𝓤) (A : Atoms 𝓤) (W : Given
           (init ! 11 refl (tt, tt)) $
           rewrite ! 11 (λ (f : Bool). ‵ (fat fullShare tyBool l₉ 0 (vbool f))) (lt-ltb (i .0) n less) refl $
           stays ! (load ! (from ! (stop !)) (look ! 11 refl)) $
-          -- what the text owns is had twice, and one copy goes to the callee, with the offset and the policy
+          -- what the text owns is copied, and one copy goes to the callee, with the offset and the policy
           nothing ! $ owned ! P.the-row (Is P.the-row) (LL.makes P.the-type P′.the-plain 𝓤 H A) p _ is-policy $ fjoin ! $
           owned ! usize (Is usize) (uint-makes 𝓤 H A W w64) at _ (refl, i .1 .1 .fits) $ fjoin ! $
           move ! (5 ∷ []) $ use1 W (‵ TO ⊛ ‵ TO) (shr-slice-copy 𝓤 H A W (named 0) κ₀ u8 .twice x (tv ∷ [])) $ split ! $

@@ -13,7 +13,7 @@ use Rattle.listing.proofs.Storing.{plan-all, plan-refused, plan-short, 
 use Rattle.listing.proofs.table.plan_listing.Statement.{statement}
 use Rattle.listing.proofs.table.plan_listing.Tie as tie
 
--- The findings counted are the rows.
+-- The number of findings counted is the number of rows.
 counted : (text policy : List ℕ) {n : ℕ} → n ≡ length (findingsFrom (policyOf policy) text 0) → n ≡ length (rowsOf text policy)
 unfolding findings
 counted text policy e = e ∙ sym (length-map (findingsFrom (policyOf policy) text 0) (findingRow (policyOf policy)))

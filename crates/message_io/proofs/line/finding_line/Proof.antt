@@ -1,4 +1,4 @@
--- The first number, and the others after blanks.
+-- `line::finding_line` meets its contract: the first number, and the others with a blank before each.
 use mathlib.Core.List.{_∷_, map}
 use native.Mathlib.Omega.{arith}
 use Rattle.base.proofs.Writer.{put-then}

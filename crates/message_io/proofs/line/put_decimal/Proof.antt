@@ -1,4 +1,4 @@
--- The digits that `io::decimal` gives are put.
+-- `line::put_decimal` meets its contract: it writes the digits that `io::decimal` gives.
 use mathlib.Core.Path.{_∙_}
 use native.Mathlib.Omega.{arith}
 use Rattle.base.proofs.Writer.{put-as}

@@ -1,4 +1,4 @@
--- A blank, and the digits after it.
+-- `line::put_number` meets its contract: a blank, and the digits after it.
 use native.Mathlib.Omega.{arith}
 use Rattle.base.proofs.Writer.{put-then}
 use borrow.Author.Needs.{needs}

@@ -1,4 +1,4 @@
--- The loop has put the numbers before its place.
+-- `line::put_numbers` meets its contract. The loop's invariant: the numbers before number `i` are written.
 use mathlib.Core.Path.{_≡_, refl, sym, ap, _∙_}
 use mathlib.Core.List.{List, map}
 use Prim.Native.Nat.{ℕ, _+_, _-_, _*_, _≤_}

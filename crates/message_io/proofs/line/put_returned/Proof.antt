@@ -1,4 +1,4 @@
--- A blank and the value, or nothing.
+-- `line::put_returned` meets its contract: a blank and the value, or nothing.
 use mathlib.Core.Path.{refl}
 use borrow.Author.Needs.{needs}
 use Rattle.base.specs.Refusals.{returned}
@@ -10,9 +10,9 @@ returns : tie.Need-returns
 returns c =
     let x = c .before .before .before .before .before .before .before .before .args .refusal in
     let v = c .before .before .before .refusal-value .ensures in
-    let told = c .before .before .before .before .before .before .returns-value .ensures in
+    let has-value = c .before .before .before .before .before .before .returns-value .ensures in
     let yes = c .before .before .before .before .before .if1 .taken in
-    value-put (returned x) (rw (told, yes, v) refl) (c .before .before .put-number .ensures)
+    value-put (returned x) (rw (has-value, yes, v) refl) (c .before .before .put-number .ensures)
 
 returns-2 : tie.Need-returns-2
 returns-2 c = nothing-put (returned (c .before .before .before .args .refusal)) (rw (c .before .returns-value .ensures, c .if1 .left) refl)

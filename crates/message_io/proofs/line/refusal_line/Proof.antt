@@ -1,4 +1,4 @@
--- The word, the number and what is returned.
+-- `line::refusal_line` meets its contract: the word, the number and the value.
 use mathlib.Core.Path.{ap, _∙_}
 use mathlib.Core.List.{List, [], _∷_, map}
 use Prim.Native.Nat.{ℕ, _≤_}
@@ -11,7 +11,7 @@ use borrow.Author.Needs.{needs}
 use Rattle.message_io.proofs.line.refusal_line.Statement.{statement}
 use Rattle.message_io.proofs.line.refusal_line.Tie as tie
 
--- `refused`
+-- The word `refused`.
 abbrev word : List ℕ
 word = 0x72 ∷ 0x65 ∷ 0x66 ∷ 0x75 ∷ 0x73 ∷ 0x65 ∷ 0x64 ∷ []
 

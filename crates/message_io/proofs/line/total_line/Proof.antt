@@ -1,4 +1,4 @@
--- The word, and the numbers after blanks.
+-- `line::total_line` meets its contract: the word, and the numbers with a blank before each.
 use mathlib.Core.List.{map}
 use native.Mathlib.Omega.{arith}
 use Rattle.message_io.specs.Lines.{decimal, totalLine}

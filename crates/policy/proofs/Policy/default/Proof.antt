@@ -1,4 +1,4 @@
--- The constants are the words of the default policy.
+-- `Policy::default` meets its contract: the constants are the words of the default policy.
 use mathlib.Core.Path.{refl}
 use Rattle.policy.specs.DefaultPolicy.{bareAsText, bareAsTextKeycap, defaultPolicy, preferBare, preferBareKeycap}
 use Rattle.policy.proofs.Policy.default.Statement.{statement}

@@ -1,4 +1,4 @@
--- The rule of what the two key sets answered.
+-- `Policy::singleton_rule` meets its contract: it is the rule for the results of the two key sets.
 use mathlib.Core.Path.{ap₂, _∙_}
 use Rattle.policy.specs.Policy.{ruleOf, singletonRule}
 use borrow.Author.Needs.{needs}

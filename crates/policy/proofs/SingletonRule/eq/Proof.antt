@@ -1,4 +1,4 @@
--- `policy::SingletonRule::eq` meets its contract: the numbers are the rules' own.
+-- `SingletonRule::eq` meets its contract: rules are equal exactly if their numbers are.
 use mathlib.Core.Path.{ap₂}
 use lib.Dec.{eqb}
 use borrow.Author.Needs.{needs}

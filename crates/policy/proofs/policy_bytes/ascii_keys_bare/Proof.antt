@@ -1,4 +1,5 @@
--- The first twelve entries are the bits of the first byte and of half of the second.
+-- `policy_bytes::ascii_keys_bare` meets its contract: the first twelve entries are the bits of the first byte and the lowest four bits
+-- of the second.
 use mathlib.Core.Path.{refl, ap, sym, _∙_}
 use mathlib.Core.Bool.{Bool, _&&_}
 use Prim.Native.Nat.{_%_}

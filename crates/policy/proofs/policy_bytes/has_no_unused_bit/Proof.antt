@@ -1,4 +1,4 @@
--- All unused bits stand in the last word.
+-- `policy_bytes::has_no_unused_bit` meets its contract: all unused bits are in the last word.
 use mathlib.Core.Path.{ap, sym, _∙_}
 use mathlib.Core.Bool.{_||_, not}
 use Prim.Native.Nat.{ℕ, _+_}

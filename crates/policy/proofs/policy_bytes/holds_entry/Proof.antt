@@ -1,4 +1,4 @@
--- Entry i is bit i mod 8 of byte i / 8 of the set.
+-- `policy_bytes::holds_entry` meets its contract: entry i is bit i mod 8 of byte i / 8 of the set.
 use mathlib.Core.Path.{_≡_, ap, sym, _∙_}
 use Prim.Native.Nat.{ℕ, _%_}
 use native.Mathlib.Omega.{arith}

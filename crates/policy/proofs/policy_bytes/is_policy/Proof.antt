@@ -1,4 +1,4 @@
--- By the length, and by what the four sets answered.
+-- `policy_bytes::is_policy` meets its contract, by the length and the results for the four sets.
 use mathlib.Core.Path.{sym, _∙_}
 use lib.ListN.{length}
 use borrow.Author.Tests.{eq-eqb, ne-eqb, not-false, not-true}

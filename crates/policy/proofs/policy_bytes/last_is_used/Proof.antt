@@ -1,4 +1,4 @@
--- The last word of all entries is 2 to the 34th less 1.
+-- `policy_bytes::last_is_used` meets its contract: the last word of the set of all entries is 2 to the 34th less 1.
 use mathlib.Core.Path.{refl, sym}
 use native.Mathlib.Omega.{arith}
 use Rattle.policy.proofs.Unused.{small-word}

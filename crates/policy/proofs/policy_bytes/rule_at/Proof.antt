@@ -1,4 +1,4 @@
--- The two sets that a keycap base, or another, is asked of.
+-- `policy_bytes::rule_at` meets its contract: the two sets of the base's domain decide.
 use mathlib.Core.Path.{ap₂, _∙_}
 use Rattle.policy.specs.Policy.{ruleOf}
 use Rattle.policy.proofs.ByEntry.{rule-by-sets}

@@ -1,4 +1,4 @@
--- The two tests, one after the other.
+-- `PolicyKeySet::eq` meets its contract, by the results of the two tests.
 use mathlib.Core.Path.{sym, ap, _∙_}
 use mathlib.Core.Bool.{Bool, _&&_}
 use borrow.Author.Needs.{needs}

@@ -1,4 +1,4 @@
--- The three texts, by the number of keys.
+-- `PolicyKeySet::fmt` meets its contract: there are three texts, by the number of keys.
 use mathlib.Core.Path.{_∙_, sym}
 use Rattle.policy_key_set.proofs.Buffers.{display-all, display-list, display-none}
 use borrow.Author.Needs.{needs}

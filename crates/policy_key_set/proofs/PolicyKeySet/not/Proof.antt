@@ -1,4 +1,4 @@
--- Of all keys those that are not in the set: every entry is a key of the set of all.
+-- `PolicyKeySet::not` meets its contract: the complement is the difference of the set of all keys and the set.
 use borrow.Author.Needs.{needs}
 use Rattle.policy_key_set.specs.Sets.{entryCount}
 use Rattle.policy_key_set.proofs.Members.{complement-held}

@@ -1,4 +1,4 @@
--- Each domain has at most the 354 entries, so that the sum fits.
+-- `PolicyKeySet::size` meets its contract: each domain has at most 354 entries, so the sum does not overflow.
 use native.Mathlib.Omega.{arith}
 use borrow.Author.Needs.{needs}
 use Rattle.policy_key_set.proofs.Entries.{entry-count, size-le}

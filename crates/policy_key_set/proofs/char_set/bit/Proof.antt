@@ -1,4 +1,4 @@
--- A power of two.
+-- `char_set::bit` meets its contract: the word is a power of two.
 use mathlib.Core.Path.{_≡_, ap, _∙_}
 use Prim.Native.Nat.{_*_, _%_, _^_}
 use native.Mathlib.Nat.{one-mul}

@@ -1,4 +1,5 @@
--- Each word so far is made of the two words at its place; the law `word-wise` carries that to the entries.
+-- `char_set::combine` meets its contract. The loop's invariant: each word before word `i` is combined from the two arguments' words. By
+-- the law `word-wise` the same holds for the entries.
 use mathlib.Core.Path.{_≡_}
 use Prim.Native.Nat.{ℕ, _-_, _<_, _≤_}
 use native.Mathlib.Omega.{arith}

@@ -1,4 +1,4 @@
--- The used bits of one operation's word: each operation on words acts bit by bit as its test.
+-- `char_set::combine_words` meets its contract: each operation on words acts on each bit as its test says.
 use mathlib.Core.Path.{_≡_, sym, ap, _∙_}
 use mathlib.Core.Bool.{Bool, _&&_}
 use Prim.Native.Nat.{ℕ, _-_, _^_}

@@ -1,4 +1,4 @@
--- The count of ones is the count of the places that have one.
+-- `char_set::count_ones` meets its contract: the number of ones is the number of the bits that are 1.
 use lib.Count.{ones-le}
 use Rattle.policy_key_set.proofs.Sizes.{ones-count}
 use Rattle.policy_key_set.proofs.char_set.count_ones.Statement.{statement}

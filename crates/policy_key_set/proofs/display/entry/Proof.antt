@@ -1,4 +1,4 @@
--- The table has an entry at each place below its length.
+-- `display::entry` meets its contract: the index is below the table's length.
 use native.Mathlib.Omega.{arith}
 use Rattle.unicode.specs.Unicode.{variationEntry}
 use Rattle.unicode.specs.UnicodeData.{variationEntries}

@@ -1,4 +1,4 @@
--- The two halves of the sixteen digits.
+-- `display::hex_digit` meets its contract: the digits 0 to 9, and A to F.
 use borrow.Author.Tests.{le-ltb, lt-ltb}
 use Rattle.policy_key_set.specs.Display.{hexDigit}
 use borrow.Author.Needs.{needs}

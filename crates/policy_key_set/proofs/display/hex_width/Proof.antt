@@ -1,4 +1,4 @@
--- Each width with its test.
+-- `display::hex_width` meets its contract: each width has its test.
 use native.Mathlib.Omega.{arith}
 use borrow.Author.Tests.{le-ltb, lt-ltb}
 use Rattle.policy_key_set.specs.Display.{hexWidth}

@@ -1,11 +1,12 @@
--- The place so far and what the keys from here on take are together what all keys take.
+-- `display::keys_end` meets its contract. The loop's invariant: the offset plus the length of the keys from entry `i` on is the offset
+-- after all keys.
 use mathlib.Core.Path.{_≡_, refl, ap, _∙_}
 use mathlib.Core.Logic.{⊎-elim}
 use Prim.Native.Nat.{_+_, _*_, _-_, _<_, _≤_}
 use native.Mathlib.Omega.{arith}
 use lib.ListN.{drop, length, length-append}
 use Rattle.unicode.specs.UnicodeData.{variationEntries}
-use Rattle.policy_key_set.specs.Display.{keyText, keyTexts, piece, written}
+use Rattle.policy_key_set.specs.Display.{keyText, keyTexts, withComma, writtenFrom}
 use Rattle.policy_key_set.proofs.Contains.{contains-place}
 use Rattle.policy_key_set.proofs.Entries.{entries-length}
 use Rattle.policy_key_set.proofs.Texts.{keys-done, keys-in, keys-out}
@@ -15,8 +16,8 @@ use Rattle.policy_key_set.proofs.display.keys_end.Tie as tie
 abbrev Inv-loop : tie.InvT-loop
 Inv-loop start keycap set at₀ i₀ at i =
     (i ≤ 354) × (at ≤ start + 17 * i) × (start ≤ 0x10000)
-    × (at + length (written at (keyTexts keycap (set .bits) i (drop i variationEntries)))
-    ≡ start + length (written start (keyTexts keycap (set .bits) 0 variationEntries)))
+    × (at + length (writtenFrom at (keyTexts keycap (set .bits) i (drop i variationEntries)))
+    ≡ start + length (writtenFrom start (keyTexts keycap (set .bits) 0 variationEntries)))
 
 abbrev μ-loop : tie.MeasureT-loop
 μ-loop start keycap set at₀ i₀ at i = 354 - i
@@ -38,7 +39,7 @@ loop-again c =
     ⊎-elim
     (λ w.
     let k = w .1 .ensures in
-    let p = piece (l .at) (keyText (a .keycap) (e .result)) in
+    let p = withComma (l .at) (keyText (a .keycap) (e .result)) in
     let q : c .if1 .at ≡ l .at + length p = omega (arith, w .2, k .0) in (
       omega arith,
       omega (arith, w .2, k .1),
@@ -46,7 +47,7 @@ loop-again c =
       rw q (omega (
         arith,
         ap length (keys-in (a .keycap) (a .set .bits) variationEntries (l .i) (l .at) h (e .ensures) (m ∙ w .0 .taken)),
-        length-append p (written (l .at + length p) (keyTexts (a .keycap) (a .set .bits) (l .i + 1) (drop (l .i + 1) variationEntries))),
+        length-append p (writtenFrom (l .at + length p) (keyTexts (a .keycap) (a .set .bits) (l .i + 1) (drop (l .i + 1) variationEntries))),
       )),
     ))
     (λ w. (

@@ -1,4 +1,4 @@
--- What `write_bytes` puts where there is room.
+-- `display::put_bytes` meets its contract, by the contract of `write_bytes` where the bytes fit.
 use borrow.Author.Needs.{needs}
 use Rattle.base.proofs.Output.{bytes-put}
 use Rattle.policy_key_set.proofs.display.put_bytes.Statement.{statement}

@@ -1,4 +1,4 @@
--- The loop writes what is left of the digits at its place.
+-- `display::put_hex` meets its contract. The loop's invariant: the digits before the current one are written.
 use mathlib.Core.Path.{_≡_, sym, ap, _∙_}
 use mathlib.Core.List.{_∷_}
 use Prim.Native.Nat.{ℕ, _-_, _≤_}

@@ -1,34 +1,34 @@
--- The text, or a comma and the text.
+-- `display::put_key` meets its contract: it writes the text, or a comma and the text.
 use mathlib.Core.Path.{ap}
 use native.Mathlib.Omega.{arith}
 use lib.ListN.{length}
-use Rattle.policy_key_set.specs.Display.{keyText, piece}
+use Rattle.policy_key_set.specs.Display.{keyText, withComma}
 use Rattle.policy_key_set.proofs.Buffers.{later-put}
-use Rattle.policy_key_set.proofs.Texts.{piece-later}
+use Rattle.policy_key_set.proofs.Texts.{comma-before}
 use borrow.Author.Needs.{needs}
 use Rattle.policy_key_set.proofs.display.put_key.Statement.{statement}
 use Rattle.policy_key_set.proofs.display.put_key.Tie as tie
 
 put-text-requires : tie.Need-put-text-requires
-unfolding piece
+unfolding withComma
 put-text-requires c κs = rw (c .before .if1 .taken) at (c .before .before .before .pre)
 
 returns : tie.Need-returns
-unfolding piece
+unfolding withComma
 returns c = rw (c .before .before .before .before .if1 .taken) (c .before .before .put-text .ensures)
 
 put-bytes-requires : tie.Need-put-bytes-requires
 put-bytes-requires c κs =
     let a = c .before .before .before .before .args in
     let h = c .before .before .if1 .left in
-    omega (arith, ap length (piece-later (a .start) (keyText (a .keycap) (a .ch)) (omega arith)))
+    omega (arith, ap length (comma-before (a .start) (keyText (a .keycap) (a .ch)) (omega arith)))
 
 put-text-requires-2 : tie.Need-put-text-requires-2
 put-text-requires-2 c κs =
     let x = c .before .before .before in
     let a = x .before .before .before .before .before .args in
     let h = x .before .before .before .if1 .left in
-    omega (arith, ap length (piece-later (a .start) (keyText (a .keycap) (a .ch)) (omega arith)), x .put-bytes .ensures .ends)
+    omega (arith, ap length (comma-before (a .start) (keyText (a .keycap) (a .ch)) (omega arith)), x .put-bytes .ensures .ends)
 
 returns-2 : tie.Need-returns-2
 returns-2 c =

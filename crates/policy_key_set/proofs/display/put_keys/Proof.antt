@@ -1,11 +1,11 @@
--- The loop writes the keys from its entry on at its place.
+-- `display::put_keys` meets its contract. The loop's invariant: the keys before entry `i` are written.
 use mathlib.Core.Path.{sym, ap, _∙_}
 use mathlib.Core.Logic.{⊎-elim}
 use Prim.Native.Nat.{ℕ, _+_, _-_, _<_, _≤_}
 use native.Mathlib.Omega.{arith}
 use lib.ListN.{drop, length}
 use Rattle.unicode.specs.UnicodeData.{variationEntries}
-use Rattle.policy_key_set.specs.Display.{keyText, keyTexts, piece, written}
+use Rattle.policy_key_set.specs.Display.{keyText, keyTexts, withComma, writtenFrom}
 use Rattle.policy_key_set.proofs.Contains.{contains-place}
 use Rattle.policy_key_set.proofs.Entries.{entries-length}
 use Rattle.policy_key_set.proofs.Texts.{keys-done, keys-in, keys-out}
@@ -16,8 +16,8 @@ use Rattle.policy_key_set.proofs.display.put_keys.Tie as tie
 abbrev Inv-loop : tie.InvT-loop
 Inv-loop out₀ start keycap set at₀ i₀ out at i =
     (i ≤ 354)
-    × Writing (written start (keyTexts keycap (set .bits) 0 variationEntries)) start out₀
-    (written at (keyTexts keycap (set .bits) i (drop i variationEntries))) out at
+    × Writing (writtenFrom start (keyTexts keycap (set .bits) 0 variationEntries)) start out₀
+    (writtenFrom at (keyTexts keycap (set .bits) i (drop i variationEntries))) out at
 
 abbrev μ-loop : tie.MeasureT-loop
 μ-loop out₀ start keycap set at₀ i₀ out at i = 354 - i
@@ -31,7 +31,7 @@ put-key-requires c κs =
     let a = c .before .before .before .before .before .before .before .args in
     let e = c .before .before .before .entry in
     let m = contains-place (a .set .bits) (l .i) (omega arith) (e .ensures) (c .before .before .contains .ensures) in
-    room _ _ _ _ (piece (l .at) (keyText (a .keycap) (e .result))) _ (l .inv .1)
+    room _ _ _ _ (withComma (l .at) (keyText (a .keycap) (e .result))) _ (l .inv .1)
     (keys-in (a .keycap) (a .set .bits) variationEntries (l .i) (l .at) (omega (arith, entries-length)) (e .ensures)
     (m ∙ c .before .if1 .taken))
 
@@ -39,7 +39,7 @@ loop-again : tie.Need-loop-again Inv-loop μ-loop
 loop-again c =
     let l = c .before .before .before .before .loop in
     let a = c .before .before .before .before .before .before .args in
-    let all = written (a .start) (keyTexts (a .keycap) (a .set .bits) 0 variationEntries) in
+    let all = writtenFrom (a .start) (keyTexts (a .keycap) (a .set .bits) 0 variationEntries) in
     let e = c .before .before .entry in
     let h : l .i < length variationEntries = omega (arith, entries-length) in
     let m = contains-place (a .set .bits) (l .i) (omega arith) (e .ensures) (c .before .contains .ensures) in
@@ -52,14 +52,14 @@ loop-again c =
           (pass all (a .start) (a .out .now) _ _
           (put all (a .start) (a .out .now) _ _ (l .inv .1) k
           (keys-in (a .keycap) (a .set .bits) variationEntries (l .i) (l .at) h (e .ensures) (m ∙ w .0 .taken)))
-          (ap (λ (n : ℕ). written n texts) (sym (w .6 ∙ k .ends)))),
+          (ap (λ (n : ℕ). writtenFrom n texts) (sym (w .6 ∙ k .ends)))),
     ))
     (λ w. (
       omega arith,
       moved all (a .start) (a .out .now) _ (w .1) (w .2)
           (pass all (a .start) (a .out .now) _ _ (l .inv .1)
           (keys-out (a .keycap) (a .set .bits) variationEntries (l .i) (l .at) h (m ∙ w .0 .left)
-          ∙ ap (λ (n : ℕ). written n texts) (sym (w .2)))),
+          ∙ ap (λ (n : ℕ). writtenFrom n texts) (sym (w .2)))),
     ))
     (c .if1 .came)
 

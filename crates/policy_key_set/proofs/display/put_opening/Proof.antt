@@ -1,4 +1,4 @@
--- Each of the two openings.
+-- `display::put_opening` meets its contract, for each domain.
 use mathlib.Core.Path.{ap}
 use mathlib.Core.Bool.{Bool}
 use native.Mathlib.Omega.{arith}

@@ -1,4 +1,4 @@
--- The opening, the digits and the closing bracket.
+-- `display::put_text` meets its contract: it writes the opening, the digits and the closing bracket.
 use native.Mathlib.Omega.{arith}
 use Rattle.policy_key_set.proofs.Buffers.{text-put}
 use Rattle.policy_key_set.proofs.Texts.{hex-length, text-length}

@@ -1,4 +1,5 @@
--- The measured length is that of the list; the two domains are written one after the other.
+-- `display::show_keys` meets its contract: the computed length is the length of the list, and the two domains are written one after the
+-- other.
 use mathlib.Core.Path.{_≡_, _∙_, sym}
 use native.Mathlib.Omega.{arith}
 use Rattle.policy_key_set.specs.Display.{keyList}

@@ -1,4 +1,4 @@
--- A word that fits, and one that does not.
+-- `display::show_word` meets its contract: the word fits or does not fit.
 use mathlib.Core.Path.{refl}
 use Rattle.base.proofs.Output.{too-short, wrote}
 use borrow.Author.Needs.{needs}

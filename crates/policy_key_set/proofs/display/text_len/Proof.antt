@@ -1,4 +1,4 @@
--- The opening, the digits and the closing bracket.
+-- `display::text_len` meets its contract: the length of the opening, the digits and the closing bracket.
 use mathlib.Core.Path.{ap}
 use mathlib.Core.Bool.{Bool}
 use native.Mathlib.Omega.{arith}

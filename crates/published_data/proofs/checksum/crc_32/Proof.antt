@@ -1,4 +1,4 @@
--- `crc_32` is safe and ends: each turn leaves less of the text.
+-- `crc_32` is safe and ends: in each turn the rest of the text becomes shorter.
 use borrow.Author.Needs.{needs}
 use Prim.Native.Nat.{_-_}
 use lib.ListN.{length}

@@ -1,4 +1,4 @@
--- `compare_entries` is safe and ends: there are no more entries than code points passed.
+-- `compare_entries` is safe and ends: the number of entries is at most the number of code points compared.
 use borrow.Author.Needs.{needs}
 use Prim.Native.Nat.{_≤_, _-_}
 use Rattle.published_data.proofs.compare.compare_entries.Statement.{statement}

@@ -1,4 +1,4 @@
--- `first_difference` is safe and ends: each turn leaves fewer code points.
+-- `first_difference` is safe and ends: in each turn fewer code points are left.
 use borrow.Author.Needs.{needs}
 use Prim.Native.Nat.{_≤_, _-_}
 use Rattle.published_data.proofs.compare.first_difference.Statement.{statement}

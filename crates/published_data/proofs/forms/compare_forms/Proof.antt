@@ -1,4 +1,4 @@
--- `compare_forms` is safe and ends: each turn leaves fewer code points.
+-- `compare_forms` is safe and ends: in each turn fewer code points are left.
 use borrow.Author.Needs.{needs}
 use Prim.Native.Nat.{_≤_, _-_}
 use Rattle.published_data.proofs.forms.compare_forms.Statement.{statement}

@@ -1,4 +1,4 @@
--- `mark_range` is safe and ends: each turn leaves fewer code points.
+-- `mark_range` is safe and ends: in each turn fewer code points are left.
 use borrow.Author.Needs.{needs}
 use Prim.Native.Nat.{_-_}
 use Rattle.published_data.proofs.marks.mark_range.Statement.{statement}

@@ -1,4 +1,4 @@
--- `size_of` is safe and ends: neither count is more than the code points passed.
+-- `size_of` is safe and ends: each of the two counts is at most the number of code points read.
 use borrow.Author.Needs.{needs}
 use Prim.Native.Nat.{_≤_, _-_}
 use Rattle.published_data.proofs.marks.size_of.Statement.{statement}

@@ -1,4 +1,4 @@
--- `after` is safe and ends: each turn leaves less of the word.
+-- `after` is safe and ends: in each turn the rest of the word becomes shorter.
 use borrow.Author.Needs.{needs}
 use Prim.Native.Nat.{_-_}
 use lib.ListN.{length}

@@ -1,4 +1,4 @@
--- `line_end` stays within the text: the place is between where it starts and the text's end.
+-- `line_end` is safe and ends: the offset is at least the line's start and at most the text's length.
 use borrow.Author.Needs.{needs}
 use Prim.Native.Nat.{_≤_, _-_}
 use lib.ListN.{length}

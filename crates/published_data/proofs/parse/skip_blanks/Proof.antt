@@ -1,4 +1,4 @@
--- `skip_blanks` is safe and ends: each turn leaves less of the line.
+-- `skip_blanks` is safe and ends: in each turn the rest of the line becomes shorter.
 use borrow.Author.Needs.{needs}
 use Prim.Native.Nat.{_-_}
 use lib.ListN.{length}

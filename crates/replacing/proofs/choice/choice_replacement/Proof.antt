@@ -1,5 +1,5 @@
--- `replacing::choice::choice_replacement` meets its contract: what is written is the unit at the offset, whose cells are those of the bytes
--- handed on.
+-- `replacing::choice::choice_replacement` meets its contract: it writes the cells of the bytes from the offset up to the unit's
+-- end, and these are the cells of the unit.
 use mathlib.Core.Path.{ap, sym, _∙_}
 use mathlib.Core.List.{List, [], _∷_}
 use native.Mathlib.Omega.{arith}

@@ -1,6 +1,5 @@
--- `replacing::choice::end_before_link` meets its contract. The loop's invariant: `end`, with the bytes up to the next link from there on,
--- is
--- the end. The measure is the number of bytes left.
+-- `replacing::choice::end_before_link` meets its contract. The loop's invariant: the next link from `end` on is the next link from
+-- `at` on. The measure is the number of bytes after `end`.
 use mathlib.Core.Path.{_≡_, refl, ap, sym, _∙_}
 use mathlib.Core.Bool.{false, not}
 use mathlib.Core.List.{[], _∷_}
@@ -11,7 +10,8 @@ use lib.ListN.{drop, length}
 use Rattle.utf8.specs.Rfc3629.{chars}
 use Rattle.scanner.specs.Runs.{run}
 use Rattle.scanner.specs.Spans.{size, width}
-use Rattle.scanner.proofs.ClassTests.{forLink, link-test}
+use Rattle.scanner.specs.RunKinds.{isLinkClass}
+use Rattle.scanner.proofs.ClassTests.{link-test}
 use Rattle.scanner.proofs.Peek.{seen, seen-arm, unseen}
 use Rattle.scanner.proofs.RunsAt.{run-none, run-on, run-over}
 use Rattle.analysis.proofs.ChoicePlaces.{link-end, offLink}
@@ -33,7 +33,7 @@ returns c =
     let k = seen (c .before .before .before .before .before .before .before .before .args .raw .now)
     (c .before .before .before .before .before .before .loop .end)
     (sym (c .before .before .before .before .before .peek .ensures) ∙ c .before .before .before .class .given .1) in
-    let e = ap not (link-test _ ∙ ap forLink (sym (k .class) ∙ c .enum-told .given .1)) in
+    let e = ap not (link-test _ ∙ ap isLinkClass (sym (k .class) ∙ c .enum-told .given .1)) in
     omega (arith, run-over offLink k e, link-end (x .raw .now) (x .at))
 
 loop-less : tie.Need-loop-less Inv-loop μ-loop
@@ -48,8 +48,8 @@ loop-again c =
     let k = seen (c .before .before .before .before .before .before .before .args .raw .now)
     (c .before .before .before .before .before .loop .end)
     (sym (c .before .before .before .before .peek .ensures) ∙ c .before .before .class .given .1) in
-    let e = ap not (link-test _ ∙ ap forLink (sym (k .class))
-    ∙ seen-arm k forLink false (0 ∷ 2 ∷ 3 ∷ 4 ∷ 5 ∷ 6 ∷ 7 ∷ []) (refl, tt, refl, refl, refl, refl, refl, refl) (c .match2 .keys2)) in
+    let e = ap not (link-test _ ∙ ap isLinkClass (sym (k .class))
+    ∙ seen-arm k isLinkClass false (0 ∷ 2 ∷ 3 ∷ 4 ∷ 5 ∷ 6 ∷ 7 ∷ []) (refl, tt, refl, refl, refl, refl, refl, refl) (c .match2 .keys2)) in
     c .before .before .before .before .before .loop .inv ∙ run-on offLink k e
 
 returns-2 : tie.Need-returns-2 Inv-loop μ-loop

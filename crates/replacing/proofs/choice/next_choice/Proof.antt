@@ -1,5 +1,5 @@
--- `replacing::choice::next_choice` meets its contract. The loop's invariant: the first choice from `start` on is the one from `at` on.
--- The measure is the number of bytes left.
+-- `replacing::choice::next_choice` meets its contract. The loop's invariant: the first choice from `start` on is the first choice
+-- from `at` on. The measure is the number of bytes after `start`.
 use mathlib.Core.Path.{_≡_, refl, sym, _∙_}
 use Prim.Native.Nat.{_-_}
 use native.Mathlib.Omega.{arith}

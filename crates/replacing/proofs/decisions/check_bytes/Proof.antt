@@ -1,5 +1,5 @@
--- `replacing::decisions::check_bytes` meets its contract. The loop's invariant: the first bad decision is the first of those from `i` on.
--- The measure is the number of decisions left.
+-- `replacing::decisions::check_bytes` meets its contract. The loop's invariant: the first decision above 1 from `i` on is the first
+-- of all. The measure is the number of decisions after `i`.
 use mathlib.Core.Path.{_≡_, refl, ap, sym, _∙_}
 use mathlib.Core.List.{List, _∷_}
 use mathlib.Core.Option.{none, some}
@@ -15,7 +15,7 @@ use Rattle.analysis.specs.Decisions.{badDecision}
 use Rattle.replacing.proofs.decisions.check_bytes.Statement.{statement}
 use Rattle.replacing.proofs.decisions.check_bytes.Tie as tie
 
--- A decision of 0 or 1 is passed, and the first above is refused.
+-- A decision of 0 or 1 passes the test, and the first one above 1 is refused.
 passes : (i d : ℕ) (ds : List ℕ) → d ≤ 1 → badDecision i (d ∷ ds) ≡ badDecision (suc i) ds
 unfolding badDecision
 passes i d ds l = simp (le-leb d 1 l)

@@ -1,6 +1,5 @@
--- `replacing::measure::measure_cells` meets its contract. The loop's invariant: what is counted and measured, with what is left at `at`,
--- gives
--- the whole (Measuring). The measure is the number of bytes left.
+-- `replacing::measure::measure_cells` meets its contract. The loop's invariant: the counts and the length so far, with those of the
+-- slice from `at` on, are those of the whole slice (Measuring). The measure is the number of bytes after `at`.
 use mathlib.Core.Path.{_≡_, refl, ap, sym, _∙_}
 use Prim.Native.Nat.{ℕ, _+_, _-_, _%_}
 use native.Mathlib.Omega.{arith}

@@ -1,4 +1,4 @@
--- `replacing::render::canonical_replacement_with_decisions` meets its contract: each return is a case of Replacing.
+-- `replacing::render::canonical_replacement_with_decisions` meets its contract: each return is a law of Replacing.
 use mathlib.Core.Path.{sym, _∙_}
 use native.Mathlib.Omega.{arith}
 use borrow.Author.Needs.{needs}

@@ -1,4 +1,4 @@
--- `replacing::render::decision_at` meets its contract: past the last decision the default, else what the byte means.
+-- `replacing::render::decision_at` meets its contract: after the last decision it is the default, and otherwise the byte's meaning.
 use mathlib.Core.Path.{ap, sym, _∙_}
 use mathlib.Core.Bool.{Bool, cond}
 use native.Mathlib.Omega.{arith}

@@ -1,4 +1,4 @@
--- `replacing::render::default_canonical_replacement` meets its contract: each return is a case of Replacing.
+-- `replacing::render::default_canonical_replacement` meets its contract: each return is a law of Replacing.
 use mathlib.Core.Path.{sym, _∙_}
 use native.Mathlib.Omega.{arith}
 use borrow.Author.Needs.{needs}

@@ -1,5 +1,5 @@
--- `replacing::render::item_starts_at` meets its contract. The loop's invariant: an item from here on starts at the offset just if one of
--- the text does.
+-- `replacing::render::item_starts_at` meets its contract. The loop's invariant: one of the items from `at` on starts at the offset
+-- exactly if one of the text's items does.
 use mathlib.Core.Path.{_≡_, refl, sym, _∙_}
 use Prim.Native.Nat.{_-_, _≤_}
 use native.Mathlib.Omega.{arith}

@@ -1,6 +1,6 @@
--- `replacing::render::put_cells` meets its contract. The loop's invariant: what is left at `at` under the decisions from `used` on is
--- still to be written, at `to`; no selector leads there, and no more decisions are used than bytes are passed. The measure is the number of
--- bytes left.
+-- `replacing::render::put_cells` meets its contract. The loop's invariant: the bytes for the cells from `at` on, under the
+-- decisions from `used` on, are still to be written at `to`; no selector leads at `at`; and at most `at` decisions are used. The
+-- measure is the number of bytes after `at`.
 use mathlib.Core.Path.{_≡_, ap}
 use mathlib.Core.List.{List, [], map}
 use Prim.Native.Nat.{_+_, _-_, _/_, _%_, _≤_}

@@ -1,4 +1,4 @@
--- `replacing::render::put_char` meets its contract: with room for a scalar value, `write_char` writes.
+-- `replacing::render::put_char` meets its contract: if there is room for a scalar value, `write_char` writes it.
 use native.Mathlib.Omega.{arith}
 use borrow.Author.Needs.{needs}
 use Rattle.analysis.proofs.Rendering.{char-put, not-refused, not-short, width-is}

@@ -1,4 +1,4 @@
--- `replacing::render::selector_of` meets its contract, slot by slot.
+-- `replacing::render::selector_of` meets its contract: by the cases of the slot.
 use mathlib.Core.Path.{ap, sym, _∙_}
 use mathlib.Core.List.{[], _∷_, map}
 use borrow.Author.Needs.{needs}

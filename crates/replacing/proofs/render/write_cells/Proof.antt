@@ -1,4 +1,4 @@
--- `replacing::render::write_cells` meets its contract: the length measured is that of the result under every decision.
+-- `replacing::render::write_cells` meets its contract: the measured length is the length of the result under every decision.
 use mathlib.Core.Path.{_∙_}
 use mathlib.Core.List.{List, map}
 use Prim.Native.Nat.{ℕ}

@@ -1,4 +1,4 @@
--- The intake's answer, under the default policy.
+-- `lines::check_message` meets its contract, by the contract of `intake` for the default policy.
 use mathlib.Core.Path.{ap, _∙_}
 use mathlib.Core.List.{List}
 use Prim.Native.Nat.{ℕ}

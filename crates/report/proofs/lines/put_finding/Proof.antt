@@ -1,4 +1,4 @@
--- Its start, its end, and the eight counts.
+-- `lines::put_finding` meets its contract: the start, the end, and the eight counts.
 use mathlib.Core.Path.{ap}
 use native.Mathlib.Omega.{arith}
 use lib.ListN.{length}

@@ -1,4 +1,5 @@
--- The loop writes the lines of the findings from its place in the message on.
+-- `lines::put_findings` meets its contract. The loop's invariant: the lines of the findings before the offset `at` of the message are
+-- written.
 use mathlib.Core.Path.{sym, _∙_}
 use Prim.Native.Nat.{_-_, _≤_}
 use native.Mathlib.Omega.{arith}

@@ -1,4 +1,4 @@
--- What `write_bytes` puts where there is room.
+-- `lines::put_line` meets its contract, by the contract of `write_bytes` where the bytes fit.
 use Rattle.base.proofs.Output.{bytes-put}
 use borrow.Author.Needs.{needs}
 use Rattle.report.proofs.lines.put_line.Statement.{statement}

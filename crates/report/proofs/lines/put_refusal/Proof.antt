@@ -1,4 +1,4 @@
--- The line that `refusal_line` gives.
+-- `lines::put_refusal` meets its contract: it writes the line that `refusal_line` gives.
 use native.Mathlib.Omega.{arith}
 use Rattle.base.proofs.Writer.{put-as}
 use borrow.Author.Needs.{needs}

@@ -1,4 +1,4 @@
--- The lines of the findings, and the line of the totals after them.
+-- `lines::put_report` meets its contract: the lines of the findings, and the line of the totals after them.
 use mathlib.Core.Path.{ap}
 use native.Mathlib.Omega.{arith}
 use lib.ListN.{length, length-append}

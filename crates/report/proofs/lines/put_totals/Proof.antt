@@ -1,4 +1,4 @@
--- The eight totals.
+-- `lines::put_totals` meets its contract: the eight totals.
 use mathlib.Core.Path.{ap}
 use native.Mathlib.Omega.{arith}
 use lib.ListN.{length}

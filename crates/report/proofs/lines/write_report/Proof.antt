@@ -1,4 +1,4 @@
--- The three cases of a report, for each of which there is room.
+-- `lines::write_report` meets its contract: each of the three cases of a report fits.
 use mathlib.Core.Path.{ap, sym, _∙_}
 use mathlib.Core.List.{List}
 use mathlib.Core.Option.{Option}
@@ -19,7 +19,7 @@ use borrow.Author.Needs.{needs}
 use Rattle.report.proofs.lines.write_report.Statement.{statement}
 use Rattle.report.proofs.lines.write_report.Tie as tie
 
--- The lines under the default policy, and the intake's refusal, if there is one.
+-- The lines under the default policy, and the refusal of the tests, if there is one.
 abbrev lines : List ℕ → List ℕ
 lines m = reportLines defaultPolicy m
 

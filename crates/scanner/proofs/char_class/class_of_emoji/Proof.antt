@@ -1,4 +1,4 @@
--- `scanner::char_class::class_of_emoji` meets its contract: an emoji is an RI, a modifier or of the class emoji.
+-- `scanner::char_class::class_of_emoji` meets its contract: an emoji has the class ri, modifier or emoji.
 use mathlib.Core.Path.{sym, _∙_}
 use borrow.Author.Needs.{needs}
 use Rattle.scanner.proofs.Classes.{class-is, is-emoji, is-modifier, is-ri}

@@ -1,4 +1,4 @@
--- `scanner::char_class::class_of_plain` meets its contract: each test tells the class of a character that is no emoji.
+-- `scanner::char_class::class_of_plain` meets its contract: each test determines the class of a character that is no emoji.
 use mathlib.Core.Path.{ap, sym, _∙_}
 use borrow.Author.Needs.{needs}
 use Rattle.unicode.specs.Presentation.{isSelector}

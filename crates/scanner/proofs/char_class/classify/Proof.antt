@@ -1,4 +1,4 @@
--- `scanner::char_class::classify` meets its contract: whether the character is emoji says which function tells its class.
+-- `scanner::char_class::classify` meets its contract: whether the character is emoji decides which function gives its class.
 use mathlib.Core.Path.{sym, _∙_}
 use borrow.Author.Needs.{needs}
 use Rattle.scanner.proofs.char_class.classify.Statement.{statement}

@@ -1,4 +1,4 @@
--- `scanner::char_class::peek` meets its contract: the character that is read, its class, and as many bytes on as it has.
+-- `scanner::char_class::peek` meets its contract: the decoded character, its class, and the offset after its bytes.
 use native.Mathlib.Omega.{arith}
 use borrow.Author.Needs.{needs}
 use Rattle.utf8.proofs.Packed.{packed-step, packed-stop}

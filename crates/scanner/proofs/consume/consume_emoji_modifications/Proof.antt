@@ -3,7 +3,7 @@ use mathlib.Core.Path.{refl, sym, _∙_}
 use mathlib.Core.Bool.{true, false}
 use mathlib.Core.List.{[], _∷_}
 use borrow.Author.Needs.{needs}
-use Rattle.scanner.proofs.ClassTests.{forModification}
+use Rattle.scanner.specs.RunKinds.{isModificationClass}
 use Rattle.scanner.proofs.PartsAt.{modifications-none, modifications-off, modifications-on}
 use Rattle.scanner.proofs.Peek.{seen, seen-arm, unseen}
 use Rattle.scanner.proofs.consume.consume_emoji_modifications.Statement.{statement}
@@ -14,14 +14,14 @@ returns c =
     let x = c .before .before .before .before .before .before .before .args in
     let k = seen (x .text .now) (x .at)
     (sym (c .before .before .before .before .before .peek .ensures) ∙ c .before .before .before .class .given .1) in
-    modifications-on k (seen-arm k forModification true (3 ∷ 5 ∷ 6 ∷ []) (tt, tt, tt, refl, tt, refl, refl, tt) (c .before .match2 .keys1))
+    modifications-on k (seen-arm k isModificationClass true (3 ∷ 5 ∷ 6 ∷ []) (tt, tt, tt, refl, tt, refl, refl, tt) (c .before .match2 .keys1))
     (c .run-end .ensures)
 
 returns-2 : tie.Need-returns-2
 returns-2 c =
     let x = c .before .before .before .before .before .before .args in
     let k = seen (x .text .now) (x .at) (sym (c .before .before .before .before .peek .ensures) ∙ c .before .before .class .given .1) in
-    modifications-off k (seen-arm k forModification false (0 ∷ 1 ∷ 2 ∷ 4 ∷ 7 ∷ []) (refl, refl, refl, tt, refl, tt, tt, refl)
+    modifications-off k (seen-arm k isModificationClass false (0 ∷ 1 ∷ 2 ∷ 4 ∷ 7 ∷ []) (refl, refl, refl, tt, refl, tt, tt, refl)
     (c .match2 .keys2))
 
 returns-3 : tie.Need-returns-3

@@ -1,12 +1,16 @@
 -- `scanner::consume::in_run` meets its contract: each arm is a line of the definition.
-use mathlib.Core.Path.{refl}
+use mathlib.Core.Path.{refl, ap₂, sym}
 use mathlib.Core.Bool.{true, false}
 use mathlib.Core.List.{[], _∷_}
 use borrow.Author.Needs.{needs}
+use Rattle.scanner.specs.RunKinds.{inRun}
 use Rattle.scanner.specs.declared.consume.RunKind.the-variants.{Links, Modifications, Passthrough, Selectors, Tags}
 use Rattle.scanner.proofs.Arms.{run-arm}
 use Rattle.scanner.proofs.consume.in_run.Statement.{statement}
 use Rattle.scanner.proofs.consume.in_run.Tie as tie
+
+returns : tie.Need-returns
+returns c = sym (ap₂ inRun (c .before .before .enum-told .given .1) (c .enum-told2 .given .1))
 
 returns-2 : tie.Need-returns-2
 returns-2 c = let x = c .before .before .before .args in run-arm (1 ∷ 2 ∷ 3 ∷ 4 ∷ 5 ∷ 6 ∷ 7 ∷ []) Selectors false
@@ -27,6 +31,9 @@ returns-5 c = let x = c .before .before .before .args in run-arm (0 ∷ 3 ∷ 5 
 returns-6 : tie.Need-returns-6
 returns-6 c = let x = c .before .before .before .args in run-arm (1 ∷ 2 ∷ 4 ∷ 7 ∷ []) Modifications false
     (tt, refl, refl, tt, refl, tt, tt, refl) (x .kind) (x .class) (c .before .enum-told4 .given .1) (c .match4 .keys2)
+
+returns-7 : tie.Need-returns-7
+returns-7 c = sym (ap₂ inRun (c .before .before .enum-told5 .given .1) (c .enum-told6 .given .1))
 
 returns-8 : tie.Need-returns-8
 returns-8 c = let x = c .before .before .before .args in run-arm (0 ∷ 1 ∷ 2 ∷ 3 ∷ 4 ∷ 5 ∷ 7 ∷ []) Tags false
@@ -51,13 +58,13 @@ in-run-spec =
     (λ c. search needs)
     (λ c. search needs)
     (λ c. search needs)
-    (λ c. search needs)
+    returns
     returns-2
     returns-3
     returns-4
     returns-5
     returns-6
-    (λ c. search needs)
+    returns-7
     returns-8
     returns-9
     returns-10)

@@ -1,5 +1,5 @@
--- `scanner::consume::run_end` meets its contract. The loop's invariant: `end`, with the bytes of the run from there on, is the run's end.
--- The measure is the number of bytes left.
+-- `scanner::consume::run_end` meets its contract. The loop's invariant: the run from `end` on has the same end as the run from `at`
+-- on. The measure is the number of bytes after `end`.
 use mathlib.Core.Path.{_≡_, refl, ap, sym, _∙_}
 use Prim.Native.Nat.{_+_, _-_}
 use native.Mathlib.Omega.{arith}

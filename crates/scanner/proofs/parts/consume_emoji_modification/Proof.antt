@@ -1,9 +1,10 @@
--- `scanner::parts::consume_emoji_modification` meets its contract: the class of the character there says which modification it is.
+-- `scanner::parts::consume_emoji_modification` meets its contract: the class of the character at the offset decides which
+-- modification it is.
 use mathlib.Core.Path.{refl, sym, _∙_}
 use mathlib.Core.Bool.{false}
 use mathlib.Core.List.{[], _∷_}
 use borrow.Author.Needs.{needs}
-use Rattle.scanner.proofs.ClassTests.{forModification, forTag}
+use Rattle.scanner.specs.RunKinds.{isModificationClass, isTagClass}
 use Rattle.scanner.proofs.PartsAt.{keycap-on, modification-none, modification-off, modifier-on, tags-on}
 use Rattle.scanner.proofs.Peek.{seen, seen-arm, unseen}
 use Rattle.scanner.proofs.parts.consume_emoji_modification.Statement.{statement}
@@ -34,9 +35,9 @@ returns-4 : tie.Need-returns-4
 returns-4 c =
     let x = c .before .before .before .before .before .before .args in
     let k = seen (x .text .now) (x .at) (sym (c .before .before .before .before .peek .ensures) ∙ c .before .before .value .given .1) in
-    modification-off k (seen-arm k forModification false (0 ∷ 1 ∷ 2 ∷ 4 ∷ 7 ∷ []) (refl, refl, refl, tt, refl, tt, tt, refl)
+    modification-off k (seen-arm k isModificationClass false (0 ∷ 1 ∷ 2 ∷ 4 ∷ 7 ∷ []) (refl, refl, refl, tt, refl, tt, tt, refl)
     (c .match2 .keys4))
-    (seen-arm k forTag false (0 ∷ 1 ∷ 2 ∷ 4 ∷ 7 ∷ []) (refl, refl, refl, tt, refl, tt, tt, refl) (c .match2 .keys4))
+    (seen-arm k isTagClass false (0 ∷ 1 ∷ 2 ∷ 4 ∷ 7 ∷ []) (refl, refl, refl, tt, refl, tt, tt, refl) (c .match2 .keys4))
 
 returns-5 : tie.Need-returns-5
 returns-5 c =

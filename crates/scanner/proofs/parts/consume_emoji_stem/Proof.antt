@@ -1,9 +1,10 @@
--- `scanner::parts::consume_emoji_stem` meets its contract: the class of the character there says which stem it is.
+-- `scanner::parts::consume_emoji_stem` meets its contract: the class of the character at the offset decides which stem it is.
 use mathlib.Core.Path.{refl, sym, _∙_}
 use mathlib.Core.Bool.{true, false}
 use mathlib.Core.List.{[], _∷_}
 use borrow.Author.Needs.{needs}
-use Rattle.scanner.proofs.ClassTests.{forEmoji, forRi}
+use Rattle.scanner.specs.RunKinds.{isEmojiClass}
+use Rattle.scanner.proofs.ClassTests.{isRiClass}
 use Rattle.scanner.proofs.PartsAt.{stem-none, stem-off, stem-on, stem-ri}
 use Rattle.scanner.proofs.Peek.{seen, seen-arm, unseen}
 use Rattle.scanner.proofs.parts.consume_emoji_stem.Statement.{statement}
@@ -21,15 +22,15 @@ returns-2 c =
     let x = c .before .before .before .before .before .before .before .args in
     let k = seen (x .text .now) (x .at)
     (sym (c .before .before .before .before .before .peek .ensures) ∙ c .before .before .before .value .given .1) in
-    stem-on k (seen-arm k forEmoji true (3 ∷ 4 ∷ []) (tt, tt, tt, refl, refl, tt, tt, tt) (c .before .match2 .keys2))
-    (seen-arm k forRi false (3 ∷ 4 ∷ []) (tt, tt, tt, refl, refl, tt, tt, tt) (c .before .match2 .keys2))
+    stem-on k (seen-arm k isEmojiClass true (3 ∷ 4 ∷ []) (tt, tt, tt, refl, refl, tt, tt, tt) (c .before .match2 .keys2))
+    (seen-arm k isRiClass false (3 ∷ 4 ∷ []) (tt, tt, tt, refl, refl, tt, tt, tt) (c .before .match2 .keys2))
     (c .consume-presentation-selectors .ensures)
 
 returns-3 : tie.Need-returns-3
 returns-3 c =
     let x = c .before .before .before .before .before .before .args in
     let k = seen (x .text .now) (x .at) (sym (c .before .before .before .before .peek .ensures) ∙ c .before .before .value .given .1) in
-    stem-off k (seen-arm k forEmoji false (0 ∷ 1 ∷ 5 ∷ 6 ∷ 7 ∷ []) (refl, refl, tt, tt, tt, refl, refl, refl) (c .match2 .keys3))
+    stem-off k (seen-arm k isEmojiClass false (0 ∷ 1 ∷ 5 ∷ 6 ∷ 7 ∷ []) (refl, refl, tt, tt, tt, refl, refl, refl) (c .match2 .keys3))
 
 returns-4 : tie.Need-returns-4
 returns-4 c =

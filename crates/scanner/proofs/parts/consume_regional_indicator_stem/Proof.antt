@@ -1,9 +1,9 @@
--- `scanner::parts::consume_regional_indicator_stem` meets its contract: the selectors, and what stands after them.
+-- `scanner::parts::consume_regional_indicator_stem` meets its contract: by the selectors, and the character after them.
 use mathlib.Core.Path.{refl, sym, _∙_}
 use mathlib.Core.Bool.{false}
 use mathlib.Core.List.{[], _∷_}
 use borrow.Author.Needs.{needs}
-use Rattle.scanner.proofs.ClassTests.{forRi}
+use Rattle.scanner.proofs.ClassTests.{isRiClass}
 use Rattle.scanner.proofs.PartsAt.{ri-alone, ri-flag, ri-single}
 use Rattle.scanner.proofs.Peek.{seen, seen-arm, unseen}
 use Rattle.scanner.proofs.parts.consume_regional_indicator_stem.Statement.{statement}
@@ -25,7 +25,7 @@ returns-2 c =
     let k = seen (x .text .now) (r .result .end)
     (sym (c .before .before .before .before .peek .ensures) ∙ c .before .before .value .given .1) in
     ri-single (x .text .now) (x .at) (r .ensures) k (x .first-ri)
-    (seen-arm k forRi false (0 ∷ 1 ∷ 3 ∷ 4 ∷ 5 ∷ 6 ∷ 7 ∷ []) (refl, refl, tt, refl, refl, refl, refl, refl) (c .match2 .keys2))
+    (seen-arm k isRiClass false (0 ∷ 1 ∷ 3 ∷ 4 ∷ 5 ∷ 6 ∷ 7 ∷ []) (refl, refl, tt, refl, refl, refl, refl, refl) (c .match2 .keys2))
 
 returns-3 : tie.Need-returns-3
 returns-3 c =

@@ -1,9 +1,9 @@
--- `scanner::parts::consume_sequence_part` meets its contract: a link, and the character where its selectors end.
+-- `scanner::parts::consume_sequence_part` meets its contract: by the link, and the character after its selectors.
 use mathlib.Core.Path.{refl, sym, _∙_}
 use mathlib.Core.Bool.{true, false}
 use mathlib.Core.List.{[], _∷_}
 use borrow.Author.Needs.{needs}
-use Rattle.scanner.proofs.ClassTests.{forEmoji}
+use Rattle.scanner.specs.RunKinds.{isEmojiClass}
 use Rattle.scanner.proofs.Peek.{seen, seen-arm, unseen}
 use Rattle.scanner.proofs.UnitsAt.{part-before-none, part-joins, part-last, part-left, part-none, part-past}
 use Rattle.scanner.proofs.parts.consume_sequence_part.Statement.{statement}
@@ -31,7 +31,7 @@ returns-3 c =
     (c .before .before .before .before .before .before .before .before .before .before .before .if1 .left)
     (sym (g .1) ∙ c .before .before .before .before .before .before .before .before .before .before .consume-zwj-link .ensures)
     (c .before .before .before .before .before .if2 .left) k
-    (seen-arm k forEmoji true (2 ∷ 3 ∷ 4 ∷ []) (tt, tt, refl, refl, refl, tt, tt, tt) (c .match3 .keys1))
+    (seen-arm k isEmojiClass true (2 ∷ 3 ∷ 4 ∷ []) (tt, tt, refl, refl, refl, tt, tt, tt) (c .match3 .keys1))
 
 returns-4 : tie.Need-returns-4
 returns-4 c =
@@ -43,7 +43,7 @@ returns-4 c =
     (c .before .before .before .before .before .before .before .before .before .before .before .if1 .left)
     (sym (g .1) ∙ c .before .before .before .before .before .before .before .before .before .before .consume-zwj-link .ensures)
     (c .before .before .before .before .before .if2 .left) k
-    (seen-arm k forEmoji false (0 ∷ 1 ∷ 5 ∷ 6 ∷ 7 ∷ []) (refl, refl, tt, tt, tt, refl, refl, refl) (c .match3 .keys2))
+    (seen-arm k isEmojiClass false (0 ∷ 1 ∷ 5 ∷ 6 ∷ 7 ∷ []) (refl, refl, tt, tt, tt, refl, refl, refl) (c .match3 .keys2))
 
 returns-5 : tie.Need-returns-5
 returns-5 c =

@@ -3,7 +3,7 @@ use mathlib.Core.Path.{refl, sym, _∙_}
 use mathlib.Core.Bool.{false}
 use mathlib.Core.List.{[], _∷_}
 use borrow.Author.Needs.{needs}
-use Rattle.scanner.proofs.ClassTests.{forLink}
+use Rattle.scanner.specs.RunKinds.{isLinkClass}
 use Rattle.scanner.proofs.PartsAt.{link-none, link-off, link-on}
 use Rattle.scanner.proofs.Peek.{seen, seen-arm, unseen}
 use Rattle.scanner.proofs.parts.consume_zwj_link.Statement.{statement}
@@ -20,7 +20,7 @@ returns-2 : tie.Need-returns-2
 returns-2 c =
     let x = c .before .before .before .before .before .before .args in
     let k = seen (x .text .now) (x .at) (sym (c .before .before .before .before .peek .ensures) ∙ c .before .before .class .given .1) in
-    link-off k (seen-arm k forLink false (0 ∷ 2 ∷ 3 ∷ 4 ∷ 5 ∷ 6 ∷ 7 ∷ []) (refl, tt, refl, refl, refl, refl, refl, refl) (c .match2 .keys2))
+    link-off k (seen-arm k isLinkClass false (0 ∷ 2 ∷ 3 ∷ 4 ∷ 5 ∷ 6 ∷ 7 ∷ []) (refl, tt, refl, refl, refl, refl, refl, refl) (c .match2 .keys2))
 
 returns-3 : tie.Need-returns-3
 returns-3 c =

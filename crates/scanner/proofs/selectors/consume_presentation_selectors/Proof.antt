@@ -1,4 +1,5 @@
--- `scanner::selectors::consume_presentation_selectors` meets its contract: three bytes each, and the first two by their places.
+-- `scanner::selectors::consume_presentation_selectors` meets its contract: each selector has three bytes, so the offsets of the
+-- first two are known.
 use native.Mathlib.Omega.{arith}
 use borrow.Author.Needs.{needs}
 use Rattle.scanner.proofs.SelectorRun.{no-selectors, selector-room, selectors-are}

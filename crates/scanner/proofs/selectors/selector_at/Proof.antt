@@ -1,4 +1,4 @@
--- `scanner::selectors::selector_at` meets its contract: the three bytes of a selector, or others.
+-- `scanner::selectors::selector_at` meets its contract: by the three bytes of a selector.
 use mathlib.Core.Path.{sym, _∙_}
 use Rattle.unicode.specs.declared.presentation.Presentation.the-variants.{Emoji, Text}
 use Rattle.scanner.proofs.SelectorBytes.{no-last, no-selector-read, selector-bytes, selector-read}

@@ -1,5 +1,5 @@
--- `scanner::selectors::selectors_end` meets its contract. The loop's invariant: the end of the selectors from `at` on is that of those
--- from `from` on. The measure is the number of bytes left.
+-- `scanner::selectors::selectors_end` meets its contract. The loop's invariant: the selectors from `at` on have the same end as
+-- those from `from` on. The measure is the number of bytes after `at`.
 use mathlib.Core.Path.{_≡_, refl, sym, _∙_}
 use Prim.Native.Nat.{_+_, _-_}
 use native.Mathlib.Omega.{arith}

@@ -1,11 +1,11 @@
--- `scanner::place::begins_tags` meets its contract: each arm is a line of the definition, or several with one answer.
+-- `scanner::state::begins_tags` meets its contract: each arm is one line of the definition, or several with the same result.
 use mathlib.Core.Path.{_≡_, refl, ap, sym, _∙_}
 use mathlib.Core.Bool.{false}
 use mathlib.Core.List.{[], _∷_}
 use borrow.Author.Needs.{needs}
 use Rattle.scanner.specs.Classes.{Class, tag}
 use Rattle.scanner.specs.Items.{State, beginsTags}
-use Rattle.scanner.proofs.Arms.{class-arm, place-arm}
+use Rattle.scanner.proofs.Arms.{class-arm, state-arm}
 use Rattle.scanner.proofs.state.begins_tags.Statement.{statement}
 use Rattle.scanner.proofs.state.begins_tags.Tie as tie
 
@@ -17,7 +17,7 @@ returns-2 : tie.Need-returns-2
 unfolding beginsTags
 returns-2 c =
     let x = c .before .before .before .args in
-    place-arm (0 ∷ 1 ∷ 2 ∷ 3 ∷ 5 ∷ 6 ∷ []) (λ (p : State). false ≡ beginsTags p tag) (refl, refl, refl, refl, tt, refl, refl) (x .p)
+    state-arm (0 ∷ 1 ∷ 2 ∷ 3 ∷ 5 ∷ 6 ∷ []) (λ (p : State). false ≡ beginsTags p tag) (refl, refl, refl, refl, tt, refl, refl) (x .p)
     (c .match2 .keys2)
     ∙ ap (beginsTags (x .p)) (sym (c .before .enum-told .given .1))
 

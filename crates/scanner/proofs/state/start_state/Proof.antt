@@ -1,4 +1,4 @@
--- `scanner::place::begin` meets its contract: each arm is a line of the definition, or several with one answer.
+-- `scanner::state::start_state` meets its contract: each arm is one line of the definition, or several with the same result.
 use mathlib.Core.Path.{_≡_, refl}
 use mathlib.Core.List.{[], _∷_}
 use borrow.Author.Needs.{needs}

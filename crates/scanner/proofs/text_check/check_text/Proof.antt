@@ -1,4 +1,4 @@
--- By the length, and by how far the text is well-formed.
+-- `scanner::text_check::check_text` meets its contract: by the length, and by the length of the longest well-formed beginning.
 use mathlib.Core.Path.{refl, sym, ap, _∙_}
 use Prim.Native.Nat.{ℕ}
 use native.Mathlib.Omega.{arith}

@@ -1,4 +1,4 @@
--- What was read, put together (`Bases`, base-read).
+-- `text_pass::base_selectors::base_change` meets its contract: `base-read` (`Bases`) puts together what was read.
 use mathlib.Core.Path.{ap₂, sym, _∙_, subst}
 use mathlib.Core.Bool.{_&&_, not}
 use Prim.Native.Nat.{ℕ, _-_}

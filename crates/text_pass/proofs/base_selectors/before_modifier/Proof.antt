@@ -1,4 +1,4 @@
--- Both sides of the test.
+-- `text_pass::base_selectors::before_modifier` meets its contract, on both sides of the test.
 use mathlib.Core.Path.{sym, _∙_}
 use Rattle.text_pass.proofs.NumberedSelectors.{modifier-other, modifier-text}
 use Rattle.text_pass.proofs.base_selectors.before_modifier.Statement.{statement}

@@ -1,4 +1,4 @@
--- Both sides of the test.
+-- `text_pass::base_selectors::before_tags` meets its contract, on both sides of the test.
 use mathlib.Core.Path.{sym, subst}
 use mathlib.Core.Bool.{Bool, cond}
 use Rattle.analysis.specs.Rules.{rule4, rule5}

@@ -1,4 +1,4 @@
--- The word's two bits at the first selector's number.
+-- `text_pass::base_selectors::by_policy` meets its contract: the result is the two bits of the word for the first selector's number.
 use mathlib.Core.Path.{sym, subst}
 use Prim.Native.Nat.{ℕ, _*_, _/_, _%_, _^_}
 use borrow.Author.Needs.{needs}

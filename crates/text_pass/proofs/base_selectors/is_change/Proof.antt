@@ -1,4 +1,4 @@
--- Both tests, one by one.
+-- `text_pass::base_selectors::is_change` meets its contract, test by test.
 use native.Mathlib.Omega.{arith}
 use borrow.Author.Tests.{eq-eqb, le-leb, lt-leb, ne-eqb}
 use mathlib.Core.Bool.{and-false}

@@ -1,4 +1,5 @@
--- The rule that holds, by the class of what follows (`Kept`), with what it leaves by numbers (`Leaves`).
+-- `text_pass::base_selectors::kept_number` meets its contract: the class decides which rule applies (`Kept`), and each helper gives what
+-- that rule leaves.
 use mathlib.Core.Path.{sym}
 use mathlib.Core.Bool.{true}
 use mathlib.Core.List.{[]}

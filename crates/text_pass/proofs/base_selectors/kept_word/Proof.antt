@@ -1,4 +1,4 @@
--- An arm for each rule.
+-- `text_pass::base_selectors::kept_word` meets its contract: one arm for each rule of the policy.
 use mathlib.Core.Path.{sym, subst}
 use Prim.Native.Nat.{_*_, _/_, _%_, _^_}
 use borrow.Author.Needs.{needs}

@@ -1,4 +1,4 @@
--- An arm for each selector.
+-- `text_pass::base_selectors::number_of` meets its contract: one arm for each selector.
 use borrow.Author.Needs.{needs}
 use Rattle.text_pass.specs.Changes.{selectorNumber}
 use Rattle.text_pass.proofs.base_selectors.number_of.Statement.{statement}

@@ -1,4 +1,4 @@
--- `text_pass::base_selectors::rule_class` meets its contract: the tests that led to each answer.
+-- `text_pass::base_selectors::rule_class` meets its contract, by the tests before each return.
 use mathlib.Core.Path.{sym, _∙_}
 use borrow.Author.Tests.{ne-eqb}
 use Rattle.scanner.proofs.Classes.{is-keycap, is-modifier, is-tag}

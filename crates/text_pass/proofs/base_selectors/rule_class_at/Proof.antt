@@ -1,4 +1,4 @@
--- `text_pass::base_selectors::rule_class_at` meets its contract: the class of the character there, or of none.
+-- `text_pass::base_selectors::rule_class_at` meets its contract, by the packed number that `decode` gives.
 use Rattle.text_pass.proofs.Kept.{class-in-front}
 use borrow.Author.Needs.{needs}
 use Rattle.text_pass.proofs.base_selectors.rule_class_at.Statement.{statement}

@@ -1,4 +1,4 @@
--- By the tests of the number.
+-- `text_pass::base_selectors::selector_of` meets its contract, by the tests of the number.
 use mathlib.Core.Path.{ap, sym}
 use Rattle.text_pass.specs.Changes.{selectorOf}
 use Rattle.text_pass.proofs.NumberedSelectors.{selector-third}

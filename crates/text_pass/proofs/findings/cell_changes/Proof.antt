@@ -1,4 +1,5 @@
--- With a variation entry by the selector that stays (`Bases`, no-change), without one wherever a selector stands.
+-- `text_pass::findings::cell_changes` meets its contract, with a variation entry (`entry-changes` of `Walking`) and without one
+-- (`no-entry-changes`).
 use mathlib.Core.Path.{ap₂, sym, _∙_}
 use mathlib.Core.Bool.{_&&_, not}
 use Prim.Native.Nat.{ℕ}

@@ -1,6 +1,5 @@
--- `text_pass::findings::next_finding` meets its contract. The loop's invariant: up to `at` the findings are passed and counted. The measure
--- is the
--- number of bytes left.
+-- `text_pass::findings::next_finding` meets its contract. The loop's invariant: all findings before `at` are passed and counted. The measure
+-- is the number of bytes after `at`.
 use mathlib.Core.Path.{refl, ap, sym, _∙_}
 use mathlib.Core.Bool.{true≢false}
 use Prim.Native.Nat.{_-_, _/_}
@@ -29,10 +28,10 @@ use Rattle.text_pass.proofs.findings.next_finding.Statement.{statement}
 use Rattle.text_pass.proofs.findings.next_finding.Tie as tie
 
 abbrev Inv-loop : tie.InvT-loop
-Inv-loop text policy before from bare at₀ passed₀ at passed = FindingsBetween (policyOf policy) text before from at passed
+Inv-loop text policy limit from bare at₀ passed₀ at passed = FindingsBetween (policyOf policy) text limit from at passed
 
 abbrev μ-loop : tie.MeasureT-loop
-μ-loop text policy before from bare at₀ passed₀ at passed = length text - at
+μ-loop text policy limit from bare at₀ passed₀ at passed = length text - at
 
 loop-holds : tie.Need-loop-holds Inv-loop μ-loop
 loop-holds c = over-here _
@@ -65,7 +64,7 @@ loop-less c =
     (c .before .before .before .before .before .before .decode .result)
     (c .before .before .before .before .before .before .decode .ensures) (c .before .before .before .before .before .if1 .left) in
     let q = c .skip-letters .ensures p .0 in
-    omega (arith, k .on, s .some, s .room, q .on, q .inside (s .room))
+    omega (arith, k .advances .on, s .some, s .room, q .advances .on, q .advances .inside (s .room))
 
 loop-again : tie.Need-loop-again Inv-loop μ-loop
 loop-again c =
@@ -78,7 +77,7 @@ loop-again c =
     let s = packed-step (x .text .now) (c .before .before .before .before .before .before .before .skip-bare-ascii .result)
     (c .before .before .before .before .before .before .decode .result)
     (c .before .before .before .before .before .before .decode .ensures) (c .before .before .before .before .before .if1 .left) in
-    let b = ap startState (sym (c .before .before .before .before .classify .ensures .0)) ∙ sym (c .before .before .before .begin .ensures)
+    let b = ap startState (sym (c .before .before .before .before .classify .ensures .0)) ∙ sym (c .before .before .before .start-state .ensures)
     ∙ c .before .enum-told .given .1 in
     over-passes a (passes-on (passes-plain p s b) (c .skip-letters .ensures p .1))
 
@@ -102,7 +101,7 @@ returns-2 c =
     (c .before .before .before .before .before .before .before .before .decode .ensures)
     (c .before .before .before .before .before .before .before .if1 .left) in
     let b = ap startState (sym (c .before .before .before .before .before .before .classify .ensures .0))
-    ∙ sym (c .before .before .before .before .before .begin .ensures) ∙ c .before .before .before .enum-told2 .given .1 in
+    ∙ sym (c .before .before .before .before .before .start-state .ensures) ∙ c .before .before .before .enum-told2 .given .1 in
     let e = c .before .before .selectors-end .ensures
     ∙ selectors-end (x .text .now) (c .before .before .before .before .before .before .before .before .before .skip-bare-ascii .result) in
     let f = selectors-find p s b (c .before .before .selectors-end .result)
@@ -142,13 +141,13 @@ loop-less-2 c =
     (c .before .before .before .before .before .before .before .decode .ensures)
     (c .before .before .before .before .before .before .if1 .left) in
     let b = ap startState (sym (c .before .before .before .before .before .classify .ensures .0))
-    ∙ sym (c .before .before .before .before .begin .ensures) ∙ c .before .before .enum-told2 .given .1 in
+    ∙ sym (c .before .before .before .before .start-state .ensures) ∙ c .before .before .enum-told2 .given .1 in
     let e = c .before .selectors-end .ensures
     ∙ selectors-end (x .text .now) (c .before .before .before .before .before .before .before .before .skip-bare-ascii .result) in
     let f = selectors-find p s b (c .before .selectors-end .result)
     ((c .before .selectors-end .result - c .before .before .before .before .before .before .before .before .skip-bare-ascii .result) /
     3) e refl refl in
-    omega (arith, k .on, s .room, s .some, finds-some (f .finds), finds-room (f .finds))
+    omega (arith, k .advances .on, s .room, s .some, finds-some (f .finds), finds-room (f .finds))
 
 loop-again-2 : tie.Need-loop-again-2 Inv-loop μ-loop
 loop-again-2 c =
@@ -163,7 +162,7 @@ loop-again-2 c =
     (c .before .before .before .before .before .before .before .decode .ensures)
     (c .before .before .before .before .before .before .if1 .left) in
     let b = ap startState (sym (c .before .before .before .before .before .classify .ensures .0))
-    ∙ sym (c .before .before .before .before .begin .ensures) ∙ c .before .before .enum-told2 .given .1 in
+    ∙ sym (c .before .before .before .before .start-state .ensures) ∙ c .before .before .enum-told2 .given .1 in
     let e = c .before .selectors-end .ensures
     ∙ selectors-end (x .text .now) (c .before .before .before .before .before .before .before .before .skip-bare-ascii .result) in
     let f = selectors-find p s b (c .before .selectors-end .result)
@@ -176,7 +175,7 @@ walk-items-requires c κs =
     let x = c .before .before .before .before .before .before .before .before .before .before .args in
     let d = c .before .before .before .before .decode in
     let k = c .before .before .classify .ensures in
-    let b = c .before .begin in (
+    let b = c .before .start-state in (
       packed-reads (drop (c .before .before .before .before .before .skip-bare-ascii .result) (x .text .now)) (d .result) (d .ensures)
           (omega (arith, c .before .before .before .if1 .left)),
       sym (k .1),
@@ -197,11 +196,11 @@ add-passed-2 c =
     let w = c .before .walk-items .ensures .0 in
     omega (
       arith,
-      a .on,
+      a .advances .on,
       a .few,
-      w .on,
+      w .advances .on,
       w .few,
-      w .inside (omega (arith, s .room)),
+      w .advances .inside (omega (arith, s .room)),
       c .before .before .before .before .before .before .before .before .before .before .before .before .good .0 .0,
     )
 
@@ -226,7 +225,7 @@ loop-less-3 c =
     (c .before .before .before .before .before .before .before .decode .ensures)
     (c .before .before .before .before .before .before .if1 .left) in
     let w = c .before .before .walk-items .ensures in
-    omega (arith, k .on, s .room, s .some, w .2 (c .if3 .left), w .0 .inside (omega (arith, s .room)))
+    omega (arith, k .advances .on, s .room, s .some, w .2 (c .if3 .left), w .0 .advances .inside (omega (arith, s .room)))
 
 loop-again-3 : tie.Need-loop-again-3 Inv-loop μ-loop
 loop-again-3 c =

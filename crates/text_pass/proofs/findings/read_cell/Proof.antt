@@ -1,4 +1,4 @@
--- `text_pass::findings::read_cell` meets its contract: what was read, put together.
+-- `text_pass::findings::read_cell` meets its contract: `read-end` (`Walking`) puts together what was read.
 use mathlib.Core.Path.{_∙_}
 use borrow.Author.Needs.{needs}
 use lib.ListN.{drop}

@@ -1,4 +1,4 @@
--- `text_pass::findings::walk_items` meets its contract: `Walking` is the loop's invariant, and the measure is the number of bytes left.
+-- `text_pass::findings::walk_items` meets its contract. The loop's invariant is `Walking`; the measure is the number of bytes after `at`.
 use mathlib.Core.Path.{sym, _∙_, subst}
 use mathlib.Core.Logic.{⊎-elim}
 use mathlib.Core.Bool.{true≢false}
@@ -36,12 +36,12 @@ use Rattle.text_pass.proofs.findings.walk_items.Statement.{statement}
 use Rattle.text_pass.proofs.findings.walk_items.Tie as tie
 
 abbrev Inv-loop : tie.InvT-loop
-Inv-loop text policy before from ch width start₀ base₀ index₀ at₀ place₀ changed₀ passed₀ counts₀ start base index at state changed passed
+Inv-loop text policy limit from ch width start₀ base₀ index₀ at₀ state₀ changed₀ passed₀ counts₀ start base index at state changed passed
     counts =
-    Walking (policyOf policy) text before from start base index at state changed passed counts
+    Walking (policyOf policy) text limit from start base index at state changed passed counts
 
 abbrev μ-loop : tie.MeasureT-loop
-μ-loop text policy before from ch width start₀ base₀ index₀ at₀ place₀ changed₀ passed₀ counts₀ start base index at state changed passed
+μ-loop text policy limit from ch width start₀ base₀ index₀ at₀ state₀ changed₀ passed₀ counts₀ start base index at state changed passed
     counts =
     length text - at
 
@@ -57,7 +57,7 @@ loop-holds c =
     let q = c .before .before .before .pre in
     let s = step (x .text .now) (x .from) (x .ch) (x .width) (q .0) in
     let i = structured-inner (classOf (x .ch)) (subst (λ (y : State). Structured (kindOf y)) (q .2) (q .3)) in
-    rw (q .2) (walking-begin (policyOf (x .policy .now)) (x .text .now) (x .before) (x .from) (x .first-index) (over-here (x .from))
+    rw (q .2) (walking-begin (policyOf (x .policy .now)) (x .text .now) (x .limit) (x .from) (x .first-index) (over-here (x .from))
     (c .empty .ensures) s (q .1) i)
 
 read-cell-requires : tie.Need-read-cell-requires Inv-loop μ-loop
@@ -79,7 +79,7 @@ returns c =
     ))
     (c .before .before .before .before .before .before .before .is-wanted .ensures)
     (c .before .before .before .before .before .before .add-cell .ensures) in
-    let e = sym (c .before .before .before .before .step .ensures) ∙ c .before .before .enum-told .given .1 in
+    let e = sym (c .before .before .before .before .transition .ensures) ∙ c .before .before .enum-told .given .1 in
     (l .passed, λ _. walking-finds l r d e y (c .before .is-wanted2 .ensures) (c .if2 .taken), λ f. absurd (true≢false f))
 
 add-passed : tie.Need-add-passed Inv-loop μ-loop
@@ -104,11 +104,11 @@ returns-2 c =
     (w .0 .taken) (w .1)) (λ w. as-changed
     (c .before .before .before .before .before .before .before .before .before .before .before .before .before .loop .changed)
     (w .0 .left) (w .1)) (c .before .before .before .before .before .before .before .before .before .if1 .came) in
-    let e = sym (c .before .before .before .before .before .before .before .before .step .ensures)
+    let e = sym (c .before .before .before .before .before .before .before .before .transition .ensures)
     ∙ c .before .before .before .before .before .before .enum-told .given .1 in
     let a = walking-passes l r d e (c .before .before .before .before .before .is-wanted2 .ensures)
     (c .before .before .before .before .if2 .left) (c .before .before .before .findings-of .ensures .0) in
-    (a, λ f. absurd (true≢false (sym f)), λ _. omega (arith, l .passed .on, further l r))
+    (a, λ f. absurd (true≢false (sym f)), λ _. omega (arith, l .passed .advances .on, further l r))
 
 add-at-2 : tie.Need-add-at-2 Inv-loop μ-loop
 add-at-2 c =
@@ -117,7 +117,7 @@ add-at-2 c =
     let d = ⊎-elim (λ w. now-changed (c .before .before .before .before .before .before .before .before .loop .changed) (w .0 .taken)
     (w .1)) (λ w. as-changed (c .before .before .before .before .before .before .before .before .loop .changed) (w .0 .left) (w .1))
     (c .before .before .before .before .if1 .came) in
-    let t = c .before .before .before .step .ensures in
+    let t = c .before .before .before .transition .ensures in
     let n = ⊎-elim (λ w. on-char l r d (w .1 .given .0 .0) (sym t ∙ w .1 .given .1))
     (λ w. begin-char l r d (λ e. not-plain (w .5 .result) (w .6 .keys2) (w .5 .ensures ∙ e))) (c .before .before .match .came) in
     let s = reads-next l r d n in
@@ -130,7 +130,7 @@ loop-less c =
     let d = ⊎-elim (λ w. now-changed (c .before .before .before .before .before .before .before .before .loop .changed) (w .0 .taken)
     (w .1)) (λ w. as-changed (c .before .before .before .before .before .before .before .before .loop .changed) (w .0 .left) (w .1))
     (c .before .before .before .before .if1 .came) in
-    let t = c .before .before .before .step .ensures in
+    let t = c .before .before .before .transition .ensures in
     let n = ⊎-elim (λ w. on-char l r d (w .1 .given .0 .0) (sym t ∙ w .1 .given .1))
     (λ w. begin-char l r d (λ e. not-plain (w .5 .result) (w .6 .keys2) (w .5 .ensures ∙ e))) (c .before .before .match .came) in
     let s = reads-next l r d n in
@@ -149,7 +149,7 @@ loop-again c =
     ))
     (c .before .before .before .before .before .before .is-wanted .ensures)
     (c .before .before .before .before .before .add-cell .ensures) in
-    let t = c .before .before .before .step .ensures in
+    let t = c .before .before .before .transition .ensures in
     ⊎-elim
     (λ w. rw (w .3, w .4, w .5, w .6) (walking-on l r d y (w .1 .given .0 .0) (sym t ∙ w .1 .given .1)))
     (λ w.

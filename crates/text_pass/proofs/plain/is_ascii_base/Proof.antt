@@ -1,4 +1,4 @@
--- `text_pass::plain::is_ascii_base` meets its contract: among ASCII every other character is of the class other.
+-- `text_pass::plain::is_ascii_base` meets its contract: every other ASCII character has the class other.
 use borrow.Author.Tests.{eq-eqb}
 use mathlib.Core.Bool.{true≢false}
 use mathlib.Core.Path.{sym, _∙_}

@@ -1,4 +1,4 @@
--- `text_pass::plain::is_plain_at` meets its contract: what the first bytes leave of the values (`PlainText`, plain-lead).
+-- `text_pass::plain::is_plain_at` meets its contract: the first bytes determine the class (`plain-lead` of `PlainText`).
 use Rattle.text_pass.proofs.PlainText.{plain-lead}
 use Rattle.utf8.proofs.Places.{step}
 use borrow.Author.Tests.{eq-eqb, not-true}

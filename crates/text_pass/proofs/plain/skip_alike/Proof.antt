@@ -1,4 +1,4 @@
--- `text_pass::plain::skip_alike` meets its contract: what is skipped stays.
+-- `text_pass::plain::skip_alike` meets its contract: formatting keeps what is skipped.
 use borrow.Author.Needs.{needs}
 use Rattle.text_pass.proofs.Staying.{stays-here}
 use Rattle.text_pass.proofs.plain.skip_alike.Statement.{statement}

@@ -1,5 +1,5 @@
--- `text_pass::plain::skip_letters` meets its contract. The loop's invariant: up to `at` stands plain text. The measure is the number of
--- bytes left.
+-- `text_pass::plain::skip_letters` meets its contract. The loop's invariant: there is plain text up to `at`. The measure is the number of
+-- bytes after `at`.
 use borrow.Author.Tests.{not-false}
 use Rattle.utf8.proofs.Places.{step}
 use Rattle.utf8.proofs.Packed.{len-reads}

@@ -1,5 +1,5 @@
--- `text_pass::plain::skip_links` meets its contract. The loop's invariant: up to `at` all bytes stay. The measure is the number of bytes
--- left.
+-- `text_pass::plain::skip_links` meets its contract. The loop's invariant: formatting keeps all bytes up to `at`. The measure is the number
+-- of bytes after `at`.
 use Prim.Native.Nat.{_-_}
 use native.Mathlib.Omega.{arith}
 use borrow.Author.Needs.{needs}

@@ -1,5 +1,5 @@
--- `text_pass::plain::skip_plain` meets its contract. The loop's invariant: all bytes up to `at` stay, if ASCII is kept bare where `bare`
--- says so. The measure is the number of bytes left.
+-- `text_pass::plain::skip_plain` meets its contract. The loop's invariant: formatting keeps all bytes up to `at`, if the policy keeps the
+-- ASCII bases bare where `bare` says so. The measure is the number of bytes after `at`.
 use Rattle.policy.specs.PolicyBytes.{policyOf}
 use mathlib.Core.List.{[]}
 use Prim.Native.Nat.{_-_}
@@ -42,7 +42,7 @@ loop-less c =
     let a = c .before .before .skip-ascii .ensures in
     let s = c .skip-letters2 .ensures in
     let q = s (policyOf []) .0 in
-    omega (arith, a .0 .0, a .0 .1, q .on, q .inside (omega (arith, a .0 .1)), c .before .if3 .left)
+    omega (arith, a .0 .0, a .0 .1, q .advances .on, q .advances .inside (omega (arith, a .0 .1)), c .before .if3 .left)
 
 loop-again : tie.Need-loop-again Inv-loop μ-loop
 loop-again c =

@@ -1,4 +1,4 @@
--- Case by case, the word of the entry's row.
+-- `tilghorz::answer_word::entry_word` meets its contract, case by case.
 use borrow.Author.Needs.{needs}
 use Rattle.unicode.specs.Rows.{entryRow}
 use Rattle.tilghorz.proofs.answer_word.entry_word.Statement.{statement}

@@ -1,4 +1,4 @@
--- Case by case, the word of the answer's row.
+-- `tilghorz::answer_word::format_word` meets its contract, case by case.
 use borrow.Author.Needs.{needs}
 use Rattle.formatter.specs.Format.{formatRow}
 use Rattle.tilghorz.proofs.answer_word.format_word.Statement.{statement}

@@ -1,4 +1,4 @@
--- Case by case, the word of the answer's row.
+-- `tilghorz::answer_word::list_word` meets its contract, case by case.
 use borrow.Author.Needs.{needs}
 use Rattle.base.specs.Answers.{listRow}
 use Rattle.tilghorz.proofs.answer_word.list_word.Statement.{statement}

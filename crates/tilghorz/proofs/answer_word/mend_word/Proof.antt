@@ -1,4 +1,4 @@
--- Case by case, the word of the answer's row.
+-- `tilghorz::answer_word::mend_word` meets its contract, case by case.
 use borrow.Author.Needs.{needs}
 use Rattle.analysis.specs.Decisions.{mendRow}
 use Rattle.tilghorz.proofs.answer_word.mend_word.Statement.{statement}

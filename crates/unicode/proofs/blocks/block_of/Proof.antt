@@ -1,4 +1,5 @@
--- The groups stand one after the other, so that the search ends in the group that is asked; in the dense blocks too.
+-- `unicode::blocks::block_of` meets its contract: the numbers of the groups ascend, so the search for a block ends in its group. The
+-- same holds in the list of the dense blocks.
 use mathlib.Core.Path.{_≡_, refl, sym, _∙_}
 use mathlib.Core.List.{_++_}
 use mathlib.Core.Logic.{⊎-elim}

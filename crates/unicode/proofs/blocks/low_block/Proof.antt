@@ -1,4 +1,5 @@
--- Each arm is found in the list, and nothing else is. Made by tools/unicode_tables.py.
+-- `unicode::blocks::low_block` meets its contract: each arm of the `match` is the row of the list with that number, and
+-- the list has no other row. tools/unicode_tables.py makes this file.
 use mathlib.Core.Path.{sym}
 use Rattle.unicode.specs.Blocks.{blockIn, noBlock}
 use Rattle.unicode.specs.BlockData.{lowBlocks}

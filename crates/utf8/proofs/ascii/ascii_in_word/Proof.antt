@@ -1,4 +1,5 @@
--- `utf8::ascii::ascii_in_word` meets its contract: zero bytes of the highest bits are ASCII bytes, and the next byte is none.
+-- `utf8::ascii::ascii_in_word` meets its contract: the zero bytes among the highest bits are ASCII bytes, and the next byte is not
+-- ASCII.
 use mathlib.Core.Path.{sym, subst}
 use Prim.Native.Nat.{ℕ, _+_, _-_, _<_}
 use native.Mathlib.Omega.{arith}

@@ -1,5 +1,5 @@
--- `utf8::ascii::run_end` meets its contract. The loop's invariant: what was passed is a run of ASCII.
--- The measure is the number of bytes left.
+-- `utf8::ascii::run_end` meets its contract. The loop's invariant: the bytes from the start up to `at` are a run of ASCII. The measure
+-- is the number of bytes left.
 use Prim.Native.Nat.{_-_}
 use native.Mathlib.Omega.{arith}
 use lib.ListN.{length, getD}

@@ -1,4 +1,4 @@
--- `utf8::ascii::zero_bytes` meets its contract: a word of 64 bits has no more trailing zeros.
+-- `utf8::ascii::zero_bytes` meets its contract: a word of 64 bits has at most 64 trailing zeros.
 use mathlib.Core.Path.{refl}
 use native.Mathlib.Omega.{arith}
 use lib.Count.{trailing-le}

@@ -1,4 +1,4 @@
--- `choices` is safe and ends: each turn goes on in the item.
+-- `choices` is safe and ends: in each turn the rest of the item becomes shorter.
 use borrow.Author.Needs.{needs}
 use Prim.Native.Nat.{_-_}
 use lib.ListN.{length}

@@ -1,4 +1,4 @@
--- `findings` is safe and ends: each turn goes on in the text.
+-- `findings` is safe and ends: in each turn the rest of the text becomes shorter.
 use borrow.Author.Needs.{needs}
 use Prim.Native.Nat.{_-_}
 use lib.ListN.{length}

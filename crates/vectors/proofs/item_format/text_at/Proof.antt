@@ -1,4 +1,4 @@
--- `text_at` is safe and ends: each turn leaves less room.
+-- `text_at` is safe and ends: in each turn fewer bytes fit into the buffer.
 use borrow.Author.Needs.{needs}
 use mathlib.Core.Path.{_≡_}
 use Prim.Native.Nat.{_-_}

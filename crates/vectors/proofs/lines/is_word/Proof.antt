@@ -1,4 +1,4 @@
--- `is_word` is safe and ends: each turn leaves less of the words, which are of one length.
+-- `is_word` is safe and ends: in each turn the rest of the words becomes shorter, and they have the same length.
 use borrow.Author.Needs.{needs}
 use Prim.Native.Nat.{_-_}
 use lib.ListN.{length}

@@ -1,4 +1,4 @@
--- `number_of` is safe and ends: each turn passes a word, so the number is at most the place.
+-- `number_of` is safe and ends: each turn skips a word, so the number is at most the offset.
 use borrow.Author.Needs.{needs}
 use Prim.Native.Nat.{_≤_, _-_}
 use lib.ListN.{length}

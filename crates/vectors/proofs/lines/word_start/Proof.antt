@@ -1,4 +1,4 @@
--- `word_start` stays within the list, and each turn leaves fewer words.
+-- `word_start` is safe and ends: the offset is at most the list's length, and in each turn fewer words are left.
 use borrow.Author.Needs.{needs}
 use Prim.Native.Nat.{_≤_, _-_}
 use lib.ListN.{length}

@@ -1,4 +1,4 @@
--- `after_bytes` is safe and ends: each turn leaves fewer bytes.
+-- `after_bytes` is safe and ends: in each turn fewer bytes are left.
 use borrow.Author.Needs.{needs}
 use Prim.Native.Nat.{_-_}
 use lib.ListN.{length}

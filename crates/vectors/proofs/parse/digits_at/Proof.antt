@@ -1,4 +1,4 @@
--- `digits_at` is safe and ends: each turn leaves fewer digits.
+-- `digits_at` is safe and ends: in each turn fewer digits are left.
 use borrow.Author.Needs.{needs}
 use Prim.Native.Nat.{_-_}
 use Rattle.vectors.proofs.parse.digits_at.Statement.{statement}

@@ -1,4 +1,4 @@
--- `fields_at` is safe and ends: each turn leaves fewer letters.
+-- `fields_at` is safe and ends: in each turn fewer letters are left.
 use borrow.Author.Needs.{needs}
 use Prim.Native.Nat.{_-_}
 use lib.ListN.{length}

@@ -1,4 +1,4 @@
--- `are_all` is safe and ends: each turn leaves fewer bytes.
+-- `are_all` is safe and ends: in each turn fewer bytes are left.
 use borrow.Author.Needs.{needs}
 use Prim.Native.Nat.{_≤_, _-_}
 use Rattle.vectors.proofs.policy_answers.are_all.Statement.{statement}

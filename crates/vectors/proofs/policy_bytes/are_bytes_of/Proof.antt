@@ -1,4 +1,4 @@
--- `are_bytes_of` is safe and ends: each turn leaves fewer of the 192 bytes.
+-- `are_bytes_of` is safe and ends: in each turn fewer of the 192 bytes are left.
 use borrow.Author.Needs.{needs}
 use Prim.Native.Nat.{_≤_, _-_}
 use Rattle.vectors.proofs.policy_bytes.are_bytes_of.Statement.{statement}

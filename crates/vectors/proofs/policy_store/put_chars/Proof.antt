@@ -1,4 +1,4 @@
--- `put_chars` is safe and ends: each turn leaves fewer of the six words.
+-- `put_chars` is safe and ends: in each turn fewer of the six words are left.
 use borrow.Author.Needs.{needs}
 use Prim.Native.Nat.{_≤_, _-_}
 use Rattle.vectors.proofs.policy_store.put_chars.Statement.{statement}

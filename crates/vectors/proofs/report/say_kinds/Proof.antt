@@ -1,4 +1,4 @@
--- `say_kinds` is safe and ends: each turn leaves fewer kinds.
+-- `say_kinds` is safe and ends: in each turn fewer kinds are left.
 use borrow.Author.Needs.{needs}
 use Prim.Native.Nat.{_-_}
 use Rattle.vectors.proofs.report.say_kinds.Statement.{statement}

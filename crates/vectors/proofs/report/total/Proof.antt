@@ -1,4 +1,4 @@
--- `total` is safe and ends: each turn leaves fewer kinds.
+-- `total` is safe and ends: in each turn fewer kinds are left.
 use borrow.Author.Needs.{needs}
 use Prim.Native.Nat.{_-_}
 use Rattle.vectors.proofs.report.total.Statement.{statement}

@@ -1,4 +1,4 @@
--- `scanner_agrees` is safe and ends: each turn goes on in the text, and there are no more items than bytes.
+-- `scanner_agrees` is safe and ends: in each turn the rest of the text becomes shorter, and there are at most as many items as bytes.
 use borrow.Author.Needs.{needs}
 use Prim.Native.Nat.{_-_, _≤_}
 use lib.ListN.{length}

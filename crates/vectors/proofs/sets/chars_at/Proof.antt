@@ -1,4 +1,4 @@
--- `chars_at` is safe and ends: each turn leaves fewer of the six words.
+-- `chars_at` is safe and ends: in each turn fewer of the six words are left.
 use borrow.Author.Needs.{needs}
 use mathlib.Core.Path.{_≡_}
 use Prim.Native.Nat.{_≤_, _-_}

@@ -1,4 +1,4 @@
--- `same_chars` is safe and ends: each turn leaves fewer of the six words.
+-- `same_chars` is safe and ends: in each turn fewer of the six words are left.
 use borrow.Author.Needs.{needs}
 use Prim.Native.Nat.{_≤_, _-_}
 use Rattle.vectors.proofs.sets.same_chars.Statement.{statement}

@@ -1,4 +1,4 @@
--- `tag_runs` is safe and ends: each turn goes on in the text.
+-- `tag_runs` is safe and ends: in each turn the rest of the text becomes shorter.
 use borrow.Author.Needs.{needs}
 use Prim.Native.Nat.{_-_}
 use Rattle.vectors.proofs.structure_answers.tag_runs.Statement.{statement}

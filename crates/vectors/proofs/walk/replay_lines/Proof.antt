@@ -1,4 +1,4 @@
--- `replay_lines` is safe and ends: each line passed has a byte, so there are no more lines than bytes.
+-- `replay_lines` is safe and ends: each line has at least one byte, so there are at most as many lines as bytes.
 use borrow.Author.Needs.{needs}
 use Prim.Native.Nat.{_≤_, _-_}
 use lib.ListN.{length}

@@ -8,7 +8,7 @@ use Rattle.analysis.proofs.Counts.{counts-path}
 use Rattle.analysis.proofs.types.NonCanonicality.eq.Statement.{statement}
 use Rattle.analysis.proofs.types.NonCanonicality.eq.Tie as tie
 
--- A count in which the two differ.
+-- The two records differ if one of their counts differs.
 differ : {A : Type 0} {x y : A} (f : A → ℕ) → (f x ≡ f y → ⊥) → (false ≡ true → x ≡ y) × (x ≡ y → false ≡ true)
 differ f n = (λ e. absurd (true≢false (sym e)), λ e. absurd (n (ap f e)))
 

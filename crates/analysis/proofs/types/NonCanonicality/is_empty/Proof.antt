@@ -1,4 +1,4 @@
--- `analysis::types::NonCanonicality::is_empty` meets its contract: a count that is not 0 makes the total so.
+-- `analysis::types::NonCanonicality::is_empty` meets its contract: if a count is not 0, the total is not 0.
 use mathlib.Core.Path.{_≡_, sym, ap}
 use Prim.Native.Nat.{ℕ}
 use native.Mathlib.Omega.{arith}

@@ -1,4 +1,4 @@
--- The words pass the computed test.
+-- `CharSet::all` meets its contract: the words pass the computed test.
 use Rattle.policy_key_set.proofs.Entries.{all-words}
 use Rattle.policy_key_set.proofs.char_set.CharSet.all.Statement.{statement}
 use Rattle.policy_key_set.proofs.char_set.CharSet.all.Tie as tie

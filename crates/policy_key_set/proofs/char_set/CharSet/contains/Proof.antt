@@ -1,4 +1,4 @@
--- The bit at the character's index, which is below the number of entries.
+-- `CharSet::contains` meets its contract: it tests the bit at the character's index, which is below the number of entries.
 use mathlib.Core.Path.{sym, ap, _∙_}
 use native.Mathlib.Omega.{arith}
 use Rattle.policy_key_set.specs.Sets.{contains, member, memberAt}

@@ -1,4 +1,4 @@
--- The size of the symmetric difference counts the entries at which the sets differ.
+-- `CharSet::eq` meets its contract: the size of the symmetric difference is the number of entries at which the sets differ.
 use mathlib.Core.Path.{ap, _∙_}
 use Prim.Native.Nat.{ℕ}
 use lib.Dec.{eqb}

@@ -1,4 +1,4 @@
--- No bit of a word that is 0 is one.
+-- `CharSet::none` meets its contract: a word that is 0 has no one.
 use Rattle.policy_key_set.proofs.Members.{none-held}
 use Rattle.policy_key_set.specs.Sets.{entryCount}
 use Rattle.policy_key_set.proofs.char_set.CharSet.none.Statement.{statement}

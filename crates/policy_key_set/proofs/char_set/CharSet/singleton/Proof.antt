@@ -1,4 +1,4 @@
--- The one bit at the character's index.
+-- `CharSet::singleton` meets its contract: the only one is the bit at the character's index.
 use mathlib.Core.Path.{sym, _∙_}
 use native.Mathlib.Omega.{arith}
 use Rattle.policy_key_set.proofs.Entries.{entry-count, index-has-place, nothing-held, singleton-held}

@@ -1,4 +1,5 @@
--- The sum so far counts the members in the words so far; no member of the cleared words is past the entries.
+-- `CharSet::size` meets its contract. The loop's invariant: the sum is the number of members in the words before word `i`. The cleared
+-- words have no member after the entries.
 use mathlib.Core.Path.{_≡_, refl, ap, _∙_}
 use mathlib.Core.Bool.{Bool, true, _&&_, and-true}
 use Prim.Native.Nat.{ℕ, _*_, _-_, _≤_}

@@ -1,4 +1,4 @@
--- By the presentation.
+-- `Presentation::as_selector` meets its contract, for each presentation.
 use borrow.Author.Needs.{needs}
 use Rattle.unicode.specs.Presentation.{asSelector}
 use Rattle.unicode.proofs.presentation.Presentation.as_selector.Statement.{statement}

@@ -1,4 +1,4 @@
--- The two tests, in the code's order.
+-- `Presentation::from_selector` meets its contract, by the results of the two tests.
 use borrow.Author.Tests.{eq-eqb, ne-eqb}
 use Rattle.unicode.specs.Presentation.{fromSelector}
 use Rattle.unicode.proofs.presentation.Presentation.from_selector.Statement.{statement}

@@ -1,4 +1,4 @@
--- `formatting::valid_behind` meets its contract.
+-- `formatting::valid_after` meets its contract.
 use mathlib.Core.Path.{refl, ap, sym, _∙_}
 use mathlib.Core.Bool.{true≢false}
 use Prim.Native.Nat.{ℕ, _+_}

@@ -1,4 +1,4 @@
--- `text_pass::base_selectors::selectors_behind` meets its contract: the other selectors stand after the first.
+-- `text_pass::base_selectors::selectors_after` meets its contract: the other selectors follow the first.
 use mathlib.Core.Path.{sym, _∙_}
 use native.Mathlib.Omega.{arith}
 use borrow.Author.Needs.{needs}

@@ -1,0 +1,36 @@
+-- Contracts of helper functions: the private functions of src/lib.rt.
+use mathlib.Core.Bool.{true}
+use mathlib.Core.List.{List}
+use Prim.Native.Nat.{ℕ, _-_}
+use denote.Ref.{now}
+use Rattle.scanner.specs.Spans.{scanAt}
+use Rattle.scanner.specs.declared.ScanItem.{ScanItem}
+use Rattle.scanner.specs.declared.ScanKind.the-variants.{Passthrough}
+use Rattle.scanner.specs.declared.ScanStep.{ScanStep}
+use Rattle.scanner.specs.declared.ScanStep.the-variants as Step
+use Rattle.text_scanner.specs.Scanner.{atOffset, offsetAfter, offsetAfterStep, startOf, verdictOf}
+use Rattle.text_scanner.specs.declared.Advanced.{Advanced}
+use Rattle.text_scanner.specs.declared.Opened.{Opened}
+use Rattle.text_scanner.specs.declared.Scanner.{Scanner}
+
+-- `open_text`: the verdict on a text, and the first offset of its scanner.
+abbrev pub opened : List ℕ → Opened
+opened text = record { verdict = verdictOf text; offset = startOf (verdictOf text) text }
+
+-- `advance`: the answer of a cursor at an offset, and the offset after it.
+abbrev pub advanced : List ℕ → ℕ → Advanced
+advanced text at = record { step = scanAt text at; offset = offsetAfterStep (scanAt text at) at }
+
+-- `item_of`: the item in an answer; an empty item if the answer is the end.
+abbrev pub itemOf : ScanStep → ScanItem
+itemOf (Step.Item x) = x
+itemOf Step.End = record { start = 0; end = 0; kind = Passthrough; «tags_complete» = true }
+
+-- `skip`: a scanner after n calls.
+abbrev pub skipped : Scanner → ℕ → Scanner
+skipped s n = atOffset s (offsetAfter (now (s .text)) (s .offset) n)
+
+-- `left_after`: how many of `left` calls are left after one more answer: one fewer after an item, none after the end.
+abbrev pub leftAfter : ScanStep → ℕ → ℕ
+leftAfter (Step.Item x) left = left - 1
+leftAfter Step.End left = 0
