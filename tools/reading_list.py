@@ -4,17 +4,17 @@
     tools/reading_list.py          fail if the list has a fault; each fault is a line on standard error
     tools/reading_list.py lines    print the number of lines of each row, and their sum
 
-A row of the list has a file, the names of definitions of it, or `all`, and a number of lines. A row of the second table has a file
-and the names of definitions that need not be read. The check fails
+A row of the list has a file, the names of some of its definitions, or `all`, and a number of lines. A row of the second table has a
+file and the names of definitions that need not be read. These are faults:
 
-- where a file is missing, or has no definition of the name;
-- where a row's number of lines differs from the count by more than a tenth and more than 3;
-- where the lines of all rows are LIMIT or more, or none, or differ by more than a tenth from what the text says, "about N lines in all";
-- where a definition that must be read uses one that is in neither table, or one of a row below its own. A type, a function's contract
-  and a definition of specs/ all count as definitions.
+- a file does not exist, or does not have a definition of that name;
+- a row's number of lines differs from the count by more than a tenth and by more than 3;
+- the sum of all rows is 0, or LIMIT or more, or differs by more than a tenth from the number in "about N lines in all";
+- a definition that must be read uses one that is in neither table, or one of a row below its own. Types, contracts of functions and
+  definitions of specs/ all count as definitions.
 
-How lines are counted: in specs/ a definition is the paragraph that declares it, with its comment; in src/ it is a type or the head of a
-function, from its comment to the body. Blank lines and imports do not count.
+In specs/ a definition is the paragraph that declares it, with its comment. In src/ it is a type, or the head of a function, with its
+comment and without its body. Blank lines and imports do not count.
 """
 
 import pathlib
@@ -25,11 +25,14 @@ from crate_files import ANTT, RATTLE, listed, without_comments
 
 LIMIT = 1500
 PART = "\n## Reading list\n"
+# A row: the file, the names, and in the first table the number of lines.
+ROW = re.compile(r"^\| (crates/\S+) \| ([^|]*) \| (?:(\d+) \| )?([^|]*) \|$")
 SAID = re.compile(r"\babout ([\d,]+) lines\s+in\s+all\b")
-ROW = re.compile(r"^\| (crates/\S+) \| (.*?) \| (?:(\d+) \| )?(?!\d+ \|)[^|]*\|$", re.M)
+# Imports, and what they import: names of a file of specs/ or types of src/ by a module of specs/, and types of src/ by their path.
 IMPORT = re.compile(r"^(?:(?:pub |ghost )?use |pub mod )[^{;\n]*(?:\{[^}]*\})?[^\n]*\n", re.M)
 OF_SPECS = re.compile(r"Rattle·(\w+?)(?:·specs)?\.specs\.([\w.-]+?)(?:\.\{([^}]*)\}| as (\w+))?;?$")
 OF_SRC = re.compile(r"^use (\w+(?:::\w+)*)::(\w+);$", re.M)
+# What a paragraph of specs/ defines, and its fields and constructors; what begins a definition in src/.
 DEFINES = re.compile(r"^ *(?:(?:unfoldable|abbrev|opaque) pub|pub record|pub data) ([^\s(){}]+)", re.M)
 HAS = re.compile(r"^ +(?:pub )?([^\s(){}]+) : ", re.M)
 ITEM = re.compile(r'^( *)(?:pub )?(?:extern "C" )?(fn|struct|enum) (\w+)')
@@ -146,22 +149,25 @@ class Files:
 
 
 def part(root):
+    """The part of docs/AUDIT.md with the reading list."""
     return (root / "docs" / "AUDIT.md").read_text(encoding="utf-8").partition(PART)[2].partition("\n## ")[0]
 
 
 def rows(root):
     """The rows of the two tables: the file, the names, and the number of lines, which the second table does not have."""
-    for name, names, number in ROW.findall(part(root)):
-        yield name, names, int(number) if number else None
+    for line in part(root).splitlines():
+        if line.startswith("| crates/"):
+            found = ROW.match(line)
+            yield (found[1], found[2], int(found[3]) if found[3] else None) if found else (line, "", None)
 
 
 def read_rows(root):
-    """Of each row: its file, the names of its definitions, their lines, the row's number, and its faults."""
+    """For each row: its file, the names of its definitions, their lines, the row's number, and its faults."""
     files = Files(root)
     for name, names, number in rows(root):
         file = files.file(name)
         if file is None:
-            yield name, [], set(), number, [f"{name}: there is no such file"]
+            yield name, [], set(), number, [f"{name}: there is no such file, or no such row"]
             continue
         whole = names == "all"
         named = list(file.lines) if whole else re.findall(r"`([^`]+)`", names)
@@ -190,7 +196,7 @@ def faults(root):
         yield f"the lines to read are {total}; the list must have fewer than {LIMIT}, and at least one"
     said = [int(number.replace(",", "")) for number in SAID.findall(part(root))]
     if len(said) != 1 or abs(said[0] - total) > said[0] // 10:
-        yield f"the text does not say how many lines there are in all, about {total}"
+        yield f"the text must say once how many lines there are in all, about {total}"
     for (name, one), row in read.items():
         for found in sorted({*(files.resolve(name, word) for word in files.file(name).words[one])} - {None} - skipped):
             if found not in read:

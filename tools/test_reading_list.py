@@ -137,6 +137,7 @@ class ReadingList(unittest.TestCase):
         self.finds("crates/base/specs/Answers.antt: it does not define numberof", AUDIT, "numberOf", "numberof")
         self.finds("crates/items/specs/Automaton.antt: it does not define state", AUDIT, "`states`", "`state`")
         self.finds("the row names no definition", AUDIT, "`Answer`", "Answer")
+        self.finds("| crates/items/specs/Items.antt | all: there is no such file, or no such row", AUDIT, " | 9 | items |", "")
         self.finds("crates/base/specs/Answers.antt: limit is listed twice", AUDIT, "`limit`", "`limit`, `limit`")
 
     def test_lines(self):
