@@ -1,14 +1,14 @@
-"""What the gate's checks read of the crates: which there are, what each uses, and the text of their files without comments."""
+"""Functions for the gate's checks: the names of the crates, what each crate uses, and the text of a file without comments."""
 
 import re
 
-# Where comments begin and end.
+# The marks of comments: of a comment to the end of the line, and the beginning and the end of a block comment.
 RATTLE = ("//", "/*", "*/")
 ANTT = (r"(?<![^\s(){}.;,@])--", "{-", "-}")
 
 
 def uses(root):
-    """Of each crate of crates.txt, the crates of the repository and of the kit that it names."""
+    """For each crate of crates.txt, the crates of the repository and of the kit that it uses."""
     lines = (line.split("#", 1)[0] for line in (root / "crates.txt").read_text(encoding="utf-8").splitlines())
     return {line.split(":", 1)[0].strip(): line.split(":", 1)[1].split() for line in lines if ":" in line}
 
@@ -22,7 +22,7 @@ def libraries(root):
 
 
 def without_comments(text, marks=RATTLE):
-    """The text without its comments, with its lines where they were."""
+    """The text without its comments. Its lines keep their numbers."""
     line, opens, closes = marks
     outside = re.compile(rf"""b'(?:\\.|[^'\\])'|b?"(?:\\.|[^"\\])*"|(?P<line>{line}[^\n]*)|(?P<block>{re.escape(opens)})""", re.S)
     inside = re.compile(f"{re.escape(opens)}|{re.escape(closes)}|\n|\\Z")
@@ -40,11 +40,11 @@ def without_comments(text, marks=RATTLE):
 
 
 def rattle(path):
-    """The text of a file of Rattle, without its comments."""
+    """The text of a Rattle file, without its comments."""
     return without_comments(path.read_text(encoding="utf-8"))
 
 
 def antt(path):
-    """The text of a file of antt, without its comments and without blanks at the ends of lines."""
+    """The text of an antt file, without its comments and without blanks at the ends of lines."""
     text = without_comments(path.read_text(encoding="utf-8"), ANTT)
     return re.sub(r"[ \t]+$", "", text, flags=re.M)

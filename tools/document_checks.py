@@ -1,14 +1,14 @@
 #!/usr/bin/env python3
-"""The gate's checks of what README.md and docs/ say.
+"""The gate's checks of README.md and docs/.
 
     tools/document_checks.py
 
-Each finding is a line on standard error; the exit status is 1 if there is one. Where a check finds nothing to look at,
-that is a finding too.
+The script prints each fault as a line on standard error, and its exit status is then 1. A check that has nothing to check is
+also a fault.
 
-- links:    every link of README.md and docs/ to a file of the repository, and to a heading of it, leads there.
-- stages:   the numbered list of README.md, "Testing", has the stages of .ci/run, in their order and words.
-- data:     the data files of crates/published_data have the SHA-256 that docs/UNICODE.md gives, and it gives it of each.
+- links:    every link in README.md and docs/ to a file of the repository, or to a heading of it, has its target.
+- stages:   the numbered list in README.md, "Testing", has the stages of .ci/run, with their names and in their order.
+- data:     docs/UNICODE.md gives the SHA-256 of every data file of crates/published_data, and it is right.
 - decisions: every decision that README.md and docs/ cite by its number is a heading of docs/DECISIONS.md; no number has two
             headings; and each decision has a context, a decision and a reason.
 - tests:    every script of tools/ has a file of tests.
@@ -35,7 +35,7 @@ def without_blocks(text):
 
 
 def anchors(text):
-    """What links to the headings of a text end in."""
+    """The anchors of the headings of a text, as links name them."""
     headings = re.findall(r"^#+ (.*)$", without_blocks(text), re.M)
     return {re.sub(r"[^\w\- ]", "", heading.lower()).replace(" ", "-") for heading in headings}
 
@@ -54,21 +54,21 @@ def broken_links(root):
             elif anchor and anchor not in anchors(target.read_text(encoding="utf-8")):
                 yield f"{path.relative_to(root)}: {link}: there is no such heading"
     if not seen:
-        yield "README.md, docs/: no link is found"
+        yield "README.md, docs/: they have no link"
 
 
 def other_stages(root):
     stages = [one or other for one, other in STAGE.findall((root / ".ci" / "run").read_text(encoding="utf-8"))]
     called = len(re.findall(r"^ *stage\b", (root / ".ci" / "run").read_text(encoding="utf-8"), re.M)) - 1
     if not stages or len(stages) != called:
-        yield f".ci/run: {len(stages)} stages are read and {called} called"
+        yield f".ci/run: it calls {called} stages, and the names of {len(stages)} can be read"
     part = (root / "README.md").read_text(encoding="utf-8").partition("\n## Testing\n")[2].partition("\n## ")[0]
     items = [" ".join(item.split()) for item in re.findall(r"^\d+\. (.*(?:\n   .*)*)", part, re.M)]
     for number in range(max(len(stages), len(items))):
         stage = stages[number] if number < len(stages) else "none"
         item = items[number] if number < len(items) else "none"
         if not re.match(re.escape(stage) + r"(?:\.|:|$)", item):
-            yield f"README.md, Testing, {number + 1}: `{item[:60]}`; the stage of .ci/run is `{stage}`"
+            yield f"README.md, Testing, {number + 1}: it is `{item[:60]}`, and the stage of .ci/run is `{stage}`"
 
 
 def other_data(root):
@@ -80,7 +80,7 @@ def other_data(root):
         if told.get(name) != found:
             yield f"{path.relative_to(root)}: its SHA-256 is {found}, and docs/UNICODE.md says {told.get(name, 'nothing')}"
     if not told:
-        yield "docs/UNICODE.md: no SHA-256 is found"
+        yield "docs/UNICODE.md: it gives no SHA-256"
 
 
 def other_decisions(root):
@@ -107,11 +107,11 @@ def other_decisions(root):
 def untested_tools(root):
     scripts = [path for path in sorted((root / "tools").glob("*.py")) if not path.name.startswith("test_")]
     if not scripts:
-        yield "tools/: no script is found"
+        yield "tools/: it has no script"
     for script in scripts:
         tests = script.with_name(f"test_{script.name}")
         if not tests.is_file() or not re.search(r"^    def test_", tests.read_text(encoding="utf-8"), re.M):
-            yield f"tools/{script.name}: tools/{tests.name} has no test of it"
+            yield f"tools/{script.name}: tools/{tests.name} has no test"
 
 
 CHECKS = (broken_links, other_stages, other_data, other_decisions, untested_tools)

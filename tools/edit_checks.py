@@ -1,14 +1,15 @@
 #!/usr/bin/env python3
-"""The checks of the must-fail edits, beside that rt ci sees each refused. repository_checks.py makes them.
+"""The checks of the must-fail edits. rt ci checks that the prover refuses each edit; these checks are about how it does.
+repository_checks.py runs them.
 
-    tools/edit_checks.py    prints what refuses each edit that was tried: the places of its own errors, by its log
+    tools/edit_checks.py    prints what refuses each edit: the places of the errors in its log that follow from no other error
 
-An edit is a file crates/NAME/must-fail/LABEL.edit: a line `file: F` holds for the pairs of lines `old: ..` and `new: ..` after
-it; a line `refused by: PLACE: NAME` says what must refuse it; other lines are words. PLACE is a function, for its contract, or a
-file of proofs/ without its ending, for a law or, in Claims, a theorem; with `::` between the parts of either. NAME is the
-declaration there that the edit leaves without a proof: of a function a need of its code, as `returns-2`.
+An edit is a file crates/NAME/must-fail/LABEL.edit. A line `file: F` names the file for the pairs of lines `old: ..` and `new: ..`
+after it. A line `refused by: PLACE: NAME` says what must refuse the edit. Other lines describe the edit. PLACE is a function, for
+its contract, or a file of proofs/ without its suffix, for a lemma, or, in Claims, for a theorem; `::` separates the parts of a path.
+NAME is the declaration there that has no proof after the edit. For a function it is a need of its code, for example `returns-2`.
 
-rt ci applies an edit to a copy of the crate, and leaves what the prover says of it in target/must-fail/NAME/LABEL/.log.
+rt ci applies an edit to a copy of the crate, and writes the prover's output to target/must-fail/NAME/LABEL/.log.
 """
 
 import pathlib
@@ -17,7 +18,7 @@ import sys
 
 from crate_files import antt, rattle
 
-# Programs that take far more than 30 processor seconds to prove (docs/PROOFS.md, "Costs"); an edit costs that again.
+# Programs whose proof takes much more than 30 processor seconds (docs/PROOFS.md, "Costs"). Each edit would take that time again.
 TOO_LARGE = ("published_data", "vectors")
 UNFIT = re.compile(r"that can be named from here|is not in scope|has no field `")
 FOLLOWS = re.compile(r"was not admitted .*cannot be checked")
@@ -31,7 +32,7 @@ def must_fail_edits(root):
 
 
 def replacements(edit):
-    """Of each pair of an edit: the file, the old text and the new one."""
+    """For each pair of an edit: the file, the old text and the new text."""
     file = old = None
     for line in edit.read_text(encoding="utf-8").splitlines():
         if line.startswith("file: "):
@@ -44,29 +45,29 @@ def replacements(edit):
 
 
 def refusers(edit):
-    """What must refuse an edit: the place and the name of each such line."""
+    """What must refuse an edit: the place and the name in each line `refused by:`."""
     return REFUSER.findall(edit.read_text(encoding="utf-8"))
 
 
 def misfits(root):
     """The edits that cannot be applied, that change a proof or a crate that is too large, or that do not name what must refuse
-    them: rt ci would say the first half an hour later."""
+    them. rt ci would report an edit that cannot be applied half an hour later."""
     for edit in must_fail_edits(root):
         where, crate = edit.relative_to(root), edit.parent.parent
         if crate.name in TOO_LARGE:
-            yield f"{where}: {crate.name} takes too long to prove for an edit; a smaller crate is to show the same"
+            yield f"{where}: the proof of {crate.name} takes too long for an edit; use a smaller crate"
         texts, pairs = {}, 0
         for file, old, new in replacements(edit):
             pairs += 1
             path = crate / (file or "")
             if not file or not old or not path.is_file():
-                yield f"{where}: a pair without its file or its old text"
+                yield f"{where}: a pair has no file or no old text"
                 continue
             if not file.startswith(("src/", "specs/")):
-                yield f"{where}: it changes {file}, and shows nothing of the code or of a definition"
+                yield f"{where}: it changes {file}, which is neither code nor a definition"
             text = texts.get(path) or path.read_text(encoding="utf-8")
             if text.count(old) != 1:
-                yield f"{where}: its old text is {text.count(old)} times in {file}: {old[:60]}"
+                yield f"{where}: {file} has its old text {text.count(old)} times, not once: {old[:60]}"
             texts[path] = text.replace(old, new, 1)
         if not pairs:
             yield f"{where}: it has no pair of an old and a new text"
@@ -78,7 +79,7 @@ def misfits(root):
 
 
 def unknown_place(crate, place, name):
-    """What is wrong with a place of a crate: neither a file of proofs/ that declares the name, nor a function without one."""
+    """The fault of a place: it is neither a file of proofs/ that declares the name, nor a function without such a file."""
     below = place.replace("::", "/")
     for path in (crate / "proofs" / f"{below}.antt", crate / "proofs" / below / "Proof.antt"):
         if path.is_file():
@@ -91,7 +92,7 @@ def unknown_place(crate, place, name):
 
 
 def first_error(log):
-    """The first error of a log, or its first note with a place, where it has no error."""
+    """The first error of a log. If there is no error, the first note with a place."""
     for pattern in (r"^\S+: error.*$", r"^note: \S+:\d+:\d+:.*$"):
         if found := re.search(pattern, log, re.M):
             return found[0]
@@ -99,8 +100,7 @@ def first_error(log):
 
 
 def own_errors(log, crate, label):
-    """The places and names in a log that have an error which is not a consequence of another: what is found false, or is left
-    open, there."""
+    """The places and names in a log with an error that follows from no other error: a false statement, or an open proof."""
     found = set()
     for error in ERROR.finditer(log):
         below = error["file"].partition(f"/{crate}/{label}/proofs/")[2].removesuffix(".antt").removesuffix("/Proof")
@@ -113,7 +113,7 @@ def own_errors(log, crate, label):
 
 
 def tried(root):
-    """Of each edit: its file, and its log, or nothing where it was not tried."""
+    """For each edit: its file, and its log, or None if the edit was not tried."""
     for edit in must_fail_edits(root):
         path = root / "target" / "must-fail" / edit.parent.parent.name / edit.stem / ".log"
         yield edit, path.read_text(encoding="utf-8", errors="replace") if path.is_file() else None
@@ -124,8 +124,8 @@ def places(found):
 
 
 def telling_nothing(root):
-    """The edits whose log does not show that a fact no longer holds at the place that they name: the edit made a definition
-    ill-formed, which rt takes for a refusal, or the proof file unfit for the code; or something else refuses it."""
+    """The edits whose log does not show a false fact at the place that they name. Such an edit made a definition ill-formed, which
+    rt counts as a refusal; or the proof file no longer fits the code; or something else refuses the edit."""
     for edit, log in tried(root):
         crate, label = edit.parent.parent.name, edit.stem
         where = f"crates/{crate}/must-fail/{label}.edit"
@@ -138,11 +138,11 @@ def telling_nothing(root):
         elif f"/{crate}/{label}/specs/" in error.removeprefix("note: ").partition(": ")[0]:
             yield f"{where}: it only made a definition ill-formed: {error[:200]}"
         elif UNFIT.search(error):
-            yield f"{where}: it only made the proof file unfit: {error[:200]}"
+            yield f"{where}: it only made the proof file unfit for the code: {error[:200]}"
         found = own_errors(log, crate, label)
         for refuser in refusers(edit):
             if refuser not in found:
-                yield f"{where}: {': '.join(refuser)} does not refuse it by itself; {places(found)} does"
+                yield f"{where}: {': '.join(refuser)} does not refuse it; {places(found)} does"
 
 
 def main(arguments):

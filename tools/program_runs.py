@@ -1,21 +1,20 @@
 #!/usr/bin/env python3
-"""The stored runs of the two programs, in tests/programs: NAME.in is what a program reads, NAME.format and NAME.report
-are what the two are to write. And the stored lines of the program findings_table, in its stdin, with what it is to
-write, in its stdout.
+"""The stored runs of the two programs, in tests/programs: NAME.in is the input, NAME.format and NAME.report are the outputs that
+the two programs must write. Also the stored input of the program findings_table, in its file stdin, and its output, in stdout.
 
-    tools/program_runs.py run [FOLDER]   run FOLDER/format and FOLDER/report (target/bin) on each NAME.in, and
-                                         FOLDER/findings_table on the texts of evfmt's stored answers; ./tilghorz on each
-                                         NAME.in, for its status; and the examples of README.md that call it
-    tools/program_runs.py check          NAME.in and the lines are what this script makes, and nothing else is stored
-    tools/program_runs.py make           write these, and by the host's stored-answers what the programs are to write
+    tools/program_runs.py run [FOLDER]   run FOLDER/format and FOLDER/report on each NAME.in, FOLDER/findings_table on the texts
+                                         of evfmt's stored answers, ./tilghorz on each NAME.in, for its exit status, and the
+                                         examples of README.md that call ./tilghorz. FOLDER is target/bin if it is not given
+    tools/program_runs.py check          check that the stored inputs are what this script makes, and that there are no others
+    tools/program_runs.py make           write the inputs; the host's program stored-answers then writes the outputs
 
-The outputs are not the programs' own: host/ has an independent reading of document 01, and for the formatted text the
-crate evfmt. `stored-answers check` and the host's tests hold the stored files to both.
+The two programs do not make the stored outputs. An independent implementation of document 01 in host/ makes them, and for the
+formatted text the crate evfmt. `stored-answers check` and the host's tests compare the stored files with both.
 
-Each input goes to a program twice: as a file, and through a pipe in pieces, so that reads are short. A read that fails
-(standard input is a folder) must give nothing on standard output and a line on standard error. Each difference is a line
-on standard error, and so is a program that ends with another status than 0, and a check that has nothing to run; the exit
-status is 1 if there is one.
+Each program gets each input twice: as a file, and through a pipe in pieces, so that reads are short. If a read fails, because
+standard input is a folder, a program must write nothing to standard output and one line to standard error. The script prints each
+difference as a line on standard error. It also prints a line if a program's exit status is not 0, or if there is nothing to run. Its
+exit status is 1 if it printed a line.
 """
 
 import pathlib
@@ -30,7 +29,7 @@ LIMIT = 12288
 PIECE = 1000
 SECONDS = 60
 
-# A thread of messages. Each line has findings of one kind, but for the last, which have several at once.
+# A thread of messages. Most lines have findings of one kind. The last lines have none, or several kinds.
 THREAD = [
     ("ann", "shall we meet at 9\ufe0e or at 10\ufe0e? bring a \u231a\ufe0f and 2\ufe0e \u2615\ufe0f"),  # policy-redundant
     ("ben", "with love \u2764, \u00a9 2024, room 4\u20e3, press #\u20e3"),  # decisions
@@ -64,18 +63,18 @@ WORKED = [
     "\u20e3",
 ]
 
-# How many findings the table of the program findings_table has room for.
+# The number of findings that fit into the table of the program findings_table.
 FEW = 8
 
 
 def lines():
-    """What the program findings_table reads: the worked texts, the thread, a full table, one too short, a damaged text."""
+    """The input of findings_table: the worked texts, the thread, a full table, a table that is too short, a damaged text."""
     texts = WORKED + [text for _, text in THREAD] + ["\u00a9" * FEW, "\u00a9" * (FEW + 1)]
     return "".join(f"{text}\n" for text in texts).encode() + b"\xe2\x9d \xe2\x9d\xa4\n"
 
 
 def inputs():
-    """What the programs read, by name."""
+    """The inputs of the two programs, by name."""
     thread = "".join(f"{n:03} {who}: {text}\n" for n, (who, text) in enumerate(THREAD * ROUNDS))
     return {
         "empty": b"",
@@ -131,7 +130,7 @@ def from_file(program, path):
 
 
 def in_pieces(program, text):
-    """What the program writes that reads a pipe in which one piece at a time stands."""
+    """The output and the exit status of a program that reads the text from a pipe, in pieces."""
     with tempfile.TemporaryFile() as output:
         with subprocess.Popen([program], stdin=subprocess.PIPE, stdout=output, bufsize=0) as process:
             try:
@@ -139,16 +138,16 @@ def in_pieces(program, text):
                     process.stdin.write(text[at : at + PIECE])
                 process.stdin.close()
             except BrokenPipeError:
-                pass  # a program need not read what is too long
+                pass  # a program may stop reading when the input is too long
             status = process.wait(timeout=SECONDS)
         output.seek(0)
         return output.read(), status
 
 
 def difference(expected, found):
-    """Where two outputs part."""
+    """A description of the first difference between two outputs."""
     at = next((i for i, (a, b) in enumerate(zip(expected, found)) if a != b), min(len(expected), len(found)))
-    return f"{len(found)} bytes for {len(expected)}, other from byte {at} on: {found[at : at + 16].hex(' ')} for {expected[at : at + 16].hex(' ')}"
+    return f"{len(found)} bytes, expected {len(expected)}; from byte {at} on {found[at : at + 16].hex(' ')}, expected {expected[at : at + 16].hex(' ')}"
 
 
 def wrong_runs(folder, programs):
@@ -174,7 +173,7 @@ def wrong_runs(folder, programs):
 
 
 def answered_texts():
-    """The texts of evfmt's stored answers that are one line."""
+    """The texts of evfmt's stored answers that have only one line."""
     for path in sorted((ROOT / "crates" / "vectors" / "data").glob("items-*.txt")):
         for line in path.read_text(encoding="utf-8").splitlines():
             if line.startswith("text "):
@@ -184,7 +183,7 @@ def answered_texts():
 
 
 def in_messages(texts):
-    """Lines, as many to a message as it has room for, and how many there are."""
+    """The texts as lines of messages, each message with as many lines as fit, and the number of its lines."""
     message, count = b"", 0
     for text in texts:
         if len(message) + len(text) + 1 > LIMIT:
@@ -196,7 +195,7 @@ def in_messages(texts):
 
 
 def wrong_tables(program, texts):
-    """The messages in whose lines the table of structs and the table of bytes differ, or that were not read whole."""
+    """The messages for which the table of structs and the table of bytes differ, or that the program did not read whole."""
     if not program.is_file():
         yield f"{program}: is not built"
         return
@@ -212,21 +211,21 @@ def wrong_tables(program, texts):
 
 
 def examples(readme):
-    """The commands of the blocks `console` that call ./tilghorz, each with what stands below it."""
+    """The commands in blocks `console` that call ./tilghorz, each with the output that is shown below it."""
     blocks = "".join(re.findall(r"^```console\n(.*?)^```$", readme, re.M | re.S))
     commands = re.findall(r"^\$ (.*)\n((?:(?!\$ ).*\n)*)", blocks, re.M)
     return [(command, output) for command, output in commands if "./tilghorz " in command]
 
 
 def wrong_examples(root):
-    """The examples of README.md that do not write what it says. Those of tilghorz-host are run by its own test."""
+    """The examples of README.md with another output than it shows. A test of tilghorz-host runs the examples of that command."""
     shown = examples((root / "README.md").read_text(encoding="utf-8"))
     if not shown:
         yield "README.md: no example of ./tilghorz"
     for command, expected in shown:
         answer = subprocess.run(["sh", "-c", f"exec 2>&1; {command}"], cwd=root, stdin=subprocess.DEVNULL, capture_output=True, timeout=SECONDS, check=False)
         if answer.stdout.decode() != expected:
-            yield f"README.md: {command}: {answer.stdout.decode()!r}"
+            yield f"README.md: {command}: its output is {answer.stdout.decode()!r}"
 
 
 def is_refused(text):
@@ -252,14 +251,14 @@ def wrong_statuses(root, folder):
 
 
 def wrong_failure(program, folder):
-    """What is wrong where standard input cannot be read."""
+    """The faults of a program when standard input cannot be read."""
     with subprocess.Popen(["sh", "-c", 'exec "$1" < "$2"', "sh", program, folder], stdout=subprocess.PIPE, stderr=subprocess.PIPE) as process:
         out, error = process.communicate(timeout=SECONDS)
     if out:
-        yield f"{program.name}: writes {out[:16]!r} where standard input cannot be read"
+        yield f"{program.name}: it writes {out[:16]!r} when standard input cannot be read"
     lines = error.count(b"\n")
     if lines != 1:
-        yield f"{program.name}: {lines} lines on standard error where standard input cannot be read"
+        yield f"{program.name}: it writes {lines} lines to standard error when standard input cannot be read"
 
 
 def main(arguments):

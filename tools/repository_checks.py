@@ -1,26 +1,26 @@
 #!/usr/bin/env python3
-"""The gate's own checks of the repository, beside what `rt ci` proves.
+"""The gate's own checks of the repository. They check what `rt ci` does not.
 
     tools/repository_checks.py source         before rt ci: the crates, the contracts, the theorems
-    tools/repository_checks.py products LINE  after rt ci, with its last line: what it counted, the must-fail edits' logs
-    tools/repository_checks.py staticlib      after `rt staticlib tilghorz`: the axioms that the library rests on
+    tools/repository_checks.py products LINE  after rt ci, with its last line: what it counted, the logs of the must-fail edits
+    tools/repository_checks.py staticlib      after `rt staticlib tilghorz`: the axioms that the library uses
 
-Each finding is a line on standard error; the exit status is 1 if there is one. Where a check finds nothing to look at,
-that is a finding too.
+The script prints each fault as a line on standard error, and its exit status is then 1. A check that has nothing to check is
+also a fault.
 
-- crates:     every folder of crates/ is listed in crates.txt, and every library has a must-fail edit.
-- calls of C: no library but message_io uses io, os, libc or a library that does. Their contracts are axioms.
-- misfits:    every must-fail edit fits the file that it changes, and names what must refuse it (edit_checks.py).
-- contracts:  no public function has a `requires`; each has an `ensures`, and none says nothing of the outcome.
-- audit:      docs/AUDIT.md has a row for every public function of a library, in the part of its crate, with what its
-              contract rules out; and every must-fail edit that it names is there.
-- theorems:   every statement of a crate's specs/ has its proof, none is open or says nothing, and docs/AUDIT.md lists just
-              these; the names in it and in docs/DECISIONS.md are declared (theorem_checks.py).
+- crates:     crates.txt lists every folder of crates/, and every library has a must-fail edit.
+- calls of C: no library except message_io uses io, os, libc or a library that uses them. Their contracts are axioms.
+- misfits:    every must-fail edit can be applied, and names what must refuse it (edit_checks.py).
+- contracts:  no public function has a `requires`; each has an `ensures`, and every `ensures` is about the outcome.
+- audit:      docs/AUDIT.md has a row for every public function of a library, in the part about its crate, and every must-fail
+              edit that it names exists.
+- theorems:   every statement of a crate's specs/ has its proof, none is open or empty, and docs/AUDIT.md lists exactly these;
+              the names in it and in docs/DECISIONS.md are declared (theorem_checks.py).
 - counts:     the last line of rt ci counts every crate and every must-fail edit.
-- edits:      every must-fail edit is refused at the place that it names, for a fact (edit_checks.py).
+- edits:      the place that a must-fail edit names refuses it, because a fact is false there (edit_checks.py).
 - proved:     the log of every crate says that it is proved.
-- axioms:     the static library rests on none. The prover counts axioms for programs and static libraries alone; a
-              program's are the contracts of the C functions that it calls.
+- axioms:     the static library uses none. The prover counts axioms only for programs and static libraries; the axioms of a
+              program are the contracts of the C functions that it calls.
 """
 
 import pathlib
@@ -33,7 +33,7 @@ from theorem_checks import empty_statements, open_statements, other_statements, 
 
 CLAUSE = re.compile(r"\s*(requires|ensures|ghost)\b[^{]*\{")
 PUBLIC_FUNCTION = re.compile(r'\bpub\s+(?:const\s+)?(?:extern\s+"C"\s+)?fn\s+(\w+)')
-# The libraries of the kit that declare or call C functions, the one library that may use them, and the one that hosts link.
+# The libraries of the kit that declare or call C functions; the library that may use them; the library that hosts link.
 OF_C = ("io", "libc", "os")
 MAY_CALL_C = ("message_io",)
 STATIC_LIBRARY = "tilghorz"
@@ -51,7 +51,7 @@ def unlisted_crates(root):
     tried = {edit.parent.parent.name for edit in must_fail_edits(root)}
     for name in libraries(root):
         if name not in tried:
-            yield f"crates/{name}: a library without a must-fail edit"
+            yield f"crates/{name}: the library has no must-fail edit"
 
 
 def libraries_that_call_c(root):
@@ -62,7 +62,7 @@ def libraries_that_call_c(root):
     for name in libraries(root):
         if name in calling and name not in MAY_CALL_C:
             through = ", ".join(sorted(calling & set(named[name])))
-            yield f"crates.txt: {name}: a library that rests on contracts of C functions, through {through}"
+            yield f"crates.txt: {name}: the library uses contracts of C functions, through {through}"
 
 
 def closing(text, at, opening, closes):
@@ -89,8 +89,8 @@ def clauses(text, at):
 
 
 def says_nothing(ensures):
-    """Whether an `ensures` says nothing of the outcome: it names neither the result nor what a buffer holds at the exit, or its
-    two sides are the same."""
+    """Whether an `ensures` says nothing about the outcome: it names neither the result nor a buffer at the exit, or its two
+    sides are the same."""
     said = re.fullmatch(r"λ (\S+)\. ⌜ (.*) ⌝", ensures, re.S)
     if not said:
         return True
@@ -100,7 +100,7 @@ def says_nothing(ensures):
 
 
 def public_functions(root, name):
-    """Of each public function of a crate: its file, the file's text without comments, and its match there."""
+    """For each public function of a crate: its file, the text of the file without comments, and its match there."""
     for path in sorted((root / "crates" / name).glob("src/**/*.rt")):
         text = rattle(path)
         for function in PUBLIC_FUNCTION.finditer(text):
@@ -118,16 +118,16 @@ def weak_contracts(root):
                 yield f"{where}: a public function has no `ensures`"
             for kind, said in found:
                 if kind == "ensures" and says_nothing(said):
-                    yield f"{where}: an `ensures` that says nothing of the outcome: {said[:80]}"
+                    yield f"{where}: an `ensures` says nothing about the outcome: {said[:80]}"
             if not rest.startswith(("{", ";")):
                 yield f"{where}: the text after its clauses is not understood: {rest[:20]!r}"
     for name in libraries(root):
         if not any(public_functions(root, name)):
-            yield f"crates/{name}: a library without a public function"
+            yield f"crates/{name}: the library has no public function"
 
 
 def rows_named(part):
-    """The names in the first column of the tables of a part."""
+    """The names in the first column of the tables in a part of docs/AUDIT.md."""
     cells = " ".join(line.split("|")[1] for line in part.splitlines() if line.startswith("|"))
     return set(re.findall(r"\w+", " ".join(re.findall(r"`([^`]*)`", cells))))
 
@@ -139,7 +139,7 @@ def unaudited_functions(root):
     for name in libraries(root):
         for _, _, function in public_functions(root, name):
             if function[1] not in named.get(name, ()):
-                yield f"docs/AUDIT.md: {name}: {function[1]} has no row of what its contract rules out"
+                yield f"docs/AUDIT.md: {name}: {function[1]} has no row in \"What each contract rules out\""
     edits = {path.stem for path in must_fail_edits(root)}
     for names in NAMED_EDITS.findall(audit):
         for edit in re.findall(r"`(\w+)`", names):
@@ -150,11 +150,11 @@ def unaudited_functions(root):
 def miscounted(root, last_line):
     wanted = f"{len(listed(root)) + len(must_fail_edits(root))} passed, 0 failed"
     if last_line != wanted:
-        yield f"rt ci: its last line is `{last_line}`; the crates and the must-fail edits make `{wanted}`"
+        yield f"rt ci: its last line is `{last_line}`; with all crates and must-fail edits it is `{wanted}`"
 
 
 def verdict(root, name):
-    """The last verdict in a crate's log, or nothing."""
+    """The last verdict in the log of a crate, or an empty text."""
     said = root / "target" / "log" / f"{name}.say"
     found = re.findall(r"^logic=.*$", said.read_text(encoding="utf-8", errors="replace"), re.M) if said.is_file() else []
     return found[-1] if found else ""
@@ -169,9 +169,9 @@ def unproved_crates(root):
 def rests_on_axioms(root):
     said = verdict(root, STATIC_LIBRARY)
     if not said.startswith("logic=proved ") or " target=" not in said:
-        yield f"{STATIC_LIBRARY}: its log is not that of a static library that is proved: {said}"
+        yield f"{STATIC_LIBRARY}: its log does not say that it is a proved static library: {said}"
     elif re.search(r"\b(axioms|foreign)=", said):
-        yield f"{STATIC_LIBRARY}: the static library rests on an axiom: {said}"
+        yield f"{STATIC_LIBRARY}: the static library uses an axiom: {said}"
 
 
 SOURCE = (

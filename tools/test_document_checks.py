@@ -1,4 +1,4 @@
-"""Tests of document_checks.py: each check finds what it is to find, and nothing in sound documents."""
+"""Tests of document_checks.py: each check finds its faults, and none in correct documents."""
 
 import hashlib
 import pathlib
@@ -112,23 +112,23 @@ class Checks(unittest.TestCase):
     def test_no_link(self):
         with tempfile.TemporaryDirectory() as folder:
             pathlib.Path(folder, "README.md").write_text("# A name\n", encoding="utf-8")
-            self.assertEqual(list(checks.broken_links(pathlib.Path(folder))), ["README.md, docs/: no link is found"])
+            self.assertEqual(list(checks.broken_links(pathlib.Path(folder))), ["README.md, docs/: they have no link"])
 
     def test_other_stages(self):
-        self.finds("Testing, 3: `none`", checks.other_stages, "README.md", "3. rt ci. It proves\n", "")
-        self.finds("Testing, 2: `the checks", checks.other_stages, "README.md", "the gate's own checks", "the checks")
-        self.finds("Testing, 3: `rt cities`", checks.other_stages, "README.md", "rt ci. It proves", "rt cities")
-        self.finds("Testing, 4: `more`", checks.other_stages, "README.md", "It proves\n", "It proves\n4. more\n")
-        self.finds("2 stages are read and 3 called", checks.other_stages, ".ci/run", "    stage 'rt ci'", 'stage "$rt"')
+        self.finds("Testing, 3: it is `none`", checks.other_stages, "README.md", "3. rt ci. It proves\n", "")
+        self.finds("Testing, 2: it is `the checks", checks.other_stages, "README.md", "the gate's own checks", "the checks")
+        self.finds("Testing, 3: it is `rt cities`", checks.other_stages, "README.md", "rt ci. It proves", "rt cities")
+        self.finds("Testing, 4: it is `more`", checks.other_stages, "README.md", "It proves\n", "It proves\n4. more\n")
+        self.finds("it calls 3 stages, and the names of 2 can be read", checks.other_stages, ".ci/run", "    stage 'rt ci'", 'stage "$rt"')
 
     def test_no_stage(self):
-        self.finds("0 stages are read", checks.other_stages, ".ci/run", "stage ", "print ")
+        self.finds("the names of 0 can be read", checks.other_stages, ".ci/run", "stage ", "print ")
 
     def test_other_data(self):
         self.finds("its SHA-256 is", checks.other_data, "crates/published_data/data/emoji.txt", "0023", "0024")
         self.finds("its SHA-256 is missing", checks.other_data, removed=["crates/published_data/data/emoji.txt"])
         self.finds("says nothing", checks.other_data, "docs/UNICODE.md", "| emoji.txt |", "| other.txt |")
-        self.finds("no SHA-256 is found", checks.other_data, "docs/UNICODE.md", "| emoji.txt |", "|")
+        self.finds("gives no SHA-256", checks.other_data, "docs/UNICODE.md", "| emoji.txt |", "|")
 
     def test_other_decisions(self):
         check, text = checks.other_decisions, "docs/DECISIONS.md"
@@ -146,7 +146,7 @@ class Checks(unittest.TestCase):
     def test_untested_tools(self):
         self.finds("test_one.py has no test", checks.untested_tools, removed=["tools/test_one.py"])
         self.finds("test_one.py has no test", checks.untested_tools, "tools/test_one.py", "def test_", "def ")
-        self.finds("no script", checks.untested_tools, removed=["tools/one.py"])
+        self.finds("has no script", checks.untested_tools, removed=["tools/one.py"])
 
 
 if __name__ == "__main__":

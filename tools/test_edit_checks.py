@@ -1,4 +1,4 @@
-"""Tests of edit_checks.py: planted faults of must-fail edits, and of the logs that they leave, are found."""
+"""Tests of edit_checks.py: it finds planted faults of must-fail edits and of their logs."""
 
 import pathlib
 import tempfile
@@ -38,7 +38,7 @@ logic=not-proved
 
 class Checks(unittest.TestCase):
     def findings(self, check, *changes):
-        """What a check finds where each change (a file's last name, the old text, the new one) is made."""
+        """What a check finds after these changes, each with the end of a file's name, the old text and the new text."""
         texts = dict(SOUND)
         for file, old, new in changes:
             name = next(name for name in texts if name.endswith(file))
@@ -62,12 +62,12 @@ class Checks(unittest.TestCase):
             self.assertEqual(self.findings(checks.telling_nothing, change), [])
 
     def test_old_text_that_is_not_there_once(self):
-        self.finds("is 0 times in src/lib.rt: { x }", checks.misfits, ("lib.rt", "{ x }", "{ y }"))
-        self.finds("is 2 times in specs/Lib.antt: same x = x", checks.misfits, ("Lib.antt", "other", "same"))
+        self.finds("src/lib.rt has its old text 0 times, not once: { x }", checks.misfits, ("lib.rt", "{ x }", "{ y }"))
+        self.finds("specs/Lib.antt has its old text 2 times, not once: same x = x", checks.misfits, ("Lib.antt", "other", "same"))
 
     def test_pair_that_is_not_whole(self):
-        self.finds("a pair without its file or its old text", checks.misfits, ("wrong.edit", "src/lib.rt", "src/other.rt"))
-        self.finds("a pair without its file or its old text", checks.misfits, ("wrong.edit", "old: { x }\n", ""))
+        self.finds("a pair has no file or no old text", checks.misfits, ("wrong.edit", "src/lib.rt", "src/other.rt"))
+        self.finds("a pair has no file or no old text", checks.misfits, ("wrong.edit", "old: { x }\n", ""))
         self.finds("it has no pair", checks.misfits, ("wrong.edit", "new: ", "now: "))
 
     def test_edit_of_a_proof(self):
@@ -103,13 +103,13 @@ class Checks(unittest.TestCase):
             "record `Lts.Else1`\n  has no field `if2`",
         ):
             change = (".log", "`returns`: the two types differ", f"`returns`: {error}")
-            self.finds("same: returns does not refuse it by itself", checks.telling_nothing, change)
+            self.finds("same: returns does not refuse it", checks.telling_nothing, change)
 
     def test_equivalent_rewriting_that_ends_elsewhere(self):
         """The proof of a law goes by the words of the definition, and what the edit names fails only with it."""
         change = ("wrong.edit", "same: returns", "Claims: theorem")
         others = "Laws: law, plain: index, plain: returns-2, same: returns"
-        self.finds(f"Claims: theorem does not refuse it by itself; {others} does", checks.telling_nothing, change)
+        self.finds(f"Claims: theorem does not refuse it; {others} does", checks.telling_nothing, change)
         self.finds("same: same-spec does not refuse it", checks.telling_nothing, ("wrong.edit", "same: returns", "same: same-spec"))
 
     def test_refuser_that_has_no_error(self):

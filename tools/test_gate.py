@@ -1,5 +1,5 @@
-"""Tests of the gate, .ci/run, with programs in the places of rt, cargo, python3 and the two programs: it passes where all of
-them do, it fails where any one of them fails, and it does not pass over the crate evfmt in silence."""
+"""Tests of the gate, .ci/run, with test programs instead of rt, cargo, python3 and the two programs. The gate passes if all of them
+pass, it fails if any one of them fails, and it says so if it skips the comparison with evfmt."""
 
 import os
 import pathlib
@@ -9,7 +9,7 @@ import tempfile
 import unittest
 
 ROOT = pathlib.Path(__file__).resolve().parent.parent
-# Writes its call into the file calls. The call that stands in the file failing fails.
+# Writes its call to the file `calls`. The call in the file `failing` fails.
 PROGRAM = """#!/bin/sh
 call="$(basename "$0") $*"
 echo "$call" >> "$GATE/calls"
@@ -25,9 +25,10 @@ esac
 
 class Gate(unittest.TestCase):
     def setUp(self):
-        folder = tempfile.TemporaryDirectory()
-        self.addCleanup(folder.cleanup)
-        self.root = pathlib.Path(folder.name, "repository")
+        # A program that the gate started may still write a file while the folder is removed.
+        folder = tempfile.mkdtemp()
+        self.addCleanup(shutil.rmtree, folder, ignore_errors=True)
+        self.root = pathlib.Path(folder, "repository")
         for name in (".ci", "bin", "tools", "host", "crates/format", "crates/report", "evfmt/src"):
             (self.root / name).mkdir(parents=True)
         shutil.copy(ROOT / ".ci" / "run", self.root / ".ci" / "run")

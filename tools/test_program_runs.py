@@ -43,7 +43,7 @@ class Runs(unittest.TestCase):
         self.program("report", FAILS)
         found = self.wrong()
         self.assertEqual(len(found), 2)
-        self.assertIn("report a, as a file: 3 bytes for 3, other from byte 2 on: 63 for 64", found[0])
+        self.assertIn("report a, as a file: 3 bytes, expected 3; from byte 2 on 63, expected 64", found[0])
         self.assertIn("in pieces", found[1])
 
     def test_another_status(self):
@@ -63,7 +63,7 @@ class Runs(unittest.TestCase):
         self.store("a", b"", b"", b"")
         self.program("format", FAILS)
         self.program("report", "#!/bin/sh\ncat 2>/dev/null || true\n")
-        self.assertEqual(self.wrong(), ["report: 0 lines on standard error where standard input cannot be read"])
+        self.assertEqual(self.wrong(), ["report: it writes 0 lines to standard error when standard input cannot be read"])
 
     def test_tables_that_differ(self):
         texts = [b"x" * 100] * 200
@@ -88,7 +88,7 @@ class Runs(unittest.TestCase):
         self.store("a", b"", b"", b"")
         self.program("format", FAILS)
         self.program("report", "#!/bin/sh\nif [ -d /dev/stdin ]; then echo no; echo no >&2; fi\n")
-        self.assertEqual(self.wrong(), ["report: writes b'no\\n' where standard input cannot be read"])
+        self.assertEqual(self.wrong(), ["report: it writes b'no\\n' when standard input cannot be read"])
 
     def test_statuses_of_refusals(self):
         root = self.runs.parent

@@ -1,4 +1,4 @@
-"""Tests of repository_checks.py: each check finds what it is to find, and nothing in a sound repository."""
+"""Tests of repository_checks.py: each check finds its faults, and none in a correct repository."""
 
 import pathlib
 import tempfile
@@ -123,7 +123,7 @@ class Checks(unittest.TestCase):
         self.finds("it lists no library", checks.unlisted_crates, crates_txt=("one:\nmessage_io:", "# one:\n#"))
 
     def test_library_without_edit(self):
-        self.finds("one: a library without a must-fail edit", checks.unlisted_crates, removed=["crates/one/must-fail/wrong.edit"])
+        self.finds("one: the library has no must-fail edit", checks.unlisted_crates, removed=["crates/one/must-fail/wrong.edit"])
 
     def test_public_requires(self):
         self.finds("part: a public function has a `requires`", checks.weak_contracts, lib_rt=("ensures first", "requires first"))
@@ -133,8 +133,8 @@ class Checks(unittest.TestCase):
 
     def test_public_with_an_empty_ensures(self):
         for empty in ("r ≡ r", "x ≡ x", "Unit", "f x ≡ x"):
-            self.finds("same: an `ensures` that says nothing", checks.weak_contracts, lib_rt=("λ r. ⌜ r ≡ x ⌝", f"λ r. ⌜ {empty} ⌝"))
-        self.finds("part: an `ensures` that says nothing", checks.weak_contracts, lib_rt=("now (s .exit)", "now (s .entry)"))
+            self.finds("same: an `ensures` says nothing", checks.weak_contracts, lib_rt=("λ r. ⌜ r ≡ x ⌝", f"λ r. ⌜ {empty} ⌝"))
+        self.finds("part: an `ensures` says nothing", checks.weak_contracts, lib_rt=("now (s .exit)", "now (s .entry)"))
 
     def test_exported_without_ensures(self):
         self.finds(
@@ -154,7 +154,7 @@ class Checks(unittest.TestCase):
         self.finds("is not understood: 'promises", checks.weak_contracts, lib_rt=("ensures second", "promises { } requires"))
 
     def test_library_without_public_function(self):
-        self.finds("without a public function", checks.weak_contracts, lib_rt=("pub fn", "pub(crate) fn"))
+        self.finds("has no public function", checks.weak_contracts, lib_rt=("pub fn", "pub(crate) fn"))
 
     def test_function_without_row(self):
         self.finds("one: part has no row", checks.unaudited_functions, AUDIT_md=("| `Thing::part` | `ensures`; not as `same` |\n", ""))
@@ -178,26 +178,26 @@ class Checks(unittest.TestCase):
 
         self.assertEqual(self.findings(of("5 passed, 0 failed")), [])
         for line in ("0 passed, 0 failed", "4 passed, 0 failed", "5 passed, 1 failed", ""):
-            self.finds("the crates and the must-fail edits make `5 passed, 0 failed`", of(line))
+            self.finds("with all crates and must-fail edits it is `5 passed, 0 failed`", of(line))
 
     def test_library_that_calls_c(self):
-        words = "one: a library that rests on contracts of C functions, through libc"
+        words = "one: the library uses contracts of C functions, through libc"
         self.finds(words, checks.libraries_that_call_c, crates_txt=("one:", "one: libc"))
 
     def test_library_that_calls_c_through_another(self):
-        words = "one: a library that rests on contracts of C functions, through message_io"
+        words = "one: the library uses contracts of C functions, through message_io"
         self.finds(words, checks.libraries_that_call_c, crates_txt=("one:\nmessage_io: one io", "one: message_io\nmessage_io: io"))
 
     def test_static_library_on_an_axiom(self):
         sound = "sum=0 target=x86_64 native=nat"
         self.assertEqual(self.findings(self.of_static_library(), one_say=("sum=0", sound)), [])
         for more in ("axioms=1", "foreign=1"):
-            self.finds("rests on an axiom", self.of_static_library(), one_say=("sum=0", f"{more} {sound}"))
+            self.finds("uses an axiom", self.of_static_library(), one_say=("sum=0", f"{more} {sound}"))
 
     def test_static_library_not_made(self):
-        self.finds("not that of a static library", self.of_static_library())
-        self.finds("not that of a static library", self.of_static_library(), removed=["target/log/one.say"])
-        self.finds("not that of a static library", self.of_static_library(), one_say=("=proved functions=2", "=not-proved target=x"))
+        self.finds("does not say that it is a proved static library", self.of_static_library())
+        self.finds("does not say that it is a proved static library", self.of_static_library(), removed=["target/log/one.say"])
+        self.finds("does not say that it is a proved static library", self.of_static_library(), one_say=("=proved functions=2", "=not-proved target=x"))
 
     def of_static_library(self):
         """The check of the static library, with the crate `one` for it."""

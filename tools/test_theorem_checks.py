@@ -114,7 +114,7 @@ CHECKS = (
 
 class Checks(unittest.TestCase):
     def findings(self, check, *changes, removed=()):
-        """What a check finds where each change (a file's last name, the old text, the new one) is made."""
+        """What a check finds after these changes, each with the end of a file's name, the old text and the new text."""
         texts = dict(SOUND)
         for file, old, new in changes:
             name = next(name for name in texts if name.endswith(file))
@@ -143,7 +143,7 @@ class Checks(unittest.TestCase):
             ("Claims.antt", "pub every-list : EveryList\nevery-list policy calls = list-claim policy calls\n", ""),
         )
         self.assertEqual(self.findings(checks.unproved_statements, *changes), [])
-        self.finds("one owes EveryList, which specs/ does not have", checks.other_statements, *changes)
+        self.finds("one lists EveryList, which specs/ does not have", checks.other_statements, *changes)
         self.finds("`EveryList` is nowhere in specs/ or src/", checks.unknown_names, *changes)
 
     def test_theorem_of_this_repository_taken_away(self):
@@ -154,7 +154,7 @@ class Checks(unittest.TestCase):
             shutil.copy(ROOT / "docs" / "AUDIT.md", root / "docs")
             shutil.copy(ROOT / "docs" / "DECISIONS.md", root / "docs")
             (root / "crates.txt").write_text("formatter:\n", encoding="utf-8")
-            gone = "formatter owes EveryList, which specs/ does not have"
+            gone = "formatter lists EveryList, which specs/ does not have"
             self.assertFalse([one for one in checks.other_statements(root) if "formatter" in one])
             theorem, claim = r"unfoldable pub EveryList.*?\n\n", r"pub every-list.*?\n\n"
             for name, taken in (("specs/Theorems.antt", theorem), ("proofs/Claims.antt", claim)):
@@ -187,27 +187,27 @@ class Checks(unittest.TestCase):
     def test_statement_that_says_nothing(self):
         for empty in ("Unit {0}", "(x : ℕ) → Unit", "(x : ℕ) → f x ≡ f x", "\n    (x : ℕ)\n    → ⊤"):
             change = ("Theorems.antt", "Same = (x : ℕ) → Parted x × Through x", f"Same = {empty}")
-            self.finds("Same says nothing", checks.empty_statements, change)
+            self.finds("Same is empty", checks.empty_statements, change)
         change = ("Theorems.antt", "→ ListClaim policy calls", "→ policy ≡ calls")
         self.finds("EveryList does not claim ListClaim", checks.empty_statements, change)
 
     def test_clause_that_says_nothing(self):
         change = ("Claimed.antt", "pub others : text ≡ calls", "pub others : text ≡ text")
-        self.finds("the clause others of ListClaim says nothing", checks.empty_statements, change)
+        self.finds("the clause others of ListClaim is empty", checks.empty_statements, change)
         change = ("Claimed.antt", "→ n ≡ length calls", "→ Unit {0}")
-        self.finds("the clause number of ListClaim says nothing", checks.empty_statements, change)
+        self.finds("the clause number of ListClaim is empty", checks.empty_statements, change)
 
     def test_statement_that_is_not_listed(self):
         self.finds("one does not list Whole", checks.other_statements, ("AUDIT.md", "`Worked`, `Whole`", "`Worked`"))
         self.finds("one does not list Same", checks.other_statements, ("AUDIT.md", "| one | `Same`, `Worked`, `Whole`, `EveryList` |\n", ""))
-        self.finds("one has Same twice", checks.other_statements, ("AUDIT.md", "`Same`, `Worked`", "`Same`, `Same`, `Worked`"))
-        self.finds("no row is found", checks.other_statements, ("AUDIT.md", "## The statements", "## Statements"))
+        self.finds("one lists Same twice", checks.other_statements, ("AUDIT.md", "`Same`, `Worked`", "`Same`, `Same`, `Worked`"))
+        self.finds("it has no row", checks.other_statements, ("AUDIT.md", "## The statements", "## Statements"))
 
     def test_statement_of_a_crate_that_is_not_there(self):
         self.finds("two has nothing in specs/", checks.other_statements, ("AUDIT.md", "| one | `Same`", "| two | `Same`"))
 
     def test_clause_taken_away(self):
-        self.finds("ListClaim owes others", checks.other_statements, ("Claimed.antt", "    pub others : text ≡ calls\n", ""))
+        self.finds("ListClaim lists others", checks.other_statements, ("Claimed.antt", "    pub others : text ≡ calls\n", ""))
         self.finds("FormattedClaim has nothing", checks.other_statements, ("Claimed.antt", "record FormattedClaim", "record Formatted"))
         self.finds("ListClaim does not list number", checks.other_statements, ("AUDIT.md", "`others`, `number` |", "`others` |"))
 
@@ -232,10 +232,10 @@ class Checks(unittest.TestCase):
         self.finds("nothing proves Whole", checks.unproved_statements, ("Claims.antt", "pub whole : Whole", "whole : Whole"))
 
     def test_missing_claims(self):
-        self.finds("missing, so nothing proves Same", checks.unproved_statements, removed=["crates/one/proofs/Claims.antt"])
+        self.finds("is missing, so nothing proves Same", checks.unproved_statements, removed=["crates/one/proofs/Claims.antt"])
 
     def test_claim_with_hypothesis(self):
-        self.finds("is no statement", checks.unproved_statements, ("Claims.antt", "pub same : Same", "pub same : (x : ⊥) → Same"))
+        self.finds("is not a statement", checks.unproved_statements, ("Claims.antt", "pub same : Same", "pub same : (x : ⊥) → Same"))
 
     def test_claim_in_a_comment(self):
         self.finds("nothing proves Same", checks.unproved_statements, ("Claims.antt", "pub same : Same\n", "{-\npub same : Same\n-}\n"))
@@ -248,7 +248,7 @@ class Checks(unittest.TestCase):
         )
 
     def test_no_statement(self):
-        self.finds("no statement is found", checks.unproved_statements, ("Theorems.antt", ": Type 0", ": Type zero"))
+        self.finds("it has no statement", checks.unproved_statements, ("Theorems.antt", ": Type 0", ": Type zero"))
 
     def test_claim_in_section(self):
         self.finds("further hypotheses", checks.unproved_statements, ("Claims.antt", "pub same", "module _ (x : ⊥) where\npub same"))
@@ -257,10 +257,10 @@ class Checks(unittest.TestCase):
         self.finds("is not imported from", checks.unproved_statements, ("Claims.antt", "specs.specs.Theorems", "specs.specs.Others"))
 
     def test_statement_in_section(self):
-        self.finds("that no claim can name", checks.unproved_statements, ("Theorems.antt", "unfoldable pub Same", "  unfoldable pub Same"))
+        self.finds("that a claim cannot name", checks.unproved_statements, ("Theorems.antt", "unfoldable pub Same", "  unfoldable pub Same"))
 
     def test_statement_not_public(self):
-        self.finds("that no claim can name", checks.unproved_statements, ("Theorems.antt", "unfoldable pub Same", "unfoldable Same"))
+        self.finds("that a claim cannot name", checks.unproved_statements, ("Theorems.antt", "unfoldable pub Same", "unfoldable Same"))
 
     def test_claims_not_reached(self):
         self.finds("no line `pub mod Claims`", checks.unproved_statements, ("proofs/Lib.antt", "pub mod ", "mod "))

@@ -50,8 +50,8 @@ class Status(unittest.TestCase):
         self.assertEqual(self.run_on({"crates/a/specs/Lib.antt": "use a.B.{f}\n\ng = f\n"}), (0, ""))
         status, said = self.run_on({"crates/a/specs/Lib.antt": "use a.B.{f}\n\ng = g\n"})
         self.assertEqual(status, 1)
-        self.assertIn("crates/a/specs/Lib.antt: imported and not used: f", said)
-        self.assertEqual(self.run_on({}), (1, "unused_imports: there is no file to look at\n"))
+        self.assertIn("crates/a/specs/Lib.antt: unused imports: f", said)
+        self.assertEqual(self.run_on({}), (1, "unused_imports: there is no file to check\n"))
 
 
 if __name__ == "__main__":

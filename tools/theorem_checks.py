@@ -1,8 +1,8 @@
-"""The checks of the theorems: which are owed, and whether each has its proof. repository_checks.py makes them.
+"""The checks of the theorems: which statements there must be, and whether each has its proof. repository_checks.py runs them.
 
-A statement is a closed definition of specs/ whose type is `Type N`, or a closed record in a file Theorems.antt. A claim is a line
-`pub name : Statement` of proofs/Claims.antt, in no section, so with no further hypothesis. docs/AUDIT.md, "The statements", lists
-every statement by crate, and every clause of the records that the main theorems claim.
+A statement is a definition of specs/ without parameters whose type is `Type N`, or a record without parameters in a file
+Theorems.antt. A claim is a line `pub name : Statement` of proofs/Claims.antt. It is in no section, so it has no further hypothesis.
+docs/AUDIT.md, "The statements", lists every statement by crate, and every clause of the records that the main theorems claim.
 """
 
 import re
@@ -13,7 +13,7 @@ STATEMENT = re.compile(r"^(?:unfoldable |abbrev )*pub (\S+) : Type \d+$", re.M)
 CLOSED_RECORD = re.compile(r"^pub record (\S+) : Type \d+ where$", re.M)
 HIDDEN_STATEMENT = re.compile(r"^(?:[ \t]+.*|(?!.*\bpub ).*)\s?(\S+) : Type \d+$", re.M)
 USE = re.compile(r"^use (\S+?)\.\{(.*?)\}", re.M | re.S)
-# A line that declares something: a name with its type, a record, a type by cases, a section, an import.
+# A line that declares something: a name with its type, a record, a data type, a section, an import.
 DECLARES = re.compile(
     r"^(?P<indent> *)(?:(?:unfoldable|abbrev|pub|opaque) )*"
     r"(?:(?P<made>record|data|module|use|mod) )?(?P<name>[^\s(){}=]+)(?P<rest>[^=]*)$"
@@ -28,7 +28,7 @@ OF_RUST = {"Clone", "Debug", "Hash", "Option", "PartialEq", "Peekable", "String"
 
 
 def statements(crate):
-    """Of each statement of the crate's specs/, the module that makes it."""
+    """For each statement of the crate's specs/, the module that declares it; and the faults of the statements."""
     found, faults = {}, []
     for path in sorted(crate.glob("specs/**/*.antt")):
         text = antt(path)
@@ -37,13 +37,13 @@ def statements(crate):
         if path.name == "Theorems.antt":
             names += CLOSED_RECORD.findall(text)
             if not names:
-                faults.append(f"{crate.name}/{path.relative_to(crate)}: no statement is found in it")
+                faults.append(f"{crate.name}/{path.relative_to(crate)}: it has no statement")
         for name in names:
             if name in found:
                 faults.append(f"crates/{crate.name}/specs: {name} is stated twice")
             found[name] = module
         for hidden in HIDDEN_STATEMENT.finditer(text):
-            faults.append(f"{crate.name}/{path.relative_to(crate)}: {hidden[1]} is a statement that no claim can name")
+            faults.append(f"{crate.name}/{path.relative_to(crate)}: {hidden[1]} is a statement that a claim cannot name")
     return found, faults
 
 
@@ -56,11 +56,11 @@ def unproved_statements(root):
         where = f"crates/{name}/proofs/Claims.antt"
         if not path.is_file():
             for statement in stated:
-                yield f"{where}: missing, so nothing proves {statement}"
+                yield f"{where}: the file is missing, so nothing proves {statement}"
             continue
         text = antt(path)
         if re.search(r"^\s*module\b", text, re.M):
-            yield f"{where}: a section could give a claim further hypotheses"
+            yield f"{where}: it has a section, which can give a claim further hypotheses"
         imported = {}
         for module, names in USE.findall(text):
             for one in filter(None, (part.strip() for part in names.split(","))):
@@ -68,7 +68,7 @@ def unproved_statements(root):
         claims = re.findall(r"^pub \S+ : (.*)$", text, re.M)
         for claim in claims:
             if claim not in stated:
-                yield f"{where}: `{claim}` is no statement of specs/"
+                yield f"{where}: `{claim}` is not a statement of specs/"
             elif claims.count(claim) > 1:
                 yield f"{where}: {claim} is claimed twice"
             elif imported.get(claim) != stated[claim]:
@@ -82,10 +82,10 @@ def unproved_statements(root):
 
 
 def declarations(text):
-    """Of each declaration of an antt text without comments: its indent, its name, its type, and the names that it uses.
+    """For each declaration of an antt text without comments: its indent, its name, its type, and the names that it uses.
 
-    A type is what stands after the name, also on the lines below that are indented further. A declaration goes on to the next
-    one of its own indent or a lesser one, so that a record has its fields and a function its clauses."""
+    The type is the text after the name, with the following lines that are indented more. A declaration ends before the next one
+    with the same indent or less. So a record includes its fields, and a function its clauses."""
     lines = text.splitlines()
     starts = [(at, found) for at, line in enumerate(lines) if (found := DECLARES.match(line)) and is_declaration(found, lines, at)]
     for start, found in starts:
@@ -102,14 +102,14 @@ def declarations(text):
 
 
 def is_declaration(found, lines, at):
-    """Whether a line that looks like a declaration is one: it says what it makes, or gives a type, on it or on the next line."""
+    """Whether a line that looks like a declaration is one: it has a keyword, or a type, on this line or on the next."""
     if found["made"] or re.search(r"(?:^|\s):(?:\s|$)", found["rest"]):
         return True
     return not found["rest"].strip() and at + 1 < len(lines) and re.match(r" +: ", lines[at + 1]) is not None
 
 
 def used_by(names, roots):
-    """What the roots use, and what that uses: the names of declarations, with the names that each uses."""
+    """All names that the roots use, directly or through other names. `names` gives the names that each declaration uses."""
     reached, todo = set(), list(roots)
     while todo:
         one = todo.pop()
@@ -120,8 +120,8 @@ def used_by(names, roots):
 
 
 def open_statements(root):
-    """What ends in `Type N` and has arguments, in a Theorems.antt, and no statement uses: a theorem that nothing claims, because it
-    became a function."""
+    """The definitions of a Theorems.antt that have parameters, end in `Type N`, and are used by no statement. Such a definition is a
+    theorem that became a function, which nothing proves."""
     for name in listed(root):
         crate = root / "crates" / name
         stated, _ = statements(crate)
@@ -148,56 +148,56 @@ def clauses_of(root, record):
 
 
 def body_of(text, name):
-    """What a definition of an antt text says, up to the next one."""
+    """The body of a definition in an antt text."""
     found = re.search(rf"^{re.escape(name)} =(.*(?:\n+[ \t]+.*)*)", text, re.M)
     return " ".join(found[1].split()) if found else ""
 
 
 def is_empty(claim):
-    """Whether a claim says nothing: after its hypotheses it is the type that always has a proof, or its two sides are the same."""
+    """Whether a claim is empty: after its hypotheses it is a type that always has a proof, or its two sides are the same."""
     last = claim.rpartition("→ ")[2].strip()
     left, equal, right = last.partition(" ≡ ")
     return last.split(" ")[0] in ("", "Unit", "⊤") or bool(equal) and left == right
 
 
 def empty_statements(root):
-    """The statements and the clauses that say nothing, and the theorems that do not claim the record of their clauses."""
+    """The statements and clauses that are empty, and the theorems that do not claim the record of their clauses."""
     for name in listed(root):
         crate = root / "crates" / name
         text = "\n".join(antt(path) for path in sorted(crate.glob("specs/**/*.antt")))
         for statement in statements(crate)[0]:
             body = body_of(text, statement)
             if is_empty(body) and not re.search(rf"^pub record {re.escape(statement)} :", text, re.M):
-                yield f"crates/{name}/specs: {statement} says nothing: {body[-80:]}"
+                yield f"crates/{name}/specs: {statement} is empty: {body[-80:]}"
             for record in (record for record, theorem in CLAIMED_RECORDS.items() if theorem == statement):
                 if record not in body.split():
                     yield f"crates/{name}/specs: {statement} does not claim {record}"
     for record in CLAIMED_RECORDS:
         for clause, of_type in clauses_of(root, record).items():
             if is_empty(of_type):
-                yield f"crates/*/specs: the clause {clause} of {record} says nothing: {of_type[-80:]}"
+                yield f"crates/*/specs: the clause {clause} of {record} is empty: {of_type[-80:]}"
 
 
 def owed(audit):
-    """The rows of the part on the statements: the names of each, by what its first column names."""
+    """The rows of the part on the statements: the names of each, by the name in its first column."""
     rows = re.findall(r"^\| `?(\w+)`? \| (.*) \|$", audit.partition(OWED)[2].partition("\n## ")[0], re.M)
     return {first: re.findall(r"`([^`]*)`", rest) for first, rest in rows if "`" in rest}
 
 
 def other_statements(root):
-    """docs/AUDIT.md lists the statements of each crate and the clauses of the claimed records: these and no others."""
+    """The differences between docs/AUDIT.md and specs/: statements of each crate, and clauses of the claimed records."""
     audit = (root / "docs" / "AUDIT.md").read_text(encoding="utf-8")
     told = owed(audit)
     if not told:
-        yield "docs/AUDIT.md, The statements: no row is found"
+        yield "docs/AUDIT.md, The statements: it has no row"
     there = {name: list(statements(root / "crates" / name)[0]) for name in listed(root)}
     there.update({record: list(clauses_of(root, record)) for record in CLAIMED_RECORDS})
     for first in sorted({*told, *(name for name in there if there[name]), *CLAIMED_RECORDS}):
         for name in told.get(first, ()):
             if name not in there.get(first, ()):
-                yield f"docs/AUDIT.md, The statements: {first} owes {name}, which specs/ does not have"
+                yield f"docs/AUDIT.md, The statements: {first} lists {name}, which specs/ does not have"
             if told[first].count(name) > 1:
-                yield f"docs/AUDIT.md, The statements: {first} has {name} twice"
+                yield f"docs/AUDIT.md, The statements: {first} lists {name} twice"
         for name in there.get(first, ()):
             if name not in told.get(first, ()):
                 yield f"docs/AUDIT.md, The statements: {first} does not list {name}"

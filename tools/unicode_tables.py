@@ -2,16 +2,16 @@
 """Makes the tables of the crate `unicode` from Unicode's two data files.
 
     tools/unicode_tables.py            write the tables
-    tools/unicode_tables.py --check    fail unless the committed tables are what the data files give
+    tools/unicode_tables.py --check    fail if a committed table differs from what this script makes
 
-It reads crates/published_data/data/{emoji-data.txt,emoji-variation-sequences.txt} and writes
-- crates/unicode/src/unicode_data.rt: the tables. A range table has the first and the last number of each range
-  in turn; lines of the data file that touch are one range;
-- crates/unicode/specs/UnicodeData.antt: the same numbers as the lists that contracts cite;
-- crates/unicode/src/blocks.rt: the emoji and the variation entries as words, a block of 64 code points to an arm;
-- crates/unicode/specs/BlockData.antt: the same words as lists of blocks;
-- crates/unicode/proofs/blocks/*_block/Proof.antt: of each `match` an answer for each arm, all alike;
-- crates/policy_key_set/src/named_sets.rt: the words of the named sets, entry i at bit i % 64 of word i / 64;
+The script reads crates/published_data/data/{emoji-data.txt,emoji-variation-sequences.txt} and writes
+- crates/unicode/src/unicode_data.rt: the tables. A table of ranges has the first and the last number of each range in turn;
+  adjacent ranges of the data file are one range;
+- crates/unicode/specs/UnicodeData.antt: the same numbers, as the lists that contracts cite;
+- crates/unicode/src/blocks.rt: the emoji and the variation entries as words. Each block of 64 code points is an arm of a `match`;
+- crates/unicode/specs/BlockData.antt: the same words, as lists of blocks;
+- crates/unicode/proofs/blocks/*_block/Proof.antt: the proof for each `match`, with the same lemma for each arm;
+- crates/policy_key_set/src/named_sets.rt: the words of the named sets, with entry i at bit i % 64 of word i / 64;
 - crates/policy/src/default_policy.rt and crates/policy/specs/DefaultPolicy.antt: the words of the default policy.
 """
 
@@ -33,7 +33,7 @@ DEFAULT_POLICY_SPECS = ROOT / "crates" / "policy" / "specs" / "DefaultPolicy.ant
 # Document 01, "Character": the data files have no property for the regional indicators.
 REGIONAL_INDICATORS = range(0x1F1E6, 0x1F1FF + 1)
 
-# The groups of blocks, told apart by the first block of each: a name, that block, and what the group holds.
+# The groups of blocks: a name, the first block of the group, and what the group contains.
 BLOCK_GROUPS = [
     ("low", 0, "before the symbols"),
     ("symbol", 0x80, "of the symbols, 2000 to 27BF"),
@@ -42,9 +42,9 @@ BLOCK_GROUPS = [
 ]
 FIRST = {name: first for name, first, _ in BLOCK_GROUPS}
 
-# The symbols and the pictographs each stand close together, and texts have both. They are one `match`, the dense one, with
-# the pictographs after the symbols, so that the compiler makes one table of them. Of each of the two groups: what is
-# taken from the number of a block there.
+# The blocks of the symbols are close together, and so are those of the pictographs; texts have both. They are one `match`, the
+# dense one, with the pictographs directly after the symbols, so that the compiler makes one table of them. For each of the two
+# groups, this is the number that is subtracted from the number of a block.
 SYMBOL_PLACES = FIRST["middle"] - FIRST["symbol"]
 MOVED = {"symbol": FIRST["symbol"], "pictograph": FIRST["pictograph"] - SYMBOL_PLACES}
 
@@ -61,7 +61,7 @@ def version(name, text):
 
 
 def content_lines(name, text):
-    """The lines that are neither blank nor a comment, each without its comment, with its number."""
+    """The lines that are neither blank nor only a comment, each with its number and without its comment."""
     for number, line in enumerate(text.splitlines(), 1):
         content = line.split("#", 1)[0].strip()
         if content:
@@ -69,16 +69,16 @@ def content_lines(name, text):
 
 
 def properties(name, text):
-    """Of each property of emoji-data.txt, its code points."""
+    """For each property of emoji-data.txt, its code points."""
     found = {}
     for place, content in content_lines(name, text):
         match = re.fullmatch(r"([0-9A-F]{4,6})(?:\.\.([0-9A-F]{4,6}))?\s*;\s*(\w+)", content)
         if not match:
-            raise Malformed(f"{place}: no range and property")
+            raise Malformed(f"{place}: it is not a range with a property")
         first = int(match[1], 16)
         last = int(match[2] or match[1], 16)
         if last < first:
-            raise Malformed(f"{place}: a range that runs down")
+            raise Malformed(f"{place}: the range ends before it starts")
         found.setdefault(match[3], set()).update(range(first, last + 1))
     return found
 
@@ -90,11 +90,11 @@ def variation_entries(name, text):
     for place, content in content_lines(name, text):
         match = re.fullmatch(r"([0-9A-F]{4,6}) (FE0E|FE0F)\s*;\s*(text style|emoji style)\s*;", content)
         if not match or styles[match[2]] != match[3]:
-            raise Malformed(f"{place}: no variation sequence with its style")
+            raise Malformed(f"{place}: it is not a variation sequence with its style")
         found.setdefault(int(match[1], 16), set()).add(match[2])
     for point, selectors in found.items():
         if len(selectors) != 2:
-            raise Malformed(f"{name}: {point:04X} has one style only")
+            raise Malformed(f"{name}: {point:04X} has only one style")
     return set(found)
 
 
@@ -127,8 +127,8 @@ def tables():
 
 
 def constant(name, kind, numbers, digits, length=None):
-    """A constant array in the layout of rt fmt: a short one on one line, a long one with a number to a line. Its length is
-    the number of its elements, or a name for that."""
+    """A constant array in the layout of rt fmt: a short array on one line, a long one with one number on each line. Its length
+    is the number of its elements, or a name for it."""
     written = [f"0x{n:0{digits}X}" for n in numbers]
     line = f"pub const {name}: [{kind}; {length or len(numbers)}] = [" + ", ".join(written) + "];"
     if len(line) <= 100:
@@ -177,8 +177,8 @@ def specs(numbered, tables):
 
 
 def blocks(tables):
-    """Of each block of 64 code points that has an emoji or a variation entry: its number, the word of its emoji, the
-    word of its entries, and how many entries stand before it."""
+    """For each block of 64 code points that has an emoji or a variation entry: its number, the word of its emoji, the word of
+    its entries, and the number of entries before it."""
     of = {name: numbers for name, *_, numbers in tables}
     entries = of["VARIATION_ENTRIES"]
     bounds = of["EMOJI_RANGES"]
@@ -191,7 +191,7 @@ def blocks(tables):
 
 
 def grouped(tables):
-    """Of each group of blocks: its name, what it holds, and its blocks."""
+    """For each group of blocks: its name, what it contains, and its blocks."""
     ends = [first for _, first, _ in BLOCK_GROUPS[1:]] + [0x110000 // 64]
     made = blocks(tables)
     return [
@@ -201,7 +201,7 @@ def grouped(tables):
 
 
 def matched(tables):
-    """Of each `match`: its name, what it holds, its parameter, and its arms, each with the number that it is for."""
+    """For each `match`: its name, what it contains, its parameter, and its arms, each with its number."""
     groups = grouped(tables)
     alone = [(name, what, "k", rows) for name, what, rows in groups if name not in MOVED]
     dense = [(block - MOVED[name], *held) for name, _, rows in groups if name in MOVED for block, *held in rows]
@@ -300,7 +300,7 @@ def block_specs(numbered, tables):
 
 
 def block_proof(name):
-    """The maker of the proof of one `match`: an answer for each arm, and one for the rest."""
+    """The function that makes the proof for one `match`: a lemma for each arm, and one for the rest."""
 
     def make(numbered, tables):
         given, rows = next((given, rows) for match, _, given, rows in matched(tables) if match == name)
@@ -334,7 +334,7 @@ def block_proof(name):
 
 
 def words(members, entries):
-    """The words of a character set: entry i at bit i % 64 of word i / 64."""
+    """The words of a character set, with entry i at bit i % 64 of word i / 64."""
     out = [0] * (-(-len(entries) // 64))
     for i, entry in enumerate(entries):
         if entry in members:
@@ -343,7 +343,7 @@ def words(members, entries):
 
 
 def members(tables):
-    """The variation entries, and of each named set its members."""
+    """The variation entries, and for each named set its members."""
     of = {name: numbers for name, *_, numbers in tables}
     entries = of["VARIATION_ENTRIES"]
     pairs = list(zip(of["EMOJI_PRESENTATION_RANGES"][::2], of["EMOJI_PRESENTATION_RANGES"][1::2]))
@@ -358,7 +358,7 @@ def members(tables):
 
 
 def set_words(name, held, entries):
-    """A set's words as a constant array of W words."""
+    """The words of a set as a constant array of W words."""
     return constant(name, "u64", words(held, entries), 16, "CHARSET_WORDS")
 
 
@@ -383,8 +383,8 @@ def named_sets(numbered, tables):
 
 
 def default_policy_words(tables):
-    """The four sets of the default policy (document 01, "Reference: Policy::default for the default policy"): the
-    constant, the list, what it is, and its members; and the variation entries."""
+    """The four sets of the default policy (document 01, "Reference: Policy::default for the default policy"), each with the name of
+    its constant, the name of its list, its description and its members; and the variation entries."""
     entries, sets = members(tables)
     return [
         ("PREFER_BARE_BITS", "preferBare", "`prefer_bare`, ordinary: ASCII and the emoji defaults", sets["ASCII"] | sets["EMOJI_DEFAULT"]),
@@ -437,7 +437,7 @@ def default_policy_specs(numbered, tables):
 
 
 def files():
-    """Every file that is made, with its text."""
+    """Every file that this script makes, with its text."""
     made = tables()
     makers = [
         (SOURCE, source),
@@ -453,7 +453,7 @@ def files():
 
 
 def differing(made):
-    """The files that do not have their text."""
+    """The files whose text differs, or that are missing."""
     return [path for path, text in made if not path.is_file() or path.read_text(encoding="utf-8") != text]
 
 
@@ -472,7 +472,7 @@ def main(arguments):
         return 0
     wrong = differing(made)
     for path in wrong:
-        print(f"unicode_tables: {path.relative_to(ROOT)} is not what the data files give", file=sys.stderr)
+        print(f"unicode_tables: {path.relative_to(ROOT)} differs from what this script makes", file=sys.stderr)
     return 1 if wrong else 0
 
 

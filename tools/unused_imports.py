@@ -1,8 +1,8 @@
 #!/usr/bin/env python3
-"""Finds names that an antt or Rattle file imports for its statements and proofs and does not use.
+"""Finds the unused imports of antt files, and of the statements in Rattle files.
 
-    tools/unused_imports.py            fail, with a line for each, if there are any
-    tools/unused_imports.py --remove   take them out of the files
+    tools/unused_imports.py            print a line for each file with unused imports, and fail if there is one
+    tools/unused_imports.py --remove   remove the unused imports from the files
 """
 
 import pathlib
@@ -15,20 +15,20 @@ AS = re.compile(r"^(?:ghost )?use [^\s{]+ as (?P<name>\S+?);?\n", re.M)
 
 
 def tokens(text):
-    """The words of a text: what stands between blanks, brackets, commas, semicolons and dots."""
+    """The words of a text. Blanks, brackets, commas, semicolons and dots separate them."""
     found = set(re.split(r"[\s(){},;.⌜⌝⟦⟧]+", text))
     return found | {token.strip("«»") for token in found}
 
 
 def parts(name):
-    """What a use of the name shows: the name, or the signs of an operator."""
+    """How a text can use the name: as the name itself, or as the sign of an operator."""
     own = name.split(" as ")[-1].strip()
     signs = [sign for sign in own.split("_") if sign] if own.startswith("_") or own.endswith("_") else []
     return [own] + ([" ".join(signs)] if len(signs) == 1 else [])
 
 
 def cleaned(text):
-    """The text without what it imports in vain, and the names of that."""
+    """The text without its unused imports, and their names."""
     body = re.sub(r"^\s*(?:--|//).*$", "", AS.sub("", USE.sub("", text)), flags=re.M)
     used = tokens(body) | tokens(re.sub(r"[()\[\]]", " ", body))
     unused = []
@@ -53,7 +53,7 @@ def cleaned(text):
 
 
 def files(root):
-    """The files of a repository that import for statements and proofs."""
+    """The files of a repository that are checked."""
     patterns = ("crates/*/specs/**/*.antt", "crates/*/proofs/**/*.antt", "crates/*/src/**/*.rt")
     return sorted(path for pattern in patterns for path in root.glob(pattern))
 
@@ -64,7 +64,7 @@ def main(arguments, root=ROOT):
         return 2
     status = 0
     if not files(root):
-        print("unused_imports: there is no file to look at", file=sys.stderr)
+        print("unused_imports: there is no file to check", file=sys.stderr)
         return 1
     for path in files(root):
         text = path.read_text(encoding="utf-8")
@@ -79,7 +79,7 @@ def main(arguments, root=ROOT):
         if unused and arguments:
             path.write_text(made, encoding="utf-8")
         elif unused:
-            print(f"{path.relative_to(root)}: imported and not used: {', '.join(unused)}", file=sys.stderr)
+            print(f"{path.relative_to(root)}: unused imports: {', '.join(unused)}", file=sys.stderr)
             status = 1
     return status
 
