@@ -121,8 +121,8 @@ def tables():
         ("EMOJI_PRESENTATION_RANGES", "emojiPresentationRanges", "Emoji_Presentation", 2, ranges(of["Emoji_Presentation"])),
         ("EMOJI_MODIFIERS", "emojiModifiers", "Emoji_Modifier", 1, sorted(of["Emoji_Modifier"])),
         ("EMOJI_MODIFIER_BASES", "emojiModifierBases", "Emoji_Modifier_Base", 1, sorted(of["Emoji_Modifier_Base"])),
-        ("RI_RANGES", "riRanges", "regional indicators", 2, ranges(REGIONAL_INDICATORS)),
-        ("VARIATION_ENTRIES", "variationEntries", "emoji-variation-sequences.txt", 1, sorted(entries)),
+        ("RI_RANGES", "riRanges", "Regional indicators", 2, ranges(REGIONAL_INDICATORS)),
+        ("VARIATION_ENTRIES", "variationEntries", "The entries of emoji-variation-sequences.txt", 1, sorted(entries)),
     ]
 
 
@@ -138,7 +138,9 @@ def constant(name, kind, numbers, digits, length=None):
 
 def described(what, width, numbers):
     if width == 2:
-        return f"{what}: {len(numbers) // 2} range{'s' if len(numbers) > 2 else ''}, the first and the last number of each."
+        if len(numbers) == 2:
+            return f"{what}: the first and the last number of one range."
+        return f"{what}: the first and the last number of each of {len(numbers) // 2} ranges."
     return f"{what}: {len(numbers)} numbers."
 
 

@@ -32,7 +32,7 @@ enum ReadResult {
     More { count: usize },
 }
 
-// Returns a number that is at most each of two numbers.
+// Returns the smaller of two numbers.
 fn least(a: usize, b: usize) -> usize
     ensures { λ r. ⌜ (r ≤ a) × (r ≤ b) ⌝ }
 {

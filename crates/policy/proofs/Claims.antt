@@ -50,7 +50,16 @@ use Rattle.policy.specs.Theorems.{
 }
 use Rattle.policy.proofs.ByEntry.{ascii-rule-bare, rule-by-entry}
 use Rattle.policy.proofs.Equal.{equal-policy-same, equal-rule-same, same-policy-equal, same-rule-equal}
-use Rattle.policy.proofs.RoundTrips.{SixWordSets, append-below, many-words, read-words, same-words, six-words-of, words-of, write-words}
+use Rattle.policy.proofs.RoundTrips.{
+  SixWordSets,
+  append-below,
+  many-words,
+  read-words,
+  same-words,
+  six-words-of,
+  words-of,
+  write-words,
+}
 use Rattle.policy.proofs.Refusals.{passed-policy, policy-passes, policy-refused, refused-policy}
 use Rattle.policy.proofs.Unused.{refused-by, refused-for}
 

@@ -27,8 +27,7 @@ pub struct Policy {
     pub bare_as_text: PolicyKeySet,
 }
 
-// The rule of a policy for a base: the presentation that the base has without a selector, or the selector that is
-// removed.
+// The rule of a policy for a base: the selector that a bare base gets, or the selector that is removed.
 pub enum SingletonRule {
     BareToEmoji,
     BareToText,

@@ -54,10 +54,12 @@ module _ (s : PolicyKeySet) where
       rw append-nil at (written-texts true (s .«keycap_chars» .bits) 0 variationEntries [] refl) in
       sym (written-append 0 ordinaryTexts keycapTexts) ∙ written-texts false (s .chars .bits) 0 variationEntries keycapTexts e
 
-  after-first : {i : ℕ} → i ≡ 0 + length (writtenFrom 0 ordinaryTexts) → writtenFrom 0 ordinaryTexts ++ writtenFrom i keycapTexts ≡ keyList s
+  after-first : {i : ℕ} → i ≡ 0 + length (writtenFrom 0 ordinaryTexts)
+      → writtenFrom 0 ordinaryTexts ++ writtenFrom i keycapTexts ≡ keyList s
   after-first e = ap (λ (n : ℕ). writtenFrom 0 ordinaryTexts ++ writtenFrom n keycapTexts) e ∙ key-list
 
-  pub list-length : {i r : ℕ} → i ≡ 0 + length (writtenFrom 0 ordinaryTexts) → r ≡ i + length (writtenFrom i keycapTexts) → r ≡ length (keyList s)
+  pub list-length : {i r : ℕ} → i ≡ 0 + length (writtenFrom 0 ordinaryTexts) → r ≡ i + length (writtenFrom i keycapTexts)
+      → r ≡ length (keyList s)
   list-length {i} e f = omega (arith, ap length (after-first e), length-append (writtenFrom 0 ordinaryTexts) (writtenFrom i keycapTexts))
 
   pub list-put : {o o₁ o₂ : List ℕ} {i r : ℕ} → PutAt o 0 (writtenFrom 0 ordinaryTexts) o₁ i → PutAt o₁ i (writtenFrom i keycapTexts) o₂ r

@@ -51,7 +51,8 @@ comma-before (suc j) t h = refl
 module _ (keycap : Bool) (ws cs : List ℕ) (i j : ℕ) where
   pub keys-in : {ch : ℕ} → i < length cs → ch ≡ getD cs i 0 → member i ws ≡ true
       → writtenFrom j (keyTexts keycap ws i (drop i cs))
-      ≡ withComma j (keyText keycap ch) ++ writtenFrom (j + length (withComma j (keyText keycap ch))) (keyTexts keycap ws (i + 1) (drop (i + 1) cs))
+      ≡ withComma j (keyText keycap ch)
+      ++ writtenFrom (j + length (withComma j (keyText keycap ch))) (keyTexts keycap ws (i + 1) (drop (i + 1) cs))
   unfolding keyTexts writtenFrom
   keys-in h e m = rw (add-one, drop-cons cs i 0, m, e) refl
 
@@ -65,7 +66,8 @@ module _ (keycap : Bool) (ws cs : List ℕ) (i j : ℕ) where
   keys-done h = rw (drop-of-length-le cs h) refl
 
 -- The bytes of texts after other texts.
-pub written-append : (j : ℕ) (ts us : List (List ℕ)) → writtenFrom j (ts ++ us) ≡ writtenFrom j ts ++ writtenFrom (j + length (writtenFrom j ts)) us
+pub written-append : (j : ℕ) (ts us : List (List ℕ)) → writtenFrom j (ts ++ us)
+    ≡ writtenFrom j ts ++ writtenFrom (j + length (writtenFrom j ts)) us
 unfolding writtenFrom
 written-append j [] us = ap (λ (n : ℕ). writtenFrom n us) (sym (add-zero j))
 written-append j (t ∷ ts) us =

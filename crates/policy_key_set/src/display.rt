@@ -158,7 +158,8 @@ fn keys_end(start: usize, keycap: bool, set: CharSet) -> usize
 // Writes the keys of a domain.
 fn put_keys(out: &mut [u8], start: usize, keycap: bool, set: CharSet) -> usize
     requires { ⌜ start + length (writtenFrom start (keyTexts keycap (set .bits) 0 variationEntries)) ≤ length (now out) ⌝ }
-    ensures { λ r. ⌜ PutAt (now (out .entry)) start (writtenFrom start (keyTexts keycap (set .bits) 0 variationEntries)) (now (out .exit)) r ⌝ }
+    ensures { λ r. ⌜ PutAt (now (out .entry)) start (writtenFrom start (keyTexts keycap (set .bits) 0 variationEntries))
+        (now (out .exit)) r ⌝ }
 {
     let mut at = start;
     let mut i = 0;

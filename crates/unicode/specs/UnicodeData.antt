@@ -3,7 +3,7 @@
 use mathlib.Core.List.{List, [], _∷_}
 use Prim.Native.Nat.{ℕ}
 
--- Emoji: 151 ranges, the first and the last number of each.
+-- Emoji: the first and the last number of each of 151 ranges.
 unfoldable pub emojiRanges : List ℕ
 emojiRanges =
     0x23 ∷ 0x23 ∷ 0x2A ∷ 0x2A ∷ 0x30 ∷ 0x39 ∷ 0xA9 ∷ 0xA9 ∷ 0xAE ∷ 0xAE ∷ 0x203C ∷ 0x203C ∷
@@ -33,7 +33,7 @@ emojiRanges =
     0x1FA70 ∷ 0x1FA7C ∷ 0x1FA80 ∷ 0x1FA88 ∷ 0x1FA90 ∷ 0x1FABD ∷ 0x1FABF ∷ 0x1FAC5 ∷ 0x1FACE ∷ 0x1FADB ∷ 0x1FAE0 ∷ 0x1FAE8 ∷
     0x1FAF0 ∷ 0x1FAF8 ∷ []
 
--- Emoji_Presentation: 81 ranges, the first and the last number of each.
+-- Emoji_Presentation: the first and the last number of each of 81 ranges.
 unfoldable pub emojiPresentationRanges : List ℕ
 emojiPresentationRanges =
     0x231A ∷ 0x231B ∷ 0x23E9 ∷ 0x23EC ∷ 0x23F0 ∷ 0x23F0 ∷ 0x23F3 ∷ 0x23F3 ∷ 0x25FD ∷ 0x25FE ∷ 0x2614 ∷ 0x2615 ∷
@@ -72,12 +72,12 @@ emojiModifierBases =
     0x1F9DC ∷ 0x1F9DD ∷ 0x1FAC3 ∷ 0x1FAC4 ∷ 0x1FAC5 ∷ 0x1FAF0 ∷ 0x1FAF1 ∷ 0x1FAF2 ∷ 0x1FAF3 ∷ 0x1FAF4 ∷ 0x1FAF5 ∷ 0x1FAF6 ∷
     0x1FAF7 ∷ 0x1FAF8 ∷ []
 
--- regional indicators: 1 range, the first and the last number of each.
+-- Regional indicators: the first and the last number of one range.
 unfoldable pub riRanges : List ℕ
 riRanges =
     0x1F1E6 ∷ 0x1F1FF ∷ []
 
--- emoji-variation-sequences.txt: 354 numbers.
+-- The entries of emoji-variation-sequences.txt: 354 numbers.
 unfoldable pub variationEntries : List ℕ
 variationEntries =
     0x23 ∷ 0x2A ∷ 0x30 ∷ 0x31 ∷ 0x32 ∷ 0x33 ∷ 0x34 ∷ 0x35 ∷ 0x36 ∷ 0x37 ∷ 0x38 ∷ 0x39 ∷

@@ -4,7 +4,7 @@ pub const UNICODE_VERSION_MAJOR: u32 = 15;
 
 pub const UNICODE_VERSION_MINOR: u32 = 0;
 
-// Emoji: 151 ranges, the first and the last number of each.
+// Emoji: the first and the last number of each of 151 ranges.
 pub const EMOJI_RANGES: [u32; 302] = [
     0x23,
     0x23,
@@ -310,7 +310,7 @@ pub const EMOJI_RANGES: [u32; 302] = [
     0x1FAF8,
 ];
 
-// Emoji_Presentation: 81 ranges, the first and the last number of each.
+// Emoji_Presentation: the first and the last number of each of 81 ranges.
 pub const EMOJI_PRESENTATION_RANGES: [u32; 162] = [
     0x231A,
     0x231B,
@@ -617,10 +617,10 @@ pub const EMOJI_MODIFIER_BASES: [u32; 134] = [
     0x1FAF8,
 ];
 
-// regional indicators: 1 range, the first and the last number of each.
+// Regional indicators: the first and the last number of one range.
 pub const RI_RANGES: [u32; 2] = [0x1F1E6, 0x1F1FF];
 
-// emoji-variation-sequences.txt: 354 numbers.
+// The entries of emoji-variation-sequences.txt: 354 numbers.
 pub const VARIATION_ENTRIES: [u32; 354] = [
     0x23,
     0x2A,

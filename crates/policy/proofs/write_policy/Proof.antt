@@ -19,7 +19,8 @@ returns c =
 returns-2 : tie.Need-returns-2
 unfolding policyBytes policyWords
 returns-2 c =
-    let p = c .before .before .before .before .before .before .before .before .before .before .before .before .before .before .args .policy in
+    let s = c .before .before .before .before .before .before .before in
+    let p = s .before .before .before .before .before .before .before .args .policy in
     let a = c .before .before .before .before .before .before .before .before .before .before .keys-len .ensures in
     let b = c .before .before .before .before .before .before .before .before .before .keys-len2 .ensures in
     let l = length-both (keyWords (p .«prefer_bare»)) (keyWords (p .«bare_as_text»)) in

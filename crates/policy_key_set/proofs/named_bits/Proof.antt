@@ -21,13 +21,13 @@ unfolding wordsMatchRule allBelow member one entryCount variationEntries
 tested-requires c κs = refl
 
 tested-requires-2 : tie.Need-tested-requires-2
-unfolding wordsMatchRule allBelow member one entryCount variationEntries isTextDefault hasVariationSequence isEmojiPresentation Tables.member
-    Tables.inRanges emojiPresentationRanges
+unfolding wordsMatchRule allBelow member one entryCount variationEntries isTextDefault hasVariationSequence isEmojiPresentation
+    Tables.member Tables.inRanges emojiPresentationRanges
 tested-requires-2 c κs = refl
 
 tested-requires-3 : tie.Need-tested-requires-3
-unfolding wordsMatchRule allBelow member one entryCount variationEntries isEmojiDefault hasVariationSequence isEmojiPresentation Tables.member
-    Tables.inRanges emojiPresentationRanges
+unfolding wordsMatchRule allBelow member one entryCount variationEntries isEmojiDefault hasVariationSequence isEmojiPresentation
+    Tables.member Tables.inRanges emojiPresentationRanges
 tested-requires-3 c κs = refl
 
 tested-requires-4 : tie.Need-tested-requires-4

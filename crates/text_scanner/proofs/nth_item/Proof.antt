@@ -88,7 +88,6 @@ use denote.Slice.{sliceTy, sliceVal, ShrSlice, slice-vals, shr-slice-tells, shr-
 use denote.Steps.{only, owned, peeks, heard, nothing}
 use denote.Enum.Laws as EL
 use denote.Struct.Laws as LL
-use denote.Struct.Rest.{own-shut}
 use denote.Triple.Statement.{Contract, Triple}
 use denote.Triple.Call.{calls-at}
 use denote.Triple.Clauses.{ensured, lasts}
@@ -107,7 +106,7 @@ use Rattle.text_scanner.specs.declared.NthItem.{NthItem}
 use Rattle.text_scanner.specs.declared.Scanned.{Scanned}
 use Rattle.text_scanner.specs.declared.Scanner.{Scanner}
 use Rattle.text_scanner.proofs.HandingOut.{nth-answer}
-use Rattle.text_scanner.proofs.Lending.{Aside, Cell, Next, Own, answerOf, lends, loan, moved, takes-back, to-next}
+use Rattle.text_scanner.proofs.Lending.{Aside, Cell, Next, Own, answerOf, lends, loan, moved, owns-scanner, takes-back, to-next}
 use Rattle.scanner.proofs.ScanStep as R
 use Rattle.scanner.proofs.ScanStep.Laws as R′
 use Rattle.text_scanner.proofs.NthItem as N
@@ -316,9 +315,8 @@ module _ {M : Type 1} (𝓤 : URA M) (H : Heap 𝓤) (A : Atoms 𝓤) (W : Given
         assigns ! (of-opd ! (load ! (from ! (fld ! refl (stop !))) (look-in ! 14 (sub ! 1 refl (whole !))))) (from ! (stop !))
         (init ! 6 refl (LL.lawful (T.the-type αᵉ) (T′.the-laws αᵉ) 𝓤 H A W .typed first _ first-is .0)) $
         move ! (1 ∷ []) $ use1 W (‵ TO ⊛ ‵ TO) (shr-slice-copy 𝓤 H A W (named 0) κ u8 .twice s (v ∷ [])) $ split ! $
-        nothing ! $ owned ! usize (Is usize) (uint-makes 𝓤 H A W w64) (first .offset) _
-        (refl, LL.owed (T.the-type α₀) (T′.the-laws α₀) first _ first-is .1 .0 .1) $ fjoin ! $ move ! (1 ∷ 0 ∷ []) $ fjoin ! $
-        use1 W (‵ (Own κ first)) (own-shut 𝓤 H A W (T.the-type α₀) (T′.the-laws α₀) (s, (first .offset, tt))) $
+        use1 W (‵ (Own κ first))
+        (owns-scanner 𝓤 H A W κ s (first .offset) (LL.owed (T.the-type α₀) (T′.the-laws α₀) first _ first-is .1 .0 .1)) $
         nothing ! $ owned ! usize (Is usize) (uint-makes 𝓤 H A W w64) n _ (refl, ok) $ fjoin ! $ move ! (1 ∷ 0 ∷ []) $ fjoin ! $
         move ! (2 ∷ 0 ∷ []) $ use2 W (raw (Skip 𝓤 H A mem run .pre to-skip)) asked-skip $
         -- [the callee's pre; what s owns; _9; …; _0; …]

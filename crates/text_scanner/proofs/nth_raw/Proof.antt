@@ -80,7 +80,6 @@ use denote.Slice.{sliceVal, ShrSlice, slice-vals, shr-slice-tells, shr-slice-law
 use denote.Steps.{only, owned, peeks, heard, nothing}
 use denote.Enum.Laws as EL
 use denote.Struct.Laws as LL
-use denote.Struct.Rest.{own-shut}
 use denote.Triple.Statement.{Contract, Triple}
 use denote.Triple.Call.{calls-at}
 use denote.Triple.Clauses.{ensured, lasts}
@@ -95,6 +94,7 @@ use Rattle.scanner.specs.declared.ScanItem.{ScanItem}
 use Rattle.text_scanner.specs.declared.NthItem.{NthItem}
 use Rattle.text_scanner.specs.declared.Scanner.{Scanner}
 use Rattle.text_scanner.proofs.HandingOut.{raw-item}
+use Rattle.text_scanner.proofs.Lending.{Own, owns-scanner}
 use Rattle.scanner.proofs.ScanItem as I
 use Rattle.scanner.proofs.ScanItem.Laws as I′
 use Rattle.scanner.proofs.ScanStep as R
@@ -276,8 +276,7 @@ module _ {M : Type 1} (𝓤 : URA M) (H : Heap 𝓤) (A : Atoms 𝓤) (W : Given
         assigns ! (agg ! (and-then ! (load ! (from ! (stop !)) (look ! 10 refl)) (and-then ! (lit ! tt) (no-more !)))) (from ! (stop !))
         (init ! 2 refl (LL.lawful (T.the-type αᵉ) (T′.the-laws αᵉ) 𝓤 H A W .typed made _ made-is .0)) $
         move ! (1 ∷ []) $ use1 W (‵ TO ⊛ ‵ TO) (shr-slice-copy 𝓤 H A W (named 0) κ u8 .twice s (v ∷ [])) $ split ! $
-        nothing ! $ owned ! usize (Is usize) (uint-makes 𝓤 H A W w64) 0 _ (refl, lit< tt) $ fjoin ! $ move ! (1 ∷ 0 ∷ []) $ fjoin ! $
-        use1 W (‵ (T.the-row α₀ .own made (T′.lowered made ∷ []))) (own-shut 𝓤 H A W (T.the-type α₀) (T′.the-laws α₀) (s, (0, tt))) $
+        use1 W (‵ (Own κ made)) (owns-scanner 𝓤 H A W κ s 0 (lit< tt)) $
         nothing ! $ owned ! I.the-row (Is I.the-row) ((LL.makes I.the-type I′.the-plain) 𝓤 H A) i _
         (LL.owes I.the-type I′.the-laws i (LL.owed I.the-type I′.the-laws i _ is)) $ fjoin ! $ move ! (1 ∷ 0 ∷ []) $ fjoin ! $
         move ! (2 ∷ 0 ∷ []) $

@@ -47,7 +47,8 @@ loop-again c =
       rw q (omega (
         arith,
         ap length (keys-in (a .keycap) (a .set .bits) variationEntries (l .i) (l .at) h (e .ensures) (m ∙ w .0 .taken)),
-        length-append p (writtenFrom (l .at + length p) (keyTexts (a .keycap) (a .set .bits) (l .i + 1) (drop (l .i + 1) variationEntries))),
+        length-append p
+            (writtenFrom (l .at + length p) (keyTexts (a .keycap) (a .set .bits) (l .i + 1) (drop (l .i + 1) variationEntries))),
       )),
     ))
     (λ w. (
