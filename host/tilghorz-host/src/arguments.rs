@@ -14,9 +14,9 @@ use crate::replace::InPlace;
 use crate::report::Report;
 use crate::show::Show;
 use crate::source::Source;
-use crate::tally::Manner;
 use crate::walk::{Pattern, Selection};
 use crate::words::{Word, Words, unknown};
+use crate::work::Manner;
 
 /// What the command is asked to do.
 #[derive(Debug, PartialEq, Eq)]
