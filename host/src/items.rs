@@ -18,7 +18,7 @@ pub const GRAMMAR: &str = "\
 #   text T I ..   a text, 2 hexadecimal digits a byte, ended by a full stop; and its items, in order
 #   under D F ..  the findings in that text under the policy of this number, in order
 #   end           the last line
-# An item I is its kind, its first byte, -, the byte behind its last, ! if its tags are not complete, and its parts:
+# An item I is its kind, its first byte, -, the byte after its last, ! if its tags are not complete, and its parts:
 #   p  passthrough
 #   s  selectors that are unsanctioned, and S
 #   l  links, as many z S
@@ -32,7 +32,7 @@ pub const GRAMMAR: &str = "\
 #   g        tags, as many runs of tags: r, 2 hexadecimal digits for each byte of the tags, and S
 # S is nothing where there is no selector, or else the letters of the first two, t for FE0E and e for FE0F, and how
 # many there are. The blanks of this grammar do not stand in an item.
-# A finding F is its first byte, -, the byte behind its last, :, the counts that are not 0, each behind its letter, in
+# A finding F is its first byte, -, the byte after its last, :, the counts that are not 0, each after its letter, in
 # this order: u unsanctioned, m modifier-defective, a additional-defective, c tag-conflicting, f tag-forced,
 # r tag-redundant, p policy-redundant, d decisions; then :, the choices, one for each decision, and replacements, each
 # = and 2 hexadecimal digits a byte: by default; if there are decisions, with all text and with all emoji; and if there

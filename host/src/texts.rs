@@ -242,7 +242,7 @@ pub fn unicode() -> Vec<String> {
     let variations = VARIATION_ENTRIES
         .iter()
         .zip(BEHIND_BASES.iter().cycle())
-        .map(|(base, behind)| format!("{base}{base}\u{FE0E}{base}\u{FE0F}{base}{behind}"));
+        .map(|(base, after)| format!("{base}{base}\u{FE0E}{base}\u{FE0F}{base}{after}"));
     let modified = EMOJI_MODIFIER_BASES
         .iter()
         .zip(EMOJI_MODIFIERS.iter().cycle())

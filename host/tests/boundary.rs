@@ -31,7 +31,7 @@ fn the_reference_has_no_difference_from_itself() {
 #[test]
 fn faults_are_reported_with_a_reduced_text() {
     for (fault, kind) in [
-        (Fault::ByteBehind, "sizes"),
+        (Fault::ByteAfter, "sizes"),
         (Fault::RefusalWrites, "sizes"),
         (Fault::WantedLength, "sizes"),
         (Fault::BytesBeforeNumber, "decisions"),

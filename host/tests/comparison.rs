@@ -173,7 +173,7 @@ fn a_fault_that_is_not_reported_is_told() {
         "{text}"
     );
     assert!(
-        text.contains("byte-behind          difference in every text"),
+        text.contains("byte-after          difference in every text"),
         "{text}"
     );
 }
@@ -213,8 +213,8 @@ fn every_byte_of_a_lent_buffer_counts() {
     assert_eq!(call(|_| ()), Ok(()));
     let found = |spoil| call(spoil).expect_err("a difference");
     assert_eq!(found(|out| out[2] = b'd'), "64 at byte 2 of the 3 written");
-    assert!(found(|out| out[3] ^= 1).ends_with(" at byte 0 behind the 3 written"));
-    assert!(found(|out| out[4] ^= 1).ends_with(" at byte 1 behind the 3 written"));
+    assert!(found(|out| out[3] ^= 1).ends_with(" at byte 0 after the 3 written"));
+    assert!(found(|out| out[4] ^= 1).ends_with(" at byte 1 after the 3 written"));
     let short = lend(|| "a call".to_owned(), &draft, 2, |_| 8 << 56 | 3);
     assert_eq!(short, Ok(()));
 }

@@ -140,7 +140,7 @@ fn property_ranges(text: &str, property: &str) -> Result<Vec<Range>, String> {
             continue;
         }
         if total.is_some() {
-            return Err(fault("behind the total of its property"));
+            return Err(fault("after the total of its property"));
         }
         if ranges.last().is_some_and(|(_, last)| *last >= range.0) {
             return Err(fault("not in ascending order"));
@@ -240,7 +240,7 @@ fn check_total(file: &str, what: &str, total: Option<usize>, found: usize) -> Re
         Some(total) => Err(format!(
             "{file}: {what}: {found} found, the file says {total}"
         )),
-        None => Err(format!("{file}: {what}: no lines, or no total behind them")),
+        None => Err(format!("{file}: {what}: no lines, or no total after them")),
     }
 }
 

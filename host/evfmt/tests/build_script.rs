@@ -95,7 +95,7 @@ fn faults_of_the_property_file_are_told() {
         (data_fault("elements: 5", "elements: five"), "no number"),
         (
             data_fault("1F3FB..", "0031 ; Emoji\n1F3FB.."),
-            "behind the total",
+            "after the total",
         ),
         (data_fault("; Emoji_Modifier_Base", "; Other"), "no lines"),
     ];

@@ -22,7 +22,7 @@ pub struct Spot {
     /// The bytes before it. An allocation starts at a multiple of 8, so they are its alignment.
     pub before: usize,
     /// The number of what stands after it, in the list of this module.
-    behind: usize,
+    after: usize,
 }
 
 impl Spot {
@@ -32,7 +32,7 @@ impl Spot {
     /// At the end of an allocation, after so many bytes.
     #[must_use]
     pub const fn at_the_end(before: usize) -> Self {
-        Self { before, behind: 0 }
+        Self { before, after: 0 }
     }
 
     /// A drawn spot, by a coin one at the end of the allocation.
@@ -41,14 +41,14 @@ impl Spot {
         if random.coin() {
             return Self::at_the_end(before);
         }
-        let behind = 1 + random.below(AROUND.len() - 1);
-        Self { before, behind }
+        let after = 1 + random.below(AROUND.len() - 1);
+        Self { before, after }
     }
 
     /// The number of bytes after it.
     #[must_use]
     pub const fn after(self) -> usize {
-        AROUND[self.behind].len()
+        AROUND[self.after].len()
     }
 }
 
@@ -63,13 +63,13 @@ impl Placed {
     /// Puts some bytes at a spot.
     #[must_use]
     pub fn new(bytes: &[u8], spot: Spot) -> Self {
-        let behind = AROUND[spot.behind];
+        let after = AROUND[spot.after];
         let end = spot.before + bytes.len();
         // Not a byte more than is asked for is allocated here.
-        let mut memory = Vec::with_capacity(end + behind.len());
+        let mut memory = Vec::with_capacity(end + after.len());
         memory.extend(AROUND[2].iter().cycle().take(spot.before));
         memory.extend(bytes);
-        memory.extend(behind);
+        memory.extend(after);
         Self {
             memory,
             start: spot.before,

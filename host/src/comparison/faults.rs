@@ -14,7 +14,7 @@ pub enum Fault {
     /// The first count of the first finding is off by one.
     InventedCount,
     /// The byte after the result is changed.
-    ByteBehind,
+    ByteAfter,
     /// A refusal writes a byte.
     RefusalWrites,
     /// A text that needs no change is written.
@@ -66,7 +66,7 @@ pub const FAULTS: [(&str, Fault); 27] = [
     ("item-span", Fault::ItemSpan),
     ("tag-report", Fault::TagReport),
     ("invented-count", Fault::InventedCount),
-    ("byte-behind", Fault::ByteBehind),
+    ("byte-after", Fault::ByteAfter),
     ("refusal-writes", Fault::RefusalWrites),
     ("unchanged-writes", Fault::UnchangedWrites),
     ("unchanged-too-short", Fault::UnchangedTooShort),

@@ -127,8 +127,8 @@ impl<'a> Faulty<'a> {
     }
 
     /// Changes the byte after the result, if that is the fault.
-    fn spoil_behind(&self, answer: Answer, place: usize, out: &mut [u8]) {
-        if self.fault == Fault::ByteBehind && answer.number == Answer::DONE {
+    fn spoil_after(&self, answer: Answer, place: usize, out: &mut [u8]) {
+        if self.fault == Fault::ByteAfter && answer.number == Answer::DONE {
             flip(out, answer.value as usize * place);
         }
     }
@@ -153,7 +153,7 @@ impl Calls for Faulty<'_> {
             self.calls.format(text, policy, out)
         });
         let answer = Answer::of_word(word);
-        self.spoil_behind(answer, 1, out);
+        self.spoil_after(answer, 1, out);
         match (self.fault, answer.number) {
             (Fault::UnchangedWrites, 255) => {
                 let length = text.len().min(out.len());
@@ -172,7 +172,7 @@ impl Calls for Faulty<'_> {
             self.calls.list(text, policy, table)
         });
         let answer = Answer::of_word(word);
-        self.spoil_behind(answer, FINDING_BYTES, table);
+        self.spoil_after(answer, FINDING_BYTES, table);
         if answer.number == Answer::DONE && answer.value > 0 {
             match self.fault {
                 Fault::FindingSpan => flip(table, 8),
@@ -202,7 +202,7 @@ impl Calls for Faulty<'_> {
             self.calls.mend(text, policy, offset, decisions, out)
         });
         let answer = self.mend_answer(Answer::of_word(word), decisions, out);
-        self.spoil_behind(answer, 1, out);
+        self.spoil_after(answer, 1, out);
         if self.fault == Fault::ForgetsFindings && answer.number == Answer::DONE {
             *self.last_mended.borrow_mut() = out[..answer.value as usize].to_vec();
         }
@@ -217,7 +217,7 @@ impl Calls for Faulty<'_> {
             self.calls.scan(text, table)
         });
         let answer = Answer::of_word(word);
-        self.spoil_behind(answer, ITEM_BYTES, table);
+        self.spoil_after(answer, ITEM_BYTES, table);
         if answer.number == Answer::DONE && self.fault != Fault::WritesNothing {
             let rows = &mut table[..answer.value as usize * ITEM_BYTES];
             match self.fault {

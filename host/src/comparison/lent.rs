@@ -92,7 +92,7 @@ fn whose_byte(place: usize, before: usize, written: usize, room: usize) -> Strin
     match place.checked_sub(before) {
         None => "before the buffer".to_owned(),
         Some(at) if at < written => format!("byte {at} of the {written} written"),
-        Some(at) if at < room => format!("byte {} behind the {written} written", at - written),
+        Some(at) if at < room => format!("byte {} after the {written} written", at - written),
         Some(_) => "after the buffer".to_owned(),
     }
 }

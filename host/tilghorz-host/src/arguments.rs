@@ -14,9 +14,9 @@ use crate::replace::InPlace;
 use crate::report::Report;
 use crate::show::Show;
 use crate::source::Source;
-use crate::tally::Manner;
 use crate::walk::{Pattern, Selection};
 use crate::words::{Word, Words, unknown};
+use crate::work::Manner;
 
 /// What the command is asked to do.
 #[derive(Debug, PartialEq, Eq)]
@@ -329,7 +329,7 @@ fn show(words: Words) -> Result<Show, String> {
 fn policy(mut words: Words) -> Result<Policy, String> {
     let action = words
         .text("policy")
-        .map_err(|_| "print, compare or write?")?;
+        .map_err(|_| "the policy command is missing: print, compare or write")?;
     let (mut edits, mut files) = (Vec::new(), Vec::new());
     while let Some(word) = words.next()? {
         match word {
@@ -353,7 +353,7 @@ fn policy(mut words: Words) -> Result<Policy, String> {
             Ok(Policy::Compare(first, files.next().unwrap_or_default()))
         }
         "write" => Ok(Policy::Write(first.unwrap_or_default(), edits)),
-        _ => Err(format!("{action}: neither print, compare nor write")),
+        _ => Err(format!("unknown policy command {action}")),
     }
 }
 

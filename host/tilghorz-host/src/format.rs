@@ -8,8 +8,9 @@ use tilghorz::Policy;
 use crate::console::{Console, Status};
 use crate::policy::PolicyFile;
 use crate::source::{Source, Text};
-use crate::tally::{self, Manner, Outcome, Page};
+use crate::tally::Outcome;
 use crate::walk::{Entries, Selection};
+use crate::work::{self, Manner, Page};
 
 /// What is done with a formatted text.
 #[derive(Debug, Clone, Copy, PartialEq, Eq)]
@@ -58,7 +59,7 @@ impl Format {
         let one = |source: &Source, text: &Text, page: &mut Page<'_, '_>| {
             self.one(source, text, &policy, page)
         };
-        let tally = tally::each(&entries, words, self.manner, console, one)?;
+        let tally = work::each(&entries, words, self.manner, console, one)?;
         Ok(tally.status(match self.mode {
             Mode::Check => Status::Different,
             _ => Status::Good,

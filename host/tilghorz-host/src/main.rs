@@ -25,6 +25,7 @@ mod tally;
 mod visible;
 mod walk;
 mod words;
+mod work;
 
 use std::env;
 use std::io::{self, ErrorKind, Write};

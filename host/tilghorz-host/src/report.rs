@@ -9,8 +9,9 @@ use crate::console::{Console, Status};
 use crate::json::{CountsObject, FindingObject, ItemObject, Quoted, RefusalObject};
 use crate::policy::PolicyFile;
 use crate::source::{Source, Text};
-use crate::tally::{self, Manner, Outcome, Page};
+use crate::tally::Outcome;
 use crate::walk::{Entries, Selection};
+use crate::work::{self, Manner, Page};
 
 /// The command.
 #[derive(Debug, PartialEq, Eq)]
@@ -48,7 +49,7 @@ impl Report {
         let one = |source: &Source, text: &Text, page: &mut Page<'_, '_>| {
             self.one(source, text, &policy, entries.are_many, page)
         };
-        let tally = tally::each(&entries, words, self.manner, console, one)?;
+        let tally = work::each(&entries, words, self.manner, console, one)?;
         Ok(tally.status(Status::Good))
     }
 

@@ -7,9 +7,10 @@ use tilghorz::{Counts, Finding, Policy};
 use crate::console::{Console, Status};
 use crate::policy::PolicyFile;
 use crate::source::{Source, Text};
-use crate::tally::{self, Manner, Outcome, Page};
+use crate::tally::Outcome;
 use crate::visible::{self, Shown};
 use crate::walk::{Entries, Selection};
+use crate::work::{self, Manner, Page};
 
 /// The command.
 #[derive(Debug, PartialEq, Eq)]
@@ -72,7 +73,7 @@ impl Show {
             }
             one(source, text, &policy, &style, page)
         };
-        let tally = tally::each(&entries, words, self.manner, console, one)?;
+        let tally = work::each(&entries, words, self.manner, console, one)?;
         Ok(tally.status(Status::Good))
     }
 }

@@ -105,11 +105,8 @@ fn wrong_command_lines_are_told_on_standard_error() {
             "fix: --decide blue: neither text nor emoji",
         ),
         (&["fix", "--at", "1", "a", "b"], "fix: one text at a time"),
-        (&["policy"], "policy: print, compare or write?"),
-        (
-            &["policy", "show"],
-            "policy: show: neither print, compare nor write",
-        ),
+        (&["policy"], "policy: the policy command is missing"),
+        (&["policy", "show"], "policy: unknown policy command show"),
         (
             &["policy", "print", "a", "b"],
             "policy: print: too many files",

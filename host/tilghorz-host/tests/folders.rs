@@ -322,24 +322,19 @@ fn files_without_a_sync_and_in_several_batches() {
     assert!(folder.read("t/07") == FORMATTED.repeat(1_500_000).as_bytes());
 }
 
-/// A process that has ended.
-fn ended() -> u32 {
-    let mut process = Command::new("true").spawn().expect("a process");
-    process.wait().expect("an end");
-    process.id()
-}
-
 #[test]
 fn what_a_killed_command_has_left_is_removed() {
     let folder = Folder::new("left_over");
-    let (ended, alive) = (ended(), std::process::id());
+    // No process has a number as great as the first.
+    let (ended, alive) = (999_999_999, std::process::id());
     folder.write(&format!("t/.tilghorz-{ended}-0.tmp"), MESSAGE);
     folder.write(&format!("t/u/.tilghorz-{ended}-17.tmp"), MESSAGE);
-    let kept = [
+    let mut kept = [
         format!("t/.tilghorz-{alive}-0.tmp"),
         format!("t/.tilghorz-{ended}-0"),
         format!("t/.tilghorz-{ended}-x.tmp"),
     ];
+    kept.sort();
     kept.iter().for_each(|name| folder.write(name, MESSAGE));
     let ran = folder.run(&["format", "--check", "t"]);
     assert_eq!((ran.status, folder.paths().len()), (0, 5));

@@ -149,9 +149,9 @@ fn interrupted(folder: &Folder, signal: &str, before: &str) -> (String, Option<i
 
 /// Sends a signal. One that has ended gets none.
 fn send(signal: &str, child: &Child) {
-    let mut kill = Command::new("kill");
-    kill.args([signal, &child.id().to_string()]);
-    kill.stderr(Stdio::null()).status().expect("kill");
+    let mut kill = Command::new("sh");
+    kill.args(["-c", &format!("kill {signal} {}", child.id())]);
+    kill.stderr(Stdio::null()).status().expect("a shell");
 }
 
 #[test]

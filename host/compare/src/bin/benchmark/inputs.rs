@@ -160,13 +160,13 @@ fn digits(_: &Input, bytes: usize) -> String {
 }
 
 /// A word and what stands after it: most often the first of the three.
-fn word(random: &mut Random, words: &[&str], behind: [&str; 3]) -> String {
-    let behind = match random.below(12) {
-        0 => behind[2],
-        1 => behind[1],
-        _ => behind[0],
+fn word(random: &mut Random, words: &[&str], after: [&str; 3]) -> String {
+    let after = match random.below(12) {
+        0 => after[2],
+        1 => after[1],
+        _ => after[0],
     };
-    random.element(words).to_owned() + behind
+    random.element(words).to_owned() + after
 }
 
 /// A word, or now and then a number.
