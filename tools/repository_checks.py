@@ -16,6 +16,7 @@ also a fault.
               edit that it names exists.
 - theorems:   every statement of a crate's specs/ has its proof, none is open or empty, and docs/AUDIT.md lists exactly these;
               the names in it and in docs/DECISIONS.md are declared (theorem_checks.py).
+- lines:      no line of code, definition or proof has more than 140 characters. A constant of bytes may have more.
 - counts:     the last line of rt ci counts every crate and every must-fail edit.
 - edits:      the place that a must-fail edit names refuses it, because a fact is false there (edit_checks.py).
 - proved:     the log of every crate says that it is proved.
@@ -36,6 +37,7 @@ PUBLIC_FUNCTION = re.compile(r'\bpub\s+(?:const\s+)?(?:extern\s+"C"\s+)?fn\s+(\w
 # The libraries of the kit that declare or call C functions; the library that may use them; the library that hosts link.
 OF_C = ("io", "libc", "os")
 MAY_CALL_C = ("message_io",)
+LONGEST_LINE = 140
 STATIC_LIBRARY = "tilghorz"
 RULED_OUT = "## What each contract rules out\n"
 NAMED_EDITS = re.compile(r"\b[Ee]dits?\s+((?:`\w+`(?:\s+of\s+\w+)?(?:,\s+|\s+and\s+)?)+)")
@@ -174,8 +176,18 @@ def rests_on_axioms(root):
         yield f"{STATIC_LIBRARY}: the static library uses an axiom: {said}"
 
 
+def long_lines(root):
+    for path in sorted((root / "crates").glob("**/*")):
+        if path.suffix not in (".rt", ".antt") or not path.is_file():
+            continue
+        for number, line in enumerate(path.read_text(encoding="utf-8").splitlines(), 1):
+            if len(line) > LONGEST_LINE and '*b"' not in line:
+                yield f"{path.relative_to(root)}: line {number} has {len(line)} characters"
+
+
 SOURCE = (
     unlisted_crates,
+    long_lines,
     libraries_that_call_c,
     misfits,
     weak_contracts,

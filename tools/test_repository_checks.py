@@ -125,6 +125,11 @@ class Checks(unittest.TestCase):
     def test_library_without_edit(self):
         self.finds("one: the library has no must-fail edit", checks.unlisted_crates, removed=["crates/one/must-fail/wrong.edit"])
 
+    def test_long_line(self):
+        line = "// " + 138 * "x"
+        self.finds("crates/one/src/lib.rt: line 2 has 141 characters", checks.long_lines, lib_rt=("// pub fn in_a_comment(x: u8) -> u8 { x }", line))
+        self.assertEqual(self.findings(checks.long_lines, lib_rt=("// pub fn in_a_comment(x: u8) -> u8 { x }", line[:-1])), [])
+
     def test_public_requires(self):
         self.finds("part: a public function has a `requires`", checks.weak_contracts, lib_rt=("ensures first", "requires first"))
 

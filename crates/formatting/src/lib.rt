@@ -147,7 +147,8 @@ fn put_changes(
 // Formats a text into an output that may be too short: it measures the formatted text before it writes. The caller knows the first change.
 fn format_measured(text: &[u8], policy: &[u8], first: Change, out: &mut [u8]) -> FormatAnswer
     requires { ⌜ FirstChange (now text) (now policy) first ⌝ }
-    ensures { λ r. ⌜ record { answer = r; buffer = now (out .exit) } ≡ format (now (text .entry)) (now (policy .entry)) (now (out .entry)) ⌝ }
+    ensures { λ r. ⌜ record { answer = r; buffer = now (out .exit) }
+        ≡ format (now (text .entry)) (now (policy .entry)) (now (out .entry)) ⌝ }
 {
     let Survey { valid_up_to, len } = survey_text(text, policy, first);
     if valid_up_to != text.len() {
@@ -178,7 +179,8 @@ fn valid_after(text: &[u8], change: Change) -> usize
 // function writes, it looks for the second one: most messages have none, and then the search has tested the rest of the text too.
 fn format_at_once(text: &[u8], policy: &[u8], first: Change, out: &mut [u8]) -> FormatAnswer
     requires { ⌜ FirstChange (now text) (now policy) first × (4 * length (now text) ≤ length (now out)) ⌝ }
-    ensures { λ r. ⌜ record { answer = r; buffer = now (out .exit) } ≡ format (now (text .entry)) (now (policy .entry)) (now (out .entry)) ⌝ }
+    ensures { λ r. ⌜ record { answer = r; buffer = now (out .exit) }
+        ≡ format (now (text .entry)) (now (policy .entry)) (now (out .entry)) ⌝ }
 {
     let end = first.end;
     let second = next_change(text, policy, end);

@@ -1,6 +1,7 @@
 // Listing the findings of a text into a table of structs (document 01, "Counts and finding": "The findings are listed in text order into a
 // table lent by the caller"). `plan_listing` decides what is listed, and `first_finding` returns each finding by value: `list_into_table`
-// only stores them. It equals `list` of crates/formatter/specs/List.antt. The theorem `ListedAsBytes` of crates/formatter/specs/Theorems.antt
+// only stores them. It equals `list` of crates/formatter/specs/List.antt. The theorem `ListedAsBytes` of
+// crates/formatter/specs/Theorems.antt
 // says that the table of bytes of lib.rt agrees with it.
 ghost use mathlib.Core.Path.{_≡_};
 ghost use Rattle.base.specs.Answers.{EndsAs, listRow};

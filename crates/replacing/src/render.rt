@@ -144,7 +144,8 @@ fn put_cells(text: &[u8], policy: Policy, decisions: &[u8], out: &mut [u8]) -> u
 
 // Writes the cells of a slice at the front of the output, if there is room. It is for callers that have the bytes of an item.
 pub fn write_cells(raw: &[u8], policy: Policy, decisions: &[u8], out: &mut [u8]) -> MendAnswer
-    ensures { λ r. ⌜ EndsAs mendRow (writeCells policy (now (raw .entry)) (now (decisions .entry)) (now (out .entry))) r (now (out .exit)) ⌝ }
+    ensures { λ r. ⌜ EndsAs mendRow
+        (writeCells policy (now (raw .entry)) (now (decisions .entry)) (now (out .entry))) r (now (out .exit)) ⌝ }
 {
     if TEXT_LIMIT < raw.len() {
         return MendAnswer::Refused(Refusal::TextTooLong);

@@ -61,9 +61,11 @@ state-arm ks P e leftOver h = named ks 6 (P leftOver) (e .6) h
 
 -- ---- a match on a state and then on a class
 
-pub transition-arm : (ks : List ℕ) (q : State) (n : Next) → OfClasses ks (λ k. n ≡ nextOf (transition q k)) → (p : State) (k : Class) → p ≡ q
+pub transition-arm : (ks : List ℕ) (q : State) (n : Next) → OfClasses ks (λ k. n ≡ nextOf (transition q k)) → (p : State) (k : Class) → p
+    ≡ q
     → OneOf ks (tagOf the-class k) → n ≡ nextOf (transition p k)
-transition-arm ks q n h p k e o = class-arm ks (λ k. n ≡ nextOf (transition q k)) h k o ∙ ap (λ (x : State). nextOf (transition x k)) (sym e)
+transition-arm ks q n h p k e o = class-arm ks (λ k. n ≡ nextOf (transition q k)) h k o
+    ∙ ap (λ (x : State). nextOf (transition x k)) (sym e)
 
 -- ---- a match on a run kind and then on a class
 

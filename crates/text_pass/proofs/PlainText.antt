@@ -114,7 +114,11 @@ ascii-other c ascii hash star digit =
 
 -- A character whose class is neither emoji nor selector has no variation entry and is no selector.
 class-plain : (c : ℕ) {k : Class} → classOf c ≡ k → (k ≡ emoji → ⊥) → isSelectorClass k ≡ false → StaysAlone c
-class-plain c e never s = record { no-entry = entry (hasVariationSequence c) refl; no-selector = selector-test c ∙ ap isSelectorClass e ∙ s }
+class-plain c e never s = record {
+  no-entry = entry (hasVariationSequence c) refl;
+  no-selector = selector-test c ∙ ap isSelectorClass e
+      ∙ s;
+}
   where
     entry : (b : Bool) → hasVariationSequence c ≡ b → b ≡ false
     entry true v = absurd (never (sym e ∙ entry-class c v))

@@ -1,5 +1,6 @@
 // The selectors after a base that has a variation entry (document 01, "Counts and finding", rules 2 to 6): which selector stays, and
-// whether this changes the text. `base_change` meets `BaseChange` of specs/Changes.antt. Selectors have numbers here: 0 is no selector, 1 is
+// whether this changes the text. `base_change` meets `BaseChange` of specs/Changes.antt. Selectors have numbers here: 0 is no selector, 1
+// is
 // FE0E, and 2 is FE0F.
 ghost use mathlib.Core.Path.{_≡_};
 ghost use mathlib.Core.Bool.{Bool, _&&_, cond, not};
@@ -60,7 +61,8 @@ fn rule_class_at(text: &[u8], at: usize) -> Class
 
 // The selector that rule 6 leaves for each number of the first selector: two bits each, those for number 0 lowest.
 fn kept_word(rule: SingletonRule) -> u32
-    ensures { λ r. ⌜ ((f : FirstSelector) (n : ℕ) → LeavesSelector (rule6 rule (runWith f n) .slot) (r / 2 ^ (2 * selectorNumber f) % 4)) ⌝ }
+    ensures { λ r. ⌜ ((f : FirstSelector) (n : ℕ)
+        → LeavesSelector (rule6 rule (runWith f n) .slot) (r / 2 ^ (2 * selectorNumber f) % 4)) ⌝ }
 {
     match rule {
         SingletonRule::TextToBare => 0x20,

@@ -1,4 +1,5 @@
--- A text has at most as many items, and at most as many findings, as it has bytes. A finding wants at most as many decisions as it has bytes.
+-- A text has at most as many items, and at most as many findings, as it has bytes. A finding wants at most as many decisions as it has
+-- bytes.
 use mathlib.Core.Path.{_≡_, refl, ap, sym}
 use mathlib.Core.Logic.{_⊎_, inl, inr}
 use mathlib.Core.Bool.{Bool, true, false, cond}

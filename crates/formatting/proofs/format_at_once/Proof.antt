@@ -73,7 +73,9 @@ returns-2 c =
     let w = put-as _ (sym (change-formatted (policyOf p) t h))
     (put-then (c .before .before .before .before .before .before .put-change .ensures) (c .before .before .put-changes .ensures)) in
     let a = all-well-formed t p (s .pre .0 .short) (s .pre .0 .is-policy)
-    (second-valid (policyOf p) t f (c .before .before .before .before .before .before .before .before .before .before .next-change .ensures) (c .before .before .before .before .before .before .before .before .before .valid-after .ensures)) (c .before .before .before .before .before .before .before .before .if1 .left) in
+    (second-valid (policyOf p) t f (c .before .before .before .before .before .before .before .before .before .before .next-change .ensures)
+    (c .before .before .before .before .before .before .before .before .before .valid-after .ensures))
+    (c .before .before .before .before .before .before .before .before .if1 .left) in
     format-written p t a (s .args .out .now) _ _ _ (first-counted (policyOf p) t f (s .pre .0 .is-present)) (omega (arith, w .ends))
     (omega (arith, w .ends, four-times-at (policyOf p) t 0, s .pre .1)) w
 

@@ -30,7 +30,8 @@ returns-2 c =
     let p = x .policy .now in
     let s = c .before .before .survey-text in
     let a = all-well-formed t p (r .short) (r .is-policy) (s .ensures .0) (c .before .if1 .left) in
-    format-short p t a (x .out .now) (s .result .len) (first-counted (policyOf p) t (r .is-next) (r .is-present)) (s .ensures .1) (c .if2 .taken)
+    format-short p t a (x .out .now) (s .result .len) (first-counted (policyOf p) t (r .is-next) (r .is-present)) (s .ensures .1)
+    (c .if2 .taken)
 
 put-changes-requires : tie.Need-put-changes-requires
 put-changes-requires c κs = (

@@ -50,7 +50,8 @@ exchange-requires c κs =
 
 returns-2 : tie.Need-returns-2
 returns-2 c =
-    let s = c .before .before .before .before .before .before .before .before .before .before .before .before .before .before .before .before in
+    let s = c .before .before .before .before .before .before .before .before .before .before .before .before .before .before .before
+    .before in
     let x = s .args in
     let r = read-policy (x .policy .now)
     (c .before .before .before .before .before .before .before .before .before .before .before .read-policy .ensures) in

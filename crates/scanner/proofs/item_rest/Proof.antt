@@ -37,7 +37,8 @@ loop-less c =
     let n = c .before .before .before .before .before .next .given in
     let tags = c .before .consume-emoji-tag-runs .ensures in
     let begins = sym (c .before .before .before .begins-tags .ensures) ∙ c .before .before .if1 .taken in
-    let r = reading-tags (l .inv) k (n .0 .0) (sym (c .before .before .before .before .before .before .before .transition .ensures) ∙ n .1) begins
+    let r = reading-tags (l .inv) k (n .0 .0) (sym (c .before .before .before .before .before .before .before .transition .ensures) ∙ n .1)
+    begins
     (tags .0) (tags .1) in
     omega (arith, r .0, k .on, k .room)
 
@@ -50,7 +51,8 @@ loop-again c =
     let n = c .before .before .before .before .before .next .given in
     let tags = c .before .consume-emoji-tag-runs .ensures in
     let begins = sym (c .before .before .before .begins-tags .ensures) ∙ c .before .before .if1 .taken in
-    let r = reading-tags (l .inv) k (n .0 .0) (sym (c .before .before .before .before .before .before .before .transition .ensures) ∙ n .1) begins
+    let r = reading-tags (l .inv) k (n .0 .0) (sym (c .before .before .before .before .before .before .before .transition .ensures) ∙ n .1)
+    begins
     (tags .0) (tags .1) in
     rw (c .both .ensures) (r .1)
 

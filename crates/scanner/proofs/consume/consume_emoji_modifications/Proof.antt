@@ -14,7 +14,8 @@ returns c =
     let x = c .before .before .before .before .before .before .before .args in
     let k = seen (x .text .now) (x .at)
     (sym (c .before .before .before .before .before .peek .ensures) ∙ c .before .before .before .class .given .1) in
-    modifications-on k (seen-arm k isModificationClass true (3 ∷ 5 ∷ 6 ∷ []) (tt, tt, tt, refl, tt, refl, refl, tt) (c .before .match2 .keys1))
+    modifications-on k (seen-arm k isModificationClass true (3 ∷ 5 ∷ 6 ∷ []) (tt, tt, tt, refl, tt, refl, refl, tt)
+    (c .before .match2 .keys1))
     (c .run-end .ensures)
 
 returns-2 : tie.Need-returns-2

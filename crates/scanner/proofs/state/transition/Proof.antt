@@ -11,7 +11,8 @@ use Rattle.scanner.proofs.state.transition.Tie as tie
 
 returns : tie.Need-returns
 unfolding transition
-returns c = let x = c .before .before .before .args in transition-arm (5 ∷ 6 ∷ 7 ∷ []) plain (On plain) (tt, tt, tt, tt, tt, refl, refl, refl)
+returns c = let x = c .before .before .before .args in transition-arm (5 ∷ 6 ∷ 7 ∷ []) plain (On plain)
+    (tt, tt, tt, tt, tt, refl, refl, refl)
     (x .p) (x .k) (c .before .enum-told .given .1) (c .match2 .keys1)
 
 returns-2 : tie.Need-returns-2
@@ -60,12 +61,14 @@ returns-11 c = let x = c .before .before .before .args in transition-arm (0 ∷ 
 
 returns-13 : tie.Need-returns-13
 unfolding transition
-returns-13 c = let x = c .before .before .before .args in transition-arm (2 ∷ 4 ∷ 7 ∷ []) unit Stop (tt, tt, refl, tt, refl, tt, tt, refl) (x .p)
+returns-13 c = let x = c .before .before .before .args in transition-arm (2 ∷ 4 ∷ 7 ∷ []) unit Stop (tt, tt, refl, tt, refl, tt, tt, refl)
+    (x .p)
     (x .k) (c .before .enum-told7 .given .1) (c .match6 .keys3)
 
 returns-17 : tie.Need-returns-17
 unfolding transition
-returns-17 c = let x = c .before .before .before .args in transition-arm (3 ∷ 4 ∷ []) joined (On unit) (tt, tt, tt, refl, refl, tt, tt, tt) (x .p)
+returns-17 c = let x = c .before .before .before .args in transition-arm (3 ∷ 4 ∷ []) joined (On unit) (tt, tt, tt, refl, refl, tt, tt, tt)
+    (x .p)
     (x .k) (c .before .enum-told9 .given .1) (c .match7 .keys4)
 
 returns-18 : tie.Need-returns-18

@@ -1,4 +1,5 @@
--- `text_pass::findings::next_finding` meets its contract. The loop's invariant: all findings before `at` are passed and counted. The measure
+-- `text_pass::findings::next_finding` meets its contract. The loop's invariant: all findings before `at` are passed and counted. The
+-- measure
 -- is the number of bytes after `at`.
 use mathlib.Core.Path.{refl, ap, sym, _∙_}
 use mathlib.Core.Bool.{true≢false}
@@ -77,7 +78,8 @@ loop-again c =
     let s = packed-step (x .text .now) (c .before .before .before .before .before .before .before .skip-bare-ascii .result)
     (c .before .before .before .before .before .before .decode .result)
     (c .before .before .before .before .before .before .decode .ensures) (c .before .before .before .before .before .if1 .left) in
-    let b = ap startState (sym (c .before .before .before .before .classify .ensures .0)) ∙ sym (c .before .before .before .start-state .ensures)
+    let b = ap startState (sym (c .before .before .before .before .classify .ensures .0))
+    ∙ sym (c .before .before .before .start-state .ensures)
     ∙ c .before .enum-told .given .1 in
     over-passes a (passes-on (passes-plain p s b) (c .skip-letters .ensures p .1))
 

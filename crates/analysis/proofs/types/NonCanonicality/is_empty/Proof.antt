@@ -37,9 +37,20 @@ returns-7 c = sym (ne-eqb (total
 
 returns-8 : tie.Need-returns-8
 returns-8 c =
-    let x = c .before .before .before .before .before .before .before .before .before .before .before .before .before .before .before .args .self in
+    let x = c .before .before .before .before .before .before .before .before .before .before .before .before .before .before .before .args
+    .self in
     let e : x .«presentation_decisions»
-    ≡ total x = omega (arith, c .before .before .before .before .before .before .before .before .before .before .before .before .before .if1 .left, c .before .before .before .before .before .before .before .before .before .before .before .if2 .left, c .before .before .before .before .before .before .before .before .before .if3 .left, c .before .before .before .before .before .before .before .if4 .left, c .before .before .before .before .before .if5 .left, c .before .before .before .if6 .left, c .before .if7 .left) in
+    ≡ total x = omega (
+      arith,
+      c .before .before .before .before .before .before .before .before .before .before .before .before .before .if1
+          .left,
+      c .before .before .before .before .before .before .before .before .before .before .before .if2 .left,
+      c .before .before .before .before .before .before .before .before .before .if3 .left,
+      c .before .before .before .before .before .before .before .if4 .left,
+      c .before .before .before .before .before .if5 .left,
+      c .before .before .before .if6 .left,
+      c .before .if7 .left,
+    ) in
     ap (λ (k : ℕ). eqb k 0) e
 
 pub is-empty-spec : {M : Type 1} → statement M
