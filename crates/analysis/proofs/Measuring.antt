@@ -24,7 +24,8 @@ use Rattle.scanner.specs.declared.selectors.PresentationSelectors.{Presentation
 use Rattle.scanner.proofs.Rescan.{size-append}
 use Rattle.scanner.proofs.SelectorChars.{width-selector}
 use Rattle.analysis.specs.Analysis.{chosen, countCells, following, remaining, render, renew}
-use Rattle.analysis.specs.CellView.{formatCells, slotLength, totalCells}
+use Rattle.analysis.specs.Helpers.{slotLength}
+use Rattle.analysis.specs.CellView.{formatCells, totalCells}
 use Rattle.analysis.specs.Cells.{Cell, cells, leading, split}
 use Rattle.analysis.specs.Counts.{_⊕_, capped, cappedSum, most, total, unsanctioned}
 use Rattle.analysis.specs.Rules.{

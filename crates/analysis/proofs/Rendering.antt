@@ -29,7 +29,8 @@ use Rattle.analysis.specs.Analysis.{chosen, decide, following, laterDeci
 use Rattle.analysis.specs.CellView.{formatCells}
 use Rattle.analysis.specs.Cells.{Cell, cells, leading, split}
 use Rattle.analysis.specs.Counts.{capped}
-use Rattle.analysis.specs.Decisions.{cellBytes, decisionsUsed, meaning}
+use Rattle.analysis.specs.Helpers.{cellBytes, decisionsUsed}
+use Rattle.analysis.specs.Decisions.{meaning}
 use Rattle.analysis.specs.Rules.{Outcome, Slot, bare, decided, fixed, outcome, runWith}
 use Rattle.analysis.proofs.Cells.{clean-cells, count-unsplit, front-char}
 use Rattle.analysis.proofs.CellsAt.{split-at}

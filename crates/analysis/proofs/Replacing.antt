@@ -33,17 +33,8 @@ use Rattle.analysis.proofs.ItemAnalysis.{the-type as the-analysis}
 use Rattle.analysis.specs.Analysis.{isFinding, nonCanonicality, render, renew, replacement, replacementOf}
 use Rattle.analysis.specs.Cells.{Cell, cells}
 use Rattle.analysis.specs.Decisions.{decisionsRefusal, judge, meaning, withinLimit, writeOut}
-use Rattle.analysis.specs.ItemAt.{
-  analysisAt,
-  analysisOf,
-  findingStarting,
-  replaceAt,
-  replaceByDefault,
-  replacementBytes,
-  startingAnalysis,
-  startsAt,
-  writeFound,
-}
+use Rattle.analysis.specs.Helpers.{startingAnalysis, startsAt}
+use Rattle.analysis.specs.ItemAt.{analysisAt, analysisOf, findingStarting, replaceAt, replaceByDefault, replacementBytes, writeFound}
 use Rattle.analysis.specs.declared.ItemAnalysis.{ItemAnalysis}
 use Rattle.analysis.specs.declared.ItemAnalysis.the-variants.{Canonical, End, NonCanonical}
 use Rattle.analysis.specs.declared.types.Finding.{Finding}

@@ -18,7 +18,8 @@ use Rattle.scanner.specs.declared.ScanStep.the-variants as Step
 use Rattle.scanner.proofs.ItemAt.{ItemAt, item-at}
 use Rattle.analysis.specs.Analysis.{isFinding}
 use Rattle.analysis.specs.Findings.{findingAt}
-use Rattle.analysis.specs.ItemAt.{findingStarting, startsAt}
+use Rattle.analysis.specs.Helpers.{startsAt}
+use Rattle.analysis.specs.ItemAt.{findingStarting}
 
 -- ---- the items after an offset
 

@@ -11,19 +11,12 @@ use Rattle.scanner.specs.declared.char_class.Class.the-variants.{Other as other
 use Rattle.analysis.specs.Analysis.{countCells, render}
 use Rattle.analysis.specs.Cells.{cells, leading}
 use Rattle.analysis.specs.Counts.{_⊕_, unsanctioned}
-use Rattle.analysis.specs.Rules.{Slot, bare, decided, fixed}
 use Rattle.analysis.specs.declared.types.NonCanonicality.{NonCanonicality}
 
 -- The class of the first character; `other` if there is none.
 unfoldable pub classInFront : List ℕ → Class
 classInFront [] = other
 classInFront (c ∷ t) = classOf c
-
--- The number of bytes of the selector that a slot holds; 0 if it holds none.
-abbrev pub slotLength : Slot → ℕ
-slotLength bare = 0
-slotLength (fixed q) = 3
-slotLength (decided d) = 3
 
 module _ (p : Policy) where
   -- The formatted characters. Selectors before the first other character are removed.

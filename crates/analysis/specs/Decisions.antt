@@ -1,6 +1,6 @@
 -- Decisions as bytes, and the refusals of a call that takes a finding and decisions (document 01, "Replacement and text", "Turned back").
 use mathlib.Core.Bool.{cond, not}
-use mathlib.Core.List.{List, [], _∷_, _++_, map}
+use mathlib.Core.List.{List, [], _∷_}
 use mathlib.Core.Option.{Option, none, some}
 use Prim.Native.Nat.{ℕ, suc}
 use lib.Dec.{eqb, leb}
@@ -9,14 +9,11 @@ use Rattle.base.specs.Answers.{done}
 use Rattle.base.specs.Refusals.{After, RefusalRow, unwritten, orElse, refusalRow, textLimit, written}
 use Rattle.base.specs.declared.Refusal.{Refusal}
 use Rattle.base.specs.declared.Refusal.the-variants.{BadDecision, NoFinding, OutputTooShort, TextTooLong, WrongNumberOfDecisions}
-use Rattle.utf8.specs.Rfc3629.{encode, encodeAll}
-use Rattle.unicode.specs.Presentation.{asSelector}
 use Rattle.unicode.specs.declared.presentation.Presentation.{Presentation}
 use Rattle.unicode.specs.declared.presentation.Presentation.the-variants.{Emoji, Text}
 use Rattle.policy.specs.declared.Policy.{Policy}
 use Rattle.scanner.specs.Items.{Item}
-use Rattle.analysis.specs.Analysis.{chosen, nonCanonicality}
-use Rattle.analysis.specs.Rules.{Slot, bare, decided, fixed}
+use Rattle.analysis.specs.Analysis.{nonCanonicality}
 use Rattle.analysis.specs.declared.types.MendAnswer.{MendAnswer}
 use Rattle.analysis.specs.declared.types.MendAnswer.the-variants.{Mended, Refused}
 
@@ -24,7 +21,7 @@ use Rattle.analysis.specs.declared.types.MendAnswer.the-variants.{Mended
 abbrev pub meaning : ℕ → Presentation
 meaning d = cond (eqb d 0) Text Emoji
 
--- "decision byte above 1 | 6 | index of the first": i is the index of the first byte of the list.
+-- "decision byte above 1 | 6 | index of the first": n is the index of the first byte of the list.
 unfoldable pub badDecision : ℕ → List ℕ → Option Refusal
 badDecision n [] = none
 badDecision n (d ∷ ds) = cond (leb d 1) (badDecision (suc n) ds) (some (BadDecision n))
@@ -37,16 +34,6 @@ wanted p x = nonCanonicality p x .«presentation_decisions»
 unfoldable pub decisionsRefusal : ℕ → List ℕ → Option Refusal
 decisionsRefusal n decisions =
     cond (not (eqb (length decisions) n)) (some (WrongNumberOfDecisions n)) (badDecision 0 decisions)
-
--- The number of decisions that a slot takes.
-abbrev pub decisionsUsed : Slot → ℕ
-decisionsUsed bare = 0
-decisionsUsed (fixed q) = 0
-decisionsUsed (decided d) = 1
-
--- The bytes of a character and of the selector that its slot holds under the decisions.
-abbrev pub cellBytes : ℕ → Slot → List Presentation → List ℕ
-cellBytes c o ds = encode c ++ encodeAll (map asSelector (chosen o ds))
 
 -- The answer's row of the refusal table: the number of bytes written, or the refusal.
 unfoldable pub mendRow : MendAnswer → RefusalRow

@@ -1,11 +1,10 @@
 -- The item of a text at a byte offset under a policy: its analysis, and the calls that write the replacement of the finding that
 -- starts at the offset (document 01, "Counts and finding": `analyze_scan_item`; "Replacement and text":
 -- `canonical_replacement_with_decisions`).
-use mathlib.Core.Bool.{Bool, false, cond, _||_}
+use mathlib.Core.Bool.{cond}
 use mathlib.Core.List.{List, [], _∷_, map}
 use mathlib.Core.Option.{Option, none, some}
 use Prim.Native.Nat.{ℕ, _+_}
-use lib.Dec.{eqb}
 use lib.ListN.{drop}
 use Rattle.base.specs.Refusals.{After, unwritten, orElse}
 use Rattle.base.specs.declared.Refusal.{Refusal}
@@ -14,22 +13,15 @@ use Rattle.utf8.specs.Rfc3629.{chars, encodeAll}
 use Rattle.unicode.specs.declared.presentation.Presentation.{Presentation}
 use Rattle.policy.specs.declared.Policy.{Policy}
 use Rattle.scanner.specs.Items.{Item, items}
-use Rattle.scanner.specs.Spans.{scan, size, width}
+use Rattle.scanner.specs.Spans.{size, width}
 use Rattle.scanner.specs.TextCheck.{textRefusal}
-use Rattle.scanner.specs.declared.ScanItem.{ScanItem}
-use Rattle.analysis.specs.Analysis.{isFinding, nonCanonicality, render, replacement}
-use Rattle.analysis.specs.Cells.{cells}
-use Rattle.analysis.specs.Decisions.{judge, meaning, withinLimit, writeOut}
+use Rattle.analysis.specs.Analysis.{isFinding, nonCanonicality, replacement}
+use Rattle.analysis.specs.Decisions.{judge, meaning, writeOut}
 use Rattle.analysis.specs.Findings.{findingAt, findingsFrom}
 use Rattle.analysis.specs.declared.ItemAnalysis.{ItemAnalysis}
 use Rattle.analysis.specs.declared.ItemAnalysis.the-variants.{Canonical, End, NonCanonical}
 use Rattle.analysis.specs.declared.types.MendAnswer.{MendAnswer}
 use Rattle.analysis.specs.declared.types.MendAnswer.the-variants.{Refused}
-
--- Whether one of the items starts at an offset.
-unfoldable pub startsAt : ℕ → List ScanItem → Bool
-startsAt offset [] = false
-startsAt offset (x ∷ xs) = eqb (x .start) offset || startsAt offset xs
 
 module _ (p : Policy) where
   -- The analysis of the first item of a list, which starts at the offset: canonical, or a finding with its bytes and its counts; or
@@ -44,15 +36,6 @@ module _ (p : Policy) where
   -- character begins.
   unfoldable pub analysisAt : List ℕ → ℕ → ItemAnalysis
   analysisAt text at = analysisOf at (items (chars (drop at text)))
-
-  -- The analysis of the item that starts at an offset, among the items of the text scanned from its beginning. An item that only
-  -- contains the offset does not count.
-  abbrev pub startingAnalysis : List ℕ → ℕ → ItemAnalysis
-  startingAnalysis text offset = cond (startsAt offset (scan text)) (analysisAt text offset) End
-
-  -- The call that writes the cells of a slice under decisions: refusals 1 and 8, in this order.
-  abbrev pub writeCells : List ℕ → List ℕ → List ℕ → After MendAnswer ℕ
-  writeCells raw decisions out = withinLimit raw out (writeOut (encodeAll (render p (cells (chars raw)) (map meaning decisions))) out)
 
   -- "no finding starts at the offset": the finding that starts at an offset, among the items of the text scanned from its
   -- beginning, if there is one.

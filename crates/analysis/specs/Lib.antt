@@ -9,6 +9,7 @@ pub mod Decisions
 pub mod CellView
 pub mod Findings
 pub mod ItemAt
+pub mod Helpers
 pub mod ChoicesAt
 pub mod Examples
 pub mod Theorems

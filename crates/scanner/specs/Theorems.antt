@@ -82,7 +82,7 @@ ItemsAreAReading = (t : List ℕ) → Reads t (items t)
 unfoldable pub OnlyReading : Type 0
 OnlyReading = (t : List ℕ) (xs : List Item) → Reads t xs → xs ≡ items t
 
--- A scan that starts afresh at an item's end gives the remaining items.
+-- A scan of the text after an item's end gives the items after it.
 unfoldable pub ItemsAfresh : Type 0
 ItemsAfresh = (t : List ℕ) (xs ys : List Item) → items t ≡ xs ++ ys → items (drop (length (join xs)) t) ≡ ys
 
@@ -179,6 +179,7 @@ pub data Spells (text : List ℕ) : List ScanItem → List Item → Type 0 where
       ≡ tagsComplete (x .kind) (x .chars) → Spells text ss xs
       → Spells text (s ∷ ss) (x ∷ xs)
 
+-- The spans of a text stand for its items, one for each, in order.
 unfoldable pub SpansAreItems : Type 0
 SpansAreItems = (text : List ℕ) → Spells text (scan text) (items (chars text))
 

@@ -6,7 +6,7 @@ use native.Mathlib.Omega.{arith}
 use borrow.Author.Needs.{needs}
 use lib.ListN.{length}
 use Rattle.utf8.proofs.Packed.{packed-step, packed-stop}
-use Rattle.analysis.specs.CellView.{slotLength}
+use Rattle.analysis.specs.Helpers.{slotLength}
 use Rattle.analysis.specs.Counts.{capped, cappedSum}
 use Rattle.analysis.proofs.CellsAt.{selectors-end}
 use Rattle.analysis.proofs.Measuring.{Measuring, measuring-begin, measuring-cell, measuring-done, measuring-plain, slot-few}

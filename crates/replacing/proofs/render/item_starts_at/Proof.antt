@@ -6,7 +6,7 @@ use native.Mathlib.Omega.{arith}
 use lib.ListN.{length}
 use borrow.Author.Needs.{needs}
 use Rattle.scanner.specs.Spans.{scan, scanFrom}
-use Rattle.analysis.specs.ItemAt.{startsAt}
+use Rattle.analysis.specs.Helpers.{startsAt}
 use Rattle.analysis.proofs.StartingItems.{cursor-starting}
 use Rattle.replacing.proofs.render.item_starts_at.Statement.{statement}
 use Rattle.replacing.proofs.render.item_starts_at.Tie as tie

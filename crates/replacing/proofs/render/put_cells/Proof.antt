@@ -12,7 +12,8 @@ use Rattle.utf8.specs.Rfc3629.{chars}
 use Rattle.utf8.proofs.Packed.{packed-step, packed-stop}
 use Rattle.unicode.specs.declared.presentation.Presentation.{Presentation}
 use Rattle.analysis.specs.Cells.{Cell, leading}
-use Rattle.analysis.specs.Decisions.{cellBytes, meaning}
+use Rattle.analysis.specs.Helpers.{cellBytes}
+use Rattle.analysis.specs.Decisions.{meaning}
 use Rattle.analysis.proofs.CellsAt.{read-end, split-at}
 use Rattle.analysis.proofs.Rendering.{left-cell, left-leading, left-none, leftAt, used-few}
 use Rattle.replacing.proofs.render.put_cells.Statement.{statement}
