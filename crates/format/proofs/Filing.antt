@@ -66,9 +66,9 @@ module _ (message : List ℕ) where
         let t = subst (λ (a : FormatAnswer). AnswerMeans message a after) e (s .meaning) in
         front-filed after n ∙ t .1 ∙ passed messageLimit message intakes result h (t .0)
 
-    pub refused-filed : {r : Refusal} (after : List ℕ) (n : ℕ) → a ≡ Refused r → take n after ≡ refusalLine r
-        → filedText message after true n ≡ outputOf message
+    pub refused-filed : {r : Refusal} (out : List ℕ) (n : ℕ) → a ≡ Refused r → take n out ≡ refusalLine r
+        → filedText message out true n ≡ outputOf message
     unfolding outputOf
-    refused-filed after n e l =
+    refused-filed out n e l =
         let t = subst (λ (a : FormatAnswer). AnswerMeans message a after) e (s .meaning) in
-        front-filed after n ∙ l ∙ refused messageLimit message intakes result h t
+        front-filed out n ∙ l ∙ refused messageLimit message intakes result h t
