@@ -1,9 +1,8 @@
 -- Demand 3: one claim about a list of mending calls as a whole, `ListClaim`, and one about a formatted text, `FormattedClaim` (document
 -- 01, "Mending in sequence").
 -- Both are about the code. `format`, `listBytes`, `list` and `mend` are the definitions that the contracts of `format_text`,
--- `list_findings`,
--- `list_into_table` and `mend` cite for the answer and the buffer of every call (crates formatting, listing and mending). There is no
--- second model of a call.
+-- `list_findings`, `list_into_table` and `mend` cite for the answer and the buffer of every call (crates formatting, listing and
+-- mending). There is no second model of a call.
 use mathlib.Core.Path.{_≡_}
 use mathlib.Core.Logic.{_↔_}
 use mathlib.Core.Bool.{Bool, true, false, cond}

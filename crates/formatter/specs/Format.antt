@@ -40,8 +40,7 @@ formatRow (Changed n) = done n
 formatRow (Refused r) = refusalRow r
 
 -- The outcome of the call, with refusals 1, 2, 3 and 8 in this order. "Formatting a text that needs no change says so, writes nothing and
--- never
--- gives 8."
+-- never gives 8."
 unfoldable pub format : List ℕ → List ℕ → List ℕ → After FormatAnswer ℕ
 format text policy out =
     let result = formatted text policy in

@@ -1,6 +1,5 @@
 -- Listing: the whole outcome of each call, `list` and `listBytes` for findings and `listItems` for items (document 01, "Counts and
--- finding",
--- "Turned back").
+-- finding", "Turned back").
 use mathlib.Core.Bool.{cond}
 use mathlib.Core.List.{List, [], _∷_, map}
 use Prim.Native.Nat.{ℕ}

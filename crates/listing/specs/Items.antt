@@ -1,6 +1,5 @@
 -- Contracts of helper functions: what each answer of a scanner puts into the table of items. The whole outcome of the call is `listItems`
--- of
--- crates/formatter/specs/List.antt.
+-- of crates/formatter/specs/List.antt.
 use mathlib.Core.Bool.{Bool, true, false}
 use mathlib.Core.List.{List, []}
 use Prim.Native.Nat.{ℕ}

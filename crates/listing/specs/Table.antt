@@ -1,6 +1,6 @@
 -- Contracts of helper functions: listing findings step by step (document 01, "Counts and finding", "Turned back"). The whole outcomes of
--- the
--- calls are `listBytes` and `list` of crates/formatter/specs/List.antt; `fewFindings` is the outcome of `list` on a table of eight places.
+-- the calls are `listBytes` and `list` of crates/formatter/specs/List.antt; `fewFindings` is the outcome of `list` on a table of eight
+-- places.
 use mathlib.Core.Bool.{cond}
 use mathlib.Core.List.{List, [], _∷_, map}
 use Prim.Native.Nat.{ℕ}

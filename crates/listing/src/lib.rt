@@ -1,8 +1,7 @@
 // Listing the findings of a text into a table lent by the caller (document 01, "Counts and finding", "Turned back"). A row is ten numbers
-// of
-// 8 bytes each, lowest byte first: start, end and the eight counts. `list_findings` goes through the text from finding to finding (crate
-// text_pass): once to count the findings, and once more to write their rows, if there are any and all fit.
-// `list_findings` equals `listBytes` of crates/formatter/specs/List.antt.
+// of 8 bytes each, lowest byte first: start, end and the eight counts. `list_findings` goes through the text from finding to finding
+// (crate text_pass): once to count the findings, and once more to write their rows, if there are any and all fit. `list_findings` equals
+// `listBytes` of crates/formatter/specs/List.antt.
 pub mod items;
 pub mod table;
 

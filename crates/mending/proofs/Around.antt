@@ -8,8 +8,7 @@ use lib.ListN.{drop, length, length-append, take}
 use lib.Seq.{drop-at, drop-drop, length-sets, length-take-le, sets, sets-eq, take-append-le, take-at, take-take}
 
 -- If a and c are put into a buffer with room for b between them, and then b is put there, the buffer has a, b and c in a row, and the rest
--- is
--- as it was.
+-- is as it was.
 module _ (a b c o : List ℕ) {m n : ℕ} (la : length a ≡ m) (lb : length b ≡ n) (h : m + n + length c ≤ length o) where
   abbrev A : List ℕ
   A = sets o 0 a

@@ -71,8 +71,7 @@ module _ (p : Policy) (text : List ℕ) where
       × (r .present ≡ false → (chars (drop (r .start) text) ≡ []) × (r .end ≡ r .start) × (r .counts ≡ empty))
 
   -- The span is that of the first finding, from the offset `from` on, that does not start before the limit. Or no such finding starts
-  -- before
-  -- a later offset, which is the span's start. `passed` is the number of findings before the span.
+  -- before a later offset, which is the span's start. `passed` is the number of findings before the span.
   abbrev pub WalkedFrom : ℕ → ℕ → FindingSpan → Type 0
   WalkedFrom limit from r =
       FindingsBetween limit from (r .start) (r .passed) × (r .present ≡ true → FindsFrom limit r) × (r .present ≡ false → from < r .start)

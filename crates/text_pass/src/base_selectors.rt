@@ -1,7 +1,6 @@
 // The selectors after a base that has a variation entry (document 01, "Counts and finding", rules 2 to 6): which selector stays, and
 // whether this changes the text. `base_change` meets `BaseChange` of specs/Changes.antt. Selectors have numbers here: 0 is no selector, 1
-// is
-// FE0E, and 2 is FE0F.
+// is FE0E, and 2 is FE0F.
 ghost use mathlib.Core.Path.{_≡_};
 ghost use mathlib.Core.Bool.{Bool, _&&_, cond, not};
 ghost use mathlib.Core.List.{List, []};

@@ -1,7 +1,6 @@
 -- The word that a C function returns for an answer: its top 8 bits are a number, its low 56 bits a value. The row of an answer
 -- (crates/base/specs/Answers.antt) has both. The number is 0 for "done" (the value says how much was written, or is the code point),
--- document
--- 01's number for a refusal (the value is what the refusal returns), and 255 for "nothing to do".
+-- document 01's number for a refusal (the value is what the refusal returns), and 255 for "nothing to do".
 use Prim.Native.Nat.{ℕ, _+_, _*_, _%_, _^_}
 use Rattle.base.specs.Refusals.{RefusalRow}
 

@@ -1,6 +1,5 @@
 -- `formatting::put_changes` meets its contract. The loop's invariant: what formatting makes of the text from `at` on is still to be
--- written,
--- from `to` on, and `change` is the next change from `at` on. The measure is the number of bytes after `at`.
+-- written, from `to` on, and `change` is the next change from `at` on. The measure is the number of bytes after `at`.
 use lib.ListN.{length}
 use Prim.Native.Nat.{_-_, _≤_}
 use native.Mathlib.Omega.{arith}

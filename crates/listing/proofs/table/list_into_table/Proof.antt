@@ -1,7 +1,6 @@
 -- `listing::table::list_into_table` meets its contract: a walk of its MIR, by hand, with a loop and two calls of covered functions. A turn
 -- calls `first_finding`, opens the table's borrow, stores the finding at its place, and closes the borrow. The invariant: the table is
--- owned
--- with the first k findings stored, and the findings from the offset on are those after them.
+-- owned with the first k findings stored, and the findings from the offset on are those after them.
 use mathlib.Core.Path.{_≡_, refl, sym, ap, subst, _∙_}
 use mathlib.Core.Logic.{⊎-elim}
 use mathlib.Core.Bool.{Bool}

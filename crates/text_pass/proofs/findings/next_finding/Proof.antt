@@ -1,6 +1,5 @@
 -- `text_pass::findings::next_finding` meets its contract. The loop's invariant: all findings before `at` are passed and counted. The
--- measure
--- is the number of bytes after `at`.
+-- measure is the number of bytes after `at`.
 use mathlib.Core.Path.{refl, ap, sym, _∙_}
 use mathlib.Core.Bool.{true≢false}
 use Prim.Native.Nat.{_-_, _/_}
