@@ -77,7 +77,9 @@ uint64_t tilghorz_mend(const uint8_t *text, size_t text_len, const uint8_t *poli
                        const uint8_t *decisions, size_t decisions_len, uint8_t *out, size_t out_len);
 
 /* Lists the items in text order: 1, 3, 7. Value: places written. A place is four numbers of 8 bytes, lowest byte first: start, end,
- * kind (0 passthrough, 1 unsanctioned selectors, 2 links only, 3 emoji-headed), tags complete (0 or 1). */
+ * kind (0 passthrough, 1 unsanctioned selectors, 2 links only, 3 emoji-headed), tags complete (0 or 1). Tags are complete where the
+ * tags of every tag modification of the item, selectors skipped, are one or more of E0020 to E007E and then one E007F; an item without
+ * tag modifications has 1, and tags in a passthrough belong to none. */
 uint64_t tilghorz_scan(const uint8_t *text, size_t text_len, uint8_t *table, size_t table_len);
 
 /* Writes the default policy: 8. Value: bytes written. */
