@@ -84,7 +84,8 @@ uint64_t tilghorz_mend(const uint8_t *text, size_t text_len, const uint8_t *poli
 
 /* Lists the items of a text in text order. Numbers: 1, 3, 7. Value: the number of rows written. A row is four numbers of 8 bytes,
  * lowest byte first: start, end, kind (0 passthrough, 1 unsanctioned selectors, 2 links only, 3 emoji-headed), and whether the tags
- * are complete (0 or 1). */
+ * are complete (0 or 1). Tags are complete if the tags of every tag modification of the item, selectors skipped, are one or more of
+ * E0020 to E007E and then one E007F. An item without a tag modification has 1; tags in a passthrough belong to none. */
 uint64_t tilghorz_scan(const uint8_t *text, size_t text_len, uint8_t *table, size_t table_len);
 
 /* Writes the default policy. Number: 8. Value: the number of bytes written. */

@@ -220,7 +220,7 @@ const fn letter(presentation: Presentation) -> char {
     }
 }
 
-/// Whether every tag modification of an item has the cancel tag as its last tag. The crate has no such report.
+/// Whether every tag modification of an item is complete: document 02, (i). The crate has no such report.
 fn tags_complete(kind: &ScanKind) -> bool {
     let ScanKind::EmojiSequence(EmojiSequence::EmojiHeaded { first, joined, .. }) = kind else {
         return true;
@@ -230,8 +230,14 @@ fn tags_complete(kind: &ScanKind) -> bool {
         .flat_map(|unit| &unit.modifiers)
         .all(|modification| match modification {
             EmojiModification::TagModifier(runs) => {
-                runs.last().and_then(|run| run.tag.last()) == Some(&CANCEL_TAG)
+                is_tag_sequence(&runs.iter().flat_map(|run| &run.tag).collect::<Vec<_>>())
             }
             _ => true,
         })
+}
+
+/// "One or more of E0020 to E007E and then one E007F": the first cancel tag is the last tag, and not the first.
+fn is_tag_sequence(tags: &[&char]) -> bool {
+    let cancel = tags.iter().position(|&&tag| tag == CANCEL_TAG);
+    cancel.is_some_and(|place| 0 < place && place + 1 == tags.len())
 }

@@ -80,6 +80,41 @@ fn items_have_the_spans_kinds_and_tag_reports_said() {
     assert_eq!(rows(text), [0, text.len() as u64, 3, 1]);
     // Tags after a link are passthrough.
     assert_eq!(rows("\u{200D}\u{E0061}"), [0, 3, 2, 1, 3, 7, 0, 1]);
+    assert_eq!(rows("\u{200D}\u{E007F}"), [0, 3, 2, 1, 3, 7, 0, 1]);
+}
+
+#[test]
+fn tags_are_complete_as_document_02_says() {
+    let report = |text: &str| {
+        let row = numbers(&scan(text.as_bytes()));
+        assert_eq!(row[..3], [0, text.len() as u64, 3], "{text:?}");
+        row[3..].to_vec()
+    };
+    let complete = [
+        "\u{1F3F4}",
+        "\u{1F3F4}\u{E0020}\u{E007F}",
+        "\u{1F3F4}\u{E007E}\u{E0020}\u{E007F}",
+        "\u{1F3F4}\u{E0061}\u{FE0F}\u{E007F}",
+        "\u{1F3F4}\u{E0061}\u{E007F}\u{20E3}\u{E0062}\u{E007F}",
+    ];
+    let broken = [
+        "\u{1F1E6}\u{1F1E7}\u{E007F}",
+        "\u{1F3F4}\u{E007F}",
+        "\u{1F3F4}\u{FE0F}\u{E007F}\u{FE0F}",
+        "\u{1F3F4}\u{E007F}\u{E007F}",
+        "\u{1F3F4}\u{E007F}\u{E0061}",
+        "\u{1F3F4}\u{E007F}\u{E0061}\u{E007F}",
+        "\u{1F3F4}\u{E0061}\u{E007F}\u{E007F}",
+        "\u{1F3F4}\u{E0061}\u{E007F}\u{E0061}\u{E007F}",
+        "\u{1F3F4}\u{E0061}\u{20E3}\u{E007F}",
+        "\u{1F3F4}\u{E0061}\u{E007F}\u{200D}\u{1F3F4}\u{E007F}",
+    ];
+    for text in complete {
+        assert_eq!(report(text), [1], "{text:?}");
+    }
+    for text in broken {
+        assert_eq!(report(text), [0], "{text:?}");
+    }
 }
 
 #[test]

@@ -2,7 +2,7 @@
 use mathlib.Core.Path.{_≡_, refl, ap, sym, _∙_, subst}
 use mathlib.Core.Logic.{_↔_, inr, ⊎-elim}
 use mathlib.Core.Bool.{true, true≢false}
-use mathlib.Core.List.{List, [], _∷_, _++_, getLastD, head-eq-of-cons-eq, List·Memᴰ, List·Memᴰ·head}
+use mathlib.Core.List.{List, [], _∷_, _++_, head-eq-of-cons-eq, List·Memᴰ, List·Memᴰ·head}
 use Prim.Native.Nat.{ℕ, _+_, _-_}
 use native.Mathlib.Nat.{zero-add}
 use lib.ListN.{drop, drop-of-length-le, take}
@@ -33,7 +33,7 @@ use Rattle.scanner.specs.Structure.{
   toModifications,
 }
 use Rattle.scanner.specs.Spans.{firstOf, scan, scanAt, scanFrom, size, spans, width}
-use Rattle.scanner.specs.Tags.{allComplete, complete, tagModifications, tagRuns, tagsComplete, withTags}
+use Rattle.scanner.specs.Tags.{allComplete, complete, endsInCancel, tagModifications, tagRuns, tagsComplete, withTags}
 use Rattle.scanner.specs.Theorems.{
   CursorAtItemEnd,
   CursorAtStart,
@@ -63,6 +63,7 @@ use Rattle.scanner.specs.Theorems.{
   StructureIsDerived,
   Structured,
   TagsAreInStructure,
+  TagSequence,
   TagsCompleteMeans,
   Tiles,
   ItemExamples,
@@ -76,7 +77,7 @@ use Rattle.scanner.specs.declared.ScanStep.the-variants as Step
 use Rattle.scanner.specs.declared.ScanStep.the-variants.{End}
 use Rattle.scanner.proofs.Bytes.{chars-inside}
 use Rattle.scanner.proofs.ClassTests.{run-links, run-modifications, run-passthrough, run-selectors, run-tags}
-use Rattle.scanner.proofs.Complete.{Ends, all-complete-means}
+use Rattle.scanner.proofs.Complete.{all-complete-means}
 use Rattle.scanner.proofs.EmojiRuns.{unit-item}
 use Rattle.scanner.proofs.RestRuns.{unit-ends, unit-joins, unit-left}
 use Rattle.scanner.proofs.ItemRuns.{item-links, item-passthrough, item-selectors}
@@ -246,9 +247,10 @@ tags-are-in-structure t x m k = item-structure t x m k .tags
 pub tags-complete-means : TagsCompleteMeans
 unfolding TagsCompleteMeans tagsComplete
 tags-complete-means t x m k =
-    subst (λ (l : List (List ℕ)). (tagsComplete (x .kind) (x .chars) ≡ true) ↔ ((ts : List ℕ) → List·Memᴰ ts l → Ends ts))
+    subst (λ (l : List (List ℕ)). (tagsComplete (x .kind) (x .chars) ≡ true) ↔ ((ts : List ℕ) → List·Memᴰ ts l → TagSequence ts))
     (item-structure t x m (inr k) .tags)
-    (subst (λ (i : ScanKind). (tagsComplete i (x .chars) ≡ true) ↔ ((ts : List ℕ) → List·Memᴰ ts (tagModifications (x .chars)) → Ends ts))
+    (subst (λ (i : ScanKind). (tagsComplete i (x .chars) ≡ true)
+    ↔ ((ts : List ℕ) → List·Memᴰ ts (tagModifications (x .chars)) → TagSequence ts))
     (sym k)
     (all-complete-means (tagModifications (x .chars))))
 
@@ -260,8 +262,8 @@ item-examples = (refl, refl, refl, refl, refl)
 pub tag-examples : TagExamples
 unfolding TagExamples classOf isSelector isTag isRi isEmojiModifier isEmoji inRanges member emojiModifiers emojiRanges riRanges transition
     startState kindOf splitFrom items utf8-1 utf8-2 utf8-3 utf8-4 readFour readChar foldStep foldChars chars encode encodeAll width spans
-    scanFrom scan tagsComplete tagModifications tagRuns withTags allComplete complete getLastD
-tag-examples = (refl, refl, refl, refl, refl)
+    scanFrom scan tagsComplete tagModifications tagRuns withTags allComplete complete endsInCancel
+tag-examples = (refl, refl, refl, refl, refl, refl, refl, refl, refl, refl, refl, refl, refl, refl, refl)
 
 pub structure-example : StructureExample
 unfolding StructureExample classOf isSelector isTag isRi isEmojiModifier isEmoji inRanges member emojiModifiers emojiRanges riRanges run

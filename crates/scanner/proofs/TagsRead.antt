@@ -1,12 +1,11 @@
--- Whether tags are complete, from left to right: in a tag modification, by the last tag read; in the rest of an item, by its tag
--- modifications one after the other.
+-- Whether tags are complete, from left to right: in a tag modification, by the state that its tags led to; in the rest of an item, by
+-- its tag modifications one after the other.
 use mathlib.Core.Path.{_≡_, refl, ap, ap₂, sym, _∙_}
 use mathlib.Core.Logic.{⊎-elim}
-use mathlib.Core.Bool.{Bool, true, false, cond, _&&_, and-true, true≢false}
+use mathlib.Core.Bool.{Bool, true, false, not, cond, _&&_, and-true, true≢false}
 use mathlib.Core.Option.{some}
-use mathlib.Core.List.{List, [], _∷_, _++_, getLastD}
+use mathlib.Core.List.{List, [], _∷_, _++_, append-assoc, append-nil}
 use Prim.Native.Nat.{ℕ}
-use lib.Dec.{eqb}
 use lib.ListN.{drop}
 use Rattle.base.proofs.Tests.{both-false, either-left, either-right, either-true}
 use Rattle.utf8.specs.Rfc3629.{chars}
@@ -28,13 +27,25 @@ use Rattle.scanner.specs.Items.{
   transition,
 }
 use Rattle.scanner.specs.Runs.{inTags, run}
-use Rattle.scanner.specs.Tags.{allComplete, complete, tagModifications, tagRuns, tagsComplete, withTags}
+use Rattle.scanner.specs.Tags.{
+  allComplete,
+  complete,
+  endsInCancel,
+  isCancel,
+  isEmpty,
+  tagModifications,
+  tagRuns,
+  tagsComplete,
+  withTags,
+}
+use Rattle.scanner.specs.TagStates.{afterTag, isComplete}
+use Rattle.scanner.specs.declared.consume.TagState.{TagState}
+use Rattle.scanner.specs.declared.consume.TagState.the-variants.{Broken, Complete, NoTag, Open}
 use Rattle.scanner.specs.declared.ScanKind.{ScanKind}
 use Rattle.scanner.specs.declared.ScanKind.the-variants.{EmojiHeaded, LinksOnly, Passthrough, UnsanctionedPresentationSelectors}
 use Rattle.scanner.specs.RunKinds.{isSelectorClass, isTagClass}
 use Rattle.scanner.proofs.ClassTests.{selector-test, tag-test}
 use Rattle.scanner.proofs.Complete.{complete-end, complete-other, complete-selector, complete-start, complete-tag, completeFrom}
-use Rattle.scanner.proofs.Complete.{last-of}
 use Rattle.scanner.proofs.Peek.{Seen, Unseen}
 use Rattle.scanner.proofs.States.{headed, headed-step, tag-step}
 use Rattle.scanner.proofs.Runs.{Passes, all-pass, pass-and, Stops, at-char, at-end, run-false, run-true}
@@ -42,44 +53,69 @@ use Rattle.scanner.proofs.Tags.{tag-runs-other, tag-runs-selector}
 
 -- ---- a tag modification
 
--- Of the characters `whole`, the characters `rest` are still to be read; b says whether the last tag read is E007F, or none was
--- read.
-pub record TagsRead (whole rest : List ℕ) (b : Bool) : Type 0 where
+-- Whether the tags of a tag modification are complete, where the tags read so far led to a state and these tags follow.
+abbrev completeAfter : TagState → List ℕ → Bool
+completeAfter NoTag ts = allComplete (withTags ts [])
+completeAfter Open ts = endsInCancel ts
+completeAfter Complete ts = isEmpty ts
+completeAfter Broken ts = false
+
+after-last : (p : TagState) → completeAfter p [] ≡ isComplete p
+unfolding allComplete withTags endsInCancel
+after-last NoTag = refl
+after-last Open = refl
+after-last Complete = refl
+after-last Broken = refl
+
+after-next : (p : TagState) (c : ℕ) (ts : List ℕ) → completeAfter p (c ∷ ts) ≡ completeAfter (afterTag p c) ts
+unfolding allComplete withTags complete endsInCancel
+after-next NoTag c ts = go (isCancel c)
+  where
+    go : (b : Bool) → ((not b && endsInCancel ts) && true) ≡ completeAfter (cond b Broken Open) ts
+    go true = refl
+    go false = and-true (endsInCancel ts)
+after-next Open c ts = go (isCancel c)
+  where
+    go : (b : Bool) → cond b (isEmpty ts) (endsInCancel ts) ≡ completeAfter (cond b Complete Open) ts
+    go true = refl
+    go false = refl
+after-next Complete c ts = refl
+after-next Broken c ts = refl
+
+-- Of the characters `whole`, the characters `rest` are still to be read, and the tags read led to the state p.
+pub record TagsRead (whole rest : List ℕ) (p : TagState) : Type 0 where
   tags : List ℕ
-  so-far : b ≡ allComplete (withTags tags [])
+  so-far : (ts : List ℕ) → allComplete (withTags (tags ++ ts) []) ≡ completeAfter p ts
   same : allComplete (tagModifications whole) ≡ completeFrom tags rest
 
-pub tags-begin : (t : List ℕ) → TagsRead t t true
-unfolding allComplete withTags
-tags-begin t = record { tags = []; so-far = refl; same = complete-start t }
+pub tags-begin : (t : List ℕ) → TagsRead t t NoTag
+tags-begin t = record { tags = []; so-far = λ ts. refl; same = complete-start t }
 
-last-tag : (ts : List ℕ) (c : ℕ) → eqb c 0xE007F ≡ allComplete (withTags (ts ++ (c ∷ [])) [])
-unfolding allComplete withTags complete
-last-tag [] c = ap (λ (x : ℕ). eqb x 0xE007F) (sym (last-of [] c)) ∙ sym (and-true (eqb (getLastD (c ∷ []) 0) 0xE007F))
-last-tag (d ∷ ts) c =
-    ap (λ (x : ℕ). eqb x 0xE007F) (sym (last-of (d ∷ ts) c)) ∙ sym (and-true (eqb (getLastD ((d ∷ ts) ++ (c ∷ [])) 0) 0xE007F))
+tags-done : {w t : List ℕ} {p : TagState} → TagsRead w t p → t ≡ [] → isComplete p ≡ allComplete (tagModifications w)
+tags-done {p = p} h e =
+    sym (h .same ∙ ap (completeFrom (h .tags)) e ∙ complete-end (h .tags)
+    ∙ ap (λ (l : List ℕ). allComplete (withTags l [])) (sym (append-nil (h .tags))) ∙ h .so-far [] ∙ after-last p)
 
-tags-done : {w t : List ℕ} {b : Bool} → TagsRead w t b → t ≡ [] → b ≡ allComplete (tagModifications w)
-tags-done h e = h .so-far ∙ sym (h .same ∙ ap (completeFrom (h .tags)) e ∙ complete-end (h .tags))
-
-module _ {text : List ℕ} {at v : ℕ} {k : Class} {next : ℕ} (s : Seen text at v k next) {w : List ℕ} {b : Bool}
-    (h : TagsRead w (run inTags (chars (drop at text))) b) where
+module _ {text : List ℕ} {at v : ℕ} {k : Class} {next : ℕ} (s : Seen text at v k next) {w : List ℕ} {p : TagState}
+    (h : TagsRead w (run inTags (chars (drop at text))) p) where
   abbrev rest : List ℕ
   rest = run inTags (chars (drop next text))
 
   on : inTags v ≡ true → run inTags (chars (drop at text)) ≡ v ∷ rest
   on e = ap (run inTags) (s .chars-on) ∙ run-true inTags v (chars (drop next text)) e
 
-  pub tags-tag : k ≡ tag → TagsRead w rest (eqb v 0xE007F)
+  pub tags-tag : k ≡ tag → TagsRead w rest (afterTag p v)
   tags-tag e =
       let t : isTag v ≡ true = tag-test v ∙ ap isTagClass (sym (s .class) ∙ e) in
       record {
         tags = h .tags ++ (v ∷ []);
-        so-far = last-tag (h .tags) v;
+        so-far =
+            λ ts. ap (λ (l : List ℕ). allComplete (withTags l [])) (append-assoc (h .tags) (v ∷ []) ts) ∙ h .so-far (v ∷ ts)
+            ∙ after-next p v ts;
         same = h .same ∙ ap (completeFrom (h .tags)) (on (either-left (isTag v) (isSelector v) t)) ∙ complete-tag (h .tags) v rest t;
       }
 
-  pub tags-selector : k ≡ selector → TagsRead w rest b
+  pub tags-selector : k ≡ selector → TagsRead w rest p
   tags-selector e =
       let t : isSelector v ≡ true = selector-test v ∙ ap isSelectorClass (sym (s .class) ∙ e) in
       record {
@@ -88,11 +124,11 @@ module _ {text : List ℕ} {at v : ℕ} {k : Class} {next : ℕ} (s : Seen text 
         same = h .same ∙ ap (completeFrom (h .tags)) (on (either-right (isTag v) (isSelector v) t)) ∙ complete-selector (h .tags) v rest t;
       }
 
-  pub tags-over : inTags v ≡ false → b ≡ allComplete (tagModifications w)
+  pub tags-over : inTags v ≡ false → isComplete p ≡ allComplete (tagModifications w)
   tags-over e = tags-done h (ap (run inTags) (s .chars-on) ∙ run-false inTags v (chars (drop next text)) e)
 
-pub tags-none : {text : List ℕ} {at : ℕ} {w : List ℕ} {b : Bool} → Unseen text at → TagsRead w (run inTags (chars (drop at text))) b
-    → b ≡ allComplete (tagModifications w)
+pub tags-none : {text : List ℕ} {at : ℕ} {w : List ℕ} {p : TagState} → Unseen text at → TagsRead w (run inTags (chars (drop at text))) p
+    → isComplete p ≡ allComplete (tagModifications w)
 unfolding run
 tags-none u h = tags-done h (ap (run inTags) (u .chars-none))
 

@@ -6,6 +6,7 @@ pub mod Runs
 pub mod RunKinds
 pub mod Structure
 pub mod Tags
+pub mod TagStates
 pub mod Spans
 pub mod TextCheck
 pub mod Peek

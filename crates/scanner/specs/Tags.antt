@@ -1,6 +1,6 @@
--- Whether the tags of an item are complete (document 01, "Item", tag report): `tagsComplete`.
-use mathlib.Core.Bool.{Bool, true, cond, _&&_}
-use mathlib.Core.List.{List, [], _∷_, getLastD}
+-- Whether the tags of an item are complete (document 01, "Item", tag report; document 02, (i)): `tagsComplete`.
+use mathlib.Core.Bool.{Bool, true, false, not, cond, _&&_}
+use mathlib.Core.List.{List, [], _∷_}
 use Prim.Native.Nat.{ℕ}
 use lib.Dec.{eqb}
 use Rattle.unicode.specs.Presentation.{isSelector}
@@ -8,9 +8,23 @@ use Rattle.unicode.specs.Unicode.{isTag}
 use Rattle.scanner.specs.declared.ScanKind.{ScanKind}
 use Rattle.scanner.specs.declared.ScanKind.the-variants.{EmojiHeaded, LinksOnly, Passthrough, UnsanctionedPresentationSelectors}
 
--- The tags of one tag modification, without selectors: ".. has E007F as its last tag".
+abbrev pub isCancel : ℕ → Bool
+isCancel c = eqb c 0xE007F
+
+abbrev pub isEmpty : List ℕ → Bool
+isEmpty [] = true
+isEmpty (c ∷ ts) = false
+
+-- Document 02, (i): ".. E007F last, nowhere earlier ..".
+unfoldable pub endsInCancel : List ℕ → Bool
+endsInCancel [] = false
+endsInCancel (c ∷ ts) = cond (isCancel c) (isEmpty ts) (endsInCancel ts)
+
+-- The tags of one tag modification, "selectors skipped": ".. one or more of E0020 to E007E and then one E007F": "E007F last, nowhere
+-- earlier, and at least one tag before it".
 unfoldable pub complete : List ℕ → Bool
-complete tags = eqb (getLastD tags 0) 0xE007F
+complete [] = false
+complete (c ∷ ts) = not (isCancel c) && endsInCancel ts
 
 -- Whether each of several lists of tags is complete.
 unfoldable pub allComplete : List (List ℕ) → Bool
@@ -34,7 +48,8 @@ tagRuns (c ∷ t) =
 unfoldable pub tagModifications : List ℕ → List (List ℕ)
 tagModifications t = withTags ((tagRuns t) .0) ((tagRuns t) .1)
 
--- ".. when every tag modification in it has E007F as its last tag": only emoji-headed items have tag modifications.
+-- ".. when every tag modification in it .."; document 02, (i): "An item without tags is still complete." Only emoji-headed items have
+-- tag modifications.
 unfoldable pub tagsComplete : ScanKind → List ℕ → Bool
 tagsComplete Passthrough t = true
 tagsComplete UnsanctionedPresentationSelectors t = true

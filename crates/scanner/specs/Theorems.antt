@@ -242,12 +242,20 @@ unfoldable pub TagsAreInStructure : Type 0
 TagsAreInStructure = (t : List ℕ) (x : Item) → List·Memᴰ x (items t) → Structured (x .kind) → tagModifications (x .chars)
     ≡ tagsOf (structure (x .chars))
 
--- "each item carries whether its tags are complete, which they are when every tag modification in it has E007F as its last tag"
+-- Document 02, (i): "E007F last, nowhere earlier, and at least one tag before it".
+pub record TagSequence (tags : List ℕ) : Type 0 where
+  pub before : List ℕ
+  pub last : tags ≡ before ++ (0xE007F ∷ [])
+  pub some-before : before ≢ []
+  pub nowhere-earlier : List·Memᴰ 0xE007F before → ⊥
+
+-- "each item carries whether its tags are complete, which they are when every tag modification in it .."; document 02, (i): "a tag
+-- modification is complete when its tags, selectors skipped, have that shape".
 unfoldable pub TagsCompleteMeans : Type 0
 TagsCompleteMeans =
     (t : List ℕ) (x : Item) → List·Memᴰ x (items t) → x .kind ≡ EmojiHeaded
     → (tagsComplete (x .kind) (x .chars) ≡ true)
-    ↔ ((tags : List ℕ) → List·Memᴰ tags (tagsOf (structure (x .chars))) → (before : List ℕ) × (tags ≡ before ++ (0xE007F ∷ [])))
+    ↔ ((tags : List ℕ) → List·Memᴰ tags (tagsOf (structure (x .chars))) → TagSequence tags)
 
 -- The runs that the code reads class by class (specs/RunKinds.antt) are the runs of specs/Runs.antt.
 unfoldable pub RunsByClass : Type 0
@@ -286,14 +294,29 @@ ItemExamples =
     × (items (0x1F1E6 ∷ 0x1F1E7 ∷ 0x1F1E8 ∷ [])
     ≡ item EmojiHeaded (0x1F1E6 ∷ 0x1F1E7 ∷ []) ∷ item EmojiHeaded (0x1F1E8 ∷ []) ∷ [])
 
--- Examples of the tag report: tags that end in E007F; tags with E007F only before the last tag; a selector after E007F; two tag
--- modifications of which one is not complete; tags that are no modification.
+-- Examples of the tag report (document 02, (i)).
 unfoldable pub TagExamples : Type 0
 TagExamples =
-    (scan (encodeAll (0x1F3F4 ∷ 0xE0067 ∷ 0xE007F ∷ [])) ≡ span 0 12 EmojiHeaded true ∷ [])
-    × (scan (encodeAll (0x1F3F4 ∷ 0xE007F ∷ 0xE0067 ∷ [])) ≡ span 0 12 EmojiHeaded false ∷ [])
-    × (scan (encodeAll (0x1F3F4 ∷ 0xE0067 ∷ 0xFE0F ∷ 0xE007F ∷ 0xFE0F ∷ [])) ≡ span 0 18 EmojiHeaded true ∷ [])
-    × (scan (encodeAll (0x1F3F4 ∷ 0xE0067 ∷ 0x20E3 ∷ 0xE007F ∷ [])) ≡ span 0 15 EmojiHeaded false ∷ [])
+    -- a flag, or another emoji, and E007F alone
+    (scan (encodeAll (0x1F1E6 ∷ 0x1F1E7 ∷ 0xE007F ∷ [])) ≡ span 0 12 EmojiHeaded false ∷ [])
+    × (scan (encodeAll (0x1F3F4 ∷ 0xE007F ∷ [])) ≡ span 0 8 EmojiHeaded false ∷ [])
+    -- one tag and then E007F; E007F twice; E007F earlier
+    × (scan (encodeAll (0x1F3F4 ∷ 0xE0061 ∷ 0xE007F ∷ [])) ≡ span 0 12 EmojiHeaded true ∷ [])
+    × (scan (encodeAll (0x1F3F4 ∷ 0xE007F ∷ 0xE007F ∷ [])) ≡ span 0 12 EmojiHeaded false ∷ [])
+    × (scan (encodeAll (0x1F3F4 ∷ 0xE0061 ∷ 0xE007F ∷ 0xE007F ∷ [])) ≡ span 0 16 EmojiHeaded false ∷ [])
+    × (scan (encodeAll (0x1F3F4 ∷ 0xE007F ∷ 0xE0061 ∷ [])) ≡ span 0 12 EmojiHeaded false ∷ [])
+    × (scan (encodeAll (0x1F3F4 ∷ 0xE0061 ∷ 0xE007F ∷ 0xE0061 ∷ 0xE007F ∷ [])) ≡ span 0 20 EmojiHeaded false ∷ [])
+    -- selectors between the tags and after them are skipped
+    × (scan (encodeAll (0x1F3F4 ∷ 0xE0061 ∷ 0xFE0F ∷ 0xE007F ∷ [])) ≡ span 0 15 EmojiHeaded true ∷ [])
+    × (scan (encodeAll (0x1F3F4 ∷ 0xE0061 ∷ 0xFE0F ∷ 0xE007F ∷ 0xFE0F ∷ [])) ≡ span 0 18 EmojiHeaded true ∷ [])
+    -- 20E3 ends a tag modification: two of them, neither complete; two, both complete
+    × (scan (encodeAll (0x1F3F4 ∷ 0xE0061 ∷ 0x20E3 ∷ 0xE007F ∷ [])) ≡ span 0 15 EmojiHeaded false ∷ [])
+    × (scan (encodeAll (0x1F3F4 ∷ 0xE0061 ∷ 0xE007F ∷ 0x20E3 ∷ 0xE0061 ∷ 0xE007F ∷ [])) ≡ span 0 23 EmojiHeaded true ∷ [])
+    -- two units: the tags of the first are complete, those of the second are not
+    × (scan (encodeAll (0x1F3F4 ∷ 0xE0061 ∷ 0xE007F ∷ 0x200D ∷ 0x1F3F4 ∷ 0xE007F ∷ [])) ≡ span 0 23 EmojiHeaded false ∷ [])
+    -- no tag; tags that are no modification
+    × (scan (encodeAll (0x1F3F4 ∷ [])) ≡ span 0 4 EmojiHeaded true ∷ [])
+    × (scan (encodeAll (0xE007F ∷ [])) ≡ span 0 4 Passthrough true ∷ [])
     × (scan (encodeAll (0x61 ∷ 0xE0067 ∷ [])) ≡ span 0 5 Passthrough true ∷ [])
 
 -- The structure of 1F1E6 FE0F 1F1E7 E0067 FE0E E007F 200D 231A 20E3 FE0F 200D 200D: a flag with one tag modification of two runs,

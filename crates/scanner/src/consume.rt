@@ -2,7 +2,7 @@
 // "Item".
 // Each function returns the offset of the run's end, and equals a run of specs/Runs.antt over the characters from the offset on,
 // for every slice and offset. No function reads past the end of the slice or from inside a character. `consume_emoji_tag_runs` also
-// says whether the last tag of a tag modification is E007F (specs/Tags.antt).
+// says whether a tag modification is complete (specs/Tags.antt): one or more other tags and then one E007F.
 ghost use mathlib.Core.Path.{_≡_};
 ghost use Prim.Native.Nat.{_+_};
 ghost use lib.ListN.{drop};
@@ -11,6 +11,7 @@ ghost use Rattle.scanner.specs.RunKinds.{inRun, runOf};
 ghost use Rattle.scanner.specs.Runs.{modificationsAt, tagModificationAt};
 ghost use Rattle.scanner.specs.Spans.{size, width};
 ghost use Rattle.scanner.specs.Tags.{allComplete, tagModifications};
+ghost use Rattle.scanner.specs.TagStates.{afterTag, isComplete};
 use crate::char_class::Class;
 use crate::char_class::Peeked;
 use crate::char_class::peek;
@@ -18,10 +19,22 @@ use crate::char_class::peek;
 // The tag that ends a complete tag modification.
 pub const CANCEL_TAG: u32 = 0xE007F;
 
-// A tag modification: the offset of its end, and whether it has CANCEL_TAG as its last tag.
+// A tag modification: the offset of its end, and whether it is complete.
 pub struct TagModification {
     pub end: usize,
     pub complete: bool,
+}
+
+// What the tags of a tag modification are, as far as they have been read.
+enum TagState {
+    // no tag
+    NoTag,
+    // one or more tags other than CANCEL_TAG
+    Open,
+    // one or more tags other than CANCEL_TAG, and then one CANCEL_TAG
+    Complete,
+    // CANCEL_TAG as the first tag, or any tag after CANCEL_TAG
+    Broken,
 }
 
 // The runs that are determined by a test on each single character.
@@ -85,6 +98,42 @@ pub fn run_end(text: &[u8], at: usize, kind: RunKind) -> usize
     }
 }
 
+// The state after one more tag.
+fn after_tag(state: TagState, tag: u32) -> TagState
+    ensures { λ r. ⌜ r ≡ afterTag state tag ⌝ }
+{
+    match state {
+        TagState::NoTag => {
+            if tag == CANCEL_TAG {
+                TagState::Broken
+            } else {
+                TagState::Open
+            }
+        }
+        TagState::Open => {
+            if tag == CANCEL_TAG {
+                TagState::Complete
+            } else {
+                TagState::Open
+            }
+        }
+        TagState::Complete => TagState::Broken,
+        TagState::Broken => TagState::Broken,
+    }
+}
+
+// Whether the tags read so far are complete, if no tag follows.
+fn is_complete(state: TagState) -> bool
+    ensures { λ r. ⌜ r ≡ isComplete state ⌝ }
+{
+    match state {
+        TagState::NoTag => true,
+        TagState::Open => false,
+        TagState::Complete => true,
+        TagState::Broken => false,
+    }
+}
+
 // The tag modification at an offset; it is complete if it has no tag. The outer loop passes groups, the inner loop tags and
 // selectors. A tag after a selector begins the next group. The first character that is neither tag nor selector leaves both loops
 // by the label.
@@ -93,7 +142,7 @@ pub fn consume_emoji_tag_runs(text: &[u8], at: usize) -> TagModification
     ensures complete { λ r. ⌜ r .complete ≡ allComplete (tagModifications (tagModificationAt (chars (drop at (now (text .entry)))))) ⌝ }
 {
     let mut end = at;
-    let mut complete = true;
+    let mut state = TagState::NoTag;
     'groups: loop {
         let mut selectors = false;
         loop {
@@ -111,7 +160,7 @@ pub fn consume_emoji_tag_runs(text: &[u8], at: usize) -> TagModification
                             if selectors {
                                 break;
                             }
-                            complete = value == CANCEL_TAG;
+                            state = after_tag(state, value);
                         }
                         _ => {
                             break 'groups;
@@ -125,6 +174,7 @@ pub fn consume_emoji_tag_runs(text: &[u8], at: usize) -> TagModification
             }
         }
     }
+    let complete = is_complete(state);
     TagModification { end, complete }
 }
 

@@ -3,13 +3,14 @@
 use crate::Random;
 
 /// What can stand around an input: nothing; what would go on with its last character; what would belong to its last
-/// item; a policy's unused bits; decisions.
-const AROUND: [&[u8]; 8] = [
+/// item, as E007F, which can make its tags complete; a policy's unused bits; decisions.
+const AROUND: [&[u8]; 9] = [
     b"",
     b"\x80\xBF\x80",
     b"\xEF\xB8\x8F",
     b"\xEF\xB8\x8E\xE2\x83\xA3",
     b"\xE2\x80\x8D\xE2\x9D\xA4",
+    b"\xF3\xA0\x81\xBF",
     b"1",
     b"\xFF\xFF\xFF\xFF\xFF\xFF\xFF\xFF",
     b"\x00\x01\x00\x02",

@@ -11,6 +11,8 @@ pub enum Fault {
     ItemSpan,
     /// The tags of every item are said to be complete.
     TagReport,
+    /// Tags are said to be complete where the last tag of each tag modification is E007F.
+    LastTag,
     /// The first count of the first finding is off by one.
     InventedCount,
     /// The byte after the result is changed.
@@ -60,11 +62,12 @@ pub enum Fault {
 }
 
 /// The faults with their names.
-pub const FAULTS: [(&str, Fault); 27] = [
+pub const FAULTS: [(&str, Fault); 28] = [
     ("keycap-rule", Fault::KeycapRule),
     ("finding-span", Fault::FindingSpan),
     ("item-span", Fault::ItemSpan),
     ("tag-report", Fault::TagReport),
+    ("last-tag", Fault::LastTag),
     ("invented-count", Fault::InventedCount),
     ("byte-after", Fault::ByteAfter),
     ("refusal-writes", Fault::RefusalWrites),

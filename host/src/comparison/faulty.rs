@@ -5,6 +5,8 @@ use std::cell::{Cell, RefCell};
 use super::faults::Fault;
 use crate::calls::{Answer, Calls, FINDING_BYTES, ITEM_BYTES};
 use crate::reference::calls::LONGEST_TEXT;
+use crate::reference::characters::LAST_TAG;
+use crate::reference::items::{Item, Role, items};
 
 /// Calls with a planted fault.
 pub struct Faulty<'a> {
@@ -134,6 +136,13 @@ impl<'a> Faulty<'a> {
     }
 }
 
+/// Whether E007F is the last tag of every tag modification.
+fn ends_in_last_tags(item: &Item) -> bool {
+    let runs = item.parts.chunk_by(|a, b| a.role == b.role);
+    runs.filter(|run| run[0].role == Role::Tag)
+        .all(|run| run[run.len() - 1].character == LAST_TAG)
+}
+
 /// Changes a byte, if it is there.
 fn flip(bytes: &mut [u8], place: usize) {
     if let Some(byte) = bytes.get_mut(place) {
@@ -223,6 +232,10 @@ impl Calls for Faulty<'_> {
             match self.fault {
                 Fault::ItemSpan => flip(rows, 8),
                 Fault::TagReport => rows.chunks_mut(ITEM_BYTES).for_each(|row| row[24] = 1),
+                Fault::LastTag => rows
+                    .chunks_mut(ITEM_BYTES)
+                    .zip(items(text))
+                    .for_each(|(row, item)| row[24] = ends_in_last_tags(&item).into()),
                 _ => {}
             }
         }

@@ -43,7 +43,7 @@ impl Presentation {
     }
 }
 
-/// The last tag of a complete tag modification.
+/// The tag that ends a complete tag modification.
 pub const LAST_TAG: u32 = 0xE_007F;
 
 /// The presentation of a selector.

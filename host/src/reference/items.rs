@@ -1,4 +1,4 @@
-//! Document 01, "Item": the grammar, each choice taking the longest run.
+//! Document 01, "Item": the grammar, each choice taking the longest run. Document 02, (i): complete tags.
 //!
 //! A part of an item is a character that is no selector and S, the selectors after it. What the grammar makes of the
 //! character is the part's role.
@@ -63,13 +63,23 @@ pub struct Item {
 }
 
 impl Item {
-    /// The tag report: "complete when every tag modification in it has E007F as its last tag".
+    /// The tag report: "complete when every tag modification in it" is; document 02, (i): "An item without tags is still
+    /// complete."
     #[must_use]
     pub fn tags_complete(&self) -> bool {
         let runs = self.parts.chunk_by(|a, b| a.role == b.role);
-        runs.filter(|run| run[0].role == Role::Tag)
-            .all(|run| run[run.len() - 1].character == LAST_TAG)
+        runs.filter(|run| run[0].role == Role::Tag).all(is_complete)
     }
+}
+
+/// Whether a tag modification with these tags is complete. Document 02, (i): "its tags, selectors skipped, have that shape:
+/// E007F last, nowhere earlier, and at least one tag before it".
+fn is_complete(tags: &[Part]) -> bool {
+    tags.split_last().is_some_and(|(last, before)| {
+        last.character == LAST_TAG
+            && before.iter().all(|tag| tag.character != LAST_TAG)
+            && !before.is_empty()
+    })
 }
 
 /// The items of a well-formed text, in text order.

@@ -11,7 +11,7 @@
 //! | [`utf8`] | well-formed texts |
 //! | [`characters`] | what a character is |
 //! | [`policy`] | which bytes are a policy, and its rule for a base |
-//! | [`items`] | the grammar of items, and the tag report |
+//! | [`items`] | the grammar of items, and the tag report, as document 02, (i), has it |
 //! | [`rules`] | counts and replacements |
 //! | [`calls`] | formatting, listing, mending and scanning, with their refusals |
 //! | [`book`] | a list of mending calls |

@@ -1,4 +1,4 @@
-//! Items: document 01, "Item".
+//! Items: document 01, "Item"; document 02, (i).
 
 use crate::sys;
 use crate::table::{self, Row, sealed::Read};
@@ -12,7 +12,8 @@ pub struct Item {
     pub end: usize,
     /// What it is.
     pub kind: ItemKind,
-    /// Whether every tag modification in it has E007F as its last tag.
+    /// Whether every tag modification in it is complete: its tags, selectors skipped, are one or more of E0020 to E007E
+    /// and then one E007F. An item without tag modifications is complete; tags in a passthrough belong to none.
     pub tags_complete: bool,
 }
 

@@ -109,6 +109,18 @@ fn items_tile_the_text() {
 }
 
 #[test]
+fn tags_are_complete_by_their_whole_shape() {
+    let complete = |text: &str| {
+        let items = tilghorz::items(text.as_bytes()).expect("a text");
+        items.iter().all(|item| item.tags_complete)
+    };
+    assert!(complete("\u{1F3F4}\u{E0067}\u{FE0F}\u{E007F}"));
+    assert!(complete("\u{E007F}"));
+    assert!(!complete("\u{1F1E6}\u{1F1E7}\u{E007F}"));
+    assert!(!complete("\u{1F3F4}\u{E0067}\u{E007F}\u{E007F}"));
+}
+
+#[test]
 fn mending_takes_the_decisions() {
     let policy = Policy::default();
     let text = "1\u{FE0E} \u{2764}".as_bytes();
