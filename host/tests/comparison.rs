@@ -173,7 +173,7 @@ fn a_fault_that_is_not_reported_is_told() {
         "{text}"
     );
     assert!(
-        text.contains("byte-after          difference in every text"),
+        text.contains("byte-after           difference in every text"),
         "{text}"
     );
 }
