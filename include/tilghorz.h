@@ -11,7 +11,7 @@
  * Answers. Each function returns one word. The top 8 bits of the word are a number, the low 56 bits are a value:
  *
  *   number     meaning                                value
- *   0          done                                   bytes or rows written, or the code point
+ *   0          done                                   bytes or rows written, or the code point; tilghorz_repair has two values
  *   1          text over 16,777,216 bytes             0
  *   2          not a policy                           0
  *   3          text not well-formed                   length of the longest well-formed beginning
@@ -21,6 +21,8 @@
  *   7          table too short                        number of rows needed
  *   8          output too short                       number of bytes needed
  *   255        nothing to do                          0
+ *
+ * If there are two values, the first has the low 28 bits, and the second has the 28 bits above them. Both are below 2^28.
  *
  * The numbers 1 to 8 are refusals. After a refusal, and after "nothing to do", every buffer is unchanged. After "done" the
  * result is at the front of the buffer, and the bytes after the result are unchanged.
@@ -55,6 +57,10 @@ extern "C" {
 #define TILGHORZ_NUMBER(word) ((unsigned)((uint64_t)(word) >> 56))
 #define TILGHORZ_VALUE(word) ((uint64_t)(word) & 0xFFFFFFFFFFFFFF)
 
+/* The two values of an answer that has two. */
+#define TILGHORZ_FIRST(word) ((uint64_t)(word) & 0xFFFFFFF)
+#define TILGHORZ_SECOND(word) ((uint64_t)(word) >> 28 & 0xFFFFFFF)
+
 /* The numbers. */
 #define TILGHORZ_DONE 0
 #define TILGHORZ_TEXT_TOO_LONG 1
@@ -87,6 +93,13 @@ uint64_t tilghorz_mend(const uint8_t *text, size_t text_len, const uint8_t *poli
  * are complete (0 or 1). Tags are complete if the tags of every tag modification of the item, selectors skipped, are one or more of
  * E0020 to E007E and then one E007F. An item without a tag modification has 1; tags in a passthrough belong to none. */
 uint64_t tilghorz_scan(const uint8_t *text, size_t text_len, uint8_t *table, size_t table_len);
+
+/* Writes the text with FFFD in place of each bad place, so that the other functions accept it. Numbers: 1, 8. The text need not be
+ * well-formed. Two values: the number of bytes written, at most 3 times that of the text, and the number of replacements, which is 0
+ * exactly if the text is well-formed. A well-formed text is written too. A bad place is the maximal subpart of the Unicode Standard,
+ * chapter 3: the longest beginning of a character there, or one byte. Limit 1 is on the text; the result may be longer than a text that
+ * the other functions accept. */
+uint64_t tilghorz_repair(const uint8_t *text, size_t text_len, uint8_t *out, size_t out_len);
 
 /* Writes the default policy. Number: 8. Value: the number of bytes written. */
 uint64_t tilghorz_default_policy(uint8_t *out, size_t out_len);

@@ -5,6 +5,7 @@ import re
 import shutil
 import tempfile
 import unittest
+import unittest.mock
 
 import theorem_checks as checks
 
@@ -112,6 +113,11 @@ CHECKS = (
 )
 
 
+# The claimed records of the sound repository.
+CLAIMED_RECORDS = {"ListClaim": "EveryList", "FormattedClaim": "EveryFormattedText"}
+
+
+@unittest.mock.patch.object(checks, "CLAIMED_RECORDS", CLAIMED_RECORDS)
 class Checks(unittest.TestCase):
     def findings(self, check, *changes, removed=()):
         """What a check finds after these changes, each with the end of a file's name, the old text and the new text."""

@@ -22,7 +22,13 @@ OWED = "\n## The statements\n"
 # Names of definitions after their place, as in base/Refusals: `textLimit`, `written`
 PLACE = re.compile(r"\b(\w+)/([A-Z]\w*): ((?:`[^`]+`(?:, | and )?)+)")
 # The records that hold the clauses of a theorem, and the theorem.
-CLAIMED_RECORDS = {"ListClaim": "EveryList", "FormattedClaim": "EveryFormattedText"}
+CLAIMED_RECORDS = {
+    "ListClaim": "EveryList",
+    "FormattedClaim": "EveryFormattedText",
+    "RepairedText": "EveryRepairedText",
+    "RepairCall": "EveryRepairCall",
+    "AfterRepair": "EveryAfterRepair",
+}
 # Names of Rust's standard library that docs/AUDIT.md and docs/DECISIONS.md quote from document 01 or from evfmt.
 OF_RUST = {"Clone", "Debug", "Hash", "Option", "PartialEq", "Peekable", "String", "Vec", "VecDeque"}
 

@@ -31,6 +31,8 @@ pub trait Calls {
     ) -> u64;
     /// `tilghorz_scan`.
     fn scan(&self, text: &[u8], table: &mut [u8]) -> u64;
+    /// `tilghorz_repair`.
+    fn repair(&self, text: &[u8], out: &mut [u8]) -> u64;
     /// `tilghorz_default_policy`.
     fn default_policy(&self, out: &mut [u8]) -> u64;
     /// `tilghorz_variation_entry`.
@@ -88,7 +90,7 @@ impl Display for Answer {
     }
 }
 
-/// The answers of the independent reading of document 01.
+/// The answers of the independent reading of documents 01 and 02.
 pub struct Reference;
 
 impl Calls for Reference {
@@ -113,6 +115,10 @@ impl Calls for Reference {
 
     fn scan(&self, text: &[u8], table: &mut [u8]) -> u64 {
         write(&calls::scan(text), table)
+    }
+
+    fn repair(&self, text: &[u8], out: &mut [u8]) -> u64 {
+        write(&calls::repair(text), out)
     }
 
     fn default_policy(&self, out: &mut [u8]) -> u64 {

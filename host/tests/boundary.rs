@@ -66,6 +66,10 @@ impl Calls for WholeWords {
         Reference.scan(text, table)
     }
 
+    fn repair(&self, text: &[u8], out: &mut [u8]) -> u64 {
+        Reference.repair(text, out)
+    }
+
     fn default_policy(&self, out: &mut [u8]) -> u64 {
         Reference.default_policy(out)
     }

@@ -13,7 +13,7 @@ use tilghorz_comparison::comparison::programs::{Programs, written};
 use tilghorz_comparison::comparison::published::{LISTS, forms, line_texts, texts};
 use tilghorz_comparison::comparison::reduce::{characters, reduced, reduced_text};
 use tilghorz_comparison::comparison::run::{Options, run};
-use tilghorz_comparison::comparison::{limits, text_case};
+use tilghorz_comparison::comparison::{limits, repair_case, text_case};
 use tilghorz_comparison::reference::calls::{Draft, LONGEST_TEXT};
 
 /// A short run.
@@ -43,7 +43,16 @@ fn printed(calls: &dyn Calls, options: &Options) -> (bool, String) {
 fn the_reference_has_no_difference_from_itself() {
     let (is_same, text) = printed(&Reference, &SHORT);
     assert!(is_same, "{text}");
-    for kind in ["tables", "every text", "random", "damaged", "lists"] {
+    let kinds = [
+        "tables",
+        "repair",
+        "every text",
+        "random",
+        "damaged",
+        "repaired",
+        "lists",
+    ];
+    for kind in kinds {
         assert!(text.lines().any(|line| line.starts_with(kind)), "{text}");
     }
     assert!(text.ends_with("no difference\n"), "{text}");
@@ -52,7 +61,8 @@ fn the_reference_has_no_difference_from_itself() {
 #[test]
 fn every_planted_fault_is_reported() {
     for (name, fault) in FAULTS {
-        if AT_LIMITS.iter().any(|(at_limit, _)| *at_limit == fault) {
+        let shows_at_limit = AT_LIMITS.iter().any(|(at_limit, _)| *at_limit == fault);
+        if shows_at_limit || fault == Fault::LimitOnRepaired {
             continue;
         }
         let (is_same, text) = printed(&Faulty::new(&Reference, fault), &SHORT);
@@ -74,6 +84,25 @@ fn faults_at_limits_are_found_in_texts_of_those_lengths() {
         assert_eq!(text_case::check(&Reference, &text, &policy), Ok(()));
         assert!(text_case::check(&Faulty::new(&Reference, fault), &text, &policy).is_err());
     }
+}
+
+#[test]
+fn a_limit_on_the_repaired_text_is_found_in_a_text_that_grows_past_it() {
+    let [bad, _] = repair_case::around_limit(LONGEST_TEXT);
+    assert_eq!(repair_case::check(&Reference, &bad), Ok(()));
+    let faulty = Faulty::new(&Reference, Fault::LimitOnRepaired);
+    assert!(repair_case::check(&faulty, &bad).is_err());
+}
+
+#[test]
+fn every_text_of_bytes_is_handed_over_once() {
+    let mut texts = Vec::new();
+    let visit = |text: &[u8]| {
+        texts.push(text.to_vec());
+        Ok::<(), ()>(())
+    };
+    assert_eq!(repair_case::every_text(b"ab", 2, visit), Ok(()));
+    assert_eq!(texts, [b"aa", b"ba", b"ab", b"bb"]);
 }
 
 #[test]

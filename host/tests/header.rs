@@ -144,7 +144,7 @@ fn trait_functions() -> Vec<Function> {
 }
 
 #[test]
-fn the_header_declares_six_functions() {
+fn the_header_declares_seven_functions() {
     let functions = header_functions();
     let names: Vec<&str> = functions.iter().map(|of| of.name.as_str()).collect();
     let expected = [
@@ -152,12 +152,13 @@ fn the_header_declares_six_functions() {
         "tilghorz_list",
         "tilghorz_mend",
         "tilghorz_scan",
+        "tilghorz_repair",
         "tilghorz_default_policy",
         "tilghorz_variation_entry",
     ];
     assert_eq!(names, expected);
     let numbers: Vec<usize> = functions.iter().map(|of| of.parameters.len()).collect();
-    assert_eq!(numbers, [6, 6, 9, 4, 2, 1]);
+    assert_eq!(numbers, [6, 6, 9, 4, 4, 2, 1]);
 }
 
 #[test]
@@ -281,10 +282,16 @@ fn the_parts_of_a_word_agree_with_the_source() {
             .contains("VALUES: u64 = 0x100_0000_0000_0000;\n")
     );
     assert!(file("tilghorz/src/answer.rs").contains("NUMBER_SHIFT: u32 = 56;\n"));
+    let half = "HALF_VALUES: u64 = 0x1000_0000;\n";
+    assert!(file("../crates/tilghorz/src/answer_word.rt").contains(half));
+    assert!(file("tilghorz/src/answer.rs").contains("SECOND_SHIFT: u32 = 28;\n"));
     let header = file("../include/tilghorz.h");
     assert!(
         header.contains("#define TILGHORZ_NUMBER(word) ((unsigned)((uint64_t)(word) >> 56))\n")
     );
+    assert!(header.contains("#define TILGHORZ_FIRST(word) ((uint64_t)(word) & 0xFFFFFFF)\n"));
+    let second = "#define TILGHORZ_SECOND(word) ((uint64_t)(word) >> 28 & 0xFFFFFFF)\n";
+    assert!(header.contains(second));
     assert!(header.contains("\n#define TILGHORZ_NOTHING_TO_DO 255\n"));
     assert!(header.contains("\n *   255        nothing to do "));
 }

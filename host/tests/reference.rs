@@ -1,4 +1,4 @@
-//! The independent reading of document 01: its worked texts, its sentences, and the crate beside it.
+//! The independent reading of documents 01 and 02: worked texts, sentences, and the crate beside it.
 
 use std::str;
 
@@ -10,7 +10,7 @@ use tilghorz_comparison::comparison::{list_case, text_case};
 use tilghorz_comparison::reference::book::Book;
 use tilghorz_comparison::reference::calls::{Draft, filed, format, list, mend, scan};
 use tilghorz_comparison::reference::policy::default_policy;
-use tilghorz_comparison::reference::{characters, policy, programs, utf8};
+use tilghorz_comparison::reference::{characters, policy, programs, repair, utf8};
 
 /// The numbers of a table.
 fn numbers(draft: &Draft) -> Vec<u64> {
@@ -35,6 +35,48 @@ fn totals(text: &str) -> [u64; 8] {
     Book::new(text.as_bytes(), default_policy())
         .expect("accepted")
         .totals()
+}
+
+#[test]
+fn a_bad_place_has_the_bytes_of_its_maximal_subpart() {
+    let stretches: [(&[u8], usize); 14] = [
+        (b"\xE0\x80\x80", 1),
+        (b"\xED\xA0\x80", 1),
+        (b"\xF4\x90\x80\x80", 1),
+        (b"\xF0\x80\x80\x80", 1),
+        (b"\xE2\x9D", 2),
+        (b"\xE2\x41", 1),
+        (b"\xF0\x9F\x98\x41", 3),
+        (b"\xF0\x9F\x41", 2),
+        (b"\xF4\x8F\xBF", 3),
+        (b"\xC2", 1),
+        (b"\xC0\x80", 1),
+        (b"\xF5\x80", 1),
+        (b"\xFF", 1),
+        (b"\x80\x80", 1),
+    ];
+    for (bytes, length) in stretches {
+        assert_eq!(utf8::first(bytes), None);
+        assert_eq!(repair::stretch(bytes), length, "{bytes:02X?}");
+    }
+    let (text, number) = repair::repaired(b"a\xF0\x9F\x98A\xE0\x80\xE2\x9D");
+    assert_eq!(text, "a\u{FFFD}A\u{FFFD}\u{FFFD}\u{FFFD}".as_bytes());
+    assert_eq!(number, 4);
+}
+
+#[test]
+fn repairing_tests_the_bytes_taken_in_and_then_the_room() {
+    let answer =
+        |text: &[u8], room: usize| Answer::of_word(Reference.repair(text, &mut vec![0; room]));
+    assert_eq!(answer(b"a\xFFb", 5), Answer::new(0, 5 + (1 << 28)));
+    assert_eq!(answer(b"a\xFFb", 4), Answer::new(8, 5));
+    assert_eq!(answer(b"abc", 3), Answer::new(0, 3));
+    assert_eq!(answer(b"abc", 2), Answer::new(8, 3));
+    assert_eq!(
+        answer(&vec![0xFF; 16_777_216], 0),
+        Answer::new(8, 50_331_648)
+    );
+    assert_eq!(answer(&vec![0xFF; 16_777_217], 0), Answer::new(1, 0));
 }
 
 #[test]

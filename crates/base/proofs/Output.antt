@@ -1,12 +1,12 @@
 -- The two ways in which writing a result into a lent buffer can end.
-use mathlib.Core.Path.{_≡_, refl, ap, _∙_}
+use mathlib.Core.Path.{_≡_, refl, ap, _∙_, subst}
 use mathlib.Core.Bool.{Bool, cond}
 use mathlib.Core.List.{List, _++_}
-use Prim.Native.Nat.{ℕ, _+_, _<_, _≤_}
+use Prim.Native.Nat.{ℕ, _+_, _-_, _<_, _≤_}
 use native.Mathlib.Nat.{zero-add}
 use native.Mathlib.Omega.{arith}
-use lib.ListN.{drop, length}
-use lib.Seq.{sets, sets-eq}
+use lib.ListN.{drop, length, length-drop, take}
+use lib.Seq.{length-take-le, sets, sets-eq}
 use borrow.Author.Tests.{le-leb, lt-leb}
 use Rattle.base.specs.Output.{PutAt, Wrote, answerOf, bufferOf, roomFor}
 use Rattle.base.proofs.Answering.{answers}
@@ -41,3 +41,13 @@ bytes-put o o′ at xs h e = record {
   ends = refl;
   bytes = e ∙ ap (λ (t : Bool). cond t (sets o at xs) o) (le-leb (at + length xs) (length o) h);
 }
+
+-- .. of a part of a text
+pub part-put : (o o′ : List ℕ) (at : ℕ) (t : List ℕ) (from to : ℕ) → from ≤ to → to ≤ length t → at + (to - from) ≤ length o
+    → o′ ≡ cond (roomFor (take (to - from) (drop from t)) o at) (sets o at (take (to - from) (drop from t))) o
+    → PutAt o at (take (to - from) (drop from t)) o′ (at + (to - from))
+part-put o o′ at t from to p q r e =
+    let n : length (take (to - from) (drop from t)) ≡ to - from =
+    length-take-le (to - from) (drop from t) (omega (arith, length-drop from t)) in
+    subst (λ (k : ℕ). PutAt o at (take (to - from) (drop from t)) o′ (at + k)) n
+    (bytes-put o o′ at (take (to - from) (drop from t)) (omega arith) e)

@@ -3,7 +3,7 @@
 -- row. A crate that declares another answer type defines the rows of that type from `done`, `nothing` and `refusalRow`.
 use mathlib.Core.Path.{_≡_}
 use mathlib.Core.List.{List}
-use Prim.Native.Nat.{ℕ}
+use Prim.Native.Nat.{ℕ, _+_, _*_, _^_}
 use Rattle.base.specs.Refusals.{After, RefusalRow, refusalRow}
 use Rattle.base.specs.declared.Check.{Check}
 use Rattle.base.specs.declared.Check.the-variants as Check
@@ -18,6 +18,10 @@ use Rattle.base.specs.declared.WriteAnswer.the-variants as Write
 -- The row of a success: the number 0 and a value. Document 01 numbers only refusals.
 abbrev pub done : ℕ → RefusalRow
 done n = record { number = 0; value = n }
+
+-- Two values as one: the first in the low 28 bits, the second above them. An answer that has two says that both are below 2^28.
+abbrev pub twoValues : ℕ → ℕ → ℕ
+twoValues first second = first + second * 2 ^ 28
 
 -- The row of an answer that says there is nothing to do or nothing to return: the number 255.
 abbrev pub nothing : RefusalRow

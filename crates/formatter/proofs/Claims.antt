@@ -1,6 +1,7 @@
--- The proof of each statement of specs/Theorems.antt and specs/Worked.antt.
+-- The proof of each statement of specs/Theorems.antt, specs/AfterRepair.antt and specs/Worked.antt.
 use mathlib.Core.Path.{refl}
 use Rattle.base.specs.Words.{bytesOf, littleEndian, wordBytes}
+use Rattle.formatter.specs.AfterRepair.{EveryAfterRepair, RepairMayPassLimit}
 use Rattle.formatter.specs.List.{countNumbers, rowNumbers}
 use Rattle.formatter.specs.Theorems.{
   CellByCell,
@@ -15,6 +16,7 @@ use Rattle.formatter.specs.Theorems.{
   MendsTestAlike,
 }
 use Rattle.formatter.specs.Worked.{ExampleCalls, WorkedList, WorkedListClaimed, WorkedTexts}
+use Rattle.formatter.proofs.AfterRepair.{after-repair, passes-limit}
 use Rattle.formatter.proofs.ByReplacement.{by-replacement, test-alike}
 use Rattle.formatter.proofs.CellView.{cell-view}
 use Rattle.formatter.proofs.FormattedClaim.{formatted-claim}
@@ -56,6 +58,14 @@ every-formatted-text policy first a = formatted-claim policy first a
 pub cell-by-cell : CellByCell
 unfolding CellByCell
 cell-by-cell text policy = cell-view text policy
+
+pub every-after-repair : EveryAfterRepair
+unfolding EveryAfterRepair
+every-after-repair text policy = after-repair text policy
+
+pub repair-may-pass-limit : RepairMayPassLimit
+unfolding RepairMayPassLimit
+repair-may-pass-limit = passes-limit
 
 pub worked-texts : WorkedTexts
 worked-texts = texts .0

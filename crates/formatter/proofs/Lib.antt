@@ -22,4 +22,5 @@ pub mod ListClaim
 pub mod FormattedClaim
 pub mod Steps
 pub mod RowBytes
+pub mod AfterRepair
 pub mod Claims

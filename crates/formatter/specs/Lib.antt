@@ -8,4 +8,5 @@ pub mod Filed
 pub mod Book
 pub mod Demand3
 pub mod Worked
+pub mod AfterRepair
 pub mod Theorems

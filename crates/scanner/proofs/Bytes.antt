@@ -8,7 +8,7 @@ use native.Mathlib.Omega.{arith}
 use lib.ListN.{length, take, drop, getD, length-append}
 use lib.Seq.{take-append-seam, drop-append-seam, drop-append-le, drop-drop}
 use Rattle.utf8.specs.Rfc3629.{readChar, chars, validUpTo, isScalar, allScalar, encode, encodeAll}
-use Rattle.utf8.specs.declared.ReadChar.the-variants.{Char, IllFormed}
+use Rattle.utf8.specs.declared.ReadChar.the-variants.{Char}
 use Rattle.base.proofs.Tests.{both-true, le-or-lt}
 use Rattle.utf8.proofs.Encoding.{encode-1, encode-2, encode-3, encode-4, encode-few}
 use Rattle.utf8.proofs.Values.{ill-formed-80-C1}
@@ -78,12 +78,13 @@ record TailFirst (s : List ℕ) : Type 0 where
   low : 0x80 ≤ byte
   high : byte ≤ 0xBF
 
-tail-ill-formed : (s : List ℕ) → TailFirst s → readChar s ≡ IllFormed
+tail-no-chars : (s : List ℕ) → TailFirst s → chars s ≡ []
 unfolding readChar
-tail-ill-formed s f =
-    ap readChar (f .bytes)
+tail-no-chars s f =
+    chars-ill-formed s
+    (ap readChar (f .bytes)
     ∙ sym (ill-formed-80-C1 (f .byte) (getD (f .rest) 0 0) (getD (f .rest) 1 0) (getD (f .rest) 2 0) (f .low)
-    (let h = f .high in omega arith))
+    (let h = f .high in omega arith)))
 
 inside : (v k : ℕ) → 0 < k → k < length (encode v) → TailFirst (drop k (encode v))
 inside v k p q =
@@ -149,4 +150,4 @@ chars-inside text at v w k e p q =
     let d : drop (at + k) text ≡ drop k (encode v) ++ drop (at + w) text =
     sym (drop-drop k at text) ∙ ap (drop k) (sym (s .bytes)) ∙ drop-append-le k (encode v) (drop (at + w) text) l in
     let f = inside v k p (let m = s .width in omega arith) in
-    ap chars d ∙ chars-ill-formed _ (tail-ill-formed _ (tail-append (drop (at + w) text) f))
+    ap chars d ∙ tail-no-chars _ (tail-append (drop (at + w) text) f)

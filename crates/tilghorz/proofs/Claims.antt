@@ -1,22 +1,30 @@
--- The proof of the statement of specs/Theorems.antt.
+-- The proof of each statement of specs/Theorems.antt.
 use native.Mathlib.Omega.{arith}
 use Rattle.unicode.specs.Unicode.{variationEntry}
 use Rattle.analysis.specs.Decisions.{mendRow}
 use Rattle.base.specs.Answers.{listRow, writeRow}
 use Rattle.formatter.specs.Format.{formatRow}
 use Rattle.unicode.specs.Rows.{entryRow}
-use Rattle.tilghorz.specs.Theorems.{WordsDetermineAnswers}
+use Rattle.repair.specs.Repair.{repairRow}
+use Rattle.repair.proofs.Outcomes.{the-call}
+use Rattle.tilghorz.specs.Theorems.{WordsDetermineAnswers, WordsHaveBothValues}
 use Rattle.tilghorz.proofs.SmallAnswers.{default-small, entry-small, format-small, items-small, list-small, mend-small}
 use Rattle.base.proofs.Rows.{list-rows, write-rows}
-use Rattle.tilghorz.proofs.Telling.{entry-rows, format-rows, mend-rows, tell}
+use Rattle.tilghorz.proofs.Telling.{both-values, entry-rows, format-rows, mend-rows, repair-rows, repair-small, tell}
 
 pub words-determine-answers : WordsDetermineAnswers
 unfolding WordsDetermineAnswers
 words-determine-answers = (
-  tell formatRow _ (λ c. omega (arith, format-small (c .0) (c .1) (c .2))) format-rows,
-  tell listRow _ (λ c. omega (arith, list-small (c .0) (c .1) (c .2))) list-rows,
-  tell mendRow _ (λ c. omega (arith, mend-small (c .0) (c .1) (c .2 .offset) (c .2 .decisions) (c .2 .out))) mend-rows,
-  tell listRow _ (λ c. omega (arith, items-small (c .0) (c .1))) list-rows,
-  tell writeRow _ (λ out. omega (arith, default-small out)) write-rows,
-  tell entryRow variationEntry (λ i. omega (arith, entry-small i)) entry-rows,
+  tell formatRow _ (λ c. omega (arith, format-small (c .0) (c .1) (c .2))) (λ i j. format-rows _ _),
+  tell listRow _ (λ c. omega (arith, list-small (c .0) (c .1) (c .2))) (λ i j. list-rows _ _),
+  tell mendRow _ (λ c. omega (arith, mend-small (c .0) (c .1) (c .2 .offset) (c .2 .decisions) (c .2 .out))) (λ i j. mend-rows _ _),
+  tell listRow _ (λ c. omega (arith, items-small (c .0) (c .1))) (λ i j. list-rows _ _),
+  tell writeRow _ (λ out. omega (arith, default-small out)) (λ i j. write-rows _ _),
+  tell entryRow variationEntry (λ i. omega (arith, entry-small i)) (λ i j. entry-rows _ _),
+  tell repairRow _ (λ c. repair-small _ (the-call (c .0) (c .1) .small) (the-call (c .0) (c .1) .small-refusal))
+      (λ i j. repair-rows _ _ (the-call (i .0) (i .1) .small) (the-call (j .0) (j .1) .small)),
 )
+
+pub words-have-both-values : WordsHaveBothValues
+unfolding WordsHaveBothValues
+words-have-both-values text out = both-values _ (the-call text out .small)

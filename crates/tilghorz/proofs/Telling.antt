@@ -1,8 +1,9 @@
 -- The word of a row with a small value determines the row, and a row determines its answer.
-use mathlib.Core.Path.{_≡_, refl, ap}
-use Prim.Native.Nat.{_/_, _%_, _^_, _<_}
+use mathlib.Core.Path.{_≡_, refl, ap, ap₂, _∙_}
+use Prim.Native.Nat.{ℕ, _/_, _%_, _^_, _<_}
 use native.Mathlib.Omega.{arith}
-use Rattle.base.specs.Refusals.{RefusalRow}
+use Rattle.base.specs.Refusals.{RefusalRow, refusalRow}
+use Rattle.base.specs.declared.Refusal.{Refusal}
 use Rattle.base.proofs.Rows.{num, refusal-numbers, refusals, val}
 use Rattle.unicode.specs.declared.VariationEntry.{VariationEntry}
 use Rattle.unicode.specs.declared.VariationEntry.the-variants.{Char, NoEntry}
@@ -12,6 +13,9 @@ use Rattle.formatter.specs.declared.FormatAnswer.{FormatAnswer}
 use Rattle.formatter.specs.declared.FormatAnswer.the-variants as Format
 use Rattle.analysis.specs.Decisions.{mendRow}
 use Rattle.formatter.specs.Format.{formatRow}
+use Rattle.repair.specs.Repair.{repairRow}
+use Rattle.repair.specs.declared.RepairAnswer.{RepairAnswer}
+use Rattle.repair.specs.declared.RepairAnswer.the-variants as Repair
 use Rattle.tilghorz.specs.AnswerWord.{word}
 use Rattle.unicode.specs.Rows.{entryRow}
 use Rattle.tilghorz.specs.Theorems.{Tell}
@@ -31,9 +35,9 @@ same-row r s h k e =
     λ i. record { number = n i; value = v i }
 
 pub tell : {I A : Type 0} (row : A → RefusalRow) (answer : I → A) → ((i : I) → row (answer i) .value < 2 ^ 56)
-    → ((a b : A) → row a ≡ row b → a ≡ b) → Tell row answer
+    → ((i j : I) → row (answer i) ≡ row (answer j) → answer i ≡ answer j) → Tell row answer
 tell row answer small rows = record {
-  same = λ i j e. rows (answer i) (answer j) (same-row (row (answer i)) (row (answer j)) (small i) (small j) e);
+  same = λ i j e. rows i j (same-row (row (answer i)) (row (answer j)) (small i) (small j) e);
   number = λ i. number-of (row (answer i)) (small i);
   value = λ i. value-of (row (answer i)) (small i);
 }
@@ -65,3 +69,45 @@ entry-rows (Char c) (Char d) e = ap Char (val e)
 entry-rows (Char c) NoEntry e = absurd (omega (arith, num e))
 entry-rows NoEntry (Char c) e = absurd (omega (arith, num e))
 entry-rows NoEntry NoEntry e = refl
+
+-- ---- two values below 2^28 in one
+
+-- What is known of an answer's two values.
+abbrev pub BothSmall : RepairAnswer → Type 0
+BothSmall a = (n k : ℕ) → a ≡ Repair.Repaired n k → (n < 2 ^ 28) × (k < 2 ^ 28)
+
+pub repair-rows : (a b : RepairAnswer) → BothSmall a → BothSmall b → repairRow a ≡ repairRow b → a ≡ b
+unfolding repairRow
+repair-rows (Repair.Repaired n k) (Repair.Repaired m l) p q e =
+    let x = p n k refl in
+    let y = q m l refl in
+    let f : n ≡ m = omega (arith, val e) in
+    let g : k ≡ l = omega (arith, val e) in
+    ap₂ (λ (i j : ℕ). Repair.Repaired i j) f g
+repair-rows (Repair.Repaired n k) (Repair.Refused r) p q e = absurd (omega (arith, num e, refusal-numbers r))
+repair-rows (Repair.Refused r) (Repair.Repaired n k) p q e = absurd (omega (arith, num e, refusal-numbers r))
+repair-rows (Repair.Refused r) (Repair.Refused s) p q e = ap Repair.Refused (refusals r s e)
+
+-- A small answer's value is small.
+pub repair-small : (a : RepairAnswer) → BothSmall a → ((r : Refusal) → a ≡ Repair.Refused r → refusalRow r .value < 2 ^ 28)
+    → repairRow a .value < 2 ^ 56
+unfolding repairRow
+repair-small (Repair.Repaired n k) p q = let x = p n k refl in omega arith
+repair-small (Repair.Refused r) p q = omega (arith, q r refl)
+
+both : (n k : ℕ) → (n < 2 ^ 28) × (k < 2 ^ 28)
+    → (word (repairRow (Repair.Repaired n k)) % 2 ^ 28 ≡ n) × (word (repairRow (Repair.Repaired n k)) / 2 ^ 28 ≡ k)
+unfolding repairRow
+both n k h = (omega arith, omega arith)
+
+pub both-values : (a : RepairAnswer) → BothSmall a → (n k : ℕ) → a ≡ Repair.Repaired n k
+    → (n < 2 ^ 28) × (k < 2 ^ 28) × (word (repairRow a) % 2 ^ 28 ≡ n) × (word (repairRow a) / 2 ^ 28 ≡ k)
+both-values a p n k e =
+    let h = p n k e in
+    let b = both n k h in (
+      h .0,
+      h .1,
+      ap (λ (a : RepairAnswer). word (repairRow a) % 2 ^ 28) e ∙ b .0,
+      ap (λ (a : RepairAnswer). word (repairRow a) / 2 ^ 28) e
+          ∙ b .1,
+    )

@@ -1,7 +1,7 @@
--- The theorem about the answer words. It is proved in proofs/Claims.antt.
+-- The theorems about the answer words. They are proved in proofs/Claims.antt.
 use mathlib.Core.Path.{_≡_}
 use mathlib.Core.List.{List}
-use Prim.Native.Nat.{ℕ, _/_, _%_, _^_}
+use Prim.Native.Nat.{ℕ, _/_, _%_, _^_, _<_}
 use Rattle.base.specs.Output.{answerOf}
 use Rattle.base.specs.Refusals.{RefusalRow}
 use Rattle.unicode.specs.Unicode.{variationEntry}
@@ -13,6 +13,8 @@ use Rattle.formatter.specs.Mend.{Call, mendCall}
 use Rattle.analysis.specs.Decisions.{mendRow}
 use Rattle.base.specs.Answers.{listRow, writeRow}
 use Rattle.formatter.specs.Format.{formatRow}
+use Rattle.repair.specs.Repair.{repair, repairRow}
+use Rattle.repair.specs.declared.RepairAnswer.the-variants.{Repaired}
 use Rattle.tilghorz.specs.AnswerWord.{word}
 use Rattle.unicode.specs.Rows.{entryRow}
 
@@ -23,7 +25,8 @@ pub record Tell {I A : Type 0} (row : A → RefusalRow) (answer : I → A) : Typ
   pub number : (i : I) → word (row (answer i)) / 2 ^ 56 ≡ row (answer i) .number
   pub value : (i : I) → word (row (answer i)) % 2 ^ 56 ≡ row (answer i) .value
 
--- The words of each C function determine its answers: formatting, listing findings, mending, listing items, the default policy, an entry.
+-- The words of each C function determine its answers: formatting, listing findings, mending, listing items, the default policy, an entry,
+-- repairing.
 unfoldable pub WordsDetermineAnswers : Type 0
 WordsDetermineAnswers =
     Tell formatRow (λ (c : List ℕ × List ℕ × List ℕ). format (c .0) (c .1) (c .2) .answer)
@@ -32,3 +35,11 @@ WordsDetermineAnswers =
     × Tell listRow (λ (c : List ℕ × List ℕ). listItems (c .0) (c .1) .answer)
     × Tell writeRow (λ (out : List ℕ). answerOf (policyBytes defaultPolicy) out)
     × Tell entryRow variationEntry
+    × Tell repairRow (λ (c : List ℕ × List ℕ). repair (c .0) (c .1) .answer)
+
+-- A word of two values has both: the low 28 bits are the length of the repaired text, the 28 bits above them the number of replacements.
+unfoldable pub WordsHaveBothValues : Type 0
+WordsHaveBothValues =
+    (text out : List ℕ) (len replaced : ℕ) → repair text out .answer ≡ Repaired len replaced
+    → (len < 2 ^ 28) × (replaced < 2 ^ 28) × (word (repairRow (repair text out .answer)) % 2 ^ 28 ≡ len)
+    × (word (repairRow (repair text out .answer)) / 2 ^ 28 ≡ replaced)

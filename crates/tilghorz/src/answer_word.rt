@@ -3,8 +3,9 @@ ghost use mathlib.Core.Path.{_≡_};
 ghost use Prim.Native.Nat.{_≤_};
 ghost use Rattle.base.specs.Refusals.{refusalRow};
 ghost use Rattle.analysis.specs.Decisions.{mendRow};
-ghost use Rattle.base.specs.Answers.{listRow, writeRow};
+ghost use Rattle.base.specs.Answers.{listRow, twoValues, writeRow};
 ghost use Rattle.formatter.specs.Format.{formatRow};
+ghost use Rattle.repair.specs.Repair.{repairRow};
 ghost use Rattle.tilghorz.specs.AnswerWord.{word};
 ghost use Rattle.unicode.specs.Rows.{entryRow};
 use analysis::types::MendAnswer;
@@ -14,10 +15,14 @@ use base::WriteAnswer;
 use base::refusals::refusal_number;
 use base::refusals::refusal_value;
 use formatter::FormatAnswer;
+use repair::RepairAnswer;
 use unicode::VariationEntry;
 
 // One more than the largest value of a word: values have 56 bits.
 const VALUES: u64 = 0x100_0000_0000_0000;
+
+// One more than the largest value where a word has two: each has 28 bits.
+const HALF_VALUES: u64 = 0x1000_0000;
 
 // The number of an answer that says "nothing to do": the text needs no change, or there is no such entry.
 const NOTHING: u64 = 255;
@@ -28,6 +33,13 @@ fn word_of(number: u64, value: usize) -> u64
     ensures { λ r. ⌜ r ≡ word (record { number = number; value = value }) ⌝ }
 {
     number * VALUES + value as u64 % VALUES
+}
+
+// The word of two values.
+fn word_of_two(first: usize, second: usize) -> u64
+    ensures { λ r. ⌜ r ≡ word (record { number = 0; value = twoValues first second }) ⌝ }
+{
+    (first as u64 % VALUES + second as u64 % HALF_VALUES * HALF_VALUES) % VALUES
 }
 
 // The word of a refusal.
@@ -85,5 +97,15 @@ pub fn entry_word(entry: VariationEntry) -> u64
     match entry {
         VariationEntry::Char(ch) => word_of(0, ch as usize),
         VariationEntry::NoEntry => word_of(NOTHING, 0),
+    }
+}
+
+// The word of the answer to taking damaged text in.
+pub fn repair_word(answer: RepairAnswer) -> u64
+    ensures { λ r. ⌜ r ≡ word (repairRow answer) ⌝ }
+{
+    match answer {
+        RepairAnswer::Repaired { len, replaced } => word_of_two(len, replaced),
+        RepairAnswer::Refused(refusal) => refusal_word(refusal),
     }
 }

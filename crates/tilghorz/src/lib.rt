@@ -14,12 +14,14 @@ ghost use Rattle.formatter.specs.Mend.{mend};
 ghost use Rattle.analysis.specs.Decisions.{mendRow};
 ghost use Rattle.base.specs.Answers.{listRow, writeRow};
 ghost use Rattle.formatter.specs.Format.{formatRow};
+ghost use Rattle.repair.specs.Repair.{repair, repairRow};
 ghost use Rattle.tilghorz.specs.AnswerWord.{word};
 ghost use Rattle.unicode.specs.Rows.{entryRow};
 use answer_word::entry_word;
 use answer_word::format_word;
 use answer_word::list_word;
 use answer_word::mend_word;
+use answer_word::repair_word;
 use answer_word::write_word;
 use policy::Policy;
 
@@ -67,6 +69,16 @@ pub extern "C" fn tilghorz_scan(text: &[u8], table: &mut [u8]) -> u64
     ensures bytes { λ _. ⌜ now (table .exit) ≡ listItems (now (text .entry)) (now (table .entry)) .buffer ⌝ }
 {
     list_word(listing::items::list_items(text, table))
+}
+
+// Writes a text with FFFD in place of each bad place. It may answer the refusals 1 and 8. The low 28 bits of its value are the length
+// written, and the bits above them the number of replacements.
+#[no_mangle]
+pub extern "C" fn tilghorz_repair(text: &[u8], out: &mut [u8]) -> u64
+    ensures word { λ r. ⌜ r ≡ word (repairRow (repair (now (text .entry)) (now (out .entry)) .answer)) ⌝ }
+    ensures bytes { λ _. ⌜ now (out .exit) ≡ repair (now (text .entry)) (now (out .entry)) .buffer ⌝ }
+{
+    repair_word(repair::repair(text, out))
 }
 
 // Writes the bytes of the default policy. It may answer refusal 8.

@@ -1,10 +1,14 @@
 -- The proof of each statement of specs/Theorems, under the statement's name.
 use mathlib.Core.Path.{refl, ap, _∙_}
+use mathlib.Core.Logic.{⊎-elim}
 use Rattle.utf8.specs.Rfc3629.{
   utf8-1,
   utf8-2,
   utf8-3,
   utf8-4,
+  begun-2,
+  begun-3,
+  subpart,
   readFour,
   readChar,
   foldStep,
@@ -14,6 +18,7 @@ use Rattle.utf8.specs.Rfc3629.{
   encode,
   encodeAll,
 }
+use Rattle.utf8.specs.Subparts.{unfinished}
 use Rattle.utf8.specs.Theorems.{
   AsciiEndIsLongest,
   CharsAreScalar,
@@ -22,6 +27,9 @@ use Rattle.utf8.specs.Theorems.{
   ReadCharIff,
   ReadEnd,
   Rfc3629Examples,
+  SubpartIsMaximal,
+  UnfinishedMeans,
+  UnfinishedRest,
   WellFormedIffEncoding,
   WellFormedIffWhole,
 }
@@ -30,6 +38,9 @@ use Rattle.utf8.proofs.Fronts.{readChar-nil}
 use Rattle.utf8.proofs.Encoding.{end-empty}
 use Rattle.utf8.proofs.Texts.{chars-encodeAll-alone, encodeAll-chars, chars-allScalar, validUpTo-le, readChar-iff}
 use Rattle.utf8.proofs.Grammar.{well-formed-whole, whole-well-formed, encoding-well-formed, longest-well-formed, none-longer}
+use Rattle.utf8.proofs.Completions.{goes-on, more-bytes}
+use Rattle.utf8.proofs.Subparts.{bad-maximal, maximal-reads}
+use Rattle.utf8.proofs.Unfinished.{can-go-on, is-unfinished}
 
 pub decode-encode : DecodeEncode
 unfolding DecodeEncode
@@ -59,10 +70,23 @@ pub read-end : ReadEnd
 unfolding ReadEnd
 read-end s = (end-empty s, λ e. ap readChar e ∙ readChar-nil)
 
+pub subpart-is-maximal : SubpartIsMaximal
+unfolding SubpartIsMaximal
+subpart-is-maximal s n = (bad-maximal s n, maximal-reads s n)
+
+pub unfinished-means : UnfinishedMeans
+unfolding UnfinishedMeans unfinished
+unfinished-means u = (goes-on u, ⊎-elim (λ e. ap unfinished e) (λ g. more-bytes u (g .0) (g .1) (g .2)))
+
+pub unfinished-rest : UnfinishedRest
+unfolding UnfinishedRest
+unfinished-rest s = (can-go-on s, λ g. is-unfinished s (g .0) (g .1))
+
 pub ascii-end-is-longest : AsciiEndIsLongest
 unfolding AsciiEndIsLongest
 ascii-end-is-longest s from end = (longest-at, λ h. at-longest (h .0) (h .1))
 
 pub rfc3629-examples : Rfc3629Examples
-unfolding Rfc3629Examples utf8-1 utf8-2 utf8-3 utf8-4 readFour readChar foldStep foldChars chars validUpTo encode encodeAll
-rfc3629-examples = (refl, refl, refl, refl, refl)
+unfolding Rfc3629Examples utf8-1 utf8-2 utf8-3 utf8-4 begun-2 begun-3 subpart readFour readChar foldStep foldChars chars validUpTo encode
+    encodeAll
+rfc3629-examples = (refl, refl, refl, refl, refl, refl)

@@ -7,7 +7,7 @@ use Prim.Native.Nat.{ℕ, _+_, _/_, _%_, _≤_}
 use native.Mathlib.Omega.{arith}
 use lib.ListN.{getD, length, drop}
 use borrow.Author.Tests.{le-leb, lt-leb}
-use Rattle.utf8.specs.Rfc3629.{value-2, value-3, value-4, readChar, isScalar, encode}
+use Rattle.utf8.specs.Rfc3629.{value-2, value-3, value-4, readChar, subpartOf, isScalar, encode}
 use Rattle.utf8.specs.declared.ReadChar.{ReadChar}
 use Rattle.utf8.specs.declared.ReadChar.the-variants.{Char, IllFormed, End}
 use Rattle.base.proofs.Tests.{In, le-or-lt}
@@ -74,7 +74,7 @@ pub record BeginsWith (s : List ℕ) (v w : ℕ) : Type 0 where
 -- The fact about s that a result of `readChar` states.
 abbrev pub Says : List ℕ → ReadChar → Type 0
 Says s (Char v w) = BeginsWith s v w
-Says s IllFormed = Unit {0}
+Says s (IllFormed n) = n ≡ subpartOf s
 Says s End = s ≡ []
 
 -- A byte that is not 0 is not after the end of s.
@@ -126,6 +126,7 @@ module _ (a : ℕ) (s : List ℕ) where
 
   -- The fact that a row states: its bytes are in the text, and are the encoding of the value.
   pub row-says : {r : ReadChar} → Row a b c d r → Says (a ∷ s) r
+  unfolding subpartOf
   row-says (one p) = begins a (a ∷ []) (encode-1 a (p .high)) (isScalar-low a (omega arith)) (omega arith) (omega arith) refl
   row-says (two p q) =
       begins (value-2 a b) (a ∷ b ∷ []) (encode-value-2 a b p q) (isScalar-low _ (omega arith)) (omega arith) (omega arith)
@@ -137,7 +138,7 @@ module _ (a : ℕ) (s : List ℕ) where
   row-says (four₁ p q r t) = begins-4 (omega arith) (omega arith) r t (omega arith) (omega arith)
   row-says (four₂ p q r t) = begins-4 (omega arith) q r t (omega arith) (omega arith)
   row-says (four₃ p q r t) = begins-4 (omega arith) (omega arith) r t (omega arith) (omega arith)
-  row-says none = tt
+  row-says none = refl
 
 pub readChar-says : (s : List ℕ) → Says s (readChar s)
 unfolding readChar
@@ -149,3 +150,6 @@ char-begins s v w e = subst (Says s) e (readChar-says s)
 
 pub end-empty : (s : List ℕ) → readChar s ≡ End → s ≡ []
 end-empty s e = subst (Says s) e (readChar-says s)
+
+pub ill-formed-width : (s : List ℕ) (n : ℕ) → readChar s ≡ IllFormed n → n ≡ subpartOf s
+ill-formed-width s n e = subst (Says s) e (readChar-says s)

@@ -10,7 +10,7 @@ use Rattle.utf8.specs.declared.ReadChar.the-variants.{Char, IllFormed, E
 use Rattle.utf8.proofs.Encoding.{char-begins}
 use Rattle.utf8.proofs.Fronts.{readChar-nil}
 
-drop-past : (w a : ℕ) (s : List ℕ) → 1 ≤ w → drop (w - 1) s ≡ drop w (a ∷ s)
+pub drop-past : (w a : ℕ) (s : List ℕ) → 1 ≤ w → drop (w - 1) s ≡ drop w (a ∷ s)
 drop-past zero a s h = absurd (omega arith)
 drop-past (suc w) a s h = let e : suc w - 1 ≡ w = omega arith in ap (λ (n : ℕ). drop n s) e
 
@@ -21,7 +21,7 @@ module _ {A : Type 0} (stop : A) (more : ℕ → ℕ → A → A) where
   foldChars-skip (suc k) [] = refl
   foldChars-skip (suc k) (a ∷ s) = foldChars-skip k s
 
-  pub foldChars-ill-formed : (s : List ℕ) → readChar s ≡ IllFormed → foldChars stop more 0 s ≡ stop
+  pub foldChars-ill-formed : (s : List ℕ) {n : ℕ} → readChar s ≡ IllFormed n → foldChars stop more 0 s ≡ stop
   unfolding foldChars foldStep
   foldChars-ill-formed [] e = refl
   foldChars-ill-formed (a ∷ s) e = ap (λ (r : ReadChar). foldStep stop more r (λ w. foldChars stop more (w - 1) s)) e
@@ -41,7 +41,7 @@ module _ {A : Type 0} (stop : A) (more : ℕ → ℕ → A → A) where
 
 -- ---- the characters, and the longest well-formed prefix
 
-pub chars-ill-formed : (s : List ℕ) → readChar s ≡ IllFormed → chars s ≡ []
+pub chars-ill-formed : (s : List ℕ) {n : ℕ} → readChar s ≡ IllFormed n → chars s ≡ []
 unfolding chars
 chars-ill-formed s e = foldChars-ill-formed [] (λ v w r. v ∷ r) s e
 
@@ -53,7 +53,7 @@ pub chars-char : (s : List ℕ) (v w : ℕ) → readChar s ≡ Char v w → char
 unfolding chars
 chars-char s v w e = foldChars-char [] (λ v w r. v ∷ r) s v w e
 
-pub validUpTo-ill-formed : (s : List ℕ) → readChar s ≡ IllFormed → validUpTo s ≡ 0
+pub validUpTo-ill-formed : (s : List ℕ) {n : ℕ} → readChar s ≡ IllFormed n → validUpTo s ≡ 0
 unfolding validUpTo
 validUpTo-ill-formed s e = foldChars-ill-formed 0 (λ v w r. w + r) s e
 
@@ -69,7 +69,7 @@ validUpTo-char s v w e = foldChars-char 0 (λ v w r. w + r) s v w e
 
 pub data Reading : List ℕ → Type 0 where
   read-end : {s : List ℕ} → readChar s ≡ End → Reading s
-  read-ill-formed : {s : List ℕ} → readChar s ≡ IllFormed → Reading s
+  read-ill-formed : {s : List ℕ} {n : ℕ} → readChar s ≡ IllFormed n → Reading s
   read-more : {s : List ℕ} (v w : ℕ) → readChar s ≡ Char v w → Reading (drop w s) → Reading s
 
 reading-from : (k : ℕ) (s : List ℕ) → Reading (drop k s)
@@ -80,7 +80,7 @@ reading-from zero (a ∷ s) = go (readChar (a ∷ s)) refl (λ w. reading-from (
   where
     go : (r : ReadChar) → readChar (a ∷ s) ≡ r → ((w : ℕ) → Reading (drop (w - 1) s)) → Reading (a ∷ s)
     go End e ih = read-end e
-    go IllFormed e ih = read-ill-formed e
+    go (IllFormed n) e ih = read-ill-formed e
     go (Char v w) e ih = read-more v w e (subst Reading (drop-past w a s (char-begins (a ∷ s) v w e .some)) (ih w))
 
 pub reading : (s : List ℕ) → Reading s

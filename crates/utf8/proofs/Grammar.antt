@@ -15,10 +15,10 @@ use Rattle.utf8.proofs.Fronts.{readChar-nil}
 use Rattle.utf8.proofs.Texts.{validUpTo-encode, encodeAll-chars, encodeAll-chars-take, chars-allScalar, none-longer-whole}
 
 -- The bytes bs are the encoding of a scalar value.
-record Encodes (bs : List ℕ) : Type 0 where
-  value : ℕ
-  is-scalar : isScalar value ≡ true
-  bytes : encode value ≡ bs
+pub record Encodes (bs : List ℕ) : Type 0 where
+  pub value : ℕ
+  pub is-scalar : isScalar value ≡ true
+  pub bytes : encode value ≡ bs
 
 begins-encodes : (bs : List ℕ) (v w : ℕ) → drop w bs ≡ [] → BeginsWith bs v w → Encodes bs
 begins-encodes bs v w e b = record {
@@ -27,7 +27,7 @@ begins-encodes bs v w e b = record {
   bytes = sym (append-nil (encode v)) ∙ ap (λ (l : List ℕ). encode v ++ l) (sym e) ∙ b .bytes;
 }
 
-utf8-char-encodes : (bs : List ℕ) → utf8-char bs ≡ true → Encodes bs
+pub utf8-char-encodes : (bs : List ℕ) → utf8-char bs ≡ true → Encodes bs
 unfolding utf8-char
 utf8-char-encodes [] e = let z : _≡_ {A = ℕ} 0 1 = cc in absurd (omega arith)
 utf8-char-encodes (a ∷ []) e = begins-encodes (a ∷ []) _ 1 refl (row-says a [] (utf8-1-row a 0 0 0 e))

@@ -12,6 +12,11 @@ pub mod Places
 pub mod Packed
 pub mod AsciiWords
 pub mod AsciiRuns
+pub mod WidthRuns
 pub mod Answers
 pub mod Grammar
+pub mod Completions
+pub mod SecondBytes
+pub mod Subparts
+pub mod Unfinished
 pub mod Claims

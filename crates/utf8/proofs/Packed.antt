@@ -4,10 +4,10 @@ use mathlib.Core.List.{List}
 use Prim.Native.Nat.{ℕ, _+_, _*_, _/_, _%_, _≤_, _<_}
 use native.Mathlib.Omega.{arith}
 use lib.ListN.{length, drop}
-use Rattle.utf8.specs.Rfc3629.{readChar, charLen, packed}
+use Rattle.utf8.specs.Rfc3629.{readChar, charLen, packed, subpartOf}
 use Rattle.utf8.specs.declared.ReadChar.{ReadChar}
 use Rattle.utf8.specs.declared.ReadChar.the-variants.{Char, IllFormed, End}
-use Rattle.utf8.proofs.Encoding.{char-begins}
+use Rattle.utf8.proofs.Encoding.{char-begins, ill-formed-width}
 use Rattle.utf8.proofs.Places.{Step, step, Stop, stop-ill-formed, stop-end, end-past}
 
 -- ---- the length: it is 0 exactly where no character begins
@@ -23,7 +23,7 @@ len-reads t w e h = go (readChar t) refl e
   where
     go : (r : ReadChar) → readChar t ≡ r → w ≡ charLen r → ReadsLen t w
     go (Char v u) p q = record { value = v; reads = p ∙ ap (λ (n : ℕ). Char v n) (sym q) }
-    go IllFormed p q = absurd (omega arith)
+    go (IllFormed k) p q = absurd (omega arith)
     go End p q = absurd (omega arith)
 
 pub stop-len : (s : List ℕ) (at w : ℕ) → w ≡ charLen (readChar (drop at s)) → w ≡ 0 → Stop s at
@@ -32,7 +32,7 @@ stop-len s at w e h = go (readChar (drop at s)) refl e
   where
     go : (r : ReadChar) → readChar (drop at s) ≡ r → w ≡ charLen r → Stop s at
     go (Char v u) p q = absurd (omega (arith, step s at v u p .some))
-    go IllFormed p q = stop-ill-formed s at p
+    go (IllFormed k) p q = stop-ill-formed s at p
     go End p q = stop-end s at p
 
 -- At the offset `at`, s has a character of w bytes, and the text after it is read from the offset at + w on.
@@ -54,16 +54,17 @@ packed-reads t n e h = go (readChar t) refl e
 
     go : (r : ReadChar) → readChar t ≡ r → n ≡ packed r → readChar t ≡ Char (n / 8) (n % 8)
     go (Char v w) p q = p ∙ same v w (char-begins t v w p .few) q
-    go IllFormed p q = absurd (omega arith)
+    go (IllFormed k) p q = absurd (omega arith)
     go End p q = absurd (omega arith)
 
-pub packed-none : (s : List ℕ) (at n : ℕ) → n ≡ packed (readChar (drop at s)) → n ≡ 0 → at < length s → readChar (drop at s) ≡ IllFormed
+pub packed-none : (s : List ℕ) (at n : ℕ) → n ≡ packed (readChar (drop at s)) → n ≡ 0 → at < length s
+    → readChar (drop at s) ≡ IllFormed (subpartOf (drop at s))
 unfolding packed
 packed-none s at n e h l = go (readChar (drop at s)) refl e
   where
-    go : (r : ReadChar) → readChar (drop at s) ≡ r → n ≡ packed r → readChar (drop at s) ≡ IllFormed
+    go : (r : ReadChar) → readChar (drop at s) ≡ r → n ≡ packed r → readChar (drop at s) ≡ IllFormed (subpartOf (drop at s))
     go (Char v w) p q = absurd (omega (arith, step s at v w p .some))
-    go IllFormed p q = p
+    go (IllFormed k) p q = p ∙ ap IllFormed (ill-formed-width (drop at s) k p)
     go End p q = absurd (omega (arith, end-past s at p))
 
 -- The packed number mod 8 is the length.
@@ -73,7 +74,7 @@ packed-len t n e = go (readChar t) refl e
   where
     go : (r : ReadChar) → readChar t ≡ r → n ≡ packed r → n % 8 ≡ charLen (readChar t)
     go (Char v w) p q = let l = char-begins t v w p .few in let m : n % 8 ≡ w = omega arith in m ∙ ap charLen (sym p)
-    go IllFormed p q = let m : n % 8 ≡ 0 = omega arith in m ∙ ap charLen (sym p)
+    go (IllFormed k) p q = let m : n % 8 ≡ 0 = omega arith in m ∙ ap charLen (sym p)
     go End p q = let m : n % 8 ≡ 0 = omega arith in m ∙ ap charLen (sym p)
 
 -- If the packed number is 0, no character begins at the offset.

@@ -44,7 +44,7 @@ pub record Stop (s : List ℕ) (at : ℕ) : Type 0 where
   pub validUpTo-zero : validUpTo (drop at s) ≡ 0
   pub chars-none : chars (drop at s) ≡ []
 
-pub stop-ill-formed : (s : List ℕ) (at : ℕ) → readChar (drop at s) ≡ IllFormed → Stop s at
+pub stop-ill-formed : (s : List ℕ) (at : ℕ) {n : ℕ} → readChar (drop at s) ≡ IllFormed n → Stop s at
 stop-ill-formed s at e = record { validUpTo-zero = validUpTo-ill-formed (drop at s) e; chars-none = chars-ill-formed (drop at s) e }
 
 pub stop-end : (s : List ℕ) (at : ℕ) → readChar (drop at s) ≡ End → Stop s at

@@ -4,7 +4,7 @@ use mathlib.Core.Logic.{⊎-elim}
 use mathlib.Core.Bool.{Bool, true, false, cond, _&&_}
 use Prim.Native.Nat.{ℕ}
 use Rattle.base.specs.Ranges.{within}
-use Rattle.utf8.specs.Rfc3629.{utf8-tail, utf8-1, utf8-2, utf8-3, utf8-4, value-2, value-3, value-4, readFour}
+use Rattle.utf8.specs.Rfc3629.{utf8-tail, utf8-1, utf8-2, utf8-3, utf8-4, value-2, value-3, value-4, readFour, subpart}
 use Rattle.utf8.specs.declared.ReadChar.{ReadChar}
 use Rattle.utf8.specs.declared.ReadChar.the-variants.{Char, IllFormed}
 use Rattle.base.proofs.Tests.{both-true, either-true, In, within-in}
@@ -24,7 +24,7 @@ pub data Row (a b c d : ℕ) : ReadChar → Type 0 where
   four₁ : In 0xF0 0xF0 a → In 0x90 0xBF b → Tail c → Tail d → Row a b c d (Char (value-4 a b c d) 4)
   four₂ : In 0xF1 0xF3 a → Tail b → Tail c → Tail d → Row a b c d (Char (value-4 a b c d) 4)
   four₃ : In 0xF4 0xF4 a → In 0x80 0x8F b → Tail c → Tail d → Row a b c d (Char (value-4 a b c d) 4)
-  none : Row a b c d IllFormed
+  none : Row a b c d (IllFormed (subpart a b c))
 
 bytes-2 : (al ah bl bh a b : ℕ) → (within al ah a && within bl bh b) ≡ true → In al ah a × In bl bh b
 bytes-2 al ah bl bh a b e =
@@ -70,25 +70,25 @@ module _ (a b c d : ℕ) where
       (λ p. let r = bytes-4 0xF4 0xF4 0x80 0x8F a b c d p in four₃ (r .0) (r .1) (r .2) (r .3))
       (either-true _ _ o)) (either-true _ _ e)
 
-  row-from-4 : (t : Bool) → utf8-4 a b c d ≡ t → Row a b c d (cond t (Char (value-4 a b c d) 4) IllFormed)
+  row-from-4 : (t : Bool) → utf8-4 a b c d ≡ t → Row a b c d (cond t (Char (value-4 a b c d) 4) (IllFormed (subpart a b c)))
   row-from-4 true e = utf8-4-row e
   row-from-4 false e = none
 
   row-from-3 : (t : Bool) → utf8-3 a b c ≡ t
-      → Row a b c d (cond t (Char (value-3 a b c) 3) (cond (utf8-4 a b c d) (Char (value-4 a b c d) 4) IllFormed))
+      → Row a b c d (cond t (Char (value-3 a b c) 3) (cond (utf8-4 a b c d) (Char (value-4 a b c d) 4) (IllFormed (subpart a b c))))
   row-from-3 true e = utf8-3-row e
   row-from-3 false e = row-from-4 (utf8-4 a b c d) refl
 
   row-from-2 : (t : Bool) → utf8-2 a b ≡ t
       → Row a b c d (cond t (Char (value-2 a b) 2)
-      (cond (utf8-3 a b c) (Char (value-3 a b c) 3) (cond (utf8-4 a b c d) (Char (value-4 a b c d) 4) IllFormed)))
+      (cond (utf8-3 a b c) (Char (value-3 a b c) 3) (cond (utf8-4 a b c d) (Char (value-4 a b c d) 4) (IllFormed (subpart a b c)))))
   row-from-2 true e = utf8-2-row e
   row-from-2 false e = row-from-3 (utf8-3 a b c) refl
 
   row-from-1 : (t : Bool) → utf8-1 a ≡ t
       → Row a b c d
       (cond t (Char a 1) (cond (utf8-2 a b) (Char (value-2 a b) 2)
-      (cond (utf8-3 a b c) (Char (value-3 a b c) 3) (cond (utf8-4 a b c d) (Char (value-4 a b c d) 4) IllFormed))))
+      (cond (utf8-3 a b c) (Char (value-3 a b c) 3) (cond (utf8-4 a b c d) (Char (value-4 a b c d) 4) (IllFormed (subpart a b c))))))
   row-from-1 true e = utf8-1-row e
   row-from-1 false e = row-from-2 (utf8-2 a b) refl
 

@@ -6,7 +6,7 @@ use mathlib.Core.List.{List, [], _∷_, _++_}
 use Prim.Native.Nat.{ℕ, _+_, _*_, _≤_, _<_}
 use native.Mathlib.Omega.{arith}
 use lib.ListN.{getD, length, drop}
-use Rattle.utf8.specs.Rfc3629.{value-2, value-3, value-4, readFour, readChar, packed, isScalar, encode}
+use Rattle.utf8.specs.Rfc3629.{value-2, value-3, value-4, readFour, readChar, packed, subpart, isScalar, encode}
 use Rattle.utf8.specs.declared.ReadChar.{ReadChar}
 use Rattle.utf8.specs.declared.ReadChar.the-variants.{Char, IllFormed}
 use Rattle.base.proofs.Tests.{In}
@@ -62,7 +62,7 @@ abbrev pub Not4 : ℕ → ℕ → ℕ → ℕ → Type 0
 Not4 a b c d = In 0xF0 0xF4 a → Tail b → Tail c → Tail d → In 0x10000 0x10FFFF (value-4 a b c d) → ⊥
 
 by-row : {a b c d : ℕ} {r : ReadChar} → Row a b c d r
-    → Not1 a → Not2 a b → Not3 a b c → Not4 a b c d → IllFormed ≡ r
+    → Not1 a → Not2 a b → Not3 a b c → Not4 a b c d → IllFormed (subpart a b c) ≡ r
 by-row (one p) f g h k = absurd (f (p .high))
 by-row (two p q) f g h k = absurd (g p q)
 by-row (three₁ p q r) f g h k = absurd (h (omega arith) (omega arith) r (omega arith) (λ l. omega arith))
@@ -79,7 +79,7 @@ unfolding packed
 refused a b c d f g h k = ap packed (by-row (row a b c d) f g h k)
 
 -- No character begins with a byte from 80 to C1.
-pub ill-formed-80-C1 : (a b c d : ℕ) → 0x80 ≤ a → a < 0xC2 → IllFormed ≡ readFour a b c d
+pub ill-formed-80-C1 : (a b c d : ℕ) → 0x80 ≤ a → a < 0xC2 → IllFormed (subpart a b c) ≡ readFour a b c d
 ill-formed-80-C1 a b c d l h =
     by-row (row a b c d)
     (λ p. omega arith) (λ p q. omega arith) (λ p q r v n. omega arith) (λ p q r t v. omega arith)
@@ -111,6 +111,10 @@ module _ (s : List ℕ) (at : ℕ) (h : at < length s) where
 
   pub reads-2-at : In 0xC2 0xDF a → Tail b → 8 * value-2 a b + 2 ≡ packed (readChar (drop at s))
   reads-2-at p q = reads-2 a b c d p q ∙ at-place
+
+  pub reads-3-at : In 0xE0 0xEF a → Tail b → Tail c → 0x800 ≤ value-3 a b c → isScalar (value-3 a b c) ≡ true
+      → 8 * value-3 a b c + 3 ≡ packed (readChar (drop at s))
+  reads-3-at p q r l i = reads-3 a b c d p q r l i ∙ at-place
 
   pub refused-at : Not1 a → Not2 a b → Not3 a b c → Not4 a b c d → 0 ≡ packed (readChar (drop at s))
   refused-at f g i k = refused a b c d f g i k ∙ at-place

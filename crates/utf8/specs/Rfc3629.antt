@@ -63,30 +63,49 @@ value-3 a b c = ((a - 0xE0) * 64 + (b - 0x80)) * 64 + (c - 0x80)
 abbrev pub value-4 : ℕ → ℕ → ℕ → ℕ → ℕ
 value-4 a b c d = (((a - 0xF0) * 64 + (b - 0x80)) * 64 + (c - 0x80)) * 64 + (d - 0x80)
 
--- The character at the front of four bytes. Section 4 says which bytes are a character, and section 3 gives its value.
+-- Two bytes that begin a character of three or four. 80 is a tail that may stand third and fourth in every row.
+unfoldable pub begun-2 : ℕ → ℕ → Bool
+begun-2 a b = utf8-3 a b 0x80 || utf8-4 a b 0x80 0x80
+
+-- Three bytes that begin a character of four.
+unfoldable pub begun-3 : ℕ → ℕ → ℕ → Bool
+begun-3 a b c = utf8-4 a b c 0x80
+
+-- How many bytes belong to a bad place that begins with these: the longest beginning of a character, or one byte (document 02,
+-- ii: "the maximal subpart of the Unicode Standard, chapter 3"; specs/Subparts).
+unfoldable pub subpart : ℕ → ℕ → ℕ → ℕ
+subpart a b c = cond (begun-3 a b c) 3 (cond (begun-2 a b) 2 1)
+
+-- The character at the front of four bytes: section 4 says which bytes are a character, and section 3 gives its value. Or the number of
+-- bytes that belong to the bad place.
 unfoldable pub readFour : ℕ → ℕ → ℕ → ℕ → ReadChar
 readFour a b c d =
     cond (utf8-1 a) (Char a 1)
     (cond (utf8-2 a b) (Char (value-2 a b) 2)
     (cond (utf8-3 a b c) (Char (value-3 a b c) 3)
     (cond (utf8-4 a b c d) (Char (value-4 a b c d) 4)
-    IllFormed)))
+    (IllFormed (subpart a b c)))))
 
 -- The result of reading at the front of a list of bytes. After the end of the list a byte counts as 0, which is no UTF8-tail.
 unfoldable pub readChar : List ℕ → ReadChar
 readChar [] = End
 readChar (a ∷ s) = readFour a (getD s 0 0) (getD s 1 0) (getD s 2 0)
 
+-- How many bytes belong to a bad place at the front of a list of bytes.
+unfoldable pub subpartOf : List ℕ → ℕ
+subpartOf [] = 0
+subpartOf (a ∷ s) = subpart a (getD s 0 0) (getD s 1 0)
+
 -- The number of bytes of the character read, or 0 if no character was read.
 unfoldable pub charLen : ReadChar → ℕ
 charLen (Char v w) = w
-charLen IllFormed = 0
+charLen (IllFormed n) = 0
 charLen End = 0
 
 -- The packed number of the character read: 8 times its value plus its width, which is at most 4. It is 0 if no character was read.
 unfoldable pub packed : ReadChar → ℕ
 packed (Char v w) = 8 * v + w
-packed IllFormed = 0
+packed (IllFormed n) = 0
 packed End = 0
 
 -- A fold over the characters from the front of a list on. It stops at the end, or where no character begins (document 01, "Item").
@@ -95,7 +114,7 @@ module _ {A : Type 0} (stop : A) (more : ℕ → ℕ → A → A) where
   -- One step of the fold, from the result of `readChar`. `rest w` is the fold of the bytes after the first w.
   unfoldable pub foldStep : ReadChar → (ℕ → A) → A
   foldStep (Char v w) rest = more v w (rest w)
-  foldStep IllFormed rest = stop
+  foldStep (IllFormed n) rest = stop
   foldStep End rest = stop
 
   -- The fold of a list whose first `skip` bytes belong to the character before it.

@@ -1,11 +1,12 @@
 -- Statements about UTF-8 as defined in Rfc3629. proofs/Claims proves each of them under the same name in lower case with hyphens.
 use mathlib.Core.Path.{_≡_}
-use mathlib.Core.Logic.{_↔_}
+use mathlib.Core.Logic.{_↔_, _⊎_}
 use mathlib.Core.Bool.{true}
 use mathlib.Core.List.{List, [], _∷_, _++_, map}
 use Prim.Native.Nat.{ℕ, _≤_}
 use lib.ListN.{length, take, drop}
-use Rattle.utf8.specs.Rfc3629.{WellFormed, readChar, chars, validUpTo, isScalar, allScalar, encode, encodeAll}
+use Rattle.utf8.specs.Rfc3629.{WellFormed, utf8-char, readChar, chars, validUpTo, isScalar, allScalar, encode, encodeAll}
+use Rattle.utf8.specs.Subparts.{MaximalSubpart, unfinished}
 use Rattle.utf8.specs.Ascii.{AsciiRun, NoAsciiAt, asciiEnd}
 use Rattle.utf8.specs.declared.ReadChar.the-variants.{Char, IllFormed, End}
 
@@ -43,6 +44,21 @@ CharsAreScalar = (s : List ℕ) → allScalar (chars s) ≡ true
 unfoldable pub ReadEnd : Type 0
 ReadEnd = (s : List ℕ) → (readChar s ≡ End) ↔ (s ≡ [])
 
+-- The width of a bad place is the length of its maximal subpart, and no other number is: all completions are quantified (document 02, ii:
+-- "Reading one character now also answers, for a bad place, how many bytes belong to it").
+unfoldable pub SubpartIsMaximal : Type 0
+SubpartIsMaximal = (s : List ℕ) (n : ℕ) → (readChar s ≡ IllFormed n) ↔ MaximalSubpart s n
+
+-- Bytes are unfinished exactly where there are none, or where they begin a character that has more bytes.
+unfoldable pub UnfinishedMeans : Type 0
+UnfinishedMeans =
+    (u : List ℕ) → (unfinished u ≡ true) ↔ ((u ≡ []) ⊎ ((b : ℕ) × (t : List ℕ) × (utf8-char (u ++ b ∷ t) ≡ true)))
+
+-- The bytes after the longest well-formed beginning are unfinished exactly where the text can go on to be well-formed: all continuations
+-- are quantified.
+unfoldable pub UnfinishedRest : Type 0
+UnfinishedRest = (s : List ℕ) → (unfinished (drop (validUpTo s) s) ≡ true) ↔ ((t : List ℕ) × WellFormed (s ++ t))
+
 -- `asciiEnd` is the end of the longest run of ASCII bytes: the bytes up to it are ASCII, and the text ends there or the byte there is
 -- above 7F. No other offset has both properties.
 unfoldable pub AsciiEndIsLongest : Type 0
@@ -71,7 +87,19 @@ Rfc3629Examples =
     ∷ (0xE2 ∷ 0x82 ∷ [])
     ∷ []
     ∷ [])
-    ≡ (IllFormed ∷ IllFormed ∷ IllFormed ∷ IllFormed ∷ IllFormed ∷ IllFormed ∷ End ∷ []))
+    ≡ (IllFormed 1 ∷ IllFormed 1 ∷ IllFormed 1 ∷ IllFormed 1 ∷ IllFormed 1 ∷ IllFormed 2 ∷ End ∷ []))
+    -- a second byte out of its row's range, a character cut off at the end and before another one, bytes that never begin a character
+    × (map readChar
+    ((0xE0 ∷ 0x80 ∷ 0x80 ∷ [])
+    ∷ (0xED ∷ 0xA0 ∷ 0x80 ∷ [])
+    ∷ (0xF0 ∷ 0x80 ∷ 0x80 ∷ 0x80 ∷ [])
+    ∷ (0xE2 ∷ 0x9D ∷ [])
+    ∷ (0xE2 ∷ 0x41 ∷ [])
+    ∷ (0xF0 ∷ 0x9F ∷ 0x98 ∷ 0x41 ∷ [])
+    ∷ (0xF0 ∷ 0x9F ∷ 0x41 ∷ [])
+    ∷ (0xF5 ∷ 0x80 ∷ [])
+    ∷ [])
+    ≡ (IllFormed 1 ∷ IllFormed 1 ∷ IllFormed 1 ∷ IllFormed 2 ∷ IllFormed 1 ∷ IllFormed 3 ∷ IllFormed 2 ∷ IllFormed 1 ∷ []))
     -- the first and the last value of each length, and the values beside the surrogates
     × (map readChar
     ((0x7F ∷ [])

@@ -7,16 +7,18 @@ ghost use mathlib.Core.List.{[], _∷_};
 ghost use Prim.Native.Nat.{ℕ, _+_, _/_, _%_, _≤_};
 ghost use lib.ListN.{length, drop, getD};
 ghost use lib.Seq.{sets};
-ghost use Rattle.utf8.specs.Rfc3629.{readFour, readChar, charLen, packed, validUpTo, isScalar, encode};
 ghost use Rattle.base.specs.Answers.{Answers};
+ghost use Rattle.base.specs.Ranges.{within};
+ghost use Rattle.utf8.specs.Rfc3629.{begun-2, readFour, readChar, charLen, packed, subpartOf, validUpTo, isScalar, encode};
 ghost use Rattle.utf8.specs.Write.{charRow, writeChar, afterWriteChar};
 
 pub mod ascii;
+pub mod runs;
 
-// The result of reading at an offset of a text: a character, no character, or the end of the text.
+// The result of reading at an offset of a text: a character, a bad place with the number of bytes of its maximal subpart, or the end.
 pub enum ReadChar {
     Char { value: u32, width: usize },
-    IllFormed,
+    IllFormed { width: usize },
     End,
 }
 
@@ -142,7 +144,70 @@ pub fn char_len(s: &[u8], at: usize) -> usize
     (decode(s, at) % 8) as usize
 }
 
-// Reads at an offset of a text: a character, no character, or the end.
+// Whether a byte lies in a range.
+fn in_range(lo: u8, hi: u8, b: u8) -> bool
+    ensures { λ r. ⌜ r ≡ within lo hi b ⌝ }
+{
+    if b < lo {
+        return false;
+    }
+    b <= hi
+}
+
+// Whether two bytes begin a character of three or four, by the rows of Table 3-7 of the Unicode Standard from E0 on.
+fn second_fits(a: u8, b: u8) -> bool
+    ensures { λ r. ⌜ r ≡ begun-2 a b ⌝ }
+{
+    if a < 0xE0 {
+        return false;
+    }
+    if a == 0xE0 {
+        return in_range(0xA0, 0xBF, b);
+    }
+    if a <= 0xEC {
+        return in_range(0x80, 0xBF, b);
+    }
+    if a == 0xED {
+        return in_range(0x80, 0x9F, b);
+    }
+    if a <= 0xEF {
+        return in_range(0x80, 0xBF, b);
+    }
+    if a == 0xF0 {
+        return in_range(0x90, 0xBF, b);
+    }
+    if a <= 0xF3 {
+        return in_range(0x80, 0xBF, b);
+    }
+    if a == 0xF4 {
+        return in_range(0x80, 0x8F, b);
+    }
+    false
+}
+
+// How many bytes belong to a bad place: the length of its maximal subpart. At the end it is 0.
+pub fn bad_width(s: &[u8], at: usize) -> usize
+    ensures { λ r. ⌜ r ≡ subpartOf (drop at (now (s .entry))) ⌝ }
+{
+    if s.len() <= at {
+        return 0;
+    }
+    let a = base::byte_at(s, at, 0);
+    let b = base::byte_at(s, at, 1);
+    let c = base::byte_at(s, at, 2);
+    if !second_fits(a, b) {
+        return 1;
+    }
+    if a < 0xF0 {
+        return 2;
+    }
+    if !in_range(0x80, 0xBF, c) {
+        return 2;
+    }
+    3
+}
+
+// Reads at an offset of a text: a character, a bad place and the number of bytes that belong to it, or the end.
 pub fn read_char(s: &[u8], at: usize) -> ReadChar
     ensures { λ r. ⌜ r ≡ readChar (drop at (now (s .entry))) ⌝ }
 {
@@ -151,15 +216,15 @@ pub fn read_char(s: &[u8], at: usize) -> ReadChar
     }
     let number = decode(s, at);
     if number == 0 {
-        return ReadChar::IllFormed;
+        let width = bad_width(s, at);
+        return ReadChar::IllFormed { width };
     }
     let value = number / 8;
     let width = (number % 8) as usize;
     ReadChar::Char { value, width }
 }
 
-// Returns the length of the longest well-formed prefix. After an ASCII character it skips the run of ASCII bytes by
-// words.
+// Returns the length of the longest well-formed prefix. After a character it skips characters of the same width at once.
 pub fn valid_up_to(s: &[u8]) -> usize
     ensures { λ r. ⌜ r ≡ validUpTo (now (s .entry)) ⌝ }
 {
@@ -169,10 +234,7 @@ pub fn valid_up_to(s: &[u8]) -> usize
         if width == 0 {
             return at;
         }
-        at += width;
-        if width == 1 {
-            at = ascii::ascii_end(s, at);
-        }
+        at = runs::width_end(s, at + width, width);
     }
 }
 

@@ -30,6 +30,10 @@ impl Calls for Library {
         sys::scan(text, table)
     }
 
+    fn repair(&self, text: &[u8], out: &mut [u8]) -> u64 {
+        sys::repair(text, out)
+    }
+
     fn default_policy(&self, out: &mut [u8]) -> u64 {
         sys::default_policy(out)
     }

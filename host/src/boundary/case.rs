@@ -19,6 +19,8 @@ pub enum Call {
     Mend(u64),
     /// `tilghorz_scan`.
     Scan,
+    /// `tilghorz_repair`.
+    Repair,
 }
 
 /// The inputs of a call. One that the call does not take stands there all the same, and must stay as it is.
@@ -86,7 +88,7 @@ pub struct Case {
 }
 
 impl Case {
-    /// What the call does but for the test of the room, by the reading of document 01.
+    /// What the call does but for the test of the room, by the reading of documents 01 and 02.
     #[must_use]
     pub fn draft(&self) -> Draft {
         let Inputs {
@@ -99,6 +101,7 @@ impl Case {
             Call::List => calls::list(text, policy),
             Call::Mend(offset) => calls::mend(text, policy, offset, decisions),
             Call::Scan => calls::scan(text),
+            Call::Repair => calls::repair(text),
         }
     }
 
@@ -125,6 +128,7 @@ impl Case {
             Call::List => calls.list(text, policy, out),
             Call::Mend(offset) => calls.mend(text, policy, offset, decisions, out),
             Call::Scan => calls.scan(text, out),
+            Call::Repair => calls.repair(text, out),
         })?;
         let are_as_made = placed
             .iter()

@@ -158,7 +158,7 @@ impl<'a> Boundary<'a> {
     /// that are exactly full or one byte short. Each slice fills its allocation.
     pub fn limits(&mut self) -> Result<(), Difference> {
         for length in lengths() {
-            for call in [Call::Format, Call::List, Call::Scan] {
+            for call in [Call::Format, Call::List, Call::Scan, Call::Repair] {
                 let inputs = Inputs::new(&sparse(length), &default_policy(), &[]);
                 let case = Case { call, inputs };
                 let draft = case.draft();
@@ -243,7 +243,7 @@ impl<'a> Boundary<'a> {
 /// The rooms of an output: none, one byte, and what is wanted, one byte less and more, and so for a row of a table.
 fn rooms(draft: &Draft, call: Call) -> BTreeSet<usize> {
     let row = match call {
-        Call::Format | Call::Mend(_) => 8,
+        Call::Format | Call::Mend(_) | Call::Repair => 8,
         Call::List => FINDING_BYTES,
         Call::Scan => ITEM_BYTES,
     };
@@ -255,15 +255,23 @@ fn rooms(draft: &Draft, call: Call) -> BTreeSet<usize> {
     rooms
 }
 
-/// Texts of a length: plain, of digits, of all kinds of characters and cut anywhere, and the same but well-formed.
-fn texts(length: usize) -> [Vec<u8>; 4] {
+/// Texts of a length: plain, of digits, of all kinds of characters and cut anywhere, the same but well-formed, and of bad
+/// places of each width.
+fn texts(length: usize) -> [Vec<u8>; 5] {
     let sequence = "\u{2764}\u{FE0F}\u{FE0E}\u{200D}\u{1F1E6}\u{FE0E}\u{1F1E7}\u{E9}1\u{20E3}\u{261D}\u{FE0F}\u{1F3FB}\
         \u{FE0F}\u{231A}\u{E0061}\u{FE0F}\u{E007F}\u{200D}\u{200D}\u{A9}\u{1F3F4}\u{E007F}";
     let many = sequence.repeat(length / sequence.len() + 1);
     let cut = &many.as_bytes()[..length];
     let whole = many.floor_char_boundary(length);
     let filled = [&vec![b'a'; length - whole][..], &cut[..whole]].concat();
-    [vec![b'a'; length], vec![b'1'; length], cut.to_vec(), filled]
+    let bad = [0xF0, 0x9F, 0x98, 0xE2, 0x9D, b'a', 0xFF];
+    [
+        vec![b'a'; length],
+        vec![b'1'; length],
+        cut.to_vec(),
+        filled,
+        bad.into_iter().cycle().take(length).collect(),
+    ]
 }
 
 /// The default policy's bytes.

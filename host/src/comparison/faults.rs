@@ -59,10 +59,18 @@ pub enum Fault {
     MendsAllAtOnce,
     /// A text that a mending has just written has no finding.
     ForgetsFindings,
+    /// Each byte of a bad place is replaced.
+    ReplacesEachByte,
+    /// The number of replacements is one too many.
+    ReplacementNumber,
+    /// A text without a bad place is not written.
+    WholeUnwritten,
+    /// Limit 1 is tested on the repaired text.
+    LimitOnRepaired,
 }
 
 /// The faults with their names.
-pub const FAULTS: [(&str, Fault); 28] = [
+pub const FAULTS: [(&str, Fault); 32] = [
     ("keycap-rule", Fault::KeycapRule),
     ("finding-span", Fault::FindingSpan),
     ("item-span", Fault::ItemSpan),
@@ -91,4 +99,8 @@ pub const FAULTS: [(&str, Fault); 28] = [
     ("mends-nothing", Fault::MendsNothing),
     ("mends-all-at-once", Fault::MendsAllAtOnce),
     ("forgets-findings", Fault::ForgetsFindings),
+    ("replaces-each-byte", Fault::ReplacesEachByte),
+    ("replacement-number", Fault::ReplacementNumber),
+    ("whole-unwritten", Fault::WholeUnwritten),
+    ("limit-on-repaired", Fault::LimitOnRepaired),
 ];

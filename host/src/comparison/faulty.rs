@@ -116,6 +116,16 @@ impl<'a> Faulty<'a> {
         }
     }
 
+    /// What taking a text in answers instead, where it was done.
+    fn repair_answer(&self, length: u64, number: u64) -> Answer {
+        match self.fault {
+            Fault::WholeUnwritten if number == 0 => Answer::NOTHING,
+            Fault::LimitOnRepaired if length > LONGEST_TEXT as u64 => Answer::new(1, 0),
+            Fault::ReplacementNumber => two_values(length, number + 1),
+            _ => two_values(length, number),
+        }
+    }
+
     /// Scans, and does not tell the last item.
     fn scan_but_one(&self, text: &[u8], table: &mut [u8]) -> Answer {
         let mut whole = table.to_vec();
@@ -141,6 +151,21 @@ fn ends_in_last_tags(item: &Item) -> bool {
     let runs = item.parts.chunk_by(|a, b| a.role == b.role);
     runs.filter(|run| run[0].role == Role::Tag)
         .all(|run| run[run.len() - 1].character == LAST_TAG)
+}
+
+/// The answer of a call that has two values.
+const fn two_values(first: u64, second: u64) -> Answer {
+    Answer::new(Answer::DONE, first + (second << 28))
+}
+
+/// The text with each byte of a bad place as a bad place of its own.
+fn in_single_bytes(text: &[u8]) -> Vec<u8> {
+    let mut out = Vec::with_capacity(text.len());
+    for chunk in text.utf8_chunks() {
+        out.extend(chunk.valid().as_bytes());
+        out.extend(chunk.invalid().iter().map(|_| 0xFF));
+    }
+    out
 }
 
 /// Changes a byte, if it is there.
@@ -240,6 +265,20 @@ impl Calls for Faulty<'_> {
             }
         }
         word
+    }
+
+    fn repair(&self, text: &[u8], out: &mut [u8]) -> u64 {
+        let word = self.around(text, &[], out, |text, _, out| match self.fault {
+            Fault::ReplacesEachByte => self.calls.repair(&in_single_bytes(text), out),
+            _ => self.calls.repair(text, out),
+        });
+        let answer = Answer::of_word(word);
+        if answer.number != Answer::DONE {
+            return word;
+        }
+        let (length, number) = (answer.value & 0xFFF_FFFF, answer.value >> 28);
+        self.spoil_behind(Answer::new(Answer::DONE, length), 1, out);
+        self.repair_answer(length, number).word()
     }
 
     fn default_policy(&self, out: &mut [u8]) -> u64 {

@@ -1,5 +1,5 @@
-//! The comparison of an implementation of [`Calls`](crate::calls::Calls) with the crate evfmt and with the independent
-//! reading of document 01.
+//! The comparison of an implementation of [`Calls`](crate::calls::Calls) with the crate evfmt, with the standard library
+//! and with the independent reading of documents 01 and 02.
 //!
 //! | module | does |
 //! |---|---|
@@ -7,6 +7,7 @@
 //! | [`tables`] | compares the default policy and the variation entries |
 //! | [`text_case`] | compares all that the calls do to one text under one policy |
 //! | [`list_case`] | compares a list of mending calls with its book |
+//! | [`repair_case`] | compares what taking in does to one damaged text |
 //! | [`texts`], [`policies`] | make the texts and policies: exhaustive, random, damaged |
 //! | [`limits`] | makes texts around the limits |
 //! | [`published`] | takes texts from Unicode's lists of emoji |
@@ -26,6 +27,7 @@ pub mod policies;
 pub mod programs;
 pub mod published;
 pub mod reduce;
+pub mod repair_case;
 pub mod report;
 pub mod run;
 pub mod tables;

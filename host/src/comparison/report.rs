@@ -14,9 +14,8 @@ pub fn report(
     list: &[Mend],
     difference: &Difference,
 ) -> String {
-    let mut report = format!("difference in {kind}, in a text of {found_in} bytes\n");
+    let mut report = text_report(kind, (text, found_in));
     // Writing to a string does not fail.
-    let _ = writeln!(report, "  text      {}", hexadecimal(text));
     let _ = write!(report, "  policy    {}", policy.name);
     if policy.name != Policy::DEFAULT {
         let _ = write!(report, ", {}", hexadecimal(&policy.bytes));
@@ -27,4 +26,10 @@ pub fn report(
     }
     let _ = write!(report, "{difference}");
     report
+}
+
+/// The first lines of a report: the kind of the case and its text.
+pub fn text_report(kind: &str, (text, found_in): (&[u8], usize)) -> String {
+    let text = hexadecimal(text);
+    format!("difference in {kind}, in a text of {found_in} bytes\n  text      {text}\n")
 }

@@ -5,13 +5,15 @@ use std::time::{Duration, Instant};
 
 use super::policies::{self, Policy};
 use super::reduce::{reduced, reduced_text};
-use super::report::report;
+use super::report::{report, text_report};
 use super::texts::{Alphabet, every_text};
-use super::{limits, list_case, published, tables, text_case};
+use super::{limits, list_case, published, repair_case, tables, text_case};
 use crate::Random;
 use crate::calls::Calls;
 use crate::reference::book::LONGEST_FIRST_TEXT;
+use crate::reference::calls::LONGEST_TEXT;
 use crate::reference::characters;
+use crate::reference::repair::repaired;
 
 /// The bounds of a run.
 #[derive(Debug, Clone, Copy, PartialEq, Eq)]
@@ -111,6 +113,7 @@ impl<'a> Run<'a> {
         for length in 0..=self.options.length {
             self.every_text(length)?;
         }
+        self.every_damaged_text()?;
         self.drawn()?;
         if self.options.limits {
             self.limits()?;
@@ -165,6 +168,31 @@ impl<'a> Run<'a> {
             Some(difference) => report("lists", (&small, text.len()), policy, &fewer, &difference),
             None => report("lists", (text, text.len()), policy, list, &difference),
         }))
+    }
+
+    /// Compares what taking a text in does; a difference is reduced first.
+    fn repair(&self, kind: &str, text: &[u8]) -> Result<(), Stop> {
+        let check = |text: &[u8]| repair_case::check(self.calls, text).err();
+        let Some(difference) = check(text) else {
+            return Ok(());
+        };
+        let small = reduced_text(text, |text| check(text).is_some());
+        let difference = check(&small).unwrap_or(difference);
+        let head = text_report(kind, (&small, text.len()));
+        Err(Stop::Difference(format!("{head}{difference}")))
+    }
+
+    /// Every text of up to three bytes at the edges of their ranges, and of four bytes over fewer of them.
+    fn every_damaged_text(&mut self) -> Result<(), Stop> {
+        let mut texts = 0;
+        let all = (0..=3).map(|length| (&repair_case::EDGES[..], length));
+        for (bytes, length) in all.chain([(&repair_case::FEWER_EDGES[..], 4)]) {
+            repair_case::every_text(bytes, length, |text| {
+                texts += 1;
+                self.repair("repair", text)
+            })?;
+        }
+        self.told("repair", texts, "texts of up to 4 bytes")
     }
 
     /// The default policy and the variation entries.
@@ -246,7 +274,7 @@ impl<'a> Run<'a> {
         self.told("every text", texts, &what)
     }
 
-    /// Drawn texts, damaged ones, and lists of mending calls, in turns.
+    /// Drawn texts, damaged ones, the same taken in, and lists of mending calls, in turns.
     fn drawn(&mut self) -> Result<(), Stop> {
         let mut cases = 0;
         let mut calls = 0;
@@ -254,6 +282,7 @@ impl<'a> Run<'a> {
             let mut random = Random::from_seed(self.options.seed ^ (cases << 20));
             self.drawn_text(&mut random)?;
             self.damaged_text(&mut random)?;
+            self.repaired_text(&mut random)?;
             calls += self.drawn_list(&mut random)?;
             cases += 1;
         }
@@ -263,6 +292,7 @@ impl<'a> Run<'a> {
         let stopped = self.stopped();
         self.told("random", cases, &format!("texts{stopped}"))?;
         self.told("damaged", cases, "texts or policies")?;
+        self.told("repaired", cases, "damaged texts, formatted after it")?;
         let what = format!("lists of mending calls, {calls} calls");
         self.told("lists", cases, &what)
     }
@@ -289,6 +319,17 @@ impl<'a> Run<'a> {
         self.text("damaged", &text, &policy)
     }
 
+    /// A damaged text that is taken in, and what formatting does to it after that.
+    fn repaired_text(&self, random: &mut Random) -> Result<(), Stop> {
+        let text = match random.below(3) {
+            0 => repair_case::drawn(random),
+            _ => self.alphabet.damaged(random),
+        };
+        self.repair("repaired", &text)?;
+        let (text, _) = repaired(&text);
+        self.text("repaired", &text, &self.drawn_policy(random))
+    }
+
     /// A list of mending calls, and how many they are.
     fn drawn_list(&self, random: &mut Random) -> Result<u64, Stop> {
         let text = self.alphabet.drawn(random);
@@ -305,6 +346,12 @@ impl<'a> Run<'a> {
         for length in limits::lengths() {
             for (text, policy) in limits::cases(length, &mut random) {
                 self.text("limits", &text, &policy)?;
+                texts += 1;
+            }
+        }
+        for length in [LONGEST_TEXT + 1, LONGEST_TEXT, LONGEST_TEXT - 1] {
+            for text in repair_case::around_limit(length) {
+                self.repair("limits", &text)?;
                 texts += 1;
             }
         }

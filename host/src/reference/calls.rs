@@ -1,4 +1,5 @@
-//! Formatting, listing, mending and scanning: document 01's "Replacement and text" and "Turned back".
+//! Formatting, listing, mending and scanning: document 01's "Replacement and text" and "Turned back". Repairing:
+//! document 02, (ii).
 //!
 //! The test of the room comes last in every call. So each function gives what the call would do with any room, and
 //! [`Draft::with_room`] does that test.
@@ -8,6 +9,7 @@ use crate::calls::{Answer, FINDING_BYTES, ITEM_BYTES};
 use super::characters::Presentation;
 use super::items::{Kind, items};
 use super::policy::Policy;
+use super::repair::repaired;
 use super::rules::{Analysis, Counts, finding};
 use super::utf8;
 
@@ -29,6 +31,8 @@ pub enum Draft {
         place: usize,
         /// The number of the refusal if the room is too short.
         too_short: u8,
+        /// The second value of the answer, in the bits from 28 on, where a call has two.
+        second: u64,
     },
 }
 
@@ -40,6 +44,7 @@ impl Draft {
             bytes,
             place: 1,
             too_short: 8,
+            second: 0,
         }
     }
 
@@ -49,6 +54,7 @@ impl Draft {
             bytes,
             place,
             too_short: 7,
+            second: 0,
         }
     }
 
@@ -71,10 +77,11 @@ impl Draft {
                 bytes,
                 place,
                 too_short,
+                second,
             } => {
                 let places = (bytes.len() / place) as u64;
                 if bytes.len() <= room {
-                    (Answer::new(Answer::DONE, places), bytes)
+                    (Answer::new(Answer::DONE, places + (second << 28)), bytes)
                 } else {
                     (Answer::new(*too_short, places), &[])
                 }
@@ -183,6 +190,22 @@ pub fn scan(text: &[u8]) -> Draft {
         }
     }
     Draft::table(table, ITEM_BYTES)
+}
+
+/// Repairing: "The intake's limit 1 is on the bytes taken in. A short output is refused as before, with the wanted
+/// length."
+#[must_use]
+pub fn repair(text: &[u8]) -> Draft {
+    if let Err(refusal) = accept_length(text) {
+        return Draft::Refused(refusal);
+    }
+    let (bytes, second) = repaired(text);
+    Draft::Writes {
+        bytes,
+        place: 1,
+        too_short: 8,
+        second,
+    }
 }
 
 /// Adds a finding's place to a table.

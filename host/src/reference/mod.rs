@@ -1,5 +1,5 @@
-//! An independent reading of document 01, written from its sentences, and neither from the crate's code nor from the
-//! port's.
+//! An independent reading of document 01 and of change (ii) of document 02, written from their sentences, and neither
+//! from the crate's code nor from the port's.
 //!
 //! What the crate has too (items, counts, replacements, formatted text) is held to the crate by tests. What it lacks
 //! (refusals, the tag report, listing, mending, the book of a list of calls) the port is compared with here. Only the
@@ -9,11 +9,12 @@
 //! | module | sets out |
 //! |---|---|
 //! | [`utf8`] | well-formed texts |
+//! | [`repair`] | the repaired text and the number of replacements |
 //! | [`characters`] | what a character is |
 //! | [`policy`] | which bytes are a policy, and its rule for a base |
 //! | [`items`] | the grammar of items, and the tag report, as document 02, (i), has it |
 //! | [`rules`] | counts and replacements |
-//! | [`calls`] | formatting, listing, mending and scanning, with their refusals |
+//! | [`calls`] | formatting, listing, mending, scanning and repairing, with their refusals |
 //! | [`book`] | a list of mending calls |
 //! | [`programs`] | what the two programs write |
 
@@ -23,5 +24,6 @@ pub mod characters;
 pub mod items;
 pub mod policy;
 pub mod programs;
+pub mod repair;
 pub mod rules;
 pub mod utf8;

@@ -27,6 +27,15 @@ pub fn read(word: u64) -> Result<Option<usize>, Refusal> {
     }
 }
 
+/// Where the second of two values begins.
+const SECOND_SHIFT: u32 = 28;
+
+/// The two values of a call that has two.
+pub fn read_two(word: u64) -> Result<(usize, usize), Refusal> {
+    let first = (1 << SECOND_SHIFT) - 1;
+    read_done(word).map(|value| (value & first, value >> SECOND_SHIFT))
+}
+
 /// The value of a call that always has something to do.
 pub fn read_done(word: u64) -> Result<usize, Refusal> {
     read(word).map(Option::unwrap_or_default)
@@ -43,6 +52,13 @@ mod tests {
         assert_eq!(read(0x0100_0000_0000_0000), Err(Refusal::TextTooLong));
         let refusal = Refusal::OutputTooShort { wanted: 67_108_864 };
         assert_eq!(read(0x0800_0000_0400_0000), Err(refusal));
+    }
+
+    #[test]
+    fn a_word_of_two_values_has_both() {
+        assert_eq!(read_two(0x0000_0000_3000_0005), Ok((5, 3)));
+        assert_eq!(read_two(0x00FF_FFFF_F000_0000), Ok((0, 0xFFF_FFFF)));
+        assert_eq!(read_two(0x0100_0000_0000_0000), Err(Refusal::TextTooLong));
     }
 
     #[test]

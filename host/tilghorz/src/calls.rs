@@ -1,4 +1,4 @@
-//! Formatting, listing and mending: document 01, "Replacement and text".
+//! Formatting, listing and mending: document 01, "Replacement and text". Taking damaged text in: document 02, (ii).
 
 use std::borrow::Cow;
 
@@ -8,6 +8,9 @@ use crate::{answer, sys};
 
 /// The rows that a table has room for at first.
 const FIRST_ROWS: usize = 64;
+
+/// How many times as long as the text a repaired one can be: FFFD has three bytes, and a bad place one at least.
+const REPAIR_TIMES: usize = 3;
 
 /// What formatting did.
 #[derive(Debug, Clone, Copy, PartialEq, Eq, Hash)]
@@ -19,6 +22,15 @@ pub enum Formatted {
         /// Its length.
         len: usize,
     },
+}
+
+/// A text that was taken in: a bad place is the maximal subpart of the Unicode Standard, chapter 3.
+#[derive(Debug, Clone, PartialEq, Eq, Hash)]
+pub struct Repaired<'a> {
+    /// The text with FFFD for each bad place, which is well-formed: the text itself where there is none.
+    pub text: Cow<'a, [u8]>,
+    /// The number of replacements.
+    pub replaced: usize,
 }
 
 /// How a base is shown: what a decision chooses.
@@ -71,6 +83,31 @@ pub fn filed<'a>(message: &'a [u8], buffer: &'a [u8], formatted: Formatted) -> &
         Formatted::Unchanged => message,
         Formatted::Changed { len } => buffer.get(..len).unwrap_or(buffer),
     }
+}
+
+/// The text with FFFD for each bad place, and their number. The result may be longer than a text that the other
+/// functions take.
+///
+/// # Errors
+/// Refusal 1.
+pub fn repair(text: &[u8]) -> Result<Repaired<'_>, Refusal> {
+    let room = REPAIR_TIMES * text.len().min(LONGEST_TEXT);
+    let ((len, replaced), out) = with_room(room, 1, |out| repair_into(text, out))?;
+    let text = match replaced {
+        0 => Cow::Borrowed(text),
+        _ => Cow::Owned(front(out, len)),
+    };
+    Ok(Repaired { text, replaced })
+}
+
+/// Repairs into the caller's buffer, and gives the length of the repaired text and the number of replacements. Three
+/// times the text's length is always enough room. A text without a bad place is written too. What is after the
+/// repaired text stays as it was.
+///
+/// # Errors
+/// Refusals 1 and 8; the buffer is then as it was.
+pub fn repair_into(text: &[u8], out: &mut [u8]) -> Result<(usize, usize), Refusal> {
+    answer::read_two(sys::repair(text, out))
 }
 
 /// The findings, in text order.

@@ -18,15 +18,19 @@
 //!
 //! let damaged = tilghorz::format(b"good\xFF", &policy);
 //! assert_eq!(damaged, Err(Refusal::NotWellFormed { valid_up_to: 4 }));
+//! let repaired = tilghorz::repair(b"good\xFF")?;
+//! assert_eq!((&*repaired.text, repaired.replaced), ("good\u{FFFD}".as_bytes(), 1));
 //! # Ok::<(), Refusal>(())
 //! ```
 //!
 //! - [`format()`], [`mend`], [`findings`] and [`items`] allocate what they return; [`format_into`] and [`mend_into`]
 //!   write to the caller's buffer, and [`filed`] says which bytes to keep then.
+//! - [`repair`] takes damaged text in, which the others refuse; [`repair_into`] writes to the caller's buffer.
 //! - [`Policy`] is the default one, one from bytes, or one with members added and taken.
 //! - [`sys`] has the C functions as they cross. It is the only module with unsafe code.
 //!
-//! "Document 01" in comments is the specification, "The selector formatter: records from byte to sealed text".
+//! "Document 01" in comments is the specification, "The selector formatter: records from byte to sealed text";
+//! "document 02" is the list of changes after it.
 
 #![deny(unsafe_code)]
 #![warn(missing_docs)]
@@ -40,8 +44,10 @@ mod refusal;
 pub mod sys;
 mod table;
 
-pub use calls::{Formatted, Presentation};
-pub use calls::{filed, findings, format, format_into, items, mend, mend_into};
+pub use calls::{Formatted, Presentation, Repaired};
+pub use calls::{
+    filed, findings, format, format_into, items, mend, mend_into, repair, repair_into,
+};
 pub use finding::{Counts, Finding};
 pub use item::{Item, ItemKind};
 pub use policy::{Context, KeySet, NoEntry, Policy, SingletonRule, variation_entries};

@@ -45,6 +45,7 @@ unsafe extern "C" {
         out_len: usize,
     ) -> u64;
     fn tilghorz_scan(text: *const u8, text_len: usize, table: *mut u8, table_len: usize) -> u64;
+    fn tilghorz_repair(text: *const u8, text_len: usize, out: *mut u8, out_len: usize) -> u64;
     fn tilghorz_default_policy(out: *mut u8, out_len: usize) -> u64;
     fn tilghorz_variation_entry(index: u64) -> u64;
 }
@@ -105,6 +106,13 @@ pub fn mend(text: &[u8], policy: &[u8], offset: u64, decisions: &[u8], out: &mut
 pub fn scan(text: &[u8], table: &mut [u8]) -> u64 {
     // SAFETY: as the head of this file says.
     unsafe { tilghorz_scan(text.as_ptr(), text.len(), table.as_mut_ptr(), table.len()) }
+}
+
+/// `tilghorz_repair`: writes the text with FFFD for each bad place.
+#[must_use]
+pub fn repair(text: &[u8], out: &mut [u8]) -> u64 {
+    // SAFETY: as the head of this file says.
+    unsafe { tilghorz_repair(text.as_ptr(), text.len(), out.as_mut_ptr(), out.len()) }
 }
 
 /// `tilghorz_default_policy`: writes the default policy.

@@ -307,3 +307,46 @@ fn refusal_line(refusal: Refusal) -> Vec<u8> {
         .map_or(String::new(), |value| format!(" {value}"));
     format!("refused {}{value}\n", refusal.number()).into_bytes()
 }
+
+#[test]
+fn a_text_is_borrowed_where_nothing_is_replaced() {
+    for text in ["", "plain", "\u{2764}\u{FE0F}\u{FFFD}"] {
+        let repaired = tilghorz::repair(text.as_bytes()).expect("a text");
+        assert_eq!(repaired.replaced, 0);
+        assert!(matches!(repaired.text, Cow::Borrowed(bytes) if bytes == text.as_bytes()));
+    }
+}
+
+#[test]
+fn bad_places_are_replaced_and_counted() {
+    let damaged = b"a\xF0\x9F\x98A\xE0\x80\xE2\x9D";
+    let repaired = tilghorz::repair(damaged).expect("a text");
+    assert_eq!(repaired.replaced, 4);
+    assert_eq!(&*repaired.text, String::from_utf8_lossy(damaged).as_bytes());
+    assert!(matches!(repaired.text, Cow::Owned(_)));
+    // Formatting after it is formatting the repaired text.
+    let policy = Policy::default();
+    let damaged = b"\xFF1\xEF\xB8\x8E";
+    assert!(tilghorz::format(damaged, &policy).is_err());
+    let repaired = tilghorz::repair(damaged).expect("a text").text;
+    let formatted = tilghorz::format(&repaired, &policy).expect("a text");
+    assert_eq!(&*formatted, "\u{FFFD}1".as_bytes());
+}
+
+#[test]
+fn repairing_tests_the_length_and_then_the_room() {
+    let mut out = [7; 6];
+    let short = Err(Refusal::OutputTooShort { wanted: 5 });
+    assert_eq!(tilghorz::repair_into(b"a\xFFb", &mut out[..4]), short);
+    assert_eq!(out, [7; 6]);
+    assert_eq!(tilghorz::repair_into(b"a\xFFb", &mut out), Ok((5, 1)));
+    assert_eq!(out, *b"a\xEF\xBF\xBDb\x07");
+    let longest = vec![0xFF; LONGEST_TEXT + 1];
+    assert_eq!(tilghorz::repair(&longest), Err(Refusal::TextTooLong));
+    // Within the limit, and past it when it is repaired.
+    let repaired = tilghorz::repair(&longest[1..]).expect("a text");
+    assert_eq!(repaired.replaced, LONGEST_TEXT);
+    assert_eq!(repaired.text.len(), 3 * LONGEST_TEXT);
+    let refused = tilghorz::format(&repaired.text, &Policy::default());
+    assert_eq!(refused, Err(Refusal::TextTooLong));
+}

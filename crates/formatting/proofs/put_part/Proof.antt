@@ -1,11 +1,5 @@
 -- `formatting::put_part` meets its contract.
-use mathlib.Core.Path.{_≡_, subst}
-use Prim.Native.Nat.{ℕ, _+_, _-_}
-use native.Mathlib.Omega.{arith}
-use lib.ListN.{drop, length, length-drop, take}
-use lib.Seq.{length-take-le}
-use Rattle.base.specs.Output.{PutAt}
-use Rattle.base.proofs.Output.{bytes-put}
+use Rattle.base.proofs.Output.{part-put}
 use borrow.Author.Needs.{needs}
 use Rattle.formatting.proofs.put_part.Statement.{statement}
 use Rattle.formatting.proofs.put_part.Tie as tie
@@ -14,12 +8,8 @@ returns : tie.Need-returns
 returns c =
     let x = c .before .before .before .before .before .before .before .args in
     let q = c .before .before .before .before .before .before .before .pre in
-    let t = take (x .to - x .from) (drop (x .from) (x .text .now)) in
-    let n : length t ≡ x .to - x .from = length-take-le (x .to - x .from) (drop (x .from) (x .text .now))
-    (omega (arith, length-drop (x .from) (x .text .now), q)) in
-    let w = bytes-put (x .out .now) (c .before .before .write-bytes .last .0) (x .at) t (omega (arith, n, q))
-    (c .before .before .write-bytes .ensures .1) in
-    subst (λ (r : ℕ). PutAt (x .out .now) (x .at) t (c .before .before .write-bytes .last .0) (x .at + r)) n w
+    part-put (x .out .now) (c .before .before .write-bytes .last .0) (x .at) (x .text .now) (x .from) (x .to) (q .0) (q .1) (q .2)
+    (c .before .before .write-bytes .ensures .1)
 
 pub put-part-spec : {M : Type 1} → statement M
 put-part-spec =

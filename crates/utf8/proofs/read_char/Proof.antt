@@ -1,7 +1,8 @@
 -- `utf8::read_char` meets its contract: the packed number holds the value and the width (Packed).
-use mathlib.Core.Path.{sym}
+use mathlib.Core.Path.{sym, ap, _∙_}
 use native.Mathlib.Omega.{arith}
 use lib.ListN.{drop}
+use Rattle.utf8.specs.declared.ReadChar.the-variants.{IllFormed}
 use Rattle.utf8.proofs.Fronts.{readChar-past-end}
 use Rattle.utf8.proofs.Packed.{packed-none, packed-reads}
 use borrow.Author.Needs.{needs}
@@ -15,9 +16,10 @@ returns c =
 
 returns-2 : tie.Need-returns-2
 returns-2 c =
-    let x = c .before .before .before .before .args in
-    let n = c .before .decode in
-    sym (packed-none (x .s .now) (x .at) (n .result) (n .ensures) (c .if2 .taken) (omega arith))
+    let x = c .before .before .before .before .before .args in
+    let n = c .before .before .decode in
+    ap IllFormed (c .bad-width .ensures)
+    ∙ sym (packed-none (x .s .now) (x .at) (n .result) (n .ensures) (c .before .if2 .taken) (omega arith))
 
 returns-3 : tie.Need-returns-3
 returns-3 c =
@@ -26,4 +28,4 @@ returns-3 c =
     sym (packed-reads (drop (x .at) (x .s .now)) (n .result) (n .ensures) (omega arith))
 
 pub read-char-spec : {M : Type 1} → statement M
-read-char-spec = tie.close (tie.spec returns (λ c κs. search needs) returns-2 (λ c. search needs) returns-3)
+read-char-spec = tie.close (tie.spec returns (λ c κs. search needs) (λ c κs. search needs) returns-2 (λ c. search needs) returns-3)

@@ -6,7 +6,6 @@ use native.Mathlib.Omega.{arith}
 use borrow.Author.Needs.{needs}
 use lib.ListN.{length, drop}
 use Rattle.utf8.specs.Rfc3629.{validUpTo}
-use Rattle.utf8.proofs.AsciiRuns.{longest-at, validUpTo-past}
 use Rattle.utf8.proofs.Packed.{packed-len, step-len, stop-len}
 use Rattle.utf8.proofs.valid_up_to.Statement.{statement}
 use Rattle.utf8.proofs.valid_up_to.Tie as tie
@@ -25,8 +24,8 @@ returns c =
     (c .if1 .taken) in
     omega arith
 
-add-at : tie.Need-add-at Inv-loop μ-loop
-add-at c =
+add-width-end : tie.Need-add-width-end Inv-loop μ-loop
+add-width-end c =
     let x = c .before .before in
     let w = c .before .decode in
     let k = step-len (x .before .before .args .s .now) (x .loop .at) (w .result % 8) (packed-len _ (w .result) (w .ensures))
@@ -35,37 +34,21 @@ add-at c =
 
 loop-less : tie.Need-loop-less Inv-loop μ-loop
 loop-less c =
-    let x = c .before .before .before .before in
-    let w = c .before .before .before .decode in
+    let x = c .before .before .before in
+    let w = c .before .before .decode in
     let k = step-len (x .before .before .args .s .now) (x .loop .at) (w .result % 8) (packed-len _ (w .result) (w .ensures))
     (omega arith) .on in
-    omega (arith, longest-at (c .ascii-end .ensures) .0 .from-le)
+    let r = c .width-end .ensures (k .room) in
+    omega (arith, r .forward)
 
 loop-again : tie.Need-loop-again Inv-loop μ-loop
 loop-again c =
-    let x = c .before .before .before .before in
-    let w = c .before .before .before .decode in
-    let k = step-len (x .before .before .args .s .now) (x .loop .at) (w .result % 8) (packed-len _ (w .result) (w .ensures))
-    (omega arith) .on in
-    let a = longest-at (c .ascii-end .ensures) .0 in
-    let v = validUpTo-past {total = validUpTo (x .before .before .args .s .now)} a (k .room) (omega arith) in
-    omega (arith, a .inside (k .room))
-
-loop-less-2 : tie.Need-loop-less-2 Inv-loop μ-loop
-loop-less-2 c =
     let x = c .before .before .before in
     let w = c .before .before .decode in
     let k = step-len (x .before .before .args .s .now) (x .loop .at) (w .result % 8) (packed-len _ (w .result) (w .ensures))
     (omega arith) .on in
-    omega arith
-
-loop-again-2 : tie.Need-loop-again-2 Inv-loop μ-loop
-loop-again-2 c =
-    let x = c .before .before .before in
-    let w = c .before .before .decode in
-    let k = step-len (x .before .before .args .s .now) (x .loop .at) (w .result % 8) (packed-len _ (w .result) (w .ensures))
-    (omega arith) .on in
-    omega arith
+    let r = c .width-end .ensures (k .room) in
+    omega (arith, r .inside, r .same-end)
 
 pub valid-up-to-spec : {M : Type 1} → statement M
 valid-up-to-spec =
@@ -77,9 +60,7 @@ valid-up-to-spec =
     (λ c κs. search needs)
     (λ c. search needs)
     returns
-    add-at
+    add-width-end
     (λ c κs. search needs)
     loop-less
-    loop-again
-    loop-less-2
-    loop-again-2)
+    loop-again)

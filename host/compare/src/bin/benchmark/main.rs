@@ -20,6 +20,7 @@
 
 mod clock;
 mod inputs;
+mod repairing;
 mod tables;
 mod timing;
 mod words;
@@ -95,6 +96,7 @@ fn run(command: &Command) -> Result<(), String> {
     if !command.growth_alone {
         tables::formatting(&command.inputs, command.rounds)?;
         tables::listing(&command.inputs, command.rounds)?;
+        tables::repairing(&command.inputs, command.rounds)?;
     }
     tables::growth(&command.inputs, command.rounds);
     Ok(())

@@ -1,6 +1,7 @@
 //! The tables that are printed.
 
 use crate::inputs::Input;
+use crate::repairing::Repairing;
 use crate::timing::{FEWEST, Times, interleaved};
 use crate::work::Work;
 
@@ -20,6 +21,15 @@ is wanted where there is no finding.";
 const LISTING: &str = "\
 Listing the findings into a lent table, beside the crate's scan and analysis, which keep nothing: a ratio of 3 is wanted
 on mixed and dense. Mending the first and the last finding: its time to that of a listing and a copy.";
+
+/// What stands above the table of repairing.
+const REPAIRING: &str = "\
+Taking damaged text in, beside from_utf8_lossy made into an owned string: the texts as they are, and with one bad byte in
+a hundred. room: into a buffer of three times the text; exact: into one that the result fills. ratio: the standard
+library's time to ours; 0.8 is wanted for the texts as they are, 1 for the damaged ones.";
+
+/// One bad byte in so many.
+const BAD_ONE_IN: usize = 100;
 
 /// Formatting beside the crate's, the standard library's test of a text, and a copy.
 pub fn formatting(inputs: &[&Input], rounds: usize) -> Result<(), String> {
@@ -103,6 +113,37 @@ pub fn listing(inputs: &[&Input], rounds: usize) -> Result<(), String> {
             mend(first),
             mend(last),
         );
+    }
+    Ok(())
+}
+
+/// Taking texts in, as they are and damaged, beside the standard library.
+pub fn repairing(inputs: &[&Input], rounds: usize) -> Result<(), String> {
+    println!("\n{REPAIRING}");
+    println!(
+        "{:<11} {:>8} {:>15} {:>15} {:>15} {:>7} {:>7} {:>7}",
+        "input", "bad", "lossy", "room", "exact", "ratio", "exact", "wanted"
+    );
+    for input in inputs.iter().filter(|input| input.message.is_none()) {
+        let text = input.make(LENGTH);
+        for (one_in, wanted) in [(None, 0.8), (Some(BAD_ONE_IN), 1.0)] {
+            let mut work = Repairing::new(&text, one_in)?;
+            let [lossy, room, exact] = interleaved(rounds, |number| match number {
+                0 => work.by_std(),
+                1 => work.with_room(),
+                _ => work.exactly(),
+            });
+            println!(
+                "{:<11} {:>8} {:>15} {:>15} {:>15} {:>7.2} {:>7.2} {wanted:>7.1}",
+                input.name,
+                work.bad,
+                speed(work.bytes(), lossy),
+                speed(work.bytes(), room),
+                speed(work.bytes(), exact),
+                lossy.median / room.median,
+                lossy.median / exact.median,
+            );
+        }
     }
     Ok(())
 }

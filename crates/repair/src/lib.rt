@@ -1,0 +1,130 @@
+// Taking damaged text in: each maximal subpart of a bad place is replaced by FFFD (document 02, ii). The Rust crate gets a `str`, and
+// has no such call. The text is gone through from bad place to bad place and written on the way; only for an output that may be too
+// short it is measured before. `repair` equals `repair` of specs/Repair.antt.
+ghost use mathlib.Core.Path.{_≡_};
+ghost use Prim.Native.Nat.{_+_, _-_, _≤_};
+ghost use lib.ListN.{drop, length, take};
+ghost use Rattle.base.specs.Answers.{EndsAs};
+ghost use Rattle.base.specs.Output.{PutAt};
+ghost use Rattle.base.specs.Refusals.{textLimit};
+ghost use Rattle.utf8.specs.Rfc3629.{validUpTo};
+ghost use Rattle.repair.specs.Repair.{repair, repairRow};
+ghost use Rattle.repair.specs.Repaired.{repaired, replacementBytes, replacements};
+use base::Refusal;
+use base::TEXT_LIMIT;
+
+// FFFD has three bytes, and a bad place has one at least: a repaired text has at most three times the bytes of the text.
+const REPLACEMENT_BYTES: usize = 3;
+
+// The answer: the length of the repaired text and the number of replacements, or why nothing was written.
+pub enum RepairAnswer {
+    Repaired { len: usize, replaced: usize },
+    Refused(Refusal),
+}
+
+// The length of a repaired text, and the number of replacements in it.
+struct Size {
+    len: usize,
+    replaced: usize,
+}
+
+// Where the well-formed bytes from a place on end.
+fn well_formed_end(text: &[u8], at: usize) -> usize
+    requires { ⌜ at ≤ length (now text) ⌝ }
+    ensures { λ r. ⌜ r ≡ at + validUpTo (drop at (now (text .entry))) ⌝ }
+{
+    at + utf8::valid_up_to(&text[at..])
+}
+
+// Measures the repaired text of a text within the limit.
+fn measure(text: &[u8]) -> Size
+    requires { ⌜ length (now text) ≤ textLimit ⌝ }
+    ensures len { λ r. ⌜ r .len ≡ length (repaired (now (text .entry))) ⌝ }
+    ensures replaced { λ r. ⌜ r .replaced ≡ replacements (now (text .entry)) ⌝ }
+{
+    let mut at: usize = 0;
+    let mut len: usize = 0;
+    let mut replaced: usize = 0;
+    loop {
+        let stop = well_formed_end(text, at);
+        len += stop - at;
+        if text.len() <= stop {
+            return Size { len, replaced };
+        }
+        len += REPLACEMENT_BYTES;
+        replaced += 1;
+        at = stop + utf8::bad_width(text, stop);
+    }
+}
+
+// Puts the bytes of a text from one offset up to another, for which there is room, and says where they end.
+fn put_part(text: &[u8], from: usize, to: usize, out: &mut [u8], at: usize) -> usize
+    requires { ⌜ (from ≤ to) × (to ≤ length (now text)) × (at + (to - from) ≤ length (now out)) ⌝ }
+    ensures { λ r. ⌜ PutAt (now (out .entry)) at (take (to - from) (drop from (now (text .entry)))) (now (out .exit)) r ⌝ }
+{
+    base::write_bytes(out, at, &text[from..to]);
+    at + (to - from)
+}
+
+// Puts the bytes of FFFD, for which there is room, and says where they end.
+fn put_replacement(out: &mut [u8], at: usize) -> usize
+    requires { ⌜ at + 3 ≤ length (now out) ⌝ }
+    ensures { λ r. ⌜ PutAt (now (out .entry)) at replacementBytes (now (out .exit)) r ⌝ }
+{
+    out[at] = 0xEF;
+    out[at + 1] = 0xBF;
+    out[at + 2] = 0xBD;
+    at + REPLACEMENT_BYTES
+}
+
+// Writes the repaired text of a text within the limit, for which there is room.
+fn write_repaired(text: &[u8], out: &mut [u8]) -> Size
+    requires { ⌜ (length (now text) ≤ textLimit) × (length (repaired (now text)) ≤ length (now out)) ⌝ }
+    ensures len { λ r. ⌜ PutAt (now (out .entry)) 0 (repaired (now (text .entry))) (now (out .exit)) (r .len) ⌝ }
+    ensures replaced { λ r. ⌜ r .replaced ≡ replacements (now (text .entry)) ⌝ }
+{
+    let mut at: usize = 0;
+    let mut len: usize = 0;
+    let mut replaced: usize = 0;
+    loop {
+        let stop = well_formed_end(text, at);
+        len = put_part(text, at, stop, out, len);
+        if text.len() <= stop {
+            return Size { len, replaced };
+        }
+        len = put_replacement(out, len);
+        replaced += 1;
+        at = stop + utf8::bad_width(text, stop);
+    }
+}
+
+// Repairs a text within the limit into an output that may be too short: it is measured before. A well-formed text is copied at once.
+fn repair_measured(text: &[u8], out: &mut [u8]) -> RepairAnswer
+    requires { ⌜ length (now text) ≤ textLimit ⌝ }
+    ensures { λ r. ⌜ record { answer = r; buffer = now (out .exit) } ≡ repair (now (text .entry)) (now (out .entry)) ⌝ }
+{
+    let Size { len, replaced } = measure(text);
+    if out.len() < len {
+        return RepairAnswer::Refused(Refusal::OutputTooShort { wanted: len });
+    }
+    if replaced == 0 {
+        base::write_bytes(out, 0, text);
+        return RepairAnswer::Repaired { len, replaced };
+    }
+    write_repaired(text, out);
+    RepairAnswer::Repaired { len, replaced }
+}
+
+// Writes the text with FFFD for each bad place at the front of the output, or refuses.
+pub fn repair(text: &[u8], out: &mut [u8]) -> RepairAnswer
+    ensures { λ r. ⌜ EndsAs repairRow (repair (now (text .entry)) (now (out .entry))) r (now (out .exit)) ⌝ }
+{
+    if TEXT_LIMIT < text.len() {
+        return RepairAnswer::Refused(Refusal::TextTooLong);
+    }
+    if out.len() / REPLACEMENT_BYTES < text.len() {
+        return repair_measured(text, out);
+    }
+    let Size { len, replaced } = write_repaired(text, out);
+    RepairAnswer::Repaired { len, replaced }
+}
