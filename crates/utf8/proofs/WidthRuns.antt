@@ -1,9 +1,9 @@
--- Passing characters of one width: what the loops of `two_end` and `three_end` go by.
-use mathlib.Core.Path.{_≡_, refl}
+-- Passing characters of few widths: what the loops of runs.rt go by.
+use mathlib.Core.Path.{_≡_, _∙_, ap, refl}
 use mathlib.Core.Logic.{⊎-elim}
 use mathlib.Core.Bool.{true}
 use mathlib.Core.List.{List}
-use Prim.Native.Nat.{ℕ, _+_, _≤_}
+use Prim.Native.Nat.{ℕ, _+_, _*_, _/_, _<_, _≤_}
 use native.Mathlib.Omega.{arith}
 use lib.ListN.{drop, getD, length}
 use Rattle.base.proofs.Tests.{le-or-lt}
@@ -13,7 +13,7 @@ use Rattle.utf8.specs.Runs.{CharsBetween}
 use Rattle.utf8.proofs.AsciiRuns.{longest-at, validUpTo-past}
 use Rattle.utf8.proofs.Packed.{packed-len, step-len}
 use Rattle.utf8.proofs.Scalars.{isScalar-high, isScalar-low}
-use Rattle.utf8.proofs.Values.{reads-2-at, reads-3-at}
+use Rattle.utf8.proofs.Values.{reads-1-at, reads-2-at, reads-3-at}
 
 pub none-passed : (s : List ℕ) (from : ℕ) → from ≤ length s → CharsBetween s from from
 none-passed s from h = record { forward = omega arith; inside = h; same-end = refl }
@@ -29,13 +29,37 @@ one-more {s} {from} {at} w p e h =
 scalar : (v : ℕ) → v ≤ 0xFFFF → (0xD000 ≤ v → 0xE000 ≤ v) → isScalar v ≡ true
 scalar v h f = ⊎-elim (λ l. isScalar-high v (f l) (omega arith)) (λ l. isScalar-low v (omega arith)) (le-or-lt 0xD000 v)
 
+pub times-1 : (x : ℕ) {b : ℕ} → b ≡ 1 → x * b ≡ x
+times-1 x e = ap (λ (k : ℕ). x * k) e ∙ omega arith
+
+pub times-le : (x b : ℕ) → b ≤ 1 → x * b ≤ x
+times-le x b h = ⊎-elim one none (le-or-lt 1 b)
+  where
+    one : 1 ≤ b → x * b ≤ x
+    one l = let e : b ≡ 1 = omega arith in omega (arith, times-1 x e)
+    none : b < 1 → x * b ≤ x
+    none l = let e : b ≡ 0 = omega arith in omega (arith, ap (λ (k : ℕ). x * k) e)
+
 module _ {s : List ℕ} {from at : ℕ} (p : CharsBetween s from at) where
-  pub two-more : at + 2 ≤ length s → 0xC2 ≤ getD s at 0 → getD s at 0 ≤ 0xDF → 0x80 ≤ getD s (at + 1) 0 → getD s (at + 1) 0 ≤ 0xBF
-      → CharsBetween s from (at + 2)
-  two-more h a b c d =
-      let r = reads-2-at s at (omega arith) (record { low = a; high = b }) (record { low = c; high = d }) in
-      let l = packed-len (drop at s) _ r in
-      one-more 2 p (omega (arith, l)) (omega arith)
+  -- A character of one or two bytes, where m bytes follow its first one.
+  pub short-more : at + 2 ≤ length s → (m : ℕ) → (m ≡ getD s at 0 / 128) × (m ≤ 1)
+      → (0x80 ≤ getD s at 0 → (0xC2 ≤ getD s at 0) × (getD s at 0 ≤ 0xDF) × (0x80 ≤ getD s (at + m) 0) × (getD s (at + m) 0 ≤ 0xBF))
+      → CharsBetween s from (at + (1 + m))
+  short-more h m e f = ⊎-elim two one (le-or-lt 0x80 (getD s at 0))
+    where
+      one : getD s at 0 < 0x80 → CharsBetween s from (at + (1 + m))
+      one l =
+          let k = packed-len (drop at s) _ (reads-1-at s at (omega arith) (omega arith)) in
+          one-more (1 + m) p (omega (arith, k)) (omega arith)
+      two : 0x80 ≤ getD s at 0 → CharsBetween s from (at + (1 + m))
+      two l =
+          let g = f l in
+          let i : m ≡ 1 = omega arith in
+          let last = ap (λ (k : ℕ). getD s (at + k) 0) i in
+          let r = reads-2-at s at (omega arith) (record { low = g .0; high = g .1 })
+          (record { low = omega (arith, last); high = omega (arith, last) }) in
+          let k = packed-len (drop at s) _ r in
+          one-more (1 + m) p (omega (arith, k)) (omega arith)
 
   pub three-more : at + 3 ≤ length s → 0xE1 ≤ getD s at 0 → getD s at 0 ≤ 0xEF → (getD s at 0 ≡ 0xED → ⊥) → 0x80 ≤ getD s (at + 1) 0
       → getD s (at + 1) 0 ≤ 0xBF → 0x80 ≤ getD s (at + 2) 0 → getD s (at + 2) 0 ≤ 0xBF → CharsBetween s from (at + 3)

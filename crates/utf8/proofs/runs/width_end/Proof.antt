@@ -11,7 +11,7 @@ returns-2 : tie.Need-returns-2
 returns-2 c = ascii-more (c .ascii-end .ensures)
 
 returns-3 : tie.Need-returns-3
-returns-3 c h = c .two-end .ensures
+returns-3 c h = c .short-end .ensures
 
 returns-4 : tie.Need-returns-4
 returns-4 c h = c .three-end .ensures
