@@ -2,7 +2,7 @@
 // them in a loop with few tests. `width_end` passes characters alone (`CharsBetween` of specs/Runs.antt), and need not pass all of the run.
 ghost use mathlib.Core.Path.{_≡_};
 ghost use mathlib.Core.Bool.{true};
-ghost use Prim.Native.Nat.{_/_, _≤_};
+ghost use Prim.Native.Nat.{_-_, _/_, _≤_};
 ghost use lib.ListN.{length};
 ghost use Rattle.utf8.specs.Runs.{CharsBetween};
 
@@ -89,7 +89,66 @@ fn three_end(s: &[u8], from: usize) -> usize
     }
 }
 
-// Passes characters of a width from a place on: none of four bytes, and none from a place past the bytes.
+// How many bytes follow the first byte of a character of three or four bytes.
+fn bytes_after_long(first: u8) -> usize
+    requires { ⌜ 0xE0 ≤ first ⌝ }
+    ensures { λ r. ⌜ (r ≡ first / 16 - 12) × (r ≤ 3) ⌝ }
+{
+    (first / 16 - 12) as usize
+}
+
+// Whether a character may begin with a first byte from E1 on and a second byte that is a tail. E0, ED and F4, after which the second byte
+// has other ranges (UTF8-3 and UTF8-4), are left to `decode`. The last test is that for F0 80 to F0 8F.
+fn long_fits(first: u8, second: u8) -> bool
+    ensures { λ r. ⌜ (r ≡ true → (first ≤ 0xF3) × (first ≡ 0xED → ⊥) × (first ≡ 0xF0 → 0x80 ≤ second → 0x90 ≤ second)) ⌝ }
+{
+    if 0xF3 < first {
+        return false;
+    }
+    if first == 0xED {
+        return false;
+    }
+    16 <= (256 * (first as usize) + (second as usize) + 0xF80) % 65536
+}
+
+// Whether three bytes are tails.
+fn are_tails(a: u8, b: u8, c: u8) -> bool
+    ensures { λ r. ⌜ (r ≡ true → (0x80 ≤ a) × (a ≤ 0xBF) × (0x80 ≤ b) × (b ≤ 0xBF) × (0x80 ≤ c) × (c ≤ 0xBF)) ⌝ }
+{
+    if !crate::in_range(0x80, 0xBF, a) {
+        return false;
+    }
+    if !crate::in_range(0x80, 0xBF, b) {
+        return false;
+    }
+    crate::in_range(0x80, 0xBF, c)
+}
+
+// Passes characters of three and of four bytes. Of a character of three bytes the third byte is the last one.
+fn long_end(s: &[u8], from: usize) -> usize
+    requires { ⌜ from ≤ length (now s) ⌝ }
+    ensures { λ r. ⌜ CharsBetween (now (s .entry)) from r ⌝ }
+{
+    let mut at = from;
+    loop {
+        if s.len() - at < 4 {
+            return at;
+        }
+        if s[at] < 0xE1 {
+            return at;
+        }
+        if !long_fits(s[at], s[at + 1]) {
+            return at;
+        }
+        let more = bytes_after_long(s[at]);
+        if !are_tails(s[at + 1], s[at + 2], s[at + more]) {
+            return at;
+        }
+        at += 1 + more;
+    }
+}
+
+// Passes characters from a place on, after one of a width: most often those of the same width. It passes none from a place past the bytes.
 pub fn width_end(s: &[u8], from: usize, width: usize) -> usize
     ensures { λ r. ⌜ (from ≤ length (now (s .entry)) → CharsBetween (now (s .entry)) from r) ⌝ }
 {
@@ -105,5 +164,5 @@ pub fn width_end(s: &[u8], from: usize, width: usize) -> usize
     if width == 3 {
         return three_end(s, from);
     }
-    from
+    long_end(s, from)
 }
