@@ -39,7 +39,8 @@ loop-again c =
     let m = c .before .before .before .before .before .bytes-after-long in
     let f = x .before .long-fits .ensures (not-false _ (x .if3 .left)) in
     let t = c .before .are-tails .ensures (not-false _ (c .if4 .left)) in
-    long-more (x .before .before .before .before .before .before .before .loop .inv) (omega arith) (m .result) (m .ensures .0) (omega arith) (f .0) (f .1) (f .2)
+    let p = x .before .before .before .before .before .before .before .loop .inv in
+    long-more p (omega arith) (m .result) (m .ensures .0) (omega arith) (f .0) (f .1) (f .2)
     (record { low = t .0; high = t .1 }) (record { low = t .2; high = t .3 }) (record { low = t .4; high = t .5 })
 
 pub long-end-spec : {M : Type 1} → statement M

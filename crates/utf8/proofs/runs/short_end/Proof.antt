@@ -32,10 +32,11 @@ loop-less c = omega arith
 
 loop-again : tie.Need-loop-again Inv-loop μ-loop
 loop-again c =
-    let x = c .before .before .before .before .before in (
-      short-more (x .before .before .before .before .loop .inv .0) (omega arith) (x .bytes-after .result) (x .bytes-after .ensures) (c .before .before .short-fits .ensures (not-false _ (c .before .if2 .left))),
-      omega (arith, c .masked .ensures .0),
-    )
+    let x = c .before .before .before .before .before in
+    let m = x .bytes-after in
+    let f = c .before .before .short-fits .ensures (not-false _ (c .before .if2 .left)) in
+    let p = x .before .before .before .before .loop .inv .0 in
+    (short-more p (omega arith) (m .result) (m .ensures) f, omega (arith, c .masked .ensures .0))
 
 returns-3 : tie.Need-returns-3 Inv-loop μ-loop
 returns-3 c = c .before .loop .inv .0
