@@ -36,6 +36,10 @@ fn faults_are_reported_with_a_reduced_text() {
         (Fault::WantedLength, "sizes"),
         (Fault::BytesBeforeNumber, "decisions"),
         (Fault::DefaultPolicy, "default policy"),
+        (Fault::ReplacesEachByte, "sizes"),
+        (Fault::LosesCutEnd, "sizes"),
+        (Fault::WholeUnwritten, "sizes"),
+        (Fault::WantsThreeTimes, "sizes"),
     ] {
         let (is_same, text) = printed(&Faulty::new(&Reference, fault));
         assert!(!is_same, "{fault:?}");

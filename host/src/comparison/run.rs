@@ -292,7 +292,7 @@ impl<'a> Run<'a> {
         let stopped = self.stopped();
         self.told("random", cases, &format!("texts{stopped}"))?;
         self.told("damaged", cases, "texts or policies")?;
-        self.told("repaired", cases, "damaged texts, formatted after it")?;
+        self.told("repaired", cases, "texts, and the calls after it")?;
         let what = format!("lists of mending calls, {calls} calls");
         self.told("lists", cases, &what)
     }
@@ -319,15 +319,18 @@ impl<'a> Run<'a> {
         self.text("damaged", &text, &policy)
     }
 
-    /// A damaged text that is taken in, and what formatting does to it after that.
+    /// A text that may be damaged: what the calls do to it as it is, how it is taken in, and what they do to it after that.
     fn repaired_text(&self, random: &mut Random) -> Result<(), Stop> {
-        let text = match random.below(3) {
+        let text = match random.below(4) {
             0 => repair_case::drawn(random),
+            1 => repair_case::runs(random),
             _ => self.alphabet.damaged(random),
         };
+        let policy = self.drawn_policy(random);
+        self.text("repaired", &text, &policy)?;
         self.repair("repaired", &text)?;
         let (text, _) = repaired(&text);
-        self.text("repaired", &text, &self.drawn_policy(random))
+        self.text("repaired", &text, &policy)
     }
 
     /// A list of mending calls, and how many they are.

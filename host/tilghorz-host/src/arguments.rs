@@ -7,11 +7,13 @@ use std::num::NonZero;
 use tilghorz::{Context, KeySet, Presentation};
 
 use crate::fix::Fix;
-use crate::format::{Format, Mode};
+use crate::format::Format;
 use crate::help::Topic;
 use crate::policy::{Edit, Policy, PolicyFile};
+use crate::repair::Repair;
 use crate::replace::InPlace;
 use crate::report::Report;
+use crate::rewriting::{Mode, Rewriting};
 use crate::show::Show;
 use crate::source::Source;
 use crate::walk::{Pattern, Selection};
@@ -27,6 +29,8 @@ pub enum Command {
     Version,
     /// `format`.
     Format(Format),
+    /// `repair`.
+    Repair(Repair),
     /// `report`.
     Report(Report),
     /// `fix`.
@@ -102,6 +106,7 @@ fn command(topic: Topic, words: Words) -> Result<Command, String> {
     match topic {
         Topic::All | Topic::Folders => Ok(Command::Help(topic)),
         Topic::Format => format(words).map(Command::Format),
+        Topic::Repair => repair(words).map(Command::Repair),
         Topic::Report => report(words).map(Command::Report),
         Topic::Fix => fix(words).map(Command::Fix),
         Topic::Show => show(words).map(Command::Show),
@@ -213,9 +218,35 @@ impl Changing {
 }
 
 fn format(words: Words) -> Result<Format, String> {
+    let mut repairs = false;
+    let (rewriting, policy) = rewriting(words, |option| set(&mut repairs, REPAIR, option))?;
+    Ok(Format {
+        policy,
+        repairs,
+        rewriting,
+    })
+}
+
+fn repair(words: Words) -> Result<Repair, String> {
+    let (rewriting, policy) = rewriting(words, |_| false)?;
+    if policy.0.is_some() {
+        return unknown("--policy");
+    }
+    Ok(Repair { rewriting })
+}
+
+/// The option on bad places.
+const REPAIR: &str = "--repair";
+
+/// The texts and the policy of a command that writes texts anew. A function knows its further options.
+fn rewriting(
+    words: Words,
+    mut further: impl FnMut(&str) -> bool,
+) -> Result<(Rewriting, PolicyFile), String> {
     let (mut check, mut changing, mut going) = (false, Changing::default(), Going::default());
     let (names, policy) = texts(words, |option, words| {
         Ok(set(&mut check, "--check", option)
+            || further(option)
             || changing.take(option)
             || going.take(option, words)?)
     })?;
@@ -233,13 +264,13 @@ fn format(words: Words) -> Result<Format, String> {
         mut manner,
     } = going;
     manner.in_place = changing.of(&names)?;
-    Ok(Format {
+    let rewriting = Rewriting {
         mode,
-        policy,
         names,
         selection,
         manner,
-    })
+    };
+    Ok((rewriting, policy))
 }
 
 /// Whether names can be changed in place.
@@ -251,10 +282,12 @@ fn are_files(names: &[Source]) -> Result<(), String> {
 }
 
 fn report(words: Words) -> Result<Report, String> {
-    let (mut json, mut items, mut going) = (false, false, Going::default());
+    let (mut json, mut items, mut repairs) = (false, false, false);
+    let mut going = Going::default();
     let (names, policy) = texts(words, |option, words| {
         Ok(set(&mut json, "--json", option)
             || set(&mut items, "--items", option)
+            || set(&mut repairs, REPAIR, option)
             || going.take(option, words)?)
     })?;
     going.test()?;
@@ -262,6 +295,7 @@ fn report(words: Words) -> Result<Report, String> {
     Ok(Report {
         json,
         items,
+        repairs,
         policy,
         names,
         selection,
@@ -271,11 +305,16 @@ fn report(words: Words) -> Result<Report, String> {
 
 fn fix(words: Words) -> Result<Fix, String> {
     let (mut at, mut decisions, mut changing) = (None, Vec::new(), Changing::default());
+    let (mut repairs, mut binary) = (false, false);
     let (mut names, policy) = texts(words, |option, words| {
         match option {
             "--at" => at = Some(offset(&words.text(option)?)?),
             "--decide" => decide(words, &mut decisions)?,
-            _ => return Ok(changing.take(option)),
+            _ => {
+                return Ok(set(&mut repairs, REPAIR, option)
+                    || set(&mut binary, "--binary", option)
+                    || changing.take(option));
+            }
         }
         Ok(true)
     })?;
@@ -286,6 +325,8 @@ fn fix(words: Words) -> Result<Fix, String> {
     Ok(Fix {
         at: at.ok_or("--at OFFSET is missing")?,
         decisions,
+        repairs,
+        binary,
         in_place,
         policy,
         source: names.pop().unwrap_or(Source::Input),
@@ -314,11 +355,14 @@ fn decide(words: &mut Words, decisions: &mut Vec<Presentation>) -> Result<(), St
 }
 
 fn show(words: Words) -> Result<Show, String> {
-    let mut going = Going::default();
-    let (names, policy) = texts(words, |option, words| going.take(option, words))?;
+    let (mut repairs, mut going) = (false, Going::default());
+    let (names, policy) = texts(words, |option, words| {
+        Ok(set(&mut repairs, REPAIR, option) || going.take(option, words)?)
+    })?;
     going.test()?;
     let Going { selection, manner } = going;
     Ok(Show {
+        repairs,
         policy,
         names,
         selection,

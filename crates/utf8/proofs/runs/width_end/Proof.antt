@@ -11,13 +11,13 @@ returns-2 : tie.Need-returns-2
 returns-2 c = ascii-more (c .ascii-end .ensures)
 
 returns-3 : tie.Need-returns-3
-returns-3 c h = c .two-end .ensures
+returns-3 c h = c .short-end .ensures
 
 returns-4 : tie.Need-returns-4
 returns-4 c h = c .three-end .ensures
 
 returns-5 : tie.Need-returns-5
-returns-5 c = let x = c .before .before .before .before .before .args in none-passed (x .s .now) (x .from)
+returns-5 c h = c .long-end .ensures
 
 pub width-end-spec : {M : Type 1} → statement M
 width-end-spec =
@@ -30,4 +30,5 @@ width-end-spec =
     returns-3
     (λ c κs. search needs)
     returns-4
+    (λ c κs. search needs)
     returns-5)

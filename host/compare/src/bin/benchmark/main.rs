@@ -6,6 +6,7 @@
 //! cargo run --offline --release --package compare --bin benchmark                  # all tables, about a minute
 //! cargo run --offline --release --package compare --bin benchmark -- --rounds 31 ascii mixed-48
 //! cargo run --offline --release --package compare --bin benchmark -- --growth      # 64 KiB, 1 MiB and 16 MiB alone
+//! cargo run --offline --release --package compare --bin benchmark -- --repairing   # damaged texts alone
 //! TILGHORZ_LIBRARY=FOLDER cargo run ..                                             # another libtilghorz.a
 //! ```
 //!
@@ -30,20 +31,30 @@ use std::env;
 use std::process::ExitCode;
 
 use inputs::{INPUTS, Input};
+use repairing::Repairing;
 use work::Work;
 
 /// How the program is called.
 const USAGE: &str = "\
-usage: benchmark [--rounds N] [--growth] [INPUT ..]
-       benchmark repeat format|list|mend|scan INPUT BYTES TIMES
-  --rounds N  the rounds of each measurement (15)
-  --growth    only the cost at 64 KiB, 1 MiB and 16 MiB
-  repeat      one call of the library, so many times, and nothing else: for counts of instructions";
+usage: benchmark [--rounds N] [--growth | --repairing] [INPUT ..]
+       benchmark repeat format|list|mend|scan|repair|repair-damaged INPUT BYTES TIMES
+  --rounds N   the rounds of each measurement (15)
+  --growth     only the cost at 64 KiB, 1 MiB and 16 MiB
+  --repairing  only the table of repairing
+  repeat       one call of the library, so many times, and nothing else: for counts of instructions";
+
+/// The tables that are printed.
+#[derive(PartialEq)]
+enum Tables {
+    All,
+    Growth,
+    Repairing,
+}
 
 /// What the program is asked to do.
 struct Command {
     rounds: usize,
-    growth_alone: bool,
+    tables: Tables,
     inputs: Vec<&'static Input>,
 }
 
@@ -71,14 +82,15 @@ fn main() -> ExitCode {
 fn parse(words: &[&str]) -> Result<Command, String> {
     let mut command = Command {
         rounds: 15,
-        growth_alone: false,
+        tables: Tables::All,
         inputs: Vec::new(),
     };
     let mut words = words.iter();
     while let Some(&word) = words.next() {
         match word {
             "--rounds" => command.rounds = number(words.next().copied().unwrap_or(""))?,
-            "--growth" => command.growth_alone = true,
+            "--growth" => command.tables = Tables::Growth,
+            "--repairing" => command.tables = Tables::Repairing,
             _ => command.inputs.push(input(word)?),
         }
     }
@@ -93,12 +105,17 @@ fn parse(words: &[&str]) -> Result<Command, String> {
 
 /// Prints the tables.
 fn run(command: &Command) -> Result<(), String> {
-    if !command.growth_alone {
-        tables::formatting(&command.inputs, command.rounds)?;
-        tables::listing(&command.inputs, command.rounds)?;
-        tables::repairing(&command.inputs, command.rounds)?;
+    let (inputs, rounds) = (&command.inputs, command.rounds);
+    if command.tables == Tables::All {
+        tables::formatting(inputs, rounds)?;
+        tables::listing(inputs, rounds)?;
     }
-    tables::growth(&command.inputs, command.rounds);
+    if command.tables != Tables::Growth {
+        tables::repairing(inputs, rounds)?;
+    }
+    if command.tables != Tables::Repairing {
+        tables::growth(inputs, rounds);
+    }
     Ok(())
 }
 
@@ -109,6 +126,11 @@ fn repeat(words: &[&str]) -> Result<(), String> {
     };
     let input = input(name)?;
     let text = input.make(number(bytes)?);
+    if let Some(one_in) = repairing::bad_bytes(call) {
+        let mut work = Repairing::new(&text, one_in)?;
+        (0..number(times)?).for_each(|_| work.with_room());
+        return Ok(());
+    }
     let (work, mut buffers) = Work::new(input, &text);
     let mut items = work.item_table();
     for _ in 0..number(times)? {

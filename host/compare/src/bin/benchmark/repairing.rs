@@ -14,6 +14,18 @@ pub struct Repairing {
     pub bad: u64,
 }
 
+/// One byte in so many of a damaged text is bad.
+pub const BAD_ONE_IN: usize = 100;
+
+/// One bad byte in how many the text has with which a call is repeated, if it is such a call.
+pub fn bad_bytes(call: &str) -> Option<Option<usize>> {
+    match call {
+        "repair" => Some(None),
+        "repair-damaged" => Some(Some(BAD_ONE_IN)),
+        _ => None,
+    }
+}
+
 impl Repairing {
     /// A text with one bad byte in so many, or none.
     pub fn new(text: &str, one_in: Option<usize>) -> Result<Self, String> {
