@@ -277,7 +277,7 @@ impl Calls for Faulty<'_> {
             return word;
         }
         let (length, number) = (answer.value & 0xFFF_FFFF, answer.value >> 28);
-        self.spoil_behind(Answer::new(Answer::DONE, length), 1, out);
+        self.spoil_after(Answer::new(Answer::DONE, length), 1, out);
         self.repair_answer(length, number).word()
     }
 
