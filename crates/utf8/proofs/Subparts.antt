@@ -59,7 +59,7 @@ subpart-three : (a b c : ℕ) → begun-3 a b c ≡ true → 3 ≤ subpart a b c
 unfolding subpart
 subpart-three a b c e = rw e (omega arith)
 
--- What the width says: 1, or so many bytes begin a character.
+-- The width n of a bad place: n is 1, or the first n bytes begin a character.
 data Width (a b c : ℕ) : ℕ → Type 0 where
   one-byte : Width a b c 1
   two-bytes : begun-2 a b ≡ true → Width a b c 2

@@ -189,8 +189,8 @@ fn table<R: Row>(call: impl Fn(&mut [u8]) -> u64) -> Result<Table<R>, Refusal> {
     Ok(Table::new(bytes, rows))
 }
 
-/// Makes a call with a buffer of so many bytes, and once more with the room wanted where it is too short. The room
-/// wanted is told in places of so many bytes.
+/// Makes a call with a buffer of `room` bytes. If this buffer is too short, it makes the call once more, with the room
+/// that the refusal asks for. The refusal counts places of `place` bytes.
 fn with_room<T>(
     room: usize,
     place: usize,

@@ -38,7 +38,7 @@ usage: benchmark [--rounds N] [--growth] [INPUT ..]
        benchmark repeat format|list|mend|scan INPUT BYTES TIMES
   --rounds N  the rounds of each measurement (15)
   --growth    only the cost at 64 KiB, 1 MiB and 16 MiB
-  repeat      one call of the library, so many times, and nothing else: for counts of instructions";
+  repeat      one call of the library, TIMES times, and nothing else: for counts of instructions";
 
 /// What the program is asked to do.
 struct Command {

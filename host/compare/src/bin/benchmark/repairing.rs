@@ -15,7 +15,7 @@ pub struct Repairing {
 }
 
 impl Repairing {
-    /// A text with one bad byte in so many, or none.
+    /// A text with one bad byte in every `one_in` bytes, or with none.
     pub fn new(text: &str, one_in: Option<usize>) -> Result<Self, String> {
         let mut text = text.as_bytes().to_vec();
         if let Some(one_in) = one_in {
