@@ -1,10 +1,11 @@
-// Runs of characters of one width. A text most often goes on with characters of the width of the last one, so the test of a text passes
-// them in a loop with few tests. `width_end` passes characters alone (`CharsBetween` of specs/Runs.antt), and need not pass all of the run.
+// Runs of characters of one width. After a character, a text mostly goes on with characters of the same width. The test of a text skips
+// them in a loop that makes few tests. `width_end` skips only characters (`CharsBetween` of specs/Runs.antt). Its contract does not say
+// that it skips all of the run.
 ghost use Prim.Native.Nat.{_≤_};
 ghost use lib.ListN.{length};
 ghost use Rattle.utf8.specs.Runs.{CharsBetween};
 
-// Passes characters of two bytes (RFC 3629, section 4, UTF8-2).
+// Skips characters of two bytes (RFC 3629, section 4, UTF8-2), and returns the offset after them.
 fn two_end(s: &[u8], from: usize) -> usize
     requires { ⌜ from ≤ length (now s) ⌝ }
     ensures { λ r. ⌜ CharsBetween (now (s .entry)) from r ⌝ }
@@ -30,7 +31,8 @@ fn two_end(s: &[u8], from: usize) -> usize
     }
 }
 
-// Passes characters of three bytes whose first byte is E1 to EF and not ED: the second byte may then be any tail (UTF8-3).
+// Skips characters of three bytes whose first byte is E1 to EF and not ED, and returns the offset after them. Their second byte can be any
+// tail (UTF8-3).
 fn three_end(s: &[u8], from: usize) -> usize
     requires { ⌜ from ≤ length (now s) ⌝ }
     ensures { λ r. ⌜ CharsBetween (now (s .entry)) from r ⌝ }
@@ -65,7 +67,8 @@ fn three_end(s: &[u8], from: usize) -> usize
     }
 }
 
-// Passes characters of a width from a place on: none of four bytes, and none from a place past the bytes.
+// Skips characters of a width from an offset on, and returns the offset after them. It skips none if the width is 4, or if the offset is
+// not before the end of the text.
 pub fn width_end(s: &[u8], from: usize, width: usize) -> usize
     ensures { λ r. ⌜ (from ≤ length (now (s .entry)) → CharsBetween (now (s .entry)) from r) ⌝ }
 {

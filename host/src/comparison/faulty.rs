@@ -116,7 +116,7 @@ impl<'a> Faulty<'a> {
         }
     }
 
-    /// What taking a text in answers instead, where it was done.
+    /// The answer of the faulty repair, where the sound one was done.
     fn repair_answer(&self, length: u64, number: u64) -> Answer {
         match self.fault {
             Fault::WholeUnwritten if number == 0 => Answer::NOTHING,
@@ -158,7 +158,7 @@ const fn two_values(first: u64, second: u64) -> Answer {
     Answer::new(Answer::DONE, first + (second << 28))
 }
 
-/// The text with each byte of a bad place as a bad place of its own.
+/// The repaired text if each byte of a bad place is replaced by itself.
 fn in_single_bytes(text: &[u8]) -> Vec<u8> {
     let mut out = Vec::with_capacity(text.len());
     for chunk in text.utf8_chunks() {
