@@ -133,7 +133,7 @@ def unclear_words(root):
             seen += 1
             for number, line in enumerate(path.read_text(encoding="utf-8").splitlines(), 1):
                 for word in UNCLEAR.findall(NAME_OR_QUOTED.sub("", line)):
-                    yield f"{path.relative_to(root)}: line {number}: the word `{word}`"
+                    yield f"{path.relative_to(root)}: line {number}: the word `{word}` is unclear"
     if not seen:
         yield "the repository has no text"
 
