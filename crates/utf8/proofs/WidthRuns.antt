@@ -1,4 +1,4 @@
--- Passing characters of few widths: what the loops of runs.rt go by.
+-- Skipping characters of few widths: the laws that the loops of src/runs.rt use.
 use mathlib.Core.Path.{_≡_, _∙_, ap, refl}
 use mathlib.Core.Logic.{⊎-elim}
 use mathlib.Core.Bool.{true}
@@ -18,7 +18,7 @@ use Rattle.utf8.proofs.Values.{reads-1-at, reads-2-at, reads-3-at, read
 pub none-passed : (s : List ℕ) (from : ℕ) → from ≤ length s → CharsBetween s from from
 none-passed s from h = record { forward = omega arith; inside = h; same-end = refl }
 
--- One character of w bytes more.
+-- One more character, of w bytes.
 one-more : {s : List ℕ} {from at : ℕ} (w : ℕ) → CharsBetween s from at → w ≡ charLen (readChar (drop at s)) → 1 ≤ w
     → CharsBetween s from (at + w)
 one-more {s} {from} {at} w p e h =

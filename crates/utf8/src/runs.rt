@@ -1,5 +1,6 @@
-// Runs of characters of one width. A text most often goes on with characters of the width of the last one, so the test of a text passes
-// them in a loop with few tests. `width_end` passes characters alone (`CharsBetween` of specs/Runs.antt), and need not pass all of the run.
+// Runs of characters of one width or of two. After a character, a text mostly goes on with characters of a similar width. The test of a
+// text skips them in a loop that makes few tests. `width_end` skips only characters (`CharsBetween` of specs/Runs.antt). Its contract does
+// not say that it skips all of the run.
 ghost use mathlib.Core.Path.{_≡_};
 ghost use mathlib.Core.Bool.{true};
 ghost use Prim.Native.Nat.{_-_, _/_, _≤_};
@@ -33,7 +34,8 @@ fn short_fits(first: u8, last: u8) -> bool
     masked(last as usize + 128, more) % 256 <= 0x3F
 }
 
-// Passes characters of one and of two bytes. It stops after four of one byte in sequence, because `ascii_end` passes those faster.
+// Skips characters of one and of two bytes, and returns the offset after them. It stops after four of one byte in sequence, because
+// `ascii_end` skips those faster.
 fn short_end(s: &[u8], from: usize) -> usize
     requires { ⌜ from ≤ length (now s) ⌝ }
     ensures { λ r. ⌜ CharsBetween (now (s .entry)) from r ⌝ }
@@ -54,7 +56,8 @@ fn short_end(s: &[u8], from: usize) -> usize
     at
 }
 
-// Passes characters of three bytes whose first byte is E1 to EF and not ED: the second byte may then be any tail (UTF8-3).
+// Skips characters of three bytes whose first byte is E1 to EF and not ED, and returns the offset after them. Their second byte can be any
+// tail (UTF8-3).
 fn three_end(s: &[u8], from: usize) -> usize
     requires { ⌜ from ≤ length (now s) ⌝ }
     ensures { λ r. ⌜ CharsBetween (now (s .entry)) from r ⌝ }
@@ -124,7 +127,7 @@ fn are_tails(a: u8, b: u8, c: u8) -> bool
     crate::in_range(0x80, 0xBF, c)
 }
 
-// Passes characters of three and of four bytes. Of a character of three bytes the third byte is the last one.
+// Skips characters of three and of four bytes, and returns the offset after them. The third byte of a character of three bytes is its last.
 fn long_end(s: &[u8], from: usize) -> usize
     requires { ⌜ from ≤ length (now s) ⌝ }
     ensures { λ r. ⌜ CharsBetween (now (s .entry)) from r ⌝ }
@@ -148,7 +151,8 @@ fn long_end(s: &[u8], from: usize) -> usize
     }
 }
 
-// Passes characters from a place on, after one of a width: most often those of the same width. It passes none from a place past the bytes.
+// Skips characters from an offset on, and returns the offset after them. `width` is that of the character before the offset: the function
+// mostly skips characters of the same width. It skips none if the offset is not before the end of the text.
 pub fn width_end(s: &[u8], from: usize, width: usize) -> usize
     ensures { λ r. ⌜ (from ≤ length (now (s .entry)) → CharsBetween (now (s .entry)) from r) ⌝ }
 {

@@ -117,7 +117,7 @@ impl<'a> Faulty<'a> {
         }
     }
 
-    /// What taking a text in answers instead, where it was done.
+    /// The answer of the faulty repair, where the sound one was done.
     fn repair_answer(&self, length: u64, number: u64) -> Answer {
         match self.fault {
             Fault::WholeUnwritten if number == 0 => Answer::NOTHING,

@@ -170,7 +170,7 @@ impl<'a> Run<'a> {
         }))
     }
 
-    /// Compares what taking a text in does; a difference is reduced first.
+    /// Compares repairing a text. A text that shows a difference is reduced to a short one.
     fn repair(&self, kind: &str, text: &[u8]) -> Result<(), Stop> {
         let check = |text: &[u8]| repair_case::check(self.calls, text).err();
         let Some(difference) = check(text) else {
@@ -182,7 +182,8 @@ impl<'a> Run<'a> {
         Err(Stop::Difference(format!("{head}{difference}")))
     }
 
-    /// Every text of up to three bytes at the edges of their ranges, and of four bytes over fewer of them.
+    /// Every text of up to three bytes at the edges of the ranges of Table 3-7, and every text of four bytes over fewer
+    /// of them.
     fn every_damaged_text(&mut self) -> Result<(), Stop> {
         let mut texts = 0;
         let all = (0..=3).map(|length| (&repair_case::EDGES[..], length));
@@ -319,7 +320,7 @@ impl<'a> Run<'a> {
         self.text("damaged", &text, &policy)
     }
 
-    /// A text that may be damaged: what the calls do to it as it is, how it is taken in, and what they do to it after that.
+    /// Makes the calls on a text that may be damaged, repairs it, and makes the calls on the result.
     fn repaired_text(&self, random: &mut Random) -> Result<(), Stop> {
         let text = match random.below(4) {
             0 => repair_case::drawn(random),

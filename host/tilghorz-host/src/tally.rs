@@ -77,7 +77,7 @@ impl Tally {
         }
     }
 
-    /// Counts an entry in which so many bad places were replaced. One that was not written after that is not repaired.
+    /// Counts an entry, in which `replaced` bad places were replaced. An entry that was not written is not counted as repaired.
     pub fn count(&mut self, outcome: Outcome, replaced: usize) {
         self.counts[outcome as usize] += 1;
         if replaced > 0 && matches!(outcome, Outcome::Found | Outcome::Clean) {

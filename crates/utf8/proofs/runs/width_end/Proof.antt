@@ -1,4 +1,4 @@
--- `utf8::runs::width_end` meets its contract: a run of each width (WidthRuns).
+-- `utf8::runs::width_end` meets its contract: by a run of each width (WidthRuns).
 use borrow.Author.Needs.{needs}
 use Rattle.utf8.proofs.WidthRuns.{ascii-more, none-passed}
 use Rattle.utf8.proofs.runs.width_end.Statement.{statement}

@@ -41,7 +41,7 @@ usage: benchmark [--rounds N] [--growth | --repairing] [INPUT ..]
   --rounds N   the rounds of each measurement (15)
   --growth     only the cost at 64 KiB, 1 MiB and 16 MiB
   --repairing  only the table of repairing
-  repeat       one call of the library, so many times, and nothing else: for counts of instructions";
+  repeat       one call of the library, TIMES times, and nothing else: for counts of instructions";
 
 /// The tables that are printed.
 #[derive(PartialEq)]

@@ -14,7 +14,7 @@ pub struct Repairing {
     pub bad: u64,
 }
 
-/// One byte in so many of a damaged text is bad.
+/// In a damaged text one byte of this number is bad.
 pub const BAD_ONE_IN: usize = 100;
 
 /// One bad byte in how many the text has with which a call is repeated, if it is such a call.
@@ -27,7 +27,7 @@ pub fn bad_bytes(call: &str) -> Option<Option<usize>> {
 }
 
 impl Repairing {
-    /// A text with one bad byte in so many, or none.
+    /// A text with one bad byte in every `one_in` bytes, or with none.
     pub fn new(text: &str, one_in: Option<usize>) -> Result<Self, String> {
         let mut text = text.as_bytes().to_vec();
         if let Some(one_in) = one_in {

@@ -22,11 +22,12 @@ const LISTING: &str = "\
 Listing the findings into a lent table, beside the crate's scan and analysis, which keep nothing: a ratio of 3 is wanted
 on mixed and dense. Mending the first and the last finding: its time to that of a listing and a copy.";
 
-/// What stands above the table of repairing.
+/// The text above the table of repairing.
 const REPAIRING: &str = "\
-Taking damaged text in, beside from_utf8_lossy made into an owned string: the texts as they are, and with one bad byte in
-a hundred. room: into a buffer of three times the text; exact: into one that the result fills. ratios: the standard
-library's time to ours, by the medians and by the best; 0.8 is wanted for the texts as they are, 1 for the damaged ones.";
+Repairing, compared with from_utf8_lossy made into an owned string: well-formed texts, and texts with one bad byte in a
+hundred. room: into a buffer of three times the text; exact: into a buffer that the result fills. ratios: the standard
+library's time divided by the library's, by the medians and by the best; 0.8 is wanted for well-formed texts, 1 for
+damaged ones.";
 
 /// Formatting beside the crate's, the standard library's test of a text, and a copy.
 pub fn formatting(inputs: &[&Input], rounds: usize) -> Result<(), String> {
