@@ -23,7 +23,7 @@ fn bytes_after(first: u8) -> usize
 }
 
 // Whether a first and a last byte are those of a character of one byte or of two (RFC 3629, section 4, UTF8-1 and UTF8-2). Of a character
-// of one byte they are the same byte.
+// of one byte they are the same byte, so that both are ASCII or neither.
 fn short_fits(first: u8, last: u8) -> bool
     ensures { λ r. ⌜ (r ≡ true → 0x80 ≤ first → (0xC2 ≤ first) × (first ≤ 0xDF) × (0x80 ≤ last) × (last ≤ 0xBF)) ⌝ }
 {
@@ -31,7 +31,10 @@ fn short_fits(first: u8, last: u8) -> bool
     if 0x1D < masked(first as usize + 62, more) % 256 {
         return false;
     }
-    masked(last as usize + 128, more) % 256 <= 0x3F
+    if bytes_after(last) != more {
+        return false;
+    }
+    last <= 0xBF
 }
 
 // Skips characters of one and of two bytes, and returns the offset after them. It stops after four of one byte in sequence, because

@@ -1,7 +1,7 @@
--- `utf8::runs::short_fits` meets its contract. The products are the numbers themselves where the first byte is no ASCII.
+-- `utf8::runs::short_fits` meets its contract. The product is the number itself where the first byte is no ASCII.
 use mathlib.Core.Path.{sym}
 use mathlib.Core.Bool.{true≢false}
-use Prim.Native.Nat.{_%_, _≤_}
+use Prim.Native.Nat.{_≤_}
 use native.Mathlib.Omega.{arith}
 use borrow.Author.Needs.{needs}
 use borrow.Author.Tests.{leb-true}
@@ -12,11 +12,14 @@ returns : tie.Need-returns
 returns c e = absurd (true≢false (sym e))
 
 returns-2 : tie.Need-returns-2
-returns-2 c e h =
-    let first = c .before .before .masked .ensures .1 (omega arith) in
-    let last = c .masked2 .ensures .1 (omega arith) in
-    let test : c .masked2 .result % 256 ≤ 0x3F = leb-true _ _ e in
-    (omega arith, omega arith, omega arith, omega arith)
+returns-2 c e = absurd (true≢false (sym e))
+
+returns-3 : tie.Need-returns-3
+returns-3 c e h =
+    let m = c .before .before .before in
+    let first = m .masked .ensures .1 (omega arith) in
+    let last : m .before .before .args .last ≤ 0xBF = leb-true _ _ e in
+    (omega arith, omega arith, omega arith, last)
 
 pub short-fits-spec : {M : Type 1} → statement M
 short-fits-spec =
@@ -26,6 +29,6 @@ short-fits-spec =
     (λ c. search needs)
     (λ c κs. search needs)
     returns
-    (λ c. search needs)
     (λ c κs. search needs)
-    returns-2)
+    returns-2
+    returns-3)
