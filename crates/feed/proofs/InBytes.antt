@@ -194,8 +194,8 @@ module _ (policy : List ℕ) (ok : isPolicy policy ≡ true) where
   runs no-call f g = record { bytes = refl; thread-is = refl; outputs-are = refl; ended-is = end-or (f .ended); good = g }
   runs (and-piece {b = b} {out = out} {cs = cs} e o) f g =
       one-more f g (piece b out) cs (runs o (next f (piece b out)) (next-good policy ok f g (piece b out) e))
-  runs (and-end {out = out} {cs = cs} o) f g = one-more f g (end out) cs
-  (runs o (next f (end out)) (next-good policy ok f g (end out) refl))
+  runs (and-end {out = out} {cs = cs} o) f g =
+      one-more f g (end out) cs (runs o (next f (end out)) (next-good policy ok f g (end out) refl))
 
 -- ---- the next call
 

@@ -1,5 +1,5 @@
--- What every feed begun new and handed on keeps: its numbers are small, its rest is unfinished, and the held base has an entry and is judged
--- by the feed's policy. So its bytes encode it, and they pass the calls' test.
+-- What every feed begun new and handed on keeps: its numbers are small, its rest is unfinished, and the held base has an entry and is
+-- judged by the feed's policy. So its bytes encode it, and they pass the calls' test.
 use mathlib.Core.Path.{_≡_, refl, ap, sym, _∙_}
 use mathlib.Core.Bool.{Bool, true, false, cond, _&&_, true≢false}
 use mathlib.Core.List.{List, [], _∷_, _++_}
@@ -32,11 +32,13 @@ use Rattle.scanner.specs.declared.char_class.Class.{Class}
 use Rattle.scanner.specs.declared.char_class.Class.the-variants.{Other as other}
 use Rattle.analysis.specs.Counts.{total}
 use Rattle.analysis.specs.Rules.{runWith}
+use Rattle.analysis.specs.declared.types.NonCanonicality.{NonCanonicality}
 use Rattle.analysis.proofs.Measuring.{few}
 use Rattle.feed.specs.Feed.{Fed, Pending, base, fedAs, heldAfter, nothing, settle, takeChar, takeChars, takeSelector}
 use Rattle.feed.specs.Calls.{Answer, Call, Feed, after, afterEnd, afterPiece, end, fedBy, newFeed, next, piece}
 use Rattle.feed.specs.Bytes.{
   bytesFor,
+  eightWords,
   endedWord,
   heldFor,
   isFeed,
@@ -272,34 +274,23 @@ module _ {f : Feed} (k : Kept f) (policy : List ℕ) (same : policyOf policy ≡
   abbrev bs : List ℕ
   bs = bytesFor f policy
 
+  eight-small : (n : NonCanonicality) → total n ≤ textLimit → AllSmall (eightWords n)
+  eight-small n l =
+      (omega arith, (omega arith, (omega arith, (omega arith, (omega arith, (omega arith, (omega arith, (omega arith, refl))))))))
+
   all-small : AllSmall (stateWords S)
   unfolding stateWords stateFor
   all-small =
       let c = k .few-counts in
       let n = held-count (f .pending) in
       let l = k .short in
-      let u = unfinished-few (f .rest) (k .unfinished-rest) in (
-        omega (arith, ended-small (f .ended)),
-        (
-          omega (arith, isScalar-le (heldFor (f .pending) .base) (base-scalar (k .under))),
-          (
-            omega (arith, selector-small (heldFor (f .pending) .first)),
-            (
-              omega arith,
-              (
-                omega arith,
-                (
-                  omega (arith, few-number (f .rest) (k .rest-bytes) u),
-                  (
-                    l,
-                    (omega arith, (omega arith, (omega arith, (omega arith, (omega arith, (omega arith, (omega arith, (omega arith, refl)))))))),
-                  ),
-                ),
-              ),
-            ),
-          ),
-        ),
-      )
+      let u = unfinished-few (f .rest) (k .unfinished-rest) in
+      let a : endedWord (f .ended) ≤ textLimit = omega (arith, ended-small (f .ended)) in
+      let b : heldFor (f .pending) .base ≤ textLimit =
+      omega (arith, isScalar-le (heldFor (f .pending) .base) (base-scalar (k .under))) in
+      let d : selectorWord (heldFor (f .pending) .first) ≤ textLimit = omega (arith, selector-small (heldFor (f .pending) .first)) in
+      let r : number (f .rest) ≤ textLimit = omega (arith, few-number (f .rest) (k .rest-bytes) u) in
+      (a, (b, (d, (omega arith, (omega arith, (r, (l, eight-small (f .totals) (omega arith))))))))
 
   narrow : heldFor (f .pending) .base < 4294967296
   narrow = omega (arith, isScalar-le (heldFor (f .pending) .base) (base-scalar (k .under)))

@@ -47,8 +47,8 @@ pub record Done (r : Called) (out : List ℕ) (most : ℕ) : Type 0 where
 abbrev pub GoesOn : List ℕ → Type 0
 GoesOn s = (t : List ℕ) × WellFormed (s ++ t)
 
--- The outcome r of a piece b with the output out, on the feed's bytes B after the thread T. E says whether the feed has ended. The tests are
--- 9, 1, 3 and 8, in this order. "A refused call changes neither feed nor output."
+-- The outcome r of a piece b with the output out, on the feed's bytes B after the thread T. E says whether the feed has ended. The tests
+-- are 9, 1, 3 and 8, in this order. "A refused call changes neither feed nor output."
 pub record NextPiece (B T : List ℕ) (E : Bool) (b out : List ℕ) (r : Called) : Type 0 where
   -- "9, a piece or an end for a feed already ended, tested before all else"
   pub ended : E ≡ true → r ≡ refuses (Refused FeedEnded) B out
