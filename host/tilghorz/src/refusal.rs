@@ -151,7 +151,10 @@ mod tests {
                 continue;
             };
             assert_eq!(refusal.number(), number);
-            assert_eq!(refusal.value().is_some(), ![1, 2, 4, 9, 10].contains(&number));
+            assert_eq!(
+                refusal.value().is_some(),
+                ![1, 2, 4, 9, 10].contains(&number)
+            );
             assert!(refusal.value().is_none_or(|value| value == 5));
         }
     }
