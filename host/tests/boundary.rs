@@ -36,6 +36,9 @@ fn faults_are_reported_with_a_reduced_text() {
         (Fault::WantedLength, "sizes"),
         (Fault::BytesBeforeNumber, "decisions"),
         (Fault::DefaultPolicy, "default policy"),
+        (Fault::RoomByNeed, "feeds"),
+        (Fault::RefusedFeedChanges, "feeds"),
+        (Fault::RefusedPieceWrites, "feeds"),
     ] {
         let (is_same, text) = printed(&Faulty::new(&Reference, fault));
         assert!(!is_same, "{fault:?}");

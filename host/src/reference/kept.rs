@@ -1,5 +1,5 @@
 //! Feeds in lent bytes, as the calls have them. The bytes are a mark and a number, and the feed of that number is kept
-//! here. Each change of a feed gives it a new number, so that bytes that were copied stand for the feed as it was then.
+//! here. A feed that changes gets another number, so that bytes that were copied stand for the feed as it was then.
 
 use std::cell::RefCell;
 use std::collections::VecDeque;
@@ -14,7 +14,10 @@ pub const FEED_BYTES: usize = 16;
 const MARK: [u8; 8] = *b"the feed";
 
 /// How many feeds are kept: those of the last changes.
-const MOST: usize = 8;
+const MOST: usize = 1 << 13;
+
+/// Among so many of the last feeds an equal one is looked for, which then gets no number of its own.
+const LAST: usize = 4;
 
 /// The feeds that are kept, and the number of the first of them.
 #[derive(Default)]
@@ -93,6 +96,13 @@ fn find(bytes: &[u8]) -> Option<Feed> {
 /// Keeps a feed, and writes its bytes.
 fn keep(feed: Feed, bytes: &mut [u8]) {
     let number = KEPT.with_borrow_mut(|kept| {
+        let last = kept.feeds.iter().enumerate().rev().take(LAST);
+        let equal = last
+            .filter(|(_, kept)| **kept == feed)
+            .map(|(place, _)| place);
+        if let Some(place) = equal.last() {
+            return kept.first + place as u64;
+        }
         kept.feeds.push_back(feed);
         if kept.feeds.len() > MOST {
             kept.feeds.pop_front();
