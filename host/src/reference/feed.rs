@@ -116,6 +116,12 @@ impl Feed {
         whole_characters(&self.thread).1
     }
 
+    /// The bytes of the thread so far.
+    #[must_use]
+    pub const fn length(&self) -> usize {
+        self.thread.len()
+    }
+
     /// Whether it has ended.
     #[must_use]
     pub const fn has_ended(&self) -> bool {

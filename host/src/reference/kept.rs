@@ -13,8 +13,10 @@ pub const FEED_BYTES: usize = 16;
 /// What the bytes of a feed begin with; after it comes the number.
 const MARK: [u8; 8] = *b"the feed";
 
-/// How many feeds are kept: those of the last changes.
+/// How many feeds are kept: those of the last changes, and fewer where their threads are long.
 const MOST: usize = 1 << 13;
+/// The most bytes of all threads that are kept.
+const MOST_BYTES: usize = 1 << 28;
 
 /// Among so many of the last feeds an equal one is looked for, which then gets no number of its own.
 const LAST: usize = 4;
@@ -24,6 +26,7 @@ const LAST: usize = 4;
 struct Kept {
     first: u64,
     feeds: VecDeque<Feed>,
+    bytes: usize,
 }
 
 thread_local! {
@@ -103,9 +106,10 @@ fn keep(feed: Feed, bytes: &mut [u8]) {
         if let Some(place) = equal.last() {
             return kept.first + place as u64;
         }
+        kept.bytes += feed.length();
         kept.feeds.push_back(feed);
-        if kept.feeds.len() > MOST {
-            kept.feeds.pop_front();
+        while kept.feeds.len() > MOST || kept.bytes > MOST_BYTES {
+            kept.bytes -= kept.feeds.pop_front().map_or(0, |feed| feed.length());
             kept.first += 1;
         }
         kept.first + kept.feeds.len() as u64 - 1

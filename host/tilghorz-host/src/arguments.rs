@@ -7,6 +7,7 @@ use std::num::NonZero;
 use tilghorz::{Context, KeySet, Presentation};
 
 use crate::fix::Fix;
+use crate::follow::Follow;
 use crate::format::{Format, Mode};
 use crate::help::Topic;
 use crate::policy::{Edit, Policy, PolicyFile};
@@ -27,6 +28,8 @@ pub enum Command {
     Version,
     /// `format`.
     Format(Format),
+    /// `format --follow`.
+    Follow(Follow),
     /// `report`.
     Report(Report),
     /// `fix`.
@@ -101,7 +104,7 @@ fn help(words: &[OsString]) -> Result<Command, String> {
 fn command(topic: Topic, words: Words) -> Result<Command, String> {
     match topic {
         Topic::All | Topic::Folders => Ok(Command::Help(topic)),
-        Topic::Format => format(words).map(Command::Format),
+        Topic::Format => format(words),
         Topic::Report => report(words).map(Command::Report),
         Topic::Fix => fix(words).map(Command::Fix),
         Topic::Show => show(words).map(Command::Show),
@@ -212,14 +215,25 @@ impl Changing {
     }
 }
 
-fn format(words: Words) -> Result<Format, String> {
+fn format(words: Words) -> Result<Command, String> {
     let (mut check, mut changing, mut going) = (false, Changing::default(), Going::default());
+    let mut is_followed = false;
     let (names, policy) = texts(words, |option, words| {
         Ok(set(&mut check, "--check", option)
+            || set(&mut is_followed, "--follow", option)
             || changing.take(option)
             || going.take(option, words)?)
     })?;
     going.test()?;
+    if is_followed {
+        let others = [
+            (check, "--check"),
+            (changing.in_place, "--in-place"),
+            (changing.new_owner, "--new-owner"),
+            (changing.no_sync, "--no-sync"),
+        ];
+        return follow(names, policy, &others).map(Command::Follow);
+    }
     let mode = match (check, changing.in_place) {
         (true, true) => {
             return Err("--check and --in-place cannot be used together".to_owned());
@@ -233,12 +247,30 @@ fn format(words: Words) -> Result<Format, String> {
         mut manner,
     } = going;
     manner.in_place = changing.of(&names)?;
-    Ok(Format {
+    Ok(Command::Format(Format {
         mode,
         policy,
         names,
         selection,
         manner,
+    }))
+}
+
+/// A text that is followed. These other options cannot be used with it.
+fn follow(
+    mut names: Vec<Source>,
+    policy: PolicyFile,
+    others: &[(bool, &str)],
+) -> Result<Follow, String> {
+    if let Some((_, other)) = others.iter().find(|(is_given, _)| *is_given) {
+        return Err(format!("--follow and {other} cannot be used together"));
+    }
+    if names.len() > 1 {
+        return Err("--follow takes standard input or one file".to_owned());
+    }
+    Ok(Follow {
+        policy,
+        source: names.pop().unwrap_or(Source::Input),
     })
 }
 

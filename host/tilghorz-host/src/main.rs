@@ -9,6 +9,7 @@
 mod arguments;
 mod console;
 mod fix;
+mod follow;
 mod format;
 mod glob;
 mod help;
@@ -52,6 +53,7 @@ fn run(command: &Command, console: &mut Console) -> io::Result<Status> {
         Command::Help(topic) => console.print(help::text(*topic)),
         Command::Version => console.print(help::VERSION),
         Command::Format(format) => format.run(console),
+        Command::Follow(follow) => follow.run(console),
         Command::Report(report) => report.run(console),
         Command::Fix(fix) => fix.run(console),
         Command::Show(show) => show.run(console),
