@@ -99,11 +99,8 @@ fn find(bytes: &[u8]) -> Option<Feed> {
 /// Keeps a feed, and writes its bytes.
 fn keep(feed: Feed, bytes: &mut [u8]) {
     let number = KEPT.with_borrow_mut(|kept| {
-        let last = kept.feeds.iter().enumerate().rev().take(LAST);
-        let equal = last
-            .filter(|(_, kept)| **kept == feed)
-            .map(|(place, _)| place);
-        if let Some(place) = equal.last() {
+        let mut last = kept.feeds.iter().enumerate().rev().take(LAST);
+        if let Some((place, _)) = last.find(|(_, kept)| **kept == feed) {
             return kept.first + place as u64;
         }
         kept.bytes += feed.length();

@@ -19,6 +19,7 @@
 //! which the thread had a processor.
 
 mod clock;
+mod feeding;
 mod inputs;
 mod repairing;
 mod tables;
@@ -29,16 +30,18 @@ mod work;
 use std::env;
 use std::process::ExitCode;
 
+use feeding::{Feeding, PIECES};
 use inputs::{INPUTS, Input};
 use work::Work;
 
 /// How the program is called.
 const USAGE: &str = "\
 usage: benchmark [--rounds N] [--growth] [INPUT ..]
-       benchmark repeat format|list|mend|scan INPUT BYTES TIMES
+       benchmark repeat format|list|mend|scan|feed INPUT BYTES TIMES
   --rounds N  the rounds of each measurement (15)
   --growth    only the cost at 64 KiB, 1 MiB and 16 MiB
-  repeat      one call of the library, so many times, and nothing else: for counts of instructions";
+  repeat      one call of the library, so many times, and nothing else: for counts of instructions. feed is a thread in
+              pieces of 4 KiB";
 
 /// What the program is asked to do.
 struct Command {
@@ -97,6 +100,7 @@ fn run(command: &Command) -> Result<(), String> {
         tables::formatting(&command.inputs, command.rounds)?;
         tables::listing(&command.inputs, command.rounds)?;
         tables::repairing(&command.inputs, command.rounds)?;
+        tables::feeding(&command.inputs, command.rounds)?;
     }
     tables::growth(&command.inputs, command.rounds);
     Ok(())
@@ -111,12 +115,14 @@ fn repeat(words: &[&str]) -> Result<(), String> {
     let text = input.make(number(bytes)?);
     let (work, mut buffers) = Work::new(input, &text);
     let mut items = work.item_table();
+    let mut feeding = Feeding::new(input, &text)?;
     for _ in 0..number(times)? {
         match call {
             "format" => work.format(&mut buffers),
             "list" => work.list(&mut buffers),
             "mend" => work.mend(1, &mut buffers),
             "scan" => work.scan(&mut items),
+            "feed" => feeding.pieces(PIECES[0], |_| ()),
             _ => return Err(format!("{call}: not a call")),
         }
     }

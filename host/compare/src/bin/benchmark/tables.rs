@@ -1,5 +1,6 @@
 //! The tables that are printed.
 
+use crate::feeding::{Feeding, PIECES};
 use crate::inputs::Input;
 use crate::repairing::Repairing;
 use crate::timing::{FEWEST, Times, interleaved};
@@ -27,6 +28,11 @@ const REPAIRING: &str = "\
 Taking damaged text in, beside from_utf8_lossy made into an owned string: the texts as they are, and with one bad byte in
 a hundred. room: into a buffer of three times the text; exact: into one that the result fills. ratio: the standard
 library's time to ours; 0.8 is wanted for the texts as they are, 1 for the damaged ones.";
+
+/// What stands above the table of feeding.
+const FEEDING: &str = "\
+A thread fed in pieces of 4 KiB and of 64 bytes, beside formatting it in one call. ratio: the time of the one call to that of
+the pieces; on ascii and mixed 0.5 is wanted for 4 KiB, and 0.2 for 64 bytes.";
 
 /// One bad byte in so many.
 const BAD_ONE_IN: usize = 100;
@@ -144,6 +150,40 @@ pub fn repairing(inputs: &[&Input], rounds: usize) -> Result<(), String> {
                 lossy.median / exact.median,
             );
         }
+    }
+    Ok(())
+}
+
+/// A thread in pieces, beside one call on the whole of it.
+pub fn feeding(inputs: &[&Input], rounds: usize) -> Result<(), String> {
+    println!("\n{FEEDING}");
+    println!(
+        "{:<11} {:>15} {:>15} {:>15} {:>7} {:>7} {:>7} {:>7}",
+        "input", "one call", "4 KiB", "64 bytes", "ratio", "best", "64", "best"
+    );
+    for input in inputs.iter().filter(|input| input.message.is_none()) {
+        let thread = input.make(LENGTH);
+        let mut work = Feeding::new(input, &thread)?;
+        for length in PIECES {
+            work.compare(length)?;
+        }
+        let [whole, long, short] = interleaved(rounds, |number| match number {
+            0 => {
+                work.whole();
+            }
+            _ => work.pieces(PIECES[number - 1], |_| ()),
+        });
+        println!(
+            "{:<11} {:>15} {:>15} {:>15} {:>7.2} {:>7.2} {:>7.2} {:>7.2}",
+            input.name,
+            speed(thread.len(), whole),
+            speed(thread.len(), long),
+            speed(thread.len(), short),
+            whole.median / long.median,
+            whole.best / long.best,
+            whole.median / short.median,
+            whole.best / short.best,
+        );
     }
     Ok(())
 }
