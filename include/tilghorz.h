@@ -20,11 +20,13 @@
  *   6          decision byte above 1                  index of the first such byte
  *   7          table too short                        number of rows needed
  *   8          output too short                       number of bytes needed
+ *   9          the feed has ended                     0
+ *   10         the end is inside a character          0
  *   255        nothing to do                          0
  *
  * If there are two values, the first has the low 28 bits, and the second has the 28 bits above them. Both are below 2^28.
  *
- * The numbers 1 to 8 are refusals. After a refusal, and after "nothing to do", every buffer is unchanged. After "done" the
+ * The numbers 1 to 10 are refusals. After a refusal, and after "nothing to do", every buffer is unchanged. After "done" the
  * result is at the front of the buffer, and the bytes after the result are unchanged.
  *
  * Policies. A policy is 192 bytes: 24 words of 8 bytes, lowest byte first. The words are four sets of 6 words, in this order:
@@ -33,6 +35,11 @@
  * There are 354 entries, those of Unicode 15.0; the other 30 bits of a set are unused and must be 0. The function
  * tilghorz_variation_entry gives the code point of an entry. If 20E3 follows a base, the keycap sets apply to the base; otherwise
  * the ordinary sets apply.
+ *
+ * Feeds. A feed formats a thread that comes in pieces. It is 312 bytes that the host keeps. The function tilghorz_feed_begin writes
+ * them; every later call takes them as the call before left them, and nothing else changes them. They hold no pointer: the host may move
+ * them, or copy them, and each copy goes on by itself. If the bytes are not such a feed, the answers are the library's choice; the
+ * call then writes only into its slices, and a refusal writes nothing. If their length is not 312, the answer is 9, and the totals are 0.
  *
  * The comment at each function lists the numbers that it can return besides 0, in the order of its tests, and says what the
  * value means for 0.
@@ -52,6 +59,7 @@ extern "C" {
 #define TILGHORZ_ENTRIES 354         /* variation entries, those of Unicode 15.0 */
 #define TILGHORZ_FINDING_BYTES 80    /* the length of a row of tilghorz_list */
 #define TILGHORZ_ITEM_BYTES 32       /* the length of a row of tilghorz_scan */
+#define TILGHORZ_FEED_BYTES 312      /* the length of a feed */
 
 /* The number and the value of an answer. The argument may also have a signed type. */
 #define TILGHORZ_NUMBER(word) ((unsigned)((uint64_t)(word) >> 56))
@@ -71,6 +79,8 @@ extern "C" {
 #define TILGHORZ_BAD_DECISION 6
 #define TILGHORZ_TABLE_TOO_SHORT 7
 #define TILGHORZ_OUTPUT_TOO_SHORT 8
+#define TILGHORZ_FEED_ENDED 9
+#define TILGHORZ_UNFINISHED_CHARACTER 10
 #define TILGHORZ_NOTHING_TO_DO 255
 
 /* Formats a text under a policy. Numbers: 1, 2, 3, 8, and 255 if the text needs no change. Value: the number of bytes written, at
@@ -100,6 +110,23 @@ uint64_t tilghorz_scan(const uint8_t *text, size_t text_len, uint8_t *table, siz
  * chapter 3: the longest beginning of a character there, or one byte. Limit 1 is on the text; the result may be longer than a text that
  * the other functions accept. */
 uint64_t tilghorz_repair(const uint8_t *text, size_t text_len, uint8_t *out, size_t out_len);
+
+/* Begins a feed under a policy: writes the feed at the front of the buffer. Numbers: 2, 8. Value: the number of bytes of a feed. */
+uint64_t tilghorz_feed_begin(const uint8_t *policy, size_t policy_len, uint8_t *feed, size_t feed_len);
+
+/* Feeds the next bytes of a thread, and writes the formatted text of all but an unfinished character and a last base that has a
+ * variation entry, with its selectors. Numbers: 9, 1, 3, 8. Value: the number of bytes written, which may be 0. Limit 1 is on the whole
+ * thread. The value of 3 is the offset from the thread's start. The output must have 4 times the bytes of the piece and 16 more, however
+ * few it needs; 8 gives that number. A refused piece leaves the feed as it was. */
+uint64_t tilghorz_feed_piece(uint8_t *feed, size_t feed_len, const uint8_t *piece, size_t piece_len, uint8_t *out, size_t out_len);
+
+/* Ends the thread of a feed, and writes what is left. Numbers: 9, 10, 8. Value: the number of bytes written. The output must have 16
+ * bytes. All outputs together are then what tilghorz_format makes of the whole thread. */
+uint64_t tilghorz_feed_end(uint8_t *feed, size_t feed_len, uint8_t *out, size_t out_len);
+
+/* Writes the totals of the whole characters fed so far, as if the thread ended there: eight numbers of 8 bytes, lowest byte first, in the
+ * order of the counts of tilghorz_list. Number: 8. Value: 64. They can also be read after the end. */
+uint64_t tilghorz_feed_totals(const uint8_t *feed, size_t feed_len, uint8_t *totals, size_t totals_len);
 
 /* Writes the default policy. Number: 8. Value: the number of bytes written. */
 uint64_t tilghorz_default_policy(uint8_t *out, size_t out_len);

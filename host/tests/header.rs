@@ -144,7 +144,7 @@ fn trait_functions() -> Vec<Function> {
 }
 
 #[test]
-fn the_header_declares_seven_functions() {
+fn the_header_declares_eleven_functions() {
     let functions = header_functions();
     let names: Vec<&str> = functions.iter().map(|of| of.name.as_str()).collect();
     let expected = [
@@ -153,12 +153,16 @@ fn the_header_declares_seven_functions() {
         "tilghorz_mend",
         "tilghorz_scan",
         "tilghorz_repair",
+        "tilghorz_feed_begin",
+        "tilghorz_feed_piece",
+        "tilghorz_feed_end",
+        "tilghorz_feed_totals",
         "tilghorz_default_policy",
         "tilghorz_variation_entry",
     ];
     assert_eq!(names, expected);
     let numbers: Vec<usize> = functions.iter().map(|of| of.parameters.len()).collect();
-    assert_eq!(numbers, [6, 6, 9, 4, 4, 2, 1]);
+    assert_eq!(numbers, [6, 6, 9, 4, 4, 4, 6, 4, 4, 2, 1]);
 }
 
 #[test]
@@ -221,12 +225,12 @@ fn the_refusals_agree_with_the_source() {
     let body = functions.find(|function| function.starts_with("refusal_number("));
     let source = refusals(body.expect("the function of the numbers"), "Refusal::");
     let numbers: Vec<u64> = source.iter().map(|(_, number)| *number).collect();
-    assert_eq!(numbers, [1, 2, 3, 4, 5, 6, 7, 8]);
+    assert_eq!(numbers, [1, 2, 3, 4, 5, 6, 7, 8, 9, 10]);
     assert_eq!(refusals(&file("tilghorz/src/refusal.rs"), "Self::"), source);
     let header = file("../include/tilghorz.h");
     for (name, number) in source {
         let mut lines = header.lines();
-        assert!(lines.any(|line| line.starts_with(&format!(" *   {number}          "))));
+        assert!(lines.any(|line| line.starts_with(&format!(" *   {number:<11}"))));
         let define = format!("\n#define TILGHORZ_{} {number}\n", screaming(&name));
         assert!(header.contains(&define), "{define}");
     }
@@ -270,6 +274,18 @@ fn the_limit_and_the_entries_agree_with_the_source() {
     assert!(text.contains(&format!("; the other {unused} bits of a set are unused")));
     let version = number_after("../docs/UNICODE.md", "**Unicode ");
     assert!(text.contains(&format!(", those of Unicode {version}.")));
+}
+
+#[test]
+fn the_bytes_of_a_feed_agree_with_the_source() {
+    let bytes = number_after("../crates/feed/src/lib.rt", "FEED_BYTES: usize = ");
+    let header = file("../include/tilghorz.h");
+    assert_eq!(
+        number_after("../include/tilghorz.h", "TILGHORZ_FEED_BYTES "),
+        bytes
+    );
+    assert!(header.contains(&format!("It is {bytes} bytes that the host keeps.")));
+    assert!(header.contains(&format!("If their length is not {bytes}, the answer is 9")));
 }
 
 #[test]
