@@ -6,6 +6,9 @@ use crate::Random;
 use crate::reference::calls::LONGEST_TEXT;
 use crate::reference::feed::room;
 
+/// A thread of this length is cut into fewer pieces.
+const LONG_THREAD: usize = 1000;
+
 /// A thread cut after each byte whose bit is set, lowest bit first, and its end.
 #[must_use]
 pub fn cut(thread: &[u8], bits: usize) -> Vec<Step> {
@@ -33,8 +36,11 @@ pub fn byte_by_byte(thread: &[u8]) -> Vec<Step> {
 pub fn drawn(random: &mut Random, alphabet: &Alphabet) -> Vec<Step> {
     let thread = drawn_thread(random, alphabet);
     let most = random.element(&[1, 1, 2, 4, 16, 64, 300, 4096]);
-    // Pieces that are short for the thread would make a list of very many calls.
-    let most = most.max(thread.len() / 200);
+    // Pieces that are short for a long thread would make a list of very many calls.
+    let most = match thread.len() {
+        ..LONG_THREAD => most,
+        length => most.max(length / 40),
+    };
     let refused_in = random.element(&[2, 6, 1000]);
     let mut list = Vec::new();
     let mut rest = &thread[..];
@@ -62,9 +68,9 @@ pub fn drawn(random: &mut Random, alphabet: &Alphabet) -> Vec<Step> {
 
 /// A drawn thread, most often short, well-formed or damaged.
 fn drawn_thread(random: &mut Random, alphabet: &Alphabet) -> Vec<u8> {
-    match random.below(16) {
+    match random.below(256) {
         0 => (0..200).flat_map(|_| alphabet.drawn(random)).collect(),
-        1..5 => alphabet.damaged(random),
+        1..64 => alphabet.damaged(random),
         _ => alphabet.drawn(random),
     }
 }

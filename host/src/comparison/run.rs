@@ -3,21 +3,19 @@
 use std::io::{self, Write};
 use std::time::{Duration, Instant};
 
-use super::lent::Difference;
 use super::policies::{self, Policy};
 use super::reduce::{reduced, reduced_text};
-use super::report::{feed_report, report, text_report};
+use super::report::{report, text_report};
 use super::texts::{Alphabet, every_text};
-use super::{
-    feed_case, feed_lists, feed_states, limits, list_case, published, repair_case, tables,
-    text_case,
-};
+use super::{limits, list_case, published, repair_case, tables, text_case};
 use crate::Random;
 use crate::calls::Calls;
 use crate::reference::book::LONGEST_FIRST_TEXT;
 use crate::reference::calls::LONGEST_TEXT;
 use crate::reference::characters;
 use crate::reference::repair::repaired;
+
+mod feeds;
 
 /// The bounds of a run.
 #[derive(Debug, Clone, Copy, PartialEq, Eq)]
@@ -82,11 +80,6 @@ pub fn run(calls: &dyn Calls, options: &Options, out: &mut dyn Write) -> io::Res
         }
         Err(Stop::Output(error)) => Err(error),
     }
-}
-
-/// A difference in a call on a feed that has no list.
-fn feeds_differ(difference: Difference) -> Stop {
-    Stop::Difference(format!("difference in feeds\n{difference}"))
 }
 
 /// What a run needs at hand.
@@ -203,57 +196,6 @@ impl<'a> Run<'a> {
             })?;
         }
         self.told("repair", texts, "texts of up to 4 bytes")
-    }
-
-    /// Compares a list of calls on a feed; a difference is reduced first.
-    fn feed(&self, kind: &str, policy: &Policy, list: &[feed_case::Step]) -> Result<(), Stop> {
-        let check = |list: &[_]| feed_case::check(self.calls, policy, list).err();
-        let Some(difference) = check(list) else {
-            return Ok(());
-        };
-        let fewer = reduced(list, |list| check(list).is_some());
-        Err(Stop::Difference(match check(&fewer) {
-            Some(difference) => feed_report(kind, policy, &fewer, &difference),
-            None => feed_report(kind, policy, list, &difference),
-        }))
-    }
-
-    /// Short threads cut in every way, damaged ones byte by byte, and bytes that are no feed.
-    fn every_feed(&mut self) -> Result<(), Stop> {
-        let (most, mut lists) = (self.options.length.min(2), 0);
-        for length in 0..=most {
-            every_text(&self.alphabet.one_of_each(), length, |thread| {
-                let mut ways = 0..1 << thread.len().saturating_sub(1);
-                ways.try_for_each(|bits| {
-                    let policy = &self.policies[bits % self.policies.len()];
-                    lists += 1;
-                    self.feed("feeds", policy, &feed_lists::cut(thread.as_bytes(), bits))
-                })
-            })?;
-        }
-        let what = format!("threads of up to {most} characters, cut in every way");
-        self.told("feeds", lists, &what)?;
-        let damaged = [
-            (&repair_case::EDGES[..], 2),
-            (&repair_case::EDGES[..], 3),
-            (&repair_case::FEWER_EDGES[..], 4),
-        ];
-        let (most, mut lists) = (self.options.length.clamp(2, 4), 0);
-        for (bytes, length) in damaged.into_iter().filter(|(_, length)| *length <= most) {
-            repair_case::every_text(bytes, length, |thread| {
-                lists += 1;
-                let list = feed_lists::byte_by_byte(thread);
-                self.feed("feeds", &self.policies[0], &list)
-            })?;
-        }
-        let what = format!("damaged threads of 2 to {most} bytes, byte by byte");
-        self.told("feeds", lists, &what)?;
-        let made = feed_states::check_lengths(self.calls).map_err(feeds_differ)?;
-        self.told(
-            "feeds",
-            made,
-            "calls on bytes of other lengths than a feed's",
-        )
     }
 
     /// The default policy and the variation entries.
@@ -404,18 +346,6 @@ impl<'a> Run<'a> {
         Ok(list.len() as u64)
     }
 
-    /// A thread that comes in pieces, and bytes that are no feed; and how many calls they are.
-    fn drawn_feed(&self, random: &mut Random) -> Result<u64, Stop> {
-        let refused = policies::refused(random);
-        feed_case::check_begin(self.calls, &refused).map_err(feeds_differ)?;
-        let policy = self.drawn_policy(random);
-        feed_case::check_begin(self.calls, &policy).map_err(feeds_differ)?;
-        let list = feed_lists::drawn(random, &self.alphabet);
-        self.feed("feeds", &policy, &list)?;
-        let made = feed_states::check_drawn(self.calls, random).map_err(feeds_differ)?;
-        Ok(list.len() as u64 + made)
-    }
-
     /// Texts around the limits, and a list that starts from a text of the longest length.
     fn limits(&mut self) -> Result<(), Stop> {
         let mut random = Random::from_seed(self.options.seed);
@@ -432,10 +362,7 @@ impl<'a> Run<'a> {
                 texts += 1;
             }
         }
-        for list in feed_lists::around_limit() {
-            self.feed("limits", &self.policies[0], &list)?;
-            texts += 1;
-        }
+        texts += self.feeds_around_limit()?;
         let text = limits::sparse(LONGEST_FIRST_TEXT);
         let policy = Policy::default_policy();
         let list = list_case::drawn(&mut random, &text, &policy);
