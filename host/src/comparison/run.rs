@@ -47,6 +47,9 @@ impl Default for Options {
     }
 }
 
+/// In one of so many drawn cases a thread is fed too.
+const FEED_IN: u64 = 4;
+
 /// Why a run ended early: a difference, told in lines; cases that were asked for and of which none was tried; or a line
 /// that could not be printed.
 enum Stop {
@@ -281,14 +284,18 @@ impl<'a> Run<'a> {
     fn drawn(&mut self) -> Result<(), Stop> {
         let mut cases = 0;
         let mut calls = 0;
-        let mut feed_calls = 0;
+        let (mut feeds, mut feed_calls) = (0, 0);
         while cases < self.options.cases && !self.is_over() {
             let mut random = Random::from_seed(self.options.seed ^ (cases << 20));
             self.drawn_text(&mut random)?;
             self.damaged_text(&mut random)?;
             self.repaired_text(&mut random)?;
             calls += self.drawn_list(&mut random)?;
-            feed_calls += self.drawn_feed(&mut random)?;
+            // A thread has many calls, each with the thread so far formatted anew.
+            if cases % FEED_IN == 0 {
+                feed_calls += self.drawn_feed(&mut random)?;
+                feeds += 1;
+            }
             cases += 1;
         }
         if cases == 0 && self.options.cases > 0 {
@@ -301,7 +308,7 @@ impl<'a> Run<'a> {
         let what = format!("lists of mending calls, {calls} calls");
         self.told("lists", cases, &what)?;
         let what = format!("drawn threads and bytes that are no feed, {feed_calls} calls");
-        self.told("feeds", cases, &what)
+        self.told("feeds", feeds, &what)
     }
 
     fn drawn_policy(&self, random: &mut Random) -> Policy {

@@ -38,20 +38,17 @@ impl Run<'_> {
         }
         let what = format!("threads of up to {most} characters, cut in every way");
         self.told("feeds", lists, &what)?;
-        let damaged = [
-            (&repair_case::EDGES[..], 2),
-            (&repair_case::EDGES[..], 3),
-            (&repair_case::FEWER_EDGES[..], 4),
-        ];
+        let all = (0..=3).map(|length| (&repair_case::EDGES[..], length));
+        let damaged = all.chain([(&repair_case::FEWER_EDGES[..], 4)]);
         let (most, mut lists) = (self.options.length.clamp(2, 4), 0);
-        for (bytes, length) in damaged.into_iter().filter(|(_, length)| *length <= most) {
+        for (bytes, length) in damaged.filter(|(_, length)| *length <= most) {
             repair_case::every_text(bytes, length, |thread| {
                 lists += 1;
                 let list = feed_lists::byte_by_byte(thread);
                 self.feed("feeds", &self.policies[0], &list)
             })?;
         }
-        let what = format!("damaged threads of 2 to {most} bytes, byte by byte");
+        let what = format!("damaged threads of up to {most} bytes, byte by byte");
         self.told("feeds", lists, &what)?;
         let made = feed_states::check_lengths(self.calls).map_err(feeds_differ)?;
         self.told(
