@@ -38,7 +38,7 @@ const PART: usize = 1 << 14;
 #[derive(Clone)]
 pub struct Feed {
     /// The feed as the library has it.
-    bytes: Box<[u8]>,
+    bytes: [u8; sys::FEED_BYTES],
     /// The bytes of the thread so far.
     fed: usize,
 }
@@ -47,15 +47,13 @@ impl Feed {
     /// Begins a feed under a policy.
     #[must_use]
     pub fn new(policy: &Policy) -> Self {
-        let begin = |feed: &mut [u8]| answer::read_done(sys::feed_begin(policy.as_bytes(), feed));
-        // Without room the library says how many bytes a feed has.
-        let length = match begin(&mut []) {
-            Err(Refusal::OutputTooShort { wanted }) => wanted,
-            other => panic!("the linked library begins a feed without room: {other:?}"),
-        };
-        let mut bytes = vec![0; length].into_boxed_slice();
-        let begun = begin(&mut bytes);
-        assert_eq!(begun, Ok(length), "the linked library begins no feed");
+        let mut bytes = [0; sys::FEED_BYTES];
+        let written = answer::read_done(sys::feed_begin(policy.as_bytes(), &mut bytes));
+        assert_eq!(
+            written,
+            Ok(bytes.len()),
+            "the linked library has another length of a feed"
+        );
         Self { bytes, fed: 0 }
     }
 
@@ -124,7 +122,7 @@ impl Feed {
     /// The totals of the whole characters fed so far, as if the thread ended there.
     #[must_use]
     pub fn totals(&self) -> Counts {
-        let mut totals = [0; 64];
+        let mut totals = [0; sys::TOTALS_BYTES];
         let written = answer::read_done(sys::feed_totals(&self.bytes, &mut totals));
         assert_eq!(
             written,

@@ -8,7 +8,7 @@ use crate::sys::POLICY_BYTES;
 /// Why a call was turned back. It then wrote to no buffer.
 ///
 /// The tests come in the order of the numbers, each only in calls that take the thing. A call on a feed tests 9 and 10
-/// before all else.
+/// first.
 #[derive(Debug, Clone, Copy, PartialEq, Eq, Hash)]
 pub enum Refusal {
     /// 1: the text is over 16,777,216 bytes.
@@ -44,7 +44,7 @@ pub enum Refusal {
     },
     /// 9: the feed has ended.
     FeedEnded,
-    /// 10: a thread cannot end inside a character.
+    /// 10: the thread ends inside a character.
     UnfinishedCharacter,
 }
 

@@ -15,6 +15,10 @@ pub const POLICY_BYTES: usize = 192;
 pub const FINDING_BYTES: usize = 80;
 /// The bytes of an item in a table.
 pub const ITEM_BYTES: usize = 32;
+/// The bytes of a feed.
+pub const FEED_BYTES: usize = 312;
+/// The bytes of the totals of a feed.
+pub const TOTALS_BYTES: usize = 64;
 
 unsafe extern "C" {
     fn tilghorz_format(
