@@ -36,7 +36,7 @@ pub data OfBytes : List Call → Type 0 where
   and-piece : {b out : List ℕ} {cs : List Call} → allBytes b ≡ true → OfBytes cs → OfBytes (piece b out ∷ cs)
   and-end : {out : List ℕ} {cs : List Call} → OfBytes cs → OfBytes (end out ∷ cs)
 
--- A call is done: it writes w at the front of its output and leaves the bytes after it. A room of the given number of bytes was enough.
+-- A call is done: it writes some bytes, at most the given number, at the front of its output, and leaves the bytes after them.
 pub record Done (r : Called) (out : List ℕ) (most : ℕ) : Type 0 where
   pub bytes : List ℕ
   pub answer : r .answer ≡ Written (length bytes)
