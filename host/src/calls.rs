@@ -5,7 +5,7 @@
 use std::fmt::{self, Display, Formatter};
 
 use crate::reference::calls::{self, Draft};
-use crate::reference::{characters, policy};
+use crate::reference::{characters, kept, policy};
 
 /// The bytes of a policy.
 pub const POLICY_BYTES: usize = 192;
@@ -33,6 +33,14 @@ pub trait Calls {
     fn scan(&self, text: &[u8], table: &mut [u8]) -> u64;
     /// `tilghorz_repair`.
     fn repair(&self, text: &[u8], out: &mut [u8]) -> u64;
+    /// `tilghorz_feed_begin`.
+    fn feed_begin(&self, policy: &[u8], feed: &mut [u8]) -> u64;
+    /// `tilghorz_feed_piece`.
+    fn feed_piece(&self, feed: &mut [u8], piece: &[u8], out: &mut [u8]) -> u64;
+    /// `tilghorz_feed_end`.
+    fn feed_end(&self, feed: &mut [u8], out: &mut [u8]) -> u64;
+    /// `tilghorz_feed_totals`.
+    fn feed_totals(&self, feed: &[u8], totals: &mut [u8]) -> u64;
     /// `tilghorz_default_policy`.
     fn default_policy(&self, out: &mut [u8]) -> u64;
     /// `tilghorz_variation_entry`.
@@ -44,7 +52,7 @@ pub trait Calls {
 pub struct Answer {
     /// 0 done, 1 to 10 a refusal, 255 nothing to do.
     pub number: u8,
-    /// What document 01's table says is returned, or what was written.
+    /// What the table of refusals says is returned, or what was written.
     pub value: u64,
 }
 
@@ -119,6 +127,22 @@ impl Calls for Reference {
 
     fn repair(&self, text: &[u8], out: &mut [u8]) -> u64 {
         write(&calls::repair(text), out)
+    }
+
+    fn feed_begin(&self, policy: &[u8], feed: &mut [u8]) -> u64 {
+        kept::begin(policy, feed).word()
+    }
+
+    fn feed_piece(&self, feed: &mut [u8], piece: &[u8], out: &mut [u8]) -> u64 {
+        kept::piece(feed, piece, out).word()
+    }
+
+    fn feed_end(&self, feed: &mut [u8], out: &mut [u8]) -> u64 {
+        kept::end(feed, out).word()
+    }
+
+    fn feed_totals(&self, feed: &[u8], totals: &mut [u8]) -> u64 {
+        kept::totals(feed, totals).word()
     }
 
     fn default_policy(&self, out: &mut [u8]) -> u64 {

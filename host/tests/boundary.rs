@@ -40,6 +40,9 @@ fn faults_are_reported_with_a_reduced_text() {
         (Fault::LosesCutEnd, "sizes"),
         (Fault::WholeUnwritten, "sizes"),
         (Fault::WantsThreeTimes, "sizes"),
+        (Fault::RoomByNeed, "feeds"),
+        (Fault::RefusedFeedChanges, "feeds"),
+        (Fault::RefusedPieceWrites, "feeds"),
     ] {
         let (is_same, text) = printed(&Faulty::new(&Reference, fault));
         assert!(!is_same, "{fault:?}");
@@ -72,6 +75,22 @@ impl Calls for WholeWords {
 
     fn repair(&self, text: &[u8], out: &mut [u8]) -> u64 {
         Reference.repair(text, out)
+    }
+
+    fn feed_begin(&self, policy: &[u8], feed: &mut [u8]) -> u64 {
+        Reference.feed_begin(policy, feed)
+    }
+
+    fn feed_piece(&self, feed: &mut [u8], piece: &[u8], out: &mut [u8]) -> u64 {
+        Reference.feed_piece(feed, piece, out)
+    }
+
+    fn feed_end(&self, feed: &mut [u8], out: &mut [u8]) -> u64 {
+        Reference.feed_end(feed, out)
+    }
+
+    fn feed_totals(&self, feed: &[u8], totals: &mut [u8]) -> u64 {
+        Reference.feed_totals(feed, totals)
     }
 
     fn default_policy(&self, out: &mut [u8]) -> u64 {

@@ -8,12 +8,14 @@ use tilghorz_comparison::calls::{Calls, Reference};
 use tilghorz_comparison::comparison::command::{Command, Planted};
 use tilghorz_comparison::comparison::faults::{FAULTS, Fault};
 use tilghorz_comparison::comparison::faulty::Faulty;
+use tilghorz_comparison::comparison::feed_case::{self, Step};
 use tilghorz_comparison::comparison::lent::lend;
+use tilghorz_comparison::comparison::policies::Policy;
 use tilghorz_comparison::comparison::programs::{Programs, written};
 use tilghorz_comparison::comparison::published::{LISTS, forms, line_texts, texts};
 use tilghorz_comparison::comparison::reduce::{characters, reduced, reduced_text};
 use tilghorz_comparison::comparison::run::{Options, run};
-use tilghorz_comparison::comparison::{limits, repair_case, text_case};
+use tilghorz_comparison::comparison::{feed_lists, limits, repair_case, text_case};
 use tilghorz_comparison::reference::calls::{Draft, LONGEST_TEXT};
 
 /// A short run.
@@ -51,6 +53,7 @@ fn the_reference_has_no_difference_from_itself() {
         "damaged",
         "repaired",
         "lists",
+        "feeds",
     ];
     for kind in kinds {
         assert!(text.lines().any(|line| line.starts_with(kind)), "{text}");
@@ -62,7 +65,8 @@ fn the_reference_has_no_difference_from_itself() {
 fn every_planted_fault_is_reported() {
     for (name, fault) in FAULTS {
         let shows_at_limit = AT_LIMITS.iter().any(|(at_limit, _)| *at_limit == fault);
-        if shows_at_limit || fault == Fault::LimitOnRepaired {
+        let of_long_ones = [Fault::LimitOnRepaired, Fault::LimitWithoutUnfinished];
+        if shows_at_limit || of_long_ones.contains(&fault) {
             continue;
         }
         let (is_same, text) = printed(&Faulty::new(&Reference, fault), &SHORT);
@@ -92,6 +96,37 @@ fn a_limit_on_the_repaired_text_is_found_in_a_text_that_grows_past_it() {
     assert_eq!(repair_case::check(&Reference, &bad), Ok(()));
     let faulty = Faulty::new(&Reference, Fault::LimitOnRepaired);
     assert!(repair_case::check(&faulty, &bad).is_err());
+}
+
+#[test]
+fn a_limit_without_unfinished_bytes_is_found_in_a_thread_that_reaches_it_by_them() {
+    let policy = Policy::default_policy();
+    let [_, _, unfinished] = feed_lists::around_limit();
+    assert_eq!(feed_case::check(&Reference, &policy, &unfinished), Ok(()));
+    let faulty = Faulty::new(&Reference, Fault::LimitWithoutUnfinished);
+    assert!(feed_case::check(&faulty, &policy, &unfinished).is_err());
+}
+
+#[test]
+fn a_thread_is_cut_where_a_bit_is_set() {
+    let cut = |bits| feed_lists::cut(b"abc", bits);
+    let pieces = |pieces: &[&[u8]]| {
+        let pieces = pieces.iter().map(|piece| Step::piece(piece));
+        pieces.chain([Step::END]).collect::<Vec<Step>>()
+    };
+    assert_eq!(cut(0b00), pieces(&[b"abc"]));
+    assert_eq!(cut(0b01), pieces(&[b"a", b"bc"]));
+    assert_eq!(cut(0b10), pieces(&[b"ab", b"c"]));
+    assert_eq!(cut(0b11), feed_lists::byte_by_byte(b"abc"));
+    assert_eq!(feed_lists::cut(b"", 0), pieces(&[]));
+}
+
+#[test]
+fn a_report_on_a_feed_has_a_reduced_list() {
+    let (_, text) = printed(&Faulty::new(&Reference, Fault::OffsetInPiece), &SHORT);
+    assert!(text.contains("difference in feeds\n"), "{text}");
+    let list = text.lines().filter(|line| line.starts_with("  list "));
+    assert_eq!(list.count(), 2, "{text}");
 }
 
 #[test]

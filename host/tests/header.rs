@@ -5,6 +5,7 @@ use std::fs;
 use std::path::Path;
 
 use tilghorz_comparison::calls::{FINDING_BYTES, ITEM_BYTES, POLICY_BYTES};
+use tilghorz_comparison::reference::feed::TOTALS_BYTES;
 
 /// A function: its name, its parameters with name and kind, and the kind of its answer.
 #[derive(Debug, PartialEq, Eq)]
@@ -144,7 +145,7 @@ fn trait_functions() -> Vec<Function> {
 }
 
 #[test]
-fn the_header_declares_seven_functions() {
+fn the_header_declares_eleven_functions() {
     let functions = header_functions();
     let names: Vec<&str> = functions.iter().map(|of| of.name.as_str()).collect();
     let expected = [
@@ -153,12 +154,16 @@ fn the_header_declares_seven_functions() {
         "tilghorz_mend",
         "tilghorz_scan",
         "tilghorz_repair",
+        "tilghorz_feed_begin",
+        "tilghorz_feed_piece",
+        "tilghorz_feed_end",
+        "tilghorz_feed_totals",
         "tilghorz_default_policy",
         "tilghorz_variation_entry",
     ];
     assert_eq!(names, expected);
     let numbers: Vec<usize> = functions.iter().map(|of| of.parameters.len()).collect();
-    assert_eq!(numbers, [6, 6, 9, 4, 4, 2, 1]);
+    assert_eq!(numbers, [6, 6, 9, 4, 4, 4, 6, 4, 4, 2, 1]);
 }
 
 #[test]
@@ -191,6 +196,8 @@ fn the_sizes_agree_with_the_header() {
         ("POLICY_BYTES", POLICY_BYTES),
         ("FINDING_BYTES", FINDING_BYTES),
         ("ITEM_BYTES", ITEM_BYTES),
+        ("FEED_BYTES", feed_bytes()),
+        ("TOTALS_BYTES", TOTALS_BYTES),
     ] {
         let mut lines = header.lines();
         let line = lines.find(|line| line.starts_with(&format!("#define TILGHORZ_{name} ")));
@@ -221,12 +228,12 @@ fn the_refusals_agree_with_the_source() {
     let body = functions.find(|function| function.starts_with("refusal_number("));
     let source = refusals(body.expect("the function of the numbers"), "Refusal::");
     let numbers: Vec<u64> = source.iter().map(|(_, number)| *number).collect();
-    assert_eq!(numbers, [1, 2, 3, 4, 5, 6, 7, 8]);
+    assert_eq!(numbers, [1, 2, 3, 4, 5, 6, 7, 8, 9, 10]);
     assert_eq!(refusals(&file("tilghorz/src/refusal.rs"), "Self::"), source);
     let header = file("../include/tilghorz.h");
     for (name, number) in source {
         let mut lines = header.lines();
-        assert!(lines.any(|line| line.starts_with(&format!(" *   {number}          "))));
+        assert!(lines.any(|line| line.starts_with(&format!(" *   {number:<11}"))));
         let define = format!("\n#define TILGHORZ_{} {number}\n", screaming(&name));
         assert!(header.contains(&define), "{define}");
     }
@@ -270,6 +277,20 @@ fn the_limit_and_the_entries_agree_with_the_source() {
     assert!(text.contains(&format!("; the other {unused} bits of a set are unused")));
     let version = number_after("../docs/UNICODE.md", "**Unicode ");
     assert!(text.contains(&format!(", those of Unicode {version}.")));
+}
+
+/// The bytes of a feed, as the source has them.
+fn feed_bytes() -> usize {
+    number_after("../crates/feed/src/lib.rt", "FEED_BYTES: usize = ") as usize
+}
+
+#[test]
+fn the_bytes_of_a_feed_agree_with_the_source() {
+    let what = format!(
+        " It is {} bytes, which tilghorz_feed_begin writes.",
+        feed_bytes()
+    );
+    assert!(file("../include/tilghorz.h").contains(&what));
 }
 
 #[test]

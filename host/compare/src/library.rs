@@ -34,6 +34,22 @@ impl Calls for Library {
         sys::repair(text, out)
     }
 
+    fn feed_begin(&self, policy: &[u8], feed: &mut [u8]) -> u64 {
+        sys::feed_begin(policy, feed)
+    }
+
+    fn feed_piece(&self, feed: &mut [u8], piece: &[u8], out: &mut [u8]) -> u64 {
+        sys::feed_piece(feed, piece, out)
+    }
+
+    fn feed_end(&self, feed: &mut [u8], out: &mut [u8]) -> u64 {
+        sys::feed_end(feed, out)
+    }
+
+    fn feed_totals(&self, feed: &[u8], totals: &mut [u8]) -> u64 {
+        sys::feed_totals(feed, totals)
+    }
+
     fn default_policy(&self, out: &mut [u8]) -> u64 {
         sys::default_policy(out)
     }

@@ -26,8 +26,8 @@ const DECISIONS: usize = 20;
 
 /// Makes calls and counts them.
 pub struct Boundary<'a> {
-    calls: &'a dyn Calls,
-    random: Random,
+    pub(super) calls: &'a dyn Calls,
+    pub(super) random: Random,
     alphabet: Alphabet,
     /// The calls so far.
     pub made: u64,
@@ -262,7 +262,7 @@ fn rooms(draft: &Draft, case: &Case) -> BTreeSet<usize> {
 
 /// Texts of a length: of plain characters, of digits, of all kinds of characters, with the last one incomplete and with all
 /// complete, and of bad places of each width.
-fn texts(length: usize) -> [Vec<u8>; 5] {
+pub fn texts(length: usize) -> [Vec<u8>; 5] {
     let sequence = "\u{2764}\u{FE0F}\u{FE0E}\u{200D}\u{1F1E6}\u{FE0E}\u{1F1E7}\u{E9}1\u{20E3}\u{261D}\u{FE0F}\u{1F3FB}\
         \u{FE0F}\u{231A}\u{E0061}\u{FE0F}\u{E007F}\u{200D}\u{200D}\u{A9}\u{1F3F4}\u{E007F}";
     let many = sequence.repeat(length / sequence.len() + 1);

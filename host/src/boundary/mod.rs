@@ -7,6 +7,7 @@
 //! | [`placed`] | puts the bytes of an input to a place in memory, between bytes that would change the answer |
 //! | [`case`] | makes a call with each slice at its place, and compares answer, output, and all that stands around |
 //! | [`cases`] | makes the cases: sizes, lengths of policies and decisions, and drawn ones |
+//! | [`feeds`] | makes the calls on feeds |
 //! | [`command`] | the command line of the program `boundary` |
 //!
 //! An input that is read past its end gives another answer where the bytes after it count. Where it stands at the end
@@ -15,4 +16,5 @@
 pub mod case;
 pub mod cases;
 pub mod command;
+pub mod feeds;
 pub mod placed;

@@ -75,10 +75,34 @@ pub enum Fault {
     WholeUnwritten,
     /// Limit 1 is tested on the repaired text.
     LimitOnRepaired,
+    /// Each piece of a thread is formatted as a text of its own.
+    PiecesAlone,
+    /// The offset of an ill-formed place is counted from the piece's start.
+    OffsetInPiece,
+    /// A refused call on a feed changes the feed.
+    RefusedFeedChanges,
+    /// A refused call on a feed writes a byte.
+    RefusedPieceWrites,
+    /// After an ill-formed piece every piece is refused.
+    RefusalSticks,
+    /// The room of a piece is tested by what is written.
+    RoomByNeed,
+    /// The room of a piece is tested before its form.
+    RoomBeforeForm,
+    /// Limit 1 does not count the bytes of an unfinished character.
+    LimitWithoutUnfinished,
+    /// A thread may end inside a character.
+    EndsInsideCharacter,
+    /// A piece is taken after the end.
+    TakesAfterEnd,
+    /// The totals are without the last base, which is not written yet.
+    TotalsWithoutHeld,
+    /// After the end the totals are zeros.
+    NoTotalsAfterEnd,
 }
 
 /// The faults with their names.
-pub const FAULTS: [(&str, Fault); 36] = [
+pub const FAULTS: [(&str, Fault); 48] = [
     ("keycap-rule", Fault::KeycapRule),
     ("finding-span", Fault::FindingSpan),
     ("item-span", Fault::ItemSpan),
@@ -115,4 +139,16 @@ pub const FAULTS: [(&str, Fault); 36] = [
     ("replacement-number", Fault::ReplacementNumber),
     ("whole-unwritten", Fault::WholeUnwritten),
     ("limit-on-repaired", Fault::LimitOnRepaired),
+    ("pieces-alone", Fault::PiecesAlone),
+    ("offset-in-piece", Fault::OffsetInPiece),
+    ("refused-feed-changes", Fault::RefusedFeedChanges),
+    ("refused-piece-writes", Fault::RefusedPieceWrites),
+    ("refusal-sticks", Fault::RefusalSticks),
+    ("room-by-need", Fault::RoomByNeed),
+    ("room-before-form", Fault::RoomBeforeForm),
+    ("limit-unfinished", Fault::LimitWithoutUnfinished),
+    ("ends-inside", Fault::EndsInsideCharacter),
+    ("takes-after-end", Fault::TakesAfterEnd),
+    ("totals-without-held", Fault::TotalsWithoutHeld),
+    ("no-totals-after-end", Fault::NoTotalsAfterEnd),
 ];

@@ -4,6 +4,7 @@ use std::cell::{Cell, RefCell};
 use std::iter::repeat_n;
 
 use super::faults::Fault;
+use super::faulty_feed::FaultyFeed;
 use crate::calls::{Answer, Calls, FINDING_BYTES, ITEM_BYTES};
 use crate::reference::calls::LONGEST_TEXT;
 use crate::reference::characters::LAST_TAG;
@@ -15,17 +16,19 @@ pub struct Faulty<'a> {
     fault: Fault,
     has_mended: Cell<bool>,
     last_mended: RefCell<Vec<u8>>,
+    feed: FaultyFeed<'a>,
 }
 
 impl<'a> Faulty<'a> {
     /// Plants a fault.
     #[must_use]
-    pub const fn new(calls: &'a dyn Calls, fault: Fault) -> Self {
+    pub fn new(calls: &'a dyn Calls, fault: Fault) -> Self {
         Self {
             calls,
             fault,
             has_mended: Cell::new(false),
             last_mended: RefCell::new(Vec::new()),
+            feed: FaultyFeed::new(calls, fault),
         }
     }
 
@@ -183,7 +186,7 @@ fn with_other_places(text: &[u8], fault: Fault) -> Vec<u8> {
 }
 
 /// Changes a byte, if it is there.
-fn flip(bytes: &mut [u8], place: usize) {
+pub fn flip(bytes: &mut [u8], place: usize) {
     if let Some(byte) = bytes.get_mut(place) {
         *byte ^= 1;
     }
@@ -299,6 +302,22 @@ impl Calls for Faulty<'_> {
         let (length, number) = (answer.value & 0xFFF_FFFF, answer.value >> 28);
         self.spoil_after(Answer::new(Answer::DONE, length), 1, out);
         self.repair_answer(length, number).word()
+    }
+
+    fn feed_begin(&self, policy: &[u8], feed: &mut [u8]) -> u64 {
+        self.feed.begin(policy, feed).word()
+    }
+
+    fn feed_piece(&self, feed: &mut [u8], piece: &[u8], out: &mut [u8]) -> u64 {
+        self.feed.piece(feed, piece, out).word()
+    }
+
+    fn feed_end(&self, feed: &mut [u8], out: &mut [u8]) -> u64 {
+        self.feed.end(feed, out).word()
+    }
+
+    fn feed_totals(&self, feed: &[u8], totals: &mut [u8]) -> u64 {
+        self.feed.totals(feed, totals).word()
     }
 
     fn default_policy(&self, out: &mut [u8]) -> u64 {

@@ -8,7 +8,7 @@ use crate::reference::calls::Draft;
 
 /// The bytes before and after a lent buffer that are watched too. They are an odd number, so that the buffer begins at
 /// an odd place.
-const MARGIN: usize = 13;
+pub const MARGIN: usize = 13;
 
 /// A difference between what a call did and what it should have done.
 #[derive(Debug, Clone, PartialEq, Eq)]
@@ -86,6 +86,40 @@ pub fn lend_between(
     })
 }
 
+/// Makes a call that may change a feed and writes to an output, each between `margins` of bytes, and compares all
+/// that it does with what the draft says. A refusal must leave the feed as it was. Gives the feed after the call.
+pub fn lend_feed(
+    margins: [[usize; 2]; 2],
+    name: impl Fn() -> String,
+    feed: &[u8],
+    draft: &Draft,
+    room: usize,
+    call: impl FnOnce(&mut [u8], &mut [u8]) -> u64,
+) -> Result<Vec<u8>, Difference> {
+    let [[before, after], out_margins] = margins;
+    let made = [&pattern(before), feed, &pattern(after)].concat();
+    let mut memory = made.clone();
+    let place = before..before + feed.len();
+    lend_between(out_margins, &name, draft, room, |out| {
+        call(&mut memory[place.clone()], out)
+    })?;
+    let changed = memory[place.clone()].to_vec();
+    memory[place.clone()].copy_from_slice(feed);
+    let is_same = memory == made;
+    let name = |what: &str| format!("{}, room {room}: {what}", name());
+    same(
+        || name("the bytes around the feed stay"),
+        &true,
+        &is_same,
+        bool::to_string,
+    )?;
+    if draft.with_room(room).0.is_refusal() {
+        let name = || name("the feed stays as it was");
+        same(name, &feed.to_vec(), &changed, |feed| hexadecimal(feed))?;
+    }
+    Ok(changed)
+}
+
 /// What a byte of a buffer with margins is.
 fn whose_byte(place: usize, before: usize, written: usize, room: usize) -> String {
     match place.checked_sub(before) {
@@ -113,7 +147,8 @@ pub fn hexadecimal(bytes: &[u8]) -> String {
 }
 
 /// What a buffer holds before a call: no two neighbours are equal, and places 256 apart differ too.
-fn pattern(length: usize) -> Vec<u8> {
+#[must_use]
+pub fn pattern(length: usize) -> Vec<u8> {
     static PERIOD: LazyLock<Vec<u8>> = LazyLock::new(|| {
         let byte = |place: usize| (place as u8).wrapping_mul(0x9D) ^ (place >> 8) as u8 ^ 0xC5;
         (0..1 << 16).map(byte).collect()

@@ -8,18 +8,25 @@
 //! | [`text_case`] | compares all that the calls do to one text under one policy |
 //! | [`list_case`] | compares a list of mending calls with its book |
 //! | [`repair_case`] | compares what taking in does to one damaged text |
+//! | [`feed_case`] | compares a list of calls on a feed |
+//! | [`feed_lists`] | makes such lists: threads cut in every way and at random, with refused calls between |
+//! | [`feed_states`] | makes calls on bytes that are no feed |
 //! | [`texts`], [`policies`] | make the texts and policies: exhaustive, random, damaged |
 //! | [`limits`] | makes texts around the limits |
 //! | [`published`] | takes texts from Unicode's lists of emoji |
 //! | [`reduce`] | makes a text or a list with a difference smaller |
 //! | [`run`], [`report`] | runs all of it, within bounds, and reports the first difference |
 //! | [`programs`] | compares the two programs |
-//! | [`faults`], [`faulty`] | faults that are planted into calls, which a run must report |
+//! | [`faults`], [`faulty`], [`faulty_feed`] | faults that are planted into calls, which a run must report |
 //! | [`command`] | the command line of the program |
 
 pub mod command;
 pub mod faults;
 pub mod faulty;
+pub mod faulty_feed;
+pub mod feed_case;
+pub mod feed_lists;
+pub mod feed_states;
 pub mod lent;
 pub mod limits;
 pub mod list_case;

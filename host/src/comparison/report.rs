@@ -1,7 +1,8 @@
 //! The report of a difference.
 
-use std::fmt::Write;
+use std::fmt::{Display, Write};
 
+use super::feed_case::Step;
 use super::lent::{Difference, hexadecimal};
 use super::list_case::Mend;
 use super::policies::Policy;
@@ -14,15 +15,25 @@ pub fn report(
     list: &[Mend],
     difference: &Difference,
 ) -> String {
-    let mut report = text_report(kind, (text, found_in));
+    let head = text_report(kind, (text, found_in));
+    head + &list_report(policy, list, difference)
+}
+
+/// The report of a difference in a list of calls on a feed.
+pub fn feed_report(kind: &str, policy: &Policy, list: &[Step], difference: &Difference) -> String {
+    format!("difference in {kind}\n") + &list_report(policy, list, difference)
+}
+
+/// The lines on the policy and on the calls of a list, and the difference.
+fn list_report(policy: &Policy, list: &[impl Display], difference: &Difference) -> String {
+    let mut report = format!("  policy    {}", policy.name);
     // Writing to a string does not fail.
-    let _ = write!(report, "  policy    {}", policy.name);
     if policy.name != Policy::DEFAULT {
         let _ = write!(report, ", {}", hexadecimal(&policy.bytes));
     }
     report.push('\n');
-    for (number, mend) in (1..).zip(list) {
-        let _ = writeln!(report, "  list {number:<5}{mend}");
+    for (number, call) in (1..).zip(list) {
+        let _ = writeln!(report, "  list {number:<5}{call}");
     }
     let _ = write!(report, "{difference}");
     report

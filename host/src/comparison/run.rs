@@ -15,6 +15,8 @@ use crate::reference::calls::LONGEST_TEXT;
 use crate::reference::characters;
 use crate::reference::repair::repaired;
 
+mod feeds;
+
 /// The bounds of a run.
 #[derive(Debug, Clone, Copy, PartialEq, Eq)]
 pub struct Options {
@@ -44,6 +46,9 @@ impl Default for Options {
         }
     }
 }
+
+/// In one drawn case of this number a thread is fed too.
+const FEED_IN: u64 = 4;
 
 /// Why a run ended early: a difference, told in lines; cases that were asked for and of which none was tried; or a line
 /// that could not be printed.
@@ -114,6 +119,7 @@ impl<'a> Run<'a> {
             self.every_text(length)?;
         }
         self.every_damaged_text()?;
+        self.every_feed()?;
         self.drawn()?;
         if self.options.limits {
             self.limits()?;
@@ -275,16 +281,22 @@ impl<'a> Run<'a> {
         self.told("every text", texts, &what)
     }
 
-    /// Drawn texts, damaged ones, the same taken in, and lists of mending calls, in turns.
+    /// Drawn texts, damaged ones, the same taken in, lists of mending calls and of calls on feeds, in turns.
     fn drawn(&mut self) -> Result<(), Stop> {
         let mut cases = 0;
         let mut calls = 0;
+        let (mut feeds, mut feed_calls) = (0, 0);
         while cases < self.options.cases && !self.is_over() {
             let mut random = Random::from_seed(self.options.seed ^ (cases << 20));
             self.drawn_text(&mut random)?;
             self.damaged_text(&mut random)?;
             self.repaired_text(&mut random)?;
             calls += self.drawn_list(&mut random)?;
+            // A thread has many calls, each with the thread so far formatted anew.
+            if cases % FEED_IN == 0 {
+                feed_calls += self.drawn_feed(&mut random)?;
+                feeds += 1;
+            }
             cases += 1;
         }
         if cases == 0 && self.options.cases > 0 {
@@ -295,7 +307,9 @@ impl<'a> Run<'a> {
         self.told("damaged", cases, "texts or policies")?;
         self.told("repaired", cases, "texts, and the calls after it")?;
         let what = format!("lists of mending calls, {calls} calls");
-        self.told("lists", cases, &what)
+        self.told("lists", cases, &what)?;
+        let what = format!("drawn threads and bytes that are no feed, {feed_calls} calls");
+        self.told("feeds", feeds, &what)
     }
 
     fn drawn_policy(&self, random: &mut Random) -> Policy {
@@ -359,6 +373,7 @@ impl<'a> Run<'a> {
                 texts += 1;
             }
         }
+        texts += self.feeds_around_limit()?;
         let text = limits::sparse(LONGEST_FIRST_TEXT);
         let policy = Policy::default_policy();
         let list = list_case::drawn(&mut random, &text, &policy);

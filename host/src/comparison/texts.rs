@@ -25,7 +25,7 @@ const NEIGHBOURS: [char; 26] = [
 ];
 
 /// Bytes that begin or spoil a character: stray tails, long forms, surrogates, numbers past the last.
-const SPOILS: [&[u8]; 12] = [
+pub const SPOILS: [&[u8]; 12] = [
     &[0x80],
     &[0xBF],
     &[0xC0, 0x80],

@@ -34,6 +34,13 @@ pub enum Draft {
         /// The second value of the answer, in the bits from 28 on, where a call has two.
         second: u64,
     },
+    /// It writes these bytes if the output has this room, which may be more than they need; else refusal 8 gives it.
+    WritesWithin {
+        /// What goes to the front.
+        bytes: Vec<u8>,
+        /// The room.
+        wanted: usize,
+    },
 }
 
 impl Draft {
@@ -64,6 +71,7 @@ impl Draft {
         match self {
             Self::Refused(_) | Self::Nothing => 0,
             Self::Writes { bytes, .. } => bytes.len(),
+            Self::WritesWithin { wanted, .. } => *wanted,
         }
     }
 
@@ -86,6 +94,10 @@ impl Draft {
                     (Answer::new(*too_short, places), &[])
                 }
             }
+            Self::WritesWithin { bytes, wanted } if room >= *wanted => {
+                (Answer::new(Answer::DONE, bytes.len() as u64), bytes)
+            }
+            Self::WritesWithin { wanted, .. } => (Answer::new(8, *wanted as u64), &[]),
         }
     }
 }

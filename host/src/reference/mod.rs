@@ -1,4 +1,4 @@
-//! An independent reading of document 01 and of change (ii) of document 02, written from their sentences, and neither
+//! An independent reading of document 01 and of the changes of document 02, written from their sentences, and neither
 //! from the crate's code nor from the port's.
 //!
 //! What the crate has too (items, counts, replacements, formatted text) is held to the crate by tests. What it lacks
@@ -16,12 +16,16 @@
 //! | [`rules`] | counts and replacements |
 //! | [`calls`] | formatting, listing, mending, scanning and repairing, with their refusals |
 //! | [`book`] | a list of mending calls |
+//! | [`feed`] | a thread that comes in pieces |
+//! | [`kept`] | feeds in lent bytes |
 //! | [`programs`] | what the two programs write |
 
 pub mod book;
 pub mod calls;
 pub mod characters;
+pub mod feed;
 pub mod items;
+pub mod kept;
 pub mod policy;
 pub mod programs;
 pub mod repair;

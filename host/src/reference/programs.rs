@@ -21,7 +21,7 @@ pub fn formatted(input: &[u8]) -> Vec<u8> {
     match format(input, default_policy()) {
         Draft::Refused(refusal) => refused(refusal),
         Draft::Nothing => input.to_vec(),
-        Draft::Writes { bytes, .. } => bytes,
+        Draft::Writes { bytes, .. } | Draft::WritesWithin { bytes, .. } => bytes,
     }
 }
 

@@ -29,10 +29,16 @@ static BEGINNINGS: LazyLock<HashSet<Vec<u8>>> = LazyLock::new(|| {
     beginnings
 });
 
+/// Whether the bytes begin a character and are none yet.
+#[must_use]
+pub fn is_unfinished(bytes: &[u8]) -> bool {
+    BEGINNINGS.contains(bytes)
+}
+
 /// The number of bytes of the bad place at the front of the bytes. There is at least one byte.
 #[must_use]
 pub fn stretch(bytes: &[u8]) -> usize {
-    let begins = |length: &usize| BEGINNINGS.contains(&bytes[..*length]);
+    let begins = |length: &usize| is_unfinished(&bytes[..*length]);
     (1..=bytes.len().min(MOST)).rfind(begins).unwrap_or(1)
 }
 

@@ -9,6 +9,7 @@
 mod arguments;
 mod console;
 mod fix;
+mod follow;
 mod format;
 mod glob;
 mod help;
@@ -56,6 +57,7 @@ fn run(command: &Command, console: &mut Console) -> io::Result<Status> {
         Command::Version => console.print(help::VERSION),
         Command::Format(format) => format.run(console),
         Command::Repair(repair) => repair.run(console),
+        Command::Follow(follow) => follow.run(console),
         Command::Report(report) => report.run(console),
         Command::Fix(fix) => fix.run(console),
         Command::Show(show) => show.run(console),

@@ -81,10 +81,18 @@ impl Source {
 
     /// The message that the text was refused.
     pub fn refused(&self, refusal: Refusal, text: &[u8]) -> String {
+        let line = match refusal {
+            Refusal::NotWellFormed { valid_up_to } => line_of(text, valid_up_to),
+            _ => 1,
+        };
+        self.refused_in_line(refusal, line)
+    }
+
+    /// The message that the text was refused; where it is damaged, that is in this line.
+    pub fn refused_in_line(&self, refusal: Refusal, line: usize) -> String {
         let number = refusal.number();
         match refusal {
-            Refusal::NotWellFormed { valid_up_to } => {
-                let line = line_of(text, valid_up_to);
+            Refusal::NotWellFormed { .. } => {
                 format!("{self}: refused {number}: {refusal}, in line {line}")
             }
             _ => format!("{self}: refused {number}: {refusal}"),

@@ -62,8 +62,8 @@ mod tests {
     }
 
     #[test]
-    #[should_panic(expected = "the linked library answers 0x0900000000000001")]
+    #[should_panic(expected = "the linked library answers 0x6300000000000001")]
     fn another_word_stops() {
-        let _ = read(0x0900_0000_0000_0001);
+        let _ = read(0x6300_0000_0000_0001);
     }
 }

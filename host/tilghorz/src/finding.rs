@@ -59,6 +59,30 @@ impl Counts {
         "decisions",
     ];
 
+    /// The counts of their numbers in document 01's order.
+    pub(crate) const fn of(numbers: [usize; 8]) -> Self {
+        let [
+            unsanctioned,
+            modifier_defective,
+            additional_defective,
+            tag_conflicting,
+            tag_forced,
+            tag_redundant,
+            policy_redundant,
+            decisions,
+        ] = numbers;
+        Self {
+            unsanctioned,
+            modifier_defective,
+            additional_defective,
+            tag_conflicting,
+            tag_forced,
+            tag_redundant,
+            policy_redundant,
+            decisions,
+        }
+    }
+
     /// The counts in document 01's order.
     #[must_use]
     pub const fn numbers(&self) -> [usize; 8] {
@@ -99,28 +123,8 @@ impl Read for Finding {
     const BYTES: usize = sys::FINDING_BYTES;
 
     fn read(bytes: &[u8]) -> Self {
-        let [
-            start,
-            end,
-            unsanctioned,
-            modifier_defective,
-            additional_defective,
-            tag_conflicting,
-            tag_forced,
-            tag_redundant,
-            policy_redundant,
-            decisions,
-        ] = table::numbers(bytes);
-        let counts = Counts {
-            unsanctioned,
-            modifier_defective,
-            additional_defective,
-            tag_conflicting,
-            tag_forced,
-            tag_redundant,
-            policy_redundant,
-            decisions,
-        };
+        let [start, end, counts @ ..] = table::numbers::<10>(bytes);
+        let counts = Counts::of(counts);
         Self { start, end, counts }
     }
 }

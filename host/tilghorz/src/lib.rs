@@ -26,6 +26,8 @@
 //! - [`format()`], [`mend`], [`findings`] and [`items`] allocate what they return; [`format_into`] and [`mend_into`]
 //!   write to the caller's buffer, and [`filed`] says which bytes to keep then.
 //! - [`repair`] takes damaged text in, which the others refuse; [`repair_into`] writes to the caller's buffer.
+//! - [`Feed`] formats a thread that comes in pieces; [`FeedWriter`] and [`FeedReader`] do it between a writer or a
+//!   reader and another.
 //! - [`Policy`] is the default one, one from bytes, or one with members added and taken.
 //! - [`sys`] has the C functions as they cross. It is the only module with unsafe code.
 //!
@@ -37,6 +39,7 @@
 
 mod answer;
 mod calls;
+mod feed;
 mod finding;
 mod item;
 mod policy;
@@ -48,6 +51,7 @@ pub use calls::{Formatted, Presentation, Repaired};
 pub use calls::{
     filed, findings, format, format_into, items, mend, mend_into, repair, repair_into,
 };
+pub use feed::{Feed, FeedReader, FeedWriter};
 pub use finding::{Counts, Finding};
 pub use item::{Item, ItemKind};
 pub use policy::{Context, KeySet, NoEntry, Policy, SingletonRule, variation_entries};

@@ -1,4 +1,4 @@
-//! The refusals: document 01, "Turned back".
+//! The refusals: document 01, "Turned back", and those that document 02 adds.
 
 use std::error::Error;
 use std::fmt::{self, Display, Formatter};
@@ -7,7 +7,8 @@ use crate::sys::POLICY_BYTES;
 
 /// Why a call was turned back. It then wrote to no buffer.
 ///
-/// The tests come in the order of the numbers, each only in calls that take the thing. A call of a feed tests 9 and 10 first.
+/// The tests come in the order of the numbers, each only in calls that take the thing. A call on a feed tests 9 and 10
+/// first.
 #[derive(Debug, Clone, Copy, PartialEq, Eq, Hash)]
 pub enum Refusal {
     /// 1: the text is over 16,777,216 bytes.
@@ -65,7 +66,7 @@ impl Refusal {
         })
     }
 
-    /// Its number in document 01's table.
+    /// Its number in the table of refusals.
     #[must_use]
     pub const fn number(self) -> u8 {
         match self {

@@ -15,6 +15,10 @@ pub const POLICY_BYTES: usize = 192;
 pub const FINDING_BYTES: usize = 80;
 /// The bytes of an item in a table.
 pub const ITEM_BYTES: usize = 32;
+/// The bytes of a feed.
+pub const FEED_BYTES: usize = 312;
+/// The bytes of the totals of a feed.
+pub const TOTALS_BYTES: usize = 64;
 
 unsafe extern "C" {
     fn tilghorz_format(
@@ -46,6 +50,27 @@ unsafe extern "C" {
     ) -> u64;
     fn tilghorz_scan(text: *const u8, text_len: usize, table: *mut u8, table_len: usize) -> u64;
     fn tilghorz_repair(text: *const u8, text_len: usize, out: *mut u8, out_len: usize) -> u64;
+    fn tilghorz_feed_begin(
+        policy: *const u8,
+        policy_len: usize,
+        feed: *mut u8,
+        feed_len: usize,
+    ) -> u64;
+    fn tilghorz_feed_piece(
+        feed: *mut u8,
+        feed_len: usize,
+        piece: *const u8,
+        piece_len: usize,
+        out: *mut u8,
+        out_len: usize,
+    ) -> u64;
+    fn tilghorz_feed_end(feed: *mut u8, feed_len: usize, out: *mut u8, out_len: usize) -> u64;
+    fn tilghorz_feed_totals(
+        feed: *const u8,
+        feed_len: usize,
+        totals: *mut u8,
+        totals_len: usize,
+    ) -> u64;
     fn tilghorz_default_policy(out: *mut u8, out_len: usize) -> u64;
     fn tilghorz_variation_entry(index: u64) -> u64;
 }
@@ -113,6 +138,43 @@ pub fn scan(text: &[u8], table: &mut [u8]) -> u64 {
 pub fn repair(text: &[u8], out: &mut [u8]) -> u64 {
     // SAFETY: as the head of this file says.
     unsafe { tilghorz_repair(text.as_ptr(), text.len(), out.as_mut_ptr(), out.len()) }
+}
+
+/// `tilghorz_feed_begin`: begins a feed under a policy.
+#[must_use]
+pub fn feed_begin(policy: &[u8], feed: &mut [u8]) -> u64 {
+    // SAFETY: as the head of this file says.
+    unsafe { tilghorz_feed_begin(policy.as_ptr(), policy.len(), feed.as_mut_ptr(), feed.len()) }
+}
+
+/// `tilghorz_feed_piece`: feeds the next bytes of a thread.
+#[must_use]
+pub fn feed_piece(feed: &mut [u8], piece: &[u8], out: &mut [u8]) -> u64 {
+    // SAFETY: as the head of this file says.
+    unsafe {
+        tilghorz_feed_piece(
+            feed.as_mut_ptr(),
+            feed.len(),
+            piece.as_ptr(),
+            piece.len(),
+            out.as_mut_ptr(),
+            out.len(),
+        )
+    }
+}
+
+/// `tilghorz_feed_end`: ends a thread.
+#[must_use]
+pub fn feed_end(feed: &mut [u8], out: &mut [u8]) -> u64 {
+    // SAFETY: as the head of this file says.
+    unsafe { tilghorz_feed_end(feed.as_mut_ptr(), feed.len(), out.as_mut_ptr(), out.len()) }
+}
+
+/// `tilghorz_feed_totals`: writes the totals of a thread so far.
+#[must_use]
+pub fn feed_totals(feed: &[u8], totals: &mut [u8]) -> u64 {
+    // SAFETY: as the head of this file says.
+    unsafe { tilghorz_feed_totals(feed.as_ptr(), feed.len(), totals.as_mut_ptr(), totals.len()) }
 }
 
 /// `tilghorz_default_policy`: writes the default policy.

@@ -20,6 +20,7 @@
 //! which the thread had a processor.
 
 mod clock;
+mod feeding;
 mod inputs;
 mod repairing;
 mod tables;
@@ -30,25 +31,29 @@ mod work;
 use std::env;
 use std::process::ExitCode;
 
+use feeding::{Feeding, PIECES};
 use inputs::{INPUTS, Input};
 use repairing::Repairing;
 use work::Work;
 
 /// How the program is called.
 const USAGE: &str = "\
-usage: benchmark [--rounds N] [--growth | --repairing] [INPUT ..]
-       benchmark repeat format|list|mend|scan|repair|repair-damaged INPUT BYTES TIMES
+usage: benchmark [--rounds N] [--growth | --repairing | --feeding] [INPUT ..]
+       benchmark repeat format|list|mend|scan|repair|repair-damaged|feed INPUT BYTES TIMES
   --rounds N   the rounds of each measurement (15)
   --growth     only the cost at 64 KiB, 1 MiB and 16 MiB
   --repairing  only the table of repairing
-  repeat       one call of the library, TIMES times, and nothing else: for counts of instructions";
+  --feeding    only the table of feeding
+  repeat       one call of the library, TIMES times, and nothing else: for counts of instructions. feed is a thread in
+               pieces of 4 KiB";
 
 /// The tables that are printed.
-#[derive(PartialEq)]
+#[derive(Clone, Copy, PartialEq)]
 enum Tables {
     All,
     Growth,
     Repairing,
+    Feeding,
 }
 
 /// What the program is asked to do.
@@ -91,6 +96,7 @@ fn parse(words: &[&str]) -> Result<Command, String> {
             "--rounds" => command.rounds = number(words.next().copied().unwrap_or(""))?,
             "--growth" => command.tables = Tables::Growth,
             "--repairing" => command.tables = Tables::Repairing,
+            "--feeding" => command.tables = Tables::Feeding,
             _ => command.inputs.push(input(word)?),
         }
     }
@@ -106,14 +112,18 @@ fn parse(words: &[&str]) -> Result<Command, String> {
 /// Prints the tables.
 fn run(command: &Command) -> Result<(), String> {
     let (inputs, rounds) = (&command.inputs, command.rounds);
+    let is_printed = |tables| [tables, Tables::All].contains(&command.tables);
     if command.tables == Tables::All {
         tables::formatting(inputs, rounds)?;
         tables::listing(inputs, rounds)?;
     }
-    if command.tables != Tables::Growth {
+    if is_printed(Tables::Repairing) {
         tables::repairing(inputs, rounds)?;
     }
-    if command.tables != Tables::Repairing {
+    if is_printed(Tables::Feeding) {
+        tables::feeding(inputs, rounds)?;
+    }
+    if is_printed(Tables::Growth) {
         tables::growth(inputs, rounds);
     }
     Ok(())
@@ -133,12 +143,14 @@ fn repeat(words: &[&str]) -> Result<(), String> {
     }
     let (work, mut buffers) = Work::new(input, &text);
     let mut items = work.item_table();
+    let mut feeding = Feeding::new(input, &text)?;
     for _ in 0..number(times)? {
         match call {
             "format" => work.format(&mut buffers),
             "list" => work.list(&mut buffers),
             "mend" => work.mend(1, &mut buffers),
             "scan" => work.scan(&mut items),
+            "feed" => feeding.pieces(PIECES[0], |_| ()),
             _ => return Err(format!("{call}: not a call")),
         }
     }

@@ -1,5 +1,6 @@
 //! The tables that are printed.
 
+use crate::feeding::{Feeding, PIECES};
 use crate::inputs::Input;
 use crate::repairing::{BAD_ONE_IN, Repairing};
 use crate::timing::{FEWEST, Times, interleaved};
@@ -28,6 +29,11 @@ Repairing, compared with from_utf8_lossy made into an owned string: well-formed 
 hundred. room: into a buffer of three times the text; exact: into a buffer that the result fills. ratios: the standard
 library's time divided by the library's, by the medians and by the best; 0.8 is wanted for well-formed texts, 1 for
 damaged ones.";
+
+/// The text above the table of feeding.
+const FEEDING: &str = "\
+A thread fed in pieces of 4 KiB and of 64 bytes, beside formatting it in one call. ratio: the time of the one call divided
+by that of the pieces; on ascii and mixed 0.5 is wanted for 4 KiB, and 0.2 for 64 bytes.";
 
 /// Formatting beside the crate's, the standard library's test of a text, and a copy.
 pub fn formatting(inputs: &[&Input], rounds: usize) -> Result<(), String> {
@@ -146,6 +152,40 @@ pub fn repairing(inputs: &[&Input], rounds: usize) -> Result<(), String> {
                 ratios(lossy, exact),
             );
         }
+    }
+    Ok(())
+}
+
+/// A thread in pieces, beside one call on the whole of it.
+pub fn feeding(inputs: &[&Input], rounds: usize) -> Result<(), String> {
+    println!("\n{FEEDING}");
+    println!(
+        "{:<11} {:>15} {:>15} {:>15} {:>7} {:>7} {:>7} {:>7}",
+        "input", "one call", "4 KiB", "64 bytes", "ratio", "best", "64", "best"
+    );
+    for input in inputs.iter().filter(|input| input.message.is_none()) {
+        let thread = input.make(LENGTH);
+        let mut work = Feeding::new(input, &thread)?;
+        for length in PIECES {
+            work.compare(length)?;
+        }
+        let [whole, long, short] = interleaved(rounds, |number| match number {
+            0 => {
+                work.whole();
+            }
+            _ => work.pieces(PIECES[number - 1], |_| ()),
+        });
+        println!(
+            "{:<11} {:>15} {:>15} {:>15} {:>7.2} {:>7.2} {:>7.2} {:>7.2}",
+            input.name,
+            speed(thread.len(), whole),
+            speed(thread.len(), long),
+            speed(thread.len(), short),
+            whole.median / long.median,
+            whole.best / long.best,
+            whole.median / short.median,
+            whole.best / short.best,
+        );
     }
     Ok(())
 }
