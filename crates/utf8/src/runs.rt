@@ -36,14 +36,14 @@ fn short_fits(first: u8, last: u8) -> bool
     last <= 0xBF
 }
 
-// Passes characters of one and of two bytes. It stops after four of one byte in sequence, because `ascii_end` passes those faster.
+// Passes characters of one and of two bytes. It stops after three of one byte in sequence, because `ascii_end` passes those faster.
 fn short_end(s: &[u8], from: usize) -> usize
     requires { ⌜ from ≤ length (now s) ⌝ }
     ensures { λ r. ⌜ CharsBetween (now (s .entry)) from r ⌝ }
 {
     let mut at = from;
     let mut ascii: usize = 0;
-    while ascii < 4 {
+    while ascii < 3 {
         if s.len() - at < 2 {
             return at;
         }
@@ -162,6 +162,9 @@ pub fn width_end(s: &[u8], from: usize, width: usize) -> usize
         return crate::ascii::ascii_end(s, from);
     }
     if width == 2 {
+        if s[from] < 0x80 {
+            return from;
+        }
         return short_end(s, from);
     }
     if width == 3 {
