@@ -107,11 +107,11 @@ uint64_t tilghorz_mend(const uint8_t *text, size_t text_len, const uint8_t *poli
  * E0020 to E007E and then one E007F. An item without a tag modification has 1; tags in a passthrough belong to none. */
 uint64_t tilghorz_scan(const uint8_t *text, size_t text_len, uint8_t *table, size_t table_len);
 
-/* Writes the text with FFFD in place of each bad place, so that the other functions accept it. Numbers: 1, 8. The text need not be
- * well-formed. Two values: the number of bytes written, at most 3 times that of the text, and the number of replacements, which is 0
- * exactly if the text is well-formed. A well-formed text is written too. A bad place is the maximal subpart of the Unicode Standard,
- * chapter 3: the longest beginning of a character there, or one byte. Limit 1 is on the text; the result may be longer than a text that
- * the other functions accept. */
+/* Writes the text with FFFD in place of each bad place. Numbers: 1, 8. The text need not be well-formed; the result always is. Two
+ * values: the number of bytes written, which is at most 3 times the length of the text, and the number of replacements, which is 0
+ * exactly if the text is well-formed. A well-formed text is written too. A bad place is a maximal subpart of the Unicode Standard,
+ * chapter 3: the longest run of bytes there that begins a character, or one byte. The limit of refusal 1 is on the text. The result can
+ * be longer than this limit, and the other functions then refuse it. */
 uint64_t tilghorz_repair(const uint8_t *text, size_t text_len, uint8_t *out, size_t out_len);
 
 /* Begins a feed under a policy: writes it at the front of the buffer. Numbers: 2, 8. Value: the number of bytes of a feed. The other

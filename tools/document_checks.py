@@ -1,5 +1,5 @@
 #!/usr/bin/env python3
-"""The gate's checks of README.md and docs/.
+"""The gate's checks of README.md and docs/, and of the words in all texts.
 
     tools/document_checks.py
 
@@ -12,9 +12,12 @@ also a fault.
 - decisions: every decision that README.md or docs/ cites by its number has a heading in docs/DECISIONS.md; no number has two
             headings; and each decision has a context, a decision and a reason.
 - tests:    every script of tools/ has a file of tests.
+- words:    no text of the repository has a word of UNCLEAR, such as `behind` for "after". A name between backticks may have one,
+            and so may a sentence that is quoted from document 01.
 """
 
 import hashlib
+import os
 import pathlib
 import re
 import sys
@@ -27,6 +30,12 @@ DIGEST = re.compile(r"^\| (\S+) \| ([0-9a-f]{64}) \|$", re.M)
 DECISION = re.compile(r"^### (\d+)([a-z]?)\. .*\n((?:(?!#).*\n)*)", re.M)
 CITED = re.compile(r"\b(?:decided:|[Dd]ecisions?) (\d+[a-z]?(?:(?:, | and )\d+[a-z]?)*)")
 PARTS = ("Context", "Decision", "Reason")
+# Words that a reader must guess: the plain ones are "after", a number with a name, and "unused".
+UNCLEAR = re.compile(r"\bbehind\b|\bso many\b|\bin vain\b", re.I)
+NAME_OR_QUOTED = re.compile(r"`[^`]*`|places behind it unchanged")
+# The texts of the repository, by their suffixes; the gate and the command have none.
+TEXTS = (".antt", ".c", ".edit", ".h", ".md", ".py", ".rs", ".rt", ".toml")
+SCRIPTS = ("run", "tilghorz")
 
 
 def without_blocks(text):
@@ -114,7 +123,22 @@ def untested_tools(root):
             yield f"tools/{script.name}: tools/{tests.name} has no test"
 
 
-CHECKS = (broken_links, other_stages, other_data, other_decisions, untested_tools)
+def unclear_words(root):
+    seen = 0
+    for folder, folders, names in os.walk(root):
+        folders[:] = sorted(one for one in folders if one not in (".git", "target"))
+        for path in (pathlib.Path(folder, name) for name in sorted(names)):
+            if path.name.startswith("test_") or not (path.suffix in TEXTS or path.name in SCRIPTS):
+                continue
+            seen += 1
+            for number, line in enumerate(path.read_text(encoding="utf-8").splitlines(), 1):
+                for word in UNCLEAR.findall(NAME_OR_QUOTED.sub("", line)):
+                    yield f"{path.relative_to(root)}: line {number}: the word `{word}` is unclear"
+    if not seen:
+        yield "the repository has no text"
+
+
+CHECKS = (broken_links, other_stages, other_data, other_decisions, untested_tools, unclear_words)
 
 
 def main(arguments):

@@ -2,19 +2,19 @@
 """The check of the reading list of docs/AUDIT.md.
 
     tools/reading_list.py          fail if the list has a fault; each fault is a line on standard error
-    tools/reading_list.py lines    print the number of lines of each row, and their sum
+    tools/reading_list.py lines    print the number of lines of each row, and the sum of each part
 
-A row of the list has a file, the names of some of its definitions, or `all`, and a number of lines. A row of the second table has a
-file and the names of definitions that need not be read. These are faults:
+The list has the parts that LIMITS names, each under a heading of its own. A row of a part has a file, the names of some of its
+definitions, or `all`, and a number of lines. A row without a number names definitions that need not be read. These are faults:
 
 - a file does not exist, or does not have a definition of that name;
 - a row's number of lines differs from the count by more than a tenth and by more than 3;
-- the sum of all rows is 0, or LIMIT or more, or differs by more than a tenth from the number in "about N lines in all";
-- a definition that must be read uses one that is in neither table, or one of a row below its own. Types, contracts of functions and
+- the sum of a part is 0, or its limit or more, or differs by more than a tenth from the number in "about N lines in all" there;
+- a definition that must be read uses one that is in no table, or one of a row below its own. Types, contracts of functions and
   definitions of specs/ all count as definitions.
 
 In specs/ a definition is the paragraph that declares it, with its comment. In src/ it is a type, or the head of a function, with its
-comment and without its body. Blank lines and imports do not count.
+comment and without its body. Functions of one name in one file count together. Blank lines and imports do not count.
 """
 
 import pathlib
@@ -23,9 +23,10 @@ import sys
 
 from crate_files import ANTT, RATTLE, listed, without_comments
 
-LIMIT = 1500
-PART = "\n## Reading list\n"
-# A row: the file, the names, and in the first table the number of lines.
+LIST = "\n## Reading list\n"
+# The parts of the list. The sum of each is below its limit.
+LIMITS = {"The calls of document 01": 1500, "The changes of document 02": 1000, "Beside the calls": 700}
+# A row: the file, the names, and for definitions that must be read the number of lines.
 ROW = re.compile(r"^\| (crates/\S+) \| ([^|]*) \| (?:(\d+) \| )?([^|]*) \|$")
 SAID = re.compile(r"\babout ([\d,]+) lines\s+in\s+all\b")
 # Imports, and what they import: names of a file of specs/ or types of src/ by a module of specs/, and types of src/ by their path.
@@ -35,7 +36,7 @@ OF_SRC = re.compile(r"^use (\w+(?:::\w+)*)::(\w+);$", re.M)
 # What a paragraph of specs/ defines, and its fields and constructors; what begins a definition in src/.
 DEFINES = re.compile(r"^ *(?:(?:unfoldable|abbrev|opaque) pub|pub record|pub data) ([^\s(){}]+)", re.M)
 HAS = re.compile(r"^ +(?:pub )?([^\s(){}]+) : ", re.M)
-ITEM = re.compile(r'^( *)(?:pub )?(?:extern "C" )?(fn|struct|enum) (\w+)')
+ITEM = re.compile(r'^( *)(?:pub(?:\(crate\))? )?(?:extern "C" )?(fn|struct|enum) (\w+)')
 WORD = r"[^\s(){}.;,@⌜⌝:&\[\]<>!]+"
 
 
@@ -74,8 +75,8 @@ class File:
             self.uses[name] = f"crates/{crate}/src/{'/'.join(rest) or 'lib'}.rt", name
 
     def define(self, name, lines, text):
-        self.lines[name] = lines & self.all
-        self.words[name] = free_words(name, text)
+        self.lines[name] = self.lines.get(name, set()) | (lines & self.all)
+        self.words[name] = self.words.get(name, set()) | free_words(name, text)
 
     def read_paragraphs(self, clean, lines):
         start = 0
@@ -112,8 +113,8 @@ def declared_in(crate, path):
 
 
 def free_words(name, text):
-    """The words of a definition that are neither its own name, nor variables that it binds, nor names of fields."""
-    bound = {name, *HAS.findall(text)}
+    """The words of a definition that are neither variables that it binds nor names of fields."""
+    bound = {*HAS.findall(text)}
     for left in re.findall(rf"^ *{re.escape(name)} (.*?)=", text, re.M):
         bound.update(re.findall(WORD, left))
     for left in re.findall(r"[({]([^(){}:=]+) : ", text):
@@ -139,32 +140,32 @@ class Files:
         if file is None:
             return None
         own = next((one for one in (word, f"_{word}_") if one in file.lines or one in file.uses), word)
-        if own in file.lines:
-            return name, own
         if own in file.uses and file.uses[own] != (name, own):
             return self.resolve(*file.uses[own])
+        if own in file.lines:
+            return name, own
         if own in file.parts:
             return name, file.parts[own]
         return None
 
 
-def part(root):
-    """The part of docs/AUDIT.md with the reading list."""
-    return (root / "docs" / "AUDIT.md").read_text(encoding="utf-8").partition(PART)[2].partition("\n## ")[0]
+def parts(root):
+    """The parts of the reading list of docs/AUDIT.md, by their headings."""
+    text = (root / "docs" / "AUDIT.md").read_text(encoding="utf-8").partition(LIST)[2].partition("\n## ")[0]
+    return {heading: rest for heading, _, rest in (one.partition("\n") for one in text.split("\n### ")[1:])}
 
 
-def rows(root):
-    """The rows of the two tables: the file, the names, and the number of lines, which the second table does not have."""
-    for line in part(root).splitlines():
+def rows(text):
+    """The rows of a part: the file, the names, and the number of lines, if it has one."""
+    for line in text.splitlines():
         if line.startswith("| crates/"):
             found = ROW.match(line)
             yield (found[1], found[2], int(found[3]) if found[3] else None) if found else (line, "", None)
 
 
-def read_rows(root):
-    """For each row: its file, the names of its definitions, their lines, the row's number, and its faults."""
-    files = Files(root)
-    for name, names, number in rows(root):
+def read_rows(files, text):
+    """For each row of a part: its file, the names of its definitions, their lines, the row's number, and its faults."""
+    for name, names, number in rows(text):
         file = files.file(name)
         if file is None:
             yield name, [], set(), number, [f"{name}: there is no such file, or no such row"]
@@ -178,39 +179,49 @@ def read_rows(root):
         yield name, named, file.all if whole else set().union(*(file.lines[one] for one in named)), number, faults
 
 
-def faults(root):
-    files, read, skipped, total = Files(root), {}, set(), 0
-    for row, (name, named, lines, number, wrong) in enumerate(read_rows(root)):
-        yield from wrong
-        if number is None:
-            skipped.update((name, one) for one in named)
-            continue
-        for one in named:
-            if (name, one) in read:
-                yield f"{name}: {one} is listed twice"
-            read[name, one] = row
-        total += len(lines)
-        if abs(len(lines) - number) > max(3, number // 10):
-            yield f"{name}: the row says {number} lines, and there are {len(lines)}"
-    if not 0 < total < LIMIT:
-        yield f"the lines to read are {total}; the list must have fewer than {LIMIT}, and at least one"
-    said = [int(number.replace(",", "")) for number in SAID.findall(part(root))]
+def other_sum(heading, text, total):
+    """The faults of the sum of a part."""
+    limit = LIMITS.get(heading, 0)
+    if not 0 < total < limit:
+        yield f"{heading}: the lines to read are {total}; there must be fewer than {limit}, and at least one"
+    said = [int(number.replace(",", "")) for number in SAID.findall(text)]
     if len(said) != 1 or abs(said[0] - total) > said[0] // 10:
-        yield f"the text must say once how many lines there are in all, about {total}"
+        yield f"{heading}: the text must say once how many lines there are in all, about {total}"
+
+
+def faults(root):
+    files, read, skipped, row = Files(root), {}, set(), 0
+    for heading, text in {**dict.fromkeys(LIMITS, ""), **parts(root)}.items():
+        total = 0
+        for name, named, lines, number, wrong in read_rows(files, text):
+            yield from wrong
+            if number is None:
+                skipped.update((name, one) for one in named)
+                continue
+            row += 1
+            for one in named:
+                if (name, one) in read:
+                    yield f"{name}: {one} is listed twice"
+                read[name, one] = row
+            total += len(lines)
+            if abs(len(lines) - number) > max(3, number // 10):
+                yield f"{name}: the row says {number} lines, and there are {len(lines)}"
+        yield from other_sum(heading, text, total)
     for (name, one), row in read.items():
         for found in sorted({*(files.resolve(name, word) for word in files.file(name).words[one])} - {None} - skipped):
             if found not in read:
-                yield f"{name}: {one} uses {found[1]} of {found[0]}, which is in neither table"
+                yield f"{name}: {one} uses {found[1]} of {found[0]}, which is in no table"
             elif read[found] > row:
                 yield f"{name}: {one} uses {found[1]} of {found[0]}, which is listed below it"
 
 
 def main(arguments, root=pathlib.Path(__file__).resolve().parent.parent):
     if arguments == ["lines"]:
-        counted = [(name, len(lines)) for name, _, lines, number, _ in read_rows(root) if number is not None]
-        for name, number in counted:
-            print(f"{number:5} {name}")
-        print(f"{sum(number for _, number in counted):5} in all")
+        for heading, text in parts(root).items():
+            counted = [(name, len(lines)) for name, _, lines, number, _ in read_rows(Files(root), text) if number is not None]
+            for name, number in counted:
+                print(f"{number:5} {name}")
+            print(f"{sum(number for _, number in counted):5} in all: {heading}")
         return 0
     if arguments:
         print(__doc__, file=sys.stderr)

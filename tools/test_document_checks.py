@@ -148,6 +148,16 @@ class Checks(unittest.TestCase):
         self.finds("test_one.py has no test", checks.untested_tools, "tools/test_one.py", "def test_", "def ")
         self.finds("has no script", checks.untested_tools, removed=["tools/one.py"])
 
+    def test_unclear_words(self):
+        check = checks.unclear_words
+        self.finds("README.md: line 18: the word `Behind`", check, "README.md", "1. another list", "1. Behind the list")
+        self.finds("tools/one.py: line 1: the word `so many`", check, "tools/one.py", "", "# so many bytes")
+        self.finds(".ci/run: line 2: the word `in vain`", check, ".ci/run", "stage() {", "# in vain\nstage() {")
+        quoted = '`behind` was a name; "leaves the bytes or places behind it unchanged"'
+        self.assertEqual(self.findings(check, "README.md", "1. another list", quoted), [])
+        self.finds("line 18: the word `behind`", check, "README.md", "1. another list", quoted + " behind")
+        self.finds("the repository has no text", check, removed=list(SOUND))
+
 
 if __name__ == "__main__":
     unittest.main()

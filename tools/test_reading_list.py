@@ -51,12 +51,20 @@ helper limit = limit
 """,
     "crates/items/src/lib.rt": """use base::Answer;
 ghost use Rattle.base.specs.Answers.{numberOf};
+ghost use Rattle.items.specs.Automaton.{states};
 
 // The answer that it is given.
 pub fn answer(given: Answer) -> usize
     ensures { λ r. ⌜ r ≡ numberOf given ⌝ }
 {
     base::number(given)
+}
+
+// A number of states.
+pub(crate) fn states() -> usize
+    ensures { λ r. ⌜ r ≡ states ⌝ }
+{
+    7
 }
 """,
     "crates/items/specs/Items.antt": """-- Items.
@@ -85,7 +93,9 @@ m ⊕ n = m
 
 ## Reading list
 
-There are about 28 lines in all.
+### One
+
+There are about 25 lines in all.
 
 | file | what to read | lines | what it says |
 |---|---|---|---|
@@ -93,7 +103,6 @@ There are about 28 lines in all.
 | crates/base/specs/Answers.antt | `numberOf`, `limit` | 7 | their numbers |
 | crates/base/src/lib.rt | `number` | 4 | the contract |
 | crates/items/specs/Items.antt | all | 9 | items |
-| crates/items/src/lib.rt | `answer` | 3 | the contract |
 
 Not to be read:
 
@@ -101,14 +110,24 @@ Not to be read:
 |---|---|---|
 | crates/items/specs/Automaton.antt | `states`, `_⊕_` | a theorem says it |
 
+### Two
+
+These are about 6 lines in all.
+
+| file | what to read | lines | what it says |
+|---|---|---|---|
+| crates/items/src/lib.rt | `answer`, `states` | 6 | the contracts |
+
 ## Next
 
 | crates/none/src/lib.rt | `none` | 5 | another table |
 """,
 }
 AUDIT = "docs/AUDIT.md"
+LIMITS = {"One": 30, "Two": 10}
 
 
+@unittest.mock.patch.object(reading_list, "LIMITS", LIMITS)
 class ReadingList(unittest.TestCase):
     def in_repository(self, do, changed=None, old="", new=""):
         with tempfile.TemporaryDirectory() as folder:
@@ -129,8 +148,11 @@ class ReadingList(unittest.TestCase):
         self.assertEqual(self.in_repository(lambda root: list(reading_list.faults(root))), [])
 
     def test_counts(self):
-        counted = self.in_repository(lambda root: [len(lines) for _, _, lines, _, _ in reading_list.read_rows(root)])
-        self.assertEqual(counted, [5, 7, 4, 9, 3, 6])
+        def counts(root):
+            files = reading_list.Files(root)
+            return [[len(lines) for _, _, lines, _, _ in reading_list.read_rows(files, text)] for text in reading_list.parts(root).values()]
+
+        self.assertEqual(self.in_repository(counts), [[5, 7, 4, 9, 6], [6]])
 
     def test_missing(self):
         self.finds("crates/items/specs/Item.antt: there is no such file", AUDIT, "Items.antt", "Item.antt")
@@ -145,21 +167,25 @@ class ReadingList(unittest.TestCase):
         self.finds("Answers.antt: the row says 7 lines, and there are 11", "crates/base/specs/Answers.antt", "-- The limit.", "-- The\n-- limit\n-- of\n-- it\n-- .")
 
     def test_sum(self):
-        self.finds("about 28", AUDIT, "about 28 lines in all", "few lines")
-        self.finds("about 28", AUDIT, "about 28 lines", "about 40 lines")
-        self.finds("the lines to read are 0", AUDIT, SOUND[AUDIT], SOUND[AUDIT].replace("| crates/", "| elsewhere/"))
-        with unittest.mock.patch.object(reading_list, "LIMIT", 20):
-            self.finds("the lines to read are 28; the list must have fewer than 20")
+        self.finds("One: the text must say once how many lines there are in all, about 25", AUDIT, "about 25 lines in all", "few lines")
+        self.finds("One: the text must say once", AUDIT, "about 25 lines", "about 40 lines")
+        self.finds("Two: the text must say once", AUDIT, "about 6 lines", "about 4 lines")
+        self.finds("One: the lines to read are 0", AUDIT, SOUND[AUDIT], SOUND[AUDIT].replace("| crates/", "| elsewhere/"))
+        with unittest.mock.patch.object(reading_list, "LIMITS", {"One": 26, "Two": 6}):
+            self.finds("Two: the lines to read are 6; there must be fewer than 6")
 
-    def test_no_list(self):
-        self.finds("the lines to read are 0", AUDIT, "## Reading list", "## What to read")
+    def test_parts(self):
+        self.finds("One: the lines to read are 0", AUDIT, "## Reading list", "## What to read")
+        self.finds("Two: the lines to read are 0", AUDIT, "### Two", "### Three")
+        self.finds("Three: the lines to read are 6; there must be fewer than 0", AUDIT, "### Two", "### Three")
 
     def test_unlisted(self):
-        self.finds("number uses Answer of crates/base/src/lib.rt, which is in neither table", AUDIT, "`Answer` | 5", "`number` | 4")
-        self.finds("numberOf uses limit of crates/base/specs/Answers.antt, which is in neither table", AUDIT, ", `limit`", "")
-        self.finds("count uses states of crates/items/specs/Automaton.antt, which is in neither table", AUDIT, "`states`, ", "")
-        self.finds("count uses _⊕_ of crates/items/specs/Automaton.antt, which is in neither table", AUDIT, ", `_⊕_`", "")
-        self.finds("answer uses numberOf of crates/base/specs/Answers.antt, which is in neither table", AUDIT, "`numberOf`, ", "")
+        self.finds("number uses Answer of crates/base/src/lib.rt, which is in no table", AUDIT, "`Answer` | 5", "`number` | 4")
+        self.finds("numberOf uses limit of crates/base/specs/Answers.antt, which is in no table", AUDIT, ", `limit`", "")
+        self.finds("count uses states of crates/items/specs/Automaton.antt, which is in no table", AUDIT, "`states`, ", "")
+        self.finds("count uses _⊕_ of crates/items/specs/Automaton.antt, which is in no table", AUDIT, ", `_⊕_`", "")
+        self.finds("answer uses numberOf of crates/base/specs/Answers.antt, which is in no table", AUDIT, "`numberOf`, ", "")
+        self.finds("states uses states of crates/items/specs/Automaton.antt, which is in no table", AUDIT, "`states`, `_⊕_`", "`_⊕_`")
 
     def test_order(self):
         row = "| crates/base/src/lib.rt | `Answer` | 5 | the answers |\n"
@@ -176,7 +202,7 @@ class ReadingList(unittest.TestCase):
 
         self.assertEqual(run(), (0, []))
         status, lines = run("lines")
-        self.assertEqual((status, lines[0].split(), lines[-1].split()), (0, ["5", "crates/base/src/lib.rt"], ["28", "in", "all"]))
+        self.assertEqual((status, lines[0].split(), lines[-1].split()), (0, ["5", "crates/base/src/lib.rt"], ["6", "in", "all:", "Two"]))
         self.assertEqual(run("more")[0], 2)
 
 

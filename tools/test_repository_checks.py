@@ -6,6 +6,8 @@ import unittest
 import unittest.mock
 
 import repository_checks as checks
+import theorem_checks
+from test_theorem_checks import CLAIMED_RECORDS
 
 SOUND = {
     "crates.txt": "# a comment\none:\nmessage_io: one io\ntwo: one message_io io\n",
@@ -89,6 +91,7 @@ Excludes: another letter (edit
 }
 
 
+@unittest.mock.patch.object(theorem_checks, "CLAIMED_RECORDS", CLAIMED_RECORDS)
 class Checks(unittest.TestCase):
     def findings(self, check, **changes):
         with tempfile.TemporaryDirectory() as folder:

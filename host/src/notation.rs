@@ -51,9 +51,9 @@ pub fn finding(finding: &Finding) -> String {
     out
 }
 
-/// The two replacements, text and emoji, of each of so many choices. The crate keeps its choices to itself. A choice is a
-/// unit, and a link stands between two units: so they are the parts in which the finding's replacements with all text
-/// and with all emoji differ.
+/// The two replacements, text and emoji, of each choice of a finding that has `length` choices. The crate's choices are
+/// private. A choice is a unit, and a link stands between two units: so the choices are the parts in which the
+/// finding's replacements with all text and with all emoji differ.
 fn choices(finding: &Finding, length: usize) -> Vec<[String; 2]> {
     let with_all = |decision| {
         finding
@@ -68,7 +68,7 @@ fn choices(finding: &Finding, length: usize) -> Vec<[String; 2]> {
         .collect()
 }
 
-/// The lists of so many decisions that are tried beside the default ones.
+/// The lists of `length` decisions that are tried besides the default ones.
 fn decision_lists(length: usize) -> Vec<Vec<Presentation>> {
     use Presentation::{Emoji, Text};
     let mut lists = Vec::new();

@@ -84,7 +84,7 @@ pub fn short() -> Vec<String> {
     .concat()
 }
 
-/// Every text of so many characters of an alphabet.
+/// Every text of `length` characters of an alphabet.
 fn every(alphabet: &[char], length: usize) -> Vec<String> {
     let mut texts = Vec::new();
     let Ok(()) = every_text(alphabet, length, |text| {

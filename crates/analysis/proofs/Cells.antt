@@ -58,23 +58,23 @@ split-whole =
 
 -- ---- cells whose characters are no selectors
 
-pub data Clean : List Cell → Type 0 where
-  no-cell : Clean []
-  cell-and : {x : Cell} {xs : List Cell} → isSelector (x .char) ≡ false → Clean xs → Clean (x ∷ xs)
+pub data SelectorFree : List Cell → Type 0 where
+  no-cell : SelectorFree []
+  cell-and : {x : Cell} {xs : List Cell} → isSelector (x .char) ≡ false → SelectorFree xs → SelectorFree (x ∷ xs)
 
-pub clean-cells : (t : List ℕ) → Clean (cells t)
+pub selectorFree-cells : (t : List ℕ) → SelectorFree (cells t)
 unfolding split
-clean-cells =
-    by-chars (λ t. Clean (cells t)) no-cell
-    (λ q t h. subst (λ (a : List Presentation × List Cell). Clean (a .1)) (sym (split-selector q t)) h)
-    (λ c t e h. subst (λ (a : List Presentation × List Cell). Clean (a .1)) (sym (split-char c t e)) (cell-and e h))
+selectorFree-cells =
+    by-chars (λ t. SelectorFree (cells t)) no-cell
+    (λ q t h. subst (λ (a : List Presentation × List Cell). SelectorFree (a .1)) (sym (split-selector q t)) h)
+    (λ c t e h. subst (λ (a : List Presentation × List Cell). SelectorFree (a .1)) (sym (split-char c t e)) (cell-and e h))
 
 pub split-selectors : (qs : List Presentation) (t : List ℕ) → split (map asSelector qs ++ t) ≡ (qs ++ leading t, cells t)
 split-selectors [] t = refl
 split-selectors (q ∷ qs) t =
     split-selector q (map asSelector qs ++ t) ∙ ap (λ (a : List Presentation × List Cell). (q ∷ a .0, a .1)) (split-selectors qs t)
 
-pub split-unsplit : {xs : List Cell} → Clean xs → split (unsplit xs) ≡ ([], xs)
+pub split-unsplit : {xs : List Cell} → SelectorFree xs → split (unsplit xs) ≡ ([], xs)
 unfolding split
 split-unsplit no-cell = refl
 split-unsplit (cell-and {x = x} {xs = xs} e h) =
@@ -106,7 +106,7 @@ pub strip-selectors : (qs : List Presentation) (t : List ℕ) → strip (map asS
 strip-selectors [] t = refl
 strip-selectors (q ∷ qs) t = strip-selector (asSelector q) (map asSelector qs ++ t) (selector-is q) ∙ strip-selectors qs t
 
-pub strip-unsplit : {xs : List Cell} → Clean xs → strip (unsplit xs) ≡ charsOf xs
+pub strip-unsplit : {xs : List Cell} → SelectorFree xs → strip (unsplit xs) ≡ charsOf xs
 unfolding strip
 strip-unsplit no-cell = refl
 strip-unsplit (cell-and {x = x} {xs = xs} e h) =
@@ -115,7 +115,7 @@ strip-unsplit (cell-and {x = x} {xs = xs} e h) =
 
 pub strip-split : (t : List ℕ) → strip t ≡ charsOf (cells t)
 strip-split t =
-    ap strip (sym (split-whole t)) ∙ strip-selectors (leading t) (unsplit (cells t)) ∙ strip-unsplit (clean-cells t)
+    ap strip (sym (split-whole t)) ∙ strip-selectors (leading t) (unsplit (cells t)) ∙ strip-unsplit (selectorFree-cells t)
 
 -- ---- the number of selectors
 
@@ -135,7 +135,7 @@ pub count-selectors : (qs : List Presentation) (t : List ℕ) → selectorCount 
 count-selectors [] t = omega arith
 count-selectors (q ∷ qs) t = omega (arith, count-selector (asSelector q) (map asSelector qs ++ t) (selector-is q), count-selectors qs t)
 
-pub count-unsplit : {xs : List Cell} → Clean xs → selectorCount (unsplit xs) ≡ heldIn xs
+pub count-unsplit : {xs : List Cell} → SelectorFree xs → selectorCount (unsplit xs) ≡ heldIn xs
 unfolding selectorCount
 count-unsplit no-cell = refl
 count-unsplit (cell-and {x = x} {xs = xs} e h) =
@@ -145,7 +145,7 @@ count-unsplit (cell-and {x = x} {xs = xs} e h) =
 pub count-split : (t : List ℕ) → selectorCount t ≡ length (leading t) + heldIn (cells t)
 count-split t =
     ap selectorCount (sym (split-whole t)) ∙ count-selectors (leading t) (unsplit (cells t))
-    ∙ ap (λ (n : ℕ). length (leading t) + n) (count-unsplit (clean-cells t))
+    ∙ ap (λ (n : ℕ). length (leading t) + n) (count-unsplit (selectorFree-cells t))
 
 pub count-S : {s : List ℕ} → S s → selectorCount s ≡ length s
 unfolding selectorCount

@@ -32,7 +32,7 @@ use Rattle.analysis.specs.Analysis.{following}
 use Rattle.analysis.specs.CellView.{classInFront}
 use Rattle.analysis.specs.Cells.{Cell, cells, leading, split, unsplit}
 use Rattle.analysis.specs.Rules.{Outcome, firstAsked, outcome, runWith}
-use Rattle.analysis.proofs.Cells.{by-chars, clean-cells, split-char, split-selector, split-unsplit, split-whole}
+use Rattle.analysis.proofs.Cells.{by-chars, selectorFree-cells, split-char, split-selector, split-unsplit, split-whole}
 use Rattle.analysis.proofs.NumberRules.{by-numbers}
 
 -- ---- the leading selectors and the text after them
@@ -56,7 +56,7 @@ after-are =
 
 -- After the leading selectors no selector leads, and the cells are the same.
 pub split-after : (t : List ℕ) → split (afterSelectors t) ≡ ([], cells t)
-split-after t = ap split (after-are t) ∙ split-unsplit (clean-cells t)
+split-after t = ap split (after-are t) ∙ split-unsplit (selectorFree-cells t)
 
 count-is : (t : List ℕ) → length (selectorsAt t) ≡ length (leading t)
 count-is t = ap length (selectors-are t) ∙ length-map (leading t) asSelector

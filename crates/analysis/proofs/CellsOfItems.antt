@@ -31,16 +31,16 @@ use Rattle.scanner.specs.declared.ScanKind.{ScanKind}
 use Rattle.scanner.specs.declared.ScanKind.the-variants.{EmojiHeaded, LinksOnly, Passthrough, UnsanctionedPresentationSelectors}
 use Rattle.scanner.proofs.Classes.{class-selector, entry-class, selector-class}
 use Rattle.scanner.proofs.States.{
-  emoji-step,
+  emoji-transition,
   inner,
-  inner-solid,
+  inner-not-plain,
   isPlain,
   kind-emoji,
   kind-links,
   kind-passthrough,
   kind-selector,
-  plain-step,
-  solid-selector,
+  plain-transition,
+  not-plain-selector,
 }
 use Rattle.scanner.proofs.Tiling.{tiling}
 use Rattle.scanner.proofs.Walk.{
@@ -140,7 +140,7 @@ head-char {q} c t i e = go (isSelector c) refl
   where
     go : (b : Bool) → isSelector c ≡ b → Head q (c ∷ t)
     go true s =
-        let z = ap (transition q) (class-selector c s) ∙ solid-selector q i in
+        let z = ap (transition q) (class-selector c s) ∙ not-plain-selector q i in
         let y : _≡_ {A = ℕ} 0 1 = cc in absurd (omega arith)
     go false s = record {
       lead = ap (λ (a : List Presentation × List Cell). a .0) (split-char c t s);
@@ -206,24 +206,24 @@ module _ (p : Policy) where
       go true v = unit-ends c k s (ap (λ (q : State). transition q k) (sym (f v)) ∙ e)
       go false v = outcome-no-entry p c k s v ∙ sym (outcome-no-entry p c other s v)
 
-  blind : {q r : State} (x : Cell) (xs : List Cell) (k : Class) → (hasVariationSequence (x .char) ≡ true → q ≡ unit) → Walk q (charsOf xs) r
-      → transition r k ≡ none
+  outs-same : {q r : State} (x : Cell) (xs : List Cell) (k : Class) → (hasVariationSequence (x .char) ≡ true → q ≡ unit)
+      → Walk q (charsOf xs) r → transition r k ≡ none
       → outs k (x ∷ xs) ≡ outs other (x ∷ xs)
-  blind {q} x [] k f stay e = ap (λ (o : Outcome). record { char = x .char; out = o } ∷ []) (last-cell (x .char) (x .after) q k f e)
-  blind {q} x (y ∷ ys) k f (pass {q = r} s w) e =
+  outs-same {q} x [] k f stay e = ap (λ (o : Outcome). record { char = x .char; out = o } ∷ []) (last-cell (x .char) (x .after) q k f e)
+  outs-same {q} x (y ∷ ys) k f (pass {q = r} s w) e =
       ap (λ (l : List Piece). record { char = x .char; out = outcome p (x .char) (classOf (y .char)) (x .after) } ∷ l)
-      (blind y ys k (λ v. emoji-step q r (ap (transition q) (sym (entry-class (y .char) v)) ∙ s)) w e)
+      (outs-same y ys k (λ v. emoji-transition q r (ap (transition q) (sym (entry-class (y .char) v)) ∙ s)) w e)
 
-  blind-text : {q : State} (c : ℕ) (s : List ℕ) (k : Class) → inner (startState (classOf c)) ≡ true → Walk (startState (classOf c)) s q
+  outs-same-text : {q : State} (c : ℕ) (s : List ℕ) (k : Class) → inner (startState (classOf c)) ≡ true → Walk (startState (classOf c)) s q
       → Stop q k
       → outs k (cells (c ∷ s)) ≡ outs other (cells (c ∷ s))
   unfolding startState
-  blind-text c s k i w (at-end e) = ap (λ (k : Class). outs k (cells (c ∷ s))) e
-  blind-text {q} c s k i w (before e) =
+  outs-same-text c s k i w (at-end e) = ap (λ (k : Class). outs k (cells (c ∷ s))) e
+  outs-same-text {q} c s k i w (before e) =
       let f = split-char c s (inner-no-selector c i) in
       let v = subst (λ (l : List ℕ). Walk (startState (classOf c)) l q) (strip-split s) (strip-walk i w) in
       subst (λ (a : List Presentation × List Cell). outs k (a .1) ≡ outs other (a .1)) (sym f)
-      (blind (record { char = c; after = leading s }) (cells s) k (λ z. ap startState (entry-class c z)) v e)
+      (outs-same (record { char = c; after = leading s }) (cells s) k (λ z. ap startState (entry-class c z)) v e)
 
   -- ---- the cells of items in a row
 
@@ -272,7 +272,7 @@ module _ (p : Policy) where
       × (cellSum (s ++ t) ≡ cellSum t)
   plain-walk t e stay = (refl, refl)
   plain-walk t e (pass {p = q} {q = r} {c = c} {t = s} f w) =
-      let b = plain-step (classOf c) r (ap (λ (q : State). transition q (classOf c)) (sym e) ∙ f) in
+      let b = plain-transition (classOf c) r (ap (λ (q : State). transition q (classOf c)) (sym e) ∙ f) in
       let i = plain-walk t (b .0) w in
       let o = plain-char c (s ++ t) (b .1) in
       (o .0 ∙ ap (λ (l : List ℕ). c ∷ l) (i .0), o .1 ∙ i .1)
@@ -337,7 +337,8 @@ module _ (p : Policy) where
       let f : split (join (x ∷ xs)) ≡ ([], X ++ Y) = split-append (x .chars) (join xs) (d .lead)
       ∙ ap (λ (l : List Presentation). (l, X ++ Y)) y in
       let b : outs (next other Y) X ≡ outs other X =
-      subst (λ (t : List ℕ). outs (next other Y) (cells t) ≡ outs other (cells t)) (sym l) (blind-text c s (next other Y) j w (d .stop)) in
+      subst (λ (t : List ℕ). outs (next other Y) (cells t) ≡ outs other (cells t)) (sym l)
+      (outs-same-text c s (next other Y) j w (d .stop)) in
       let o : outs other (X ++ Y) ≡ outs other X ++ outs other Y = outs-append other X Y ∙ ap (λ (a : List Piece). a ++ outs other Y) b in
       record {
         said =
@@ -362,11 +363,11 @@ module _ (p : Policy) where
   by-one {q} x LinksOnly c s e k l w d i =
       let j = kind-links (classOf c) (sym k ∙ e) in
       by-inner x c s (counts-at p x LinksOnly e) (replacement-at p x [] LinksOnly e) l j w
-      (head-of (inner-solid q (sym (walk-inner w) ∙ j)) d) i
+      (head-of (inner-not-plain q (sym (walk-inner w) ∙ j)) d) i
   by-one {q} x EmojiHeaded c s e k l w d i =
       let j = kind-emoji (classOf c) (sym k ∙ e) in
       by-inner x c s (counts-at p x EmojiHeaded e) (replacement-at p x [] EmojiHeaded e) l j w
-      (head-of (inner-solid q (sym (walk-inner w) ∙ j)) d) i
+      (head-of (inner-not-plain q (sym (walk-inner w) ∙ j)) d) i
 
   pub by-cells : {q : State} {xs : List Item} → Chain q xs → ByCells xs
   unfolding split totals

@@ -26,8 +26,8 @@ use Rattle.analysis.specs.ChoicesAt.{cellsLength, cellsFrom, cellsStart,
 use Rattle.analysis.specs.Decisions.{writeOut}
 use Rattle.analysis.specs.declared.types.MendAnswer.{MendAnswer}
 use Rattle.analysis.specs.declared.types.MendAnswer.the-variants.{Mended, Refused}
-use Rattle.analysis.proofs.Cells.{Clean, cell-and, clean-cells, no-cell, split-selectors, split-unsplit, split-whole}
-use Rattle.analysis.proofs.ChoicePlaces.{selectors-bytes}
+use Rattle.analysis.proofs.Cells.{SelectorFree, cell-and, selectorFree-cells, no-cell, split-selectors, split-unsplit, split-whole}
+use Rattle.analysis.proofs.ChoicesAt.{selectors-bytes}
 use Rattle.analysis.proofs.ItemsAt.{scalar-front}
 
 -- ---- the unit is a beginning of the cells
@@ -54,19 +54,19 @@ unfolding frontUnit
 unit-begins [] = record { rest = []; whole = refl }
 unit-begins (x ∷ xs) = after (x .char ∷ map asSelector (x .after)) (up-begins xs)
 
-clean-up : {xs : List Cell} → Clean xs → Clean (upToLink xs)
+selectorFree-up : {xs : List Cell} → SelectorFree xs → SelectorFree (upToLink xs)
 unfolding upToLink
-clean-up no-cell = no-cell
-clean-up (cell-and {x = x} {xs = xs} e h) = go (eqb (x .char) 0x200D) (clean-up h)
+selectorFree-up no-cell = no-cell
+selectorFree-up (cell-and {x = x} {xs = xs} e h) = go (eqb (x .char) 0x200D) (selectorFree-up h)
   where
-    go : (b : Bool) → Clean (upToLink xs) → Clean (cond b [] (x ∷ upToLink xs))
+    go : (b : Bool) → SelectorFree (upToLink xs) → SelectorFree (cond b [] (x ∷ upToLink xs))
     go true h = no-cell
     go false h = cell-and e h
 
-clean-unit : {xs : List Cell} → Clean xs → Clean (frontUnit xs)
+selectorFree-unit : {xs : List Cell} → SelectorFree xs → SelectorFree (frontUnit xs)
 unfolding frontUnit
-clean-unit no-cell = no-cell
-clean-unit (cell-and e h) = cell-and e (clean-up h)
+selectorFree-unit no-cell = no-cell
+selectorFree-unit (cell-and e h) = cell-and e (selectorFree-up h)
 
 -- ---- the bytes of the unit
 
@@ -105,7 +105,7 @@ module _ (raw : List ℕ) (at end : ℕ) (e : end ≡ cellsStart raw at + cellsL
       ∙ chars-encodeAll-alone front (scalar-front front (begins .rest)
       (ap allScalar (sym (begins .whole)) ∙ chars-allScalar (drop at raw))) in
       ap cells c ∙ ap (λ (a : List Presentation × List Cell). a .1) (split-selectors (leading t) (unsplit (frontUnit (cells t))))
-      ∙ ap (λ (a : List Presentation × List Cell). a .1) (split-unsplit (clean-unit (clean-cells t)))
+      ∙ ap (λ (a : List Presentation × List Cell). a .1) (split-unsplit (selectorFree-unit (selectorFree-cells t)))
 
 -- ---- the call that writes the unit
 

@@ -30,8 +30,8 @@ use Rattle.analysis.specs.ChoicesAt.{
 }
 use Rattle.analysis.specs.Rules.{Slot, bare, decided, fixed}
 use Rattle.analysis.specs.declared.types.ReplacementChoice.{ReplacementChoice}
-use Rattle.analysis.proofs.Cells.{Clean, cell-and, clean-cells, split-unsplit, split-whole}
-use Rattle.analysis.proofs.ChoicePlaces.{cells-after}
+use Rattle.analysis.proofs.Cells.{SelectorFree, cell-and, selectorFree-cells, split-unsplit, split-whole}
+use Rattle.analysis.proofs.ChoicesAt.{cells-after}
 use Rattle.analysis.proofs.ChoiceUnits.{unit-cells}
 use Rattle.analysis.proofs.Components.{of-structured}
 
@@ -63,9 +63,9 @@ module _ (p : Policy) (raw : List ℕ) where
       sym (split-whole t) ∙ ap (λ (a : List Presentation × List Cell). map asSelector (a .0) ++ unsplit (a .1)) e
       ∙ sym (append-assoc (x .char ∷ map asSelector (x .after)) [] (unsplit xs)) in
       ap split (chars-from raw at (unsplit (x ∷ [])) (unsplit xs) w)
-      ∙ split-unsplit (tail (subst Clean (ap (λ (a : List Presentation × List Cell). a .1) e) (clean-cells t)))
+      ∙ split-unsplit (tail (subst SelectorFree (ap (λ (a : List Presentation × List Cell). a .1) e) (selectorFree-cells t)))
     where
-      tail : {y : Cell} {ys : List Cell} → Clean (y ∷ ys) → Clean ys
+      tail : {y : Cell} {ys : List Cell} → SelectorFree (y ∷ ys) → SelectorFree ys
       tail (cell-and f h) = h
 
   -- The choice at a decided cell.

@@ -40,13 +40,13 @@ use Rattle.analysis.specs.Cells.{Cell, cells, leading, selectorCount, sp
 use Rattle.analysis.specs.Counts.{adding, empty, removing, total}
 use Rattle.analysis.specs.declared.types.NonCanonicality.{NonCanonicality}
 use Rattle.analysis.proofs.Counts.{total-empty}
-use Rattle.analysis.proofs.Cells.{clean-cells, count-S, count-split, count-unsplit, heldIn, split-char, split-whole}
+use Rattle.analysis.proofs.Cells.{selectorFree-cells, count-S, count-split, count-unsplit, heldIn, split-char, split-whole}
 use Rattle.analysis.proofs.Replacement.{
-  clean-renew,
+  selectorFree-renew,
   render-cons,
   render-no-count,
   renew-balances,
-  renew-quiet,
+  renew-uncounted,
   renewed,
   strip-render,
   strip-renewed,
@@ -123,16 +123,17 @@ module _ (p : Policy) where
   strip-of {k} {t} (emoji-headed v j l) ds = strip-render p t ds
   strip-of {k} {t} (passthrough h s) ds = refl
 
-  quiet-cells : {k : ScanKind} {t : List ℕ} → Structured k → Derives k t → total (countCells p (cells t)) ≡ 0 → render p (cells t) [] ≡ t
+  uncounted-cells : {k : ScanKind} {t : List ℕ} → Structured k → Derives k t → total (countCells p (cells t)) ≡ 0
+      → render p (cells t) [] ≡ t
   unfolding render
-  quiet-cells {k} {t} o d e = ap unsplit (renew-quiet p (cells t) e) ∙ whole o d
+  uncounted-cells {k} {t} o d e = ap unsplit (renew-uncounted p (cells t) e) ∙ whole o d
 
-  pub quiet-of : {k : ScanKind} {t : List ℕ} → Derives k t → total (countsOf p k t) ≡ 0 → replacementOf p k t [] ≡ t
+  pub uncounted-of : {k : ScanKind} {t : List ℕ} → Derives k t → total (countsOf p k t) ≡ 0 → replacementOf p k t [] ≡ t
   unfolding countsOf replacementOf
-  quiet-of {k} {t} (links-only a l) e = quiet-cells (inl refl) (links-only a l) e
-  quiet-of {k} {t} (selector-run f s) e = absurd (omega arith)
-  quiet-of {k} {t} (emoji-headed v j l) e = quiet-cells (inr refl) (emoji-headed v j l) e
-  quiet-of {k} {t} (passthrough h s) e = refl
+  uncounted-of {k} {t} (links-only a l) e = uncounted-cells (inl refl) (links-only a l) e
+  uncounted-of {k} {t} (selector-run f s) e = absurd (omega arith)
+  uncounted-of {k} {t} (emoji-headed v j l) e = uncounted-cells (inr refl) (emoji-headed v j l) e
+  uncounted-of {k} {t} (passthrough h s) e = refl
 
   balance-cells : {k : ScanKind} {t : List ℕ} → Structured k → Derives k t → (ds : List Presentation)
       → Balanced (render p (cells t) ds) t (countCells p (cells t))
@@ -141,7 +142,7 @@ module _ (p : Policy) where
       let n = countCells p (cells t) in
       let a : selectorCount t ≡ heldIn (cells t) = count-split t ∙ ap (λ (s : List Presentation). length s + heldIn (cells t))
       (no-leading o d) ∙ omega arith in
-      let b = count-unsplit (clean-renew p (clean-cells t) ds) in
+      let b = count-unsplit (selectorFree-renew p (selectorFree-cells t) ds) in
       let c = renew-balances p (cells t) ds in
       omega arith
 
@@ -198,7 +199,7 @@ module _ (p : Policy) where
   pub unchanged : (x : Item) → Derives (x .kind) (x .chars) → (isFinding p x ≡ false) ↔ (replacement p x [] ≡ x .chars)
   unfolding nonCanonicality replacement
   unchanged x d = (
-    λ e. quiet-of d (ap total (finding-false x e)),
+    λ e. uncounted-of d (ap total (finding-false x e)),
     λ e. empty-no-finding x (ap (countsOf p (x .kind)) (sym e) ∙ no-count-of (x .kind) (x .chars) []),
   )
 

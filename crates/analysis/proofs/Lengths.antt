@@ -19,9 +19,18 @@ use Rattle.analysis.specs.Analysis.{chosen, countsOf, remaining, outcome
 use Rattle.analysis.specs.Cells.{Cell, cells, selectorCount}
 use Rattle.analysis.specs.Counts.{adding, removing}
 use Rattle.analysis.specs.Rules.{Slot, bare, decided, fixed}
-use Rattle.analysis.proofs.Cells.{by-chars, charsOf, clean-cells, count-char, count-selector, count-unsplit, heldIn, strip-split}
+use Rattle.analysis.proofs.Cells.{
+  by-chars,
+  charsOf,
+  count-char,
+  count-selector,
+  count-unsplit,
+  heldIn,
+  selectorFree-cells,
+  strip-split,
+}
 use Rattle.analysis.proofs.Items.{balance-of, strip-of}
-use Rattle.analysis.proofs.Replacement.{clean-renew, strip-render}
+use Rattle.analysis.proofs.Replacement.{selectorFree-renew, strip-render}
 
 -- ---- selectors and the other characters
 
@@ -71,7 +80,7 @@ module _ (p : Policy) where
       let d = bytes-some (strip t) in
       let e = at-most-one (cells t) ds in
       let f = ap length (strip-split t) in
-      let g = count-unsplit (clean-renew p (clean-cells t) ds) in
+      let g = count-unsplit (selectorFree-renew p (selectorFree-cells t) ds) in
       omega arith
 
   pub length-of : {k : ScanKind} {t : List ℕ} → Derives k t → (ds : List Presentation)

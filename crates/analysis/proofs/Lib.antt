@@ -13,7 +13,7 @@ pub mod CellsOfItems
 pub mod CellsAt
 pub mod Measuring
 pub mod Choices
-pub mod ChoicePlaces
+pub mod ChoicesAt
 pub mod ChoiceUnits
 pub mod ChoiceWalk
 pub mod Structure

@@ -32,10 +32,10 @@ use Rattle.analysis.specs.Counts.{capped}
 use Rattle.analysis.specs.Helpers.{cellBytes, decisionsUsed}
 use Rattle.analysis.specs.Decisions.{meaning}
 use Rattle.analysis.specs.Rules.{Outcome, Slot, bare, decided, fixed, outcome, runWith}
-use Rattle.analysis.proofs.Cells.{clean-cells, count-unsplit, front-char}
+use Rattle.analysis.proofs.Cells.{selectorFree-cells, count-unsplit, front-char}
 use Rattle.analysis.proofs.CellsAt.{split-at}
 use Rattle.analysis.proofs.Lengths.{bytes-parts, render-bytes}
-use Rattle.analysis.proofs.Replacement.{clean-renew, render-cons, renew-balances, renewed, strip-render}
+use Rattle.analysis.proofs.Replacement.{selectorFree-renew, render-cons, renew-balances, renewed, strip-render}
 use Rattle.analysis.proofs.Sums.{capped-held}
 
 -- ---- one character
@@ -101,27 +101,28 @@ used-few (decided d) = omega arith
 -- ---- the bytes still to be written
 
 -- The bytes of the cells of a slice from an offset on, under the decisions from an index on.
-abbrev pub leftAt : Policy → List ℕ → List ℕ → ℕ → ℕ → List ℕ
-leftAt p text ds at i = encodeAll (render p (cells (chars (drop at text))) (map meaning (drop i ds)))
+abbrev pub bytesFrom : Policy → List ℕ → List ℕ → ℕ → ℕ → List ℕ
+bytesFrom p text ds at i = encodeAll (render p (cells (chars (drop at text))) (map meaning (drop i ds)))
 
 module _ (p : Policy) (text ds : List ℕ) (at i : ℕ) where
   -- If no character begins at the offset, no bytes are still to be written.
-  pub left-none : Stop text at → leftAt p text ds at i ≡ []
+  pub bytesFrom-none : Stop text at → bytesFrom p text ds at i ≡ []
   unfolding split render renew encodeAll
-  left-none h = ap (λ (t : List ℕ). encodeAll (render p (cells t) (map meaning (drop i ds)))) (h .chars-none)
+  bytesFrom-none h = ap (λ (t : List ℕ). encodeAll (render p (cells t) (map meaning (drop i ds)))) (h .chars-none)
 
   -- Leading selectors are skipped.
-  pub left-leading : {end : ℕ} → end ≡ at + 3 * length (leading (chars (drop at text))) → leftAt p text ds at i ≡ leftAt p text ds end i
-  left-leading e = ap (λ (a : List Presentation × List Cell). encodeAll (render p (a .1) (map meaning (drop i ds))))
+  pub bytesFrom-leading : {end : ℕ} → end ≡ at + 3 * length (leading (chars (drop at text)))
+      → bytesFrom p text ds at i ≡ bytesFrom p text ds end i
+  bytesFrom-leading e = ap (λ (a : List Presentation × List Cell). encodeAll (render p (a .1) (map meaning (drop i ds))))
       (sym (split-at text at e))
 
   -- For a cell: its character and the selector that its slot holds, then the bytes for the cells after it.
-  pub left-cell : {v w : ℕ} → Step text at v w → leading (chars (drop at text)) ≡ [] → (o : Outcome) (end : ℕ)
+  pub bytesFrom-cell : {v w : ℕ} → Step text at v w → leading (chars (drop at text)) ≡ [] → (o : Outcome) (end : ℕ)
       → o ≡ outcome p v (following (cells (chars (drop (at + w) text)))) (leading (chars (drop (at + w) text)))
       → end ≡ at + w + 3 * length (leading (chars (drop (at + w) text)))
-      → leftAt p text ds at i ≡ cellBytes v (o .slot) (map meaning (drop i ds)) ++ leftAt p text ds end (i + decisionsUsed (o .slot))
+      → bytesFrom p text ds at i ≡ cellBytes v (o .slot) (map meaning (drop i ds)) ++ bytesFrom p text ds end (i + decisionsUsed (o .slot))
   unfolding renewed encodeAll
-  left-cell {v} {w} h l o end f g =
+  bytesFrom-cell {v} {w} h l o end f g =
       let t = chars (drop (at + w) text) in
       let ms = map meaning (drop i ds) in
       let e : isSelector v ≡ false = front-char v t (ap leading (sym (h .chars-on)) ∙ l) in
@@ -134,7 +135,7 @@ module _ (p : Policy) (text ds : List ℕ) (at i : ℕ) where
       ∙ ap₂ (λ (xs : List Cell) (x : List Presentation). encode v
       ++ (encodeAll (map asSelector (chosen (o .slot) ms)) ++ encodeAll (render p xs x))) (sym same) (remaining-drop (o .slot) ds i)
       ∙ sym (append-assoc (encode v) (encodeAll (map asSelector (chosen (o .slot) ms)))
-      (leftAt p text ds end (i + decisionsUsed (o .slot))))
+      (bytesFrom p text ds end (i + decisionsUsed (o .slot))))
 
 -- ---- the length of these bytes
 
@@ -145,8 +146,8 @@ module _ (p : Policy) (t : List ℕ) (ds : List Presentation) where
   render-size =
       let r = render p (cells t) ds in
       let s = render p (cells t) [] in
-      let a = count-unsplit (clean-renew p (clean-cells t) ds) in
-      let b = count-unsplit (clean-renew p (clean-cells t) []) in
+      let a = count-unsplit (selectorFree-renew p (selectorFree-cells t) ds) in
+      let b = count-unsplit (selectorFree-renew p (selectorFree-cells t) []) in
       let c = ap (size width) (strip-render p t ds) in
       let d = ap (size width) (strip-render p t []) in
       omega (arith, bytes-parts r, bytes-parts s, renew-balances p (cells t) ds, renew-balances p (cells t) [])

@@ -21,10 +21,10 @@ use Rattle.analysis.specs.Rules.{Slot, bare, decided, fixed, outcome}
 use Rattle.analysis.specs.declared.types.NonCanonicality.{NonCanonicality}
 use Rattle.analysis.proofs.Counts.{empty-plus}
 use Rattle.analysis.proofs.Cells.{
-  Clean,
+  SelectorFree,
   cell-and,
   charsOf,
-  clean-cells,
+  selectorFree-cells,
   heldIn,
   no-cell,
   split-char,
@@ -54,10 +54,10 @@ module _ (p : Policy) where
   chars-renew [] ds = refl
   chars-renew (x ∷ xs) ds = ap (λ (l : List ℕ). x .char ∷ l) (chars-renew xs (remaining (outcomeAt p x xs .slot) ds))
 
-  pub clean-renew : {xs : List Cell} → Clean xs → (ds : List Presentation) → Clean (renew p xs ds)
+  pub selectorFree-renew : {xs : List Cell} → SelectorFree xs → (ds : List Presentation) → SelectorFree (renew p xs ds)
   unfolding renew
-  clean-renew no-cell ds = no-cell
-  clean-renew (cell-and {x = x} {xs = xs} e h) ds = cell-and e (clean-renew h (remaining (outcomeAt p x xs .slot) ds))
+  selectorFree-renew no-cell ds = no-cell
+  selectorFree-renew (cell-and {x = x} {xs = xs} e h) ds = cell-and e (selectorFree-renew h (remaining (outcomeAt p x xs .slot) ds))
 
   -- Renewed cells have no count.
   pub count-renew : (xs : List Cell) (ds : List Presentation) → countCells p (renew p xs ds) ≡ empty
@@ -77,16 +77,16 @@ module _ (p : Policy) where
       ∙ (λ i. record { char = x .char; after = e i } ∷ h i)
 
   -- Cells without a count are equal to their renewal.
-  pub renew-quiet : (xs : List Cell) → total (countCells p xs) ≡ 0 → renew p xs [] ≡ xs
+  pub renew-uncounted : (xs : List Cell) → total (countCells p xs) ≡ 0 → renew p xs [] ≡ xs
   unfolding countCells renew
-  renew-quiet [] e = refl
-  renew-quiet (x ∷ xs) e =
+  renew-uncounted [] e = refl
+  renew-uncounted (x ∷ xs) e =
       let o = outcomeAt p x xs in
       let n = o .counts in
       let m = countCells p xs in
       let a : total n ≡ 0 = omega arith in
       let b : total m ≡ 0 = omega arith in
-      keep-cell x xs (o .slot) (keeps p (x .char) (following xs) (x .after) a) (renew-quiet xs b)
+      keep-cell x xs (o .slot) (keeps p (x .char) (following xs) (x .after) a) (renew-uncounted xs b)
 
   -- Selectors are added and removed as counted.
   pub renew-balances : (xs : List Cell) (ds : List Presentation) → heldIn (renew p xs ds) + removing (countCells p xs)
@@ -110,11 +110,11 @@ module _ (p : Policy) where
 
   pub split-render : (t : List ℕ) (ds : List Presentation) → split (render p (cells t) ds) ≡ ([], renew p (cells t) ds)
   unfolding render
-  split-render t ds = split-unsplit (clean-renew (clean-cells t) ds)
+  split-render t ds = split-unsplit (selectorFree-renew (selectorFree-cells t) ds)
 
   pub strip-render : (t : List ℕ) (ds : List Presentation) → strip (render p (cells t) ds) ≡ strip t
   unfolding render
-  strip-render t ds = strip-unsplit (clean-renew (clean-cells t) ds) ∙ chars-renew (cells t) ds ∙ sym (strip-split t)
+  strip-render t ds = strip-unsplit (selectorFree-renew (selectorFree-cells t) ds) ∙ chars-renew (cells t) ds ∙ sym (strip-split t)
 
   pub render-no-count : (t : List ℕ) (ds : List Presentation) → countCells p (cells (render p (cells t) ds)) ≡ empty
   render-no-count t ds = ap (λ (a : List Presentation × List Cell). countCells p (a .1)) (split-render t ds) ∙ count-renew (cells t) ds

@@ -103,7 +103,7 @@ feedOf bs = record {
   ended = stateOf bs .ended;
 }
 
--- The first words, so many of them, are at most the length limit.
+-- Each of the first k words is at most the length limit.
 unfoldable pub smallTo : ℕ → List ℕ → Bool
 smallTo zero bs = true
 smallTo (suc k) bs = leb (wordAt k bs) textLimit && smallTo k bs

@@ -1,4 +1,4 @@
--- Formatting after a damaged text was taken in: the repaired text passes the UTF-8 test, so the tests 1 and 2 are left.
+-- Formatting a repaired text. The repaired text is well-formed, so only tests 1 and 2 can refuse it.
 use mathlib.Core.Path.{_≡_, refl, sym, ap, _∙_}
 use mathlib.Core.Bool.{Bool, true, false}
 use mathlib.Core.List.{List}

@@ -13,7 +13,7 @@ use Rattle.base.specs.declared.Refusal.{Refusal}
 use Rattle.base.specs.declared.Refusal.the-variants.{OutputTooShort}
 use Rattle.utf8.specs.Rfc3629.{encodeAll, validUpTo}
 use Rattle.policy.specs.declared.Policy.{Policy}
-use Rattle.policy.specs.PolicyBytes.{isPolicy, policyOf}
+use Rattle.policy.specs.PolicyBytes.{isPolicy, policyFault, policyOf}
 use Rattle.scanner.specs.Items.{Item}
 use Rattle.scanner.specs.TextCheck.{textRefusal}
 use Rattle.scanner.proofs.TextTests.{text-is}
@@ -29,7 +29,7 @@ use Rattle.formatter.specs.Intake.{intakeRefusal}
 use Rattle.formatter.specs.Mend.{exchanged, mend}
 use Rattle.formatter.specs.Theorems.{MendsByReplacement, MendsTestAlike}
 use Rattle.formatter.proofs.Judging.{mended-written}
-use Rattle.formatter.proofs.Passing.{intake-is}
+use Rattle.formatter.proofs.Passing.{intake-is, with-policy}
 
 -- ---- what a successful call writes
 
@@ -71,8 +71,9 @@ by-replacement text policy offset decisions out room x n m f e g =
 -- If the policy is accepted, the first tests are those of the text.
 text-tests : (text policy : List ℕ) → isPolicy policy ≡ true → intakeRefusal text policy ≡ textRefusal text
 text-tests text policy q =
-    intake-is text policy {a = leb (length text) textLimit} {f = eqb (validUpTo text) (length text)} refl q refl
-    ∙ sym (text-is text refl refl)
+    let a = leb (length text) textLimit in
+    let f = eqb (validUpTo text) (length text) in
+    intake-is text policy {a = a} {f = f} refl q refl ∙ with-policy a f (policyFault policy) text ∙ sym (text-is text refl refl)
 
 module _ (p : Policy) (r : Refusal) (h : refusalTable r .number ≤ 6) where
   -- A refusal other than 8 does not depend on the output, nor on the text to be written.

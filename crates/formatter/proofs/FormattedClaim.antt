@@ -138,9 +138,9 @@ module _ (policy : List ℕ) where
         go true e = let y = ap length (none-same (same-true F b e)) in absurd (omega arith)
         go false e = refl
 
-    room-left : (out : List ℕ) (r : Bool) → 0 < length (findings b policy) → leb (length F) (length out) ≡ r → format b policy out
+    changed-tests : (out : List ℕ) (r : Bool) → 0 < length (findings b policy) → leb (length F) (length out) ≡ r → format b policy out
         ≡ formatTests false r F out
-    room-left out r h e =
+    changed-tests out r h e =
         format-is policy b out a ∙ ap (λ (q : Bool). formatTests q (leb (length F) (length out)) F out) (not-same h)
         ∙ ap (λ (r : Bool). formatTests false r F out) e
 
@@ -181,6 +181,6 @@ module _ (policy : List ℕ) where
         (λ z. ap (λ (x : After FormatAnswer ℕ). x .answer) (kept-none b out a z)),
       );
       unchanged-kept = λ out z. kept-none b out a z;
-      changed-written = λ out h i. room-left out true h (le-leb (length F) (length out) i);
-      changed-short = λ out h i. room-left out false h (lt-leb (length F) (length out) i);
+      changed-written = λ out h i. changed-tests out true h (le-leb (length F) (length out) i);
+      changed-short = λ out h i. changed-tests out false h (lt-leb (length F) (length out) i);
     }

@@ -195,29 +195,30 @@ module _ (p : Policy) where
 
   -- ---- two books with the same items
 
-  data Twin : List Entry → List Entry → Type 0 where
-    both-end : Twin [] []
-    both : {e f : Entry} {es fs : List Entry} → e .item ≡ f .item → (c : ℕ) (s : List ℕ) → e .item .chars ≡ c ∷ s → Twin es fs
-        → Twin (e ∷ es) (f ∷ fs)
+  data SameItems : List Entry → List Entry → Type 0 where
+    both-end : SameItems [] []
+    both : {e f : Entry} {es fs : List Entry} → e .item ≡ f .item → (c : ℕ) (s : List ℕ) → e .item .chars ≡ c ∷ s → SameItems es fs
+        → SameItems (e ∷ es) (f ∷ fs)
 
-  twins : (es fs : List Entry) → itemsOf es ≡ itemsOf fs → Filled (itemsOf es) → Twin es fs
-  twins [] [] e no-item = both-end
-  twins [] (f ∷ fs) e no-item = let z : _≡_ {A = ℕ} 0 1 = cc in absurd (omega arith)
-  twins (e ∷ es) [] q (and-item c s l h) = let z : _≡_ {A = ℕ} 0 1 = cc in absurd (omega arith)
-  twins (e ∷ es) (f ∷ fs) q (and-item c s l h) =
+  same-items : (es fs : List Entry) → itemsOf es ≡ itemsOf fs → Filled (itemsOf es) → SameItems es fs
+  same-items [] [] e no-item = both-end
+  same-items [] (f ∷ fs) e no-item = let z : _≡_ {A = ℕ} 0 1 = cc in absurd (omega arith)
+  same-items (e ∷ es) [] q (and-item c s l h) = let z : _≡_ {A = ℕ} 0 1 = cc in absurd (omega arith)
+  same-items (e ∷ es) (f ∷ fs) q (and-item c s l h) =
       let a : e .item ≡ f .item = cc in
       let b : itemsOf es ≡ itemsOf fs = cc in
-      both a c s l (twins es fs b h)
+      both a c s l (same-items es fs b h)
 
-  twin-chars : (n : ℕ) {es fs : List Entry} → Twin es fs → Alike (mendedFrom n es) (mendedFrom n fs) → bookChars p es ≡ bookChars p fs
+  same-items-chars : (n : ℕ) {es fs : List Entry} → SameItems es fs → Alike (mendedFrom n es) (mendedFrom n fs)
+      → bookChars p es ≡ bookChars p fs
   unfolding bookChars mendedFrom
-  twin-chars n both-end h = refl
-  twin-chars n (both {e = e} {f = f} {es = es} {fs = fs} q c s l t) h =
+  same-items-chars n both-end h = refl
+  same-items-chars n (both {e = e} {f = f} {es = es} {fs = fs} q c s l t) h =
       go (e .mark) (f .mark)
       (subst (λ (x : Item). Alike (mendedFrom n (e ∷ es))
       (onlyMended (f .mark) (λ (ds : List Presentation). record { start = n; decisions = ds })
       (mendedFrom (n + size width (x .chars)) fs))) (sym q) h)
-      (twin-chars (n + size width (e .item .chars)) t)
+      (same-items-chars (n + size width (e .item .chars)) t)
     where
       x : Item
       x = e .item
@@ -263,7 +264,7 @@ module _ (p : Policy) where
   -- Two books with the same items and the same mendings have the same text.
   pub same-chars : (es fs : List Entry) → itemsOf es ≡ itemsOf fs → Filled (itemsOf es) → Alike (mendedFrom 0 es) (mendedFrom 0 fs)
       → bookChars p es ≡ bookChars p fs
-  same-chars es fs e h a = twin-chars 0 (twins es fs e h) a
+  same-chars es fs e h a = same-items-chars 0 (same-items es fs e h) a
 
 -- `x` is one of the open findings, and its place is the offset.
 pub record Hit (o : ℕ) (os : List OpenFinding) (x : OpenFinding) : Type 0 where

@@ -65,7 +65,7 @@ use Rattle.formatter.specs.Format.{format, formatItems, formatted, sameB
 use Rattle.formatter.specs.List.{list}
 use Rattle.analysis.specs.Decisions.{badDecision, decisionsRefusal, judge}
 use Rattle.formatter.specs.Mend.{mend, outcomes, textAfter}
-use Rattle.formatter.specs.Intake.{intakeRefusal}
+use Rattle.formatter.specs.Intake.{firstTests, intakeRefusal}
 use Rattle.formatter.specs.Worked.{
   ExampleCalls,
   WorkedList,
@@ -81,29 +81,29 @@ use Rattle.formatter.proofs.ListClaim.{list-claim}
 
 pub texts : WorkedTexts × ExampleCalls
 unfolding WorkedTexts ExampleCalls workedTable workedText scan scanFrom spans tagsComplete tagModifications tagRuns withTags allComplete
-    badDecision decisionsRefusal findingAt judge mend theDefault format formatItems formatted sameBytes list intakeRefusal policyRefusal
-    findingRow findings textTotals totals littleEndian number wordBytes chars encode encodeAll foldChars foldStep readChar readFour utf8-1
-    utf8-2 utf8-3 utf8-4 validUpTo asSelector fromSelector isSelector inRanges indexOf member next hasVariationSequence isEmoji
-    isEmojiDefault isEmojiModifier isEmojiModifierBase isEmojiPresentation isRi isTag variationSequenceIndex emojiModifierBases
+    badDecision decisionsRefusal findingAt judge mend theDefault format formatItems formatted sameBytes list firstTests intakeRefusal
+    policyRefusal findingRow findings textTotals totals littleEndian number wordBytes chars encode encodeAll foldChars foldStep readChar
+    readFour utf8-1 utf8-2 utf8-3 utf8-4 validUpTo asSelector fromSelector isSelector inRanges indexOf member next hasVariationSequence
+    isEmoji isEmojiDefault isEmojiModifier isEmojiModifierBase isEmojiPresentation isRi isTag variationSequenceIndex emojiModifierBases
     emojiModifiers emojiPresentationRanges emojiRanges riRanges variationEntries allBelow contains entryCount Sets·member memberAt one
     bareAsText bareAsTextKeycap defaultPolicy preferBare preferBareKeycap holdsBase ruleOf singletonRule bytesOf isPolicy keyWords
-    noUnusedBit noUnusedBits policyBytes policyOf policyWords wordCount wordsFrom classOf startState splitFrom items kindOf transition found
-    width addChar split countCells countsOf following nonCanonicality render renew replacement replacementOf byFirst byKeycap byModifier
-    byTags isBareSide outcome rule1 rule2 rule3 rule4 rule5 rule6 textFirst withoutSelector replaceAt replaceByDefault replacementBytes
-    writeFound textRefusal
+    noUnusedBit noUnusedBits policyBytes policyOf policyWords wordCount wordsFrom classOf startState splitFrom items kindOf transition
+    found width addChar split countCells countsOf following nonCanonicality render renew replacement replacementOf byFirst byKeycap
+    byModifier byTags isBareSide outcome rule1 rule2 rule3 rule4 rule5 rule6 textFirst withoutSelector replaceAt replaceByDefault
+    replacementBytes writeFound textRefusal
 texts = (refl, (refl, refl, refl, refl, refl, refl, refl, refl, refl, refl, refl, refl))
 
 pub calls : WorkedList
-unfolding WorkedList workedCalls badDecision decisionsRefusal findingAt judge mend outcomes textAfter allBinary bookAfter bookChars markFrom
-    mendsAt openFindingAt openFindingsFrom theDefault format formatItems formatted sameBytes list intakeRefusal policyRefusal findingRow
-    findings textTotals totals littleEndian number wordBytes chars encode encodeAll foldChars foldStep readChar readFour utf8-1 utf8-2
-    utf8-3 utf8-4 validUpTo asSelector fromSelector isSelector inRanges indexOf member next hasVariationSequence isEmoji isEmojiDefault
-    isEmojiModifier isEmojiModifierBase isEmojiPresentation isRi isTag variationSequenceIndex emojiModifierBases emojiModifiers
-    emojiPresentationRanges emojiRanges riRanges variationEntries allBelow contains entryCount Sets·member memberAt one bareAsText
-    bareAsTextKeycap defaultPolicy preferBare preferBareKeycap holdsBase ruleOf singletonRule bytesOf isPolicy keyWords noUnusedBit
-    noUnusedBits policyBytes policyOf policyWords wordCount wordsFrom classOf startState splitFrom items kindOf transition found width
-    addChar split countCells countsOf following nonCanonicality render renew replacement replacementOf byFirst byKeycap byModifier byTags
-    isBareSide outcome rule1 rule2 rule3 rule4 rule5 rule6 textFirst withoutSelector
+unfolding WorkedList workedCalls badDecision decisionsRefusal findingAt judge mend outcomes textAfter allBinary bookAfter bookChars
+    markFrom mendsAt openFindingAt openFindingsFrom theDefault format formatItems formatted sameBytes list firstTests intakeRefusal
+    policyRefusal findingRow findings textTotals totals littleEndian number wordBytes chars encode encodeAll foldChars foldStep readChar
+    readFour utf8-1 utf8-2 utf8-3 utf8-4 validUpTo asSelector fromSelector isSelector inRanges indexOf member next hasVariationSequence
+    isEmoji isEmojiDefault isEmojiModifier isEmojiModifierBase isEmojiPresentation isRi isTag variationSequenceIndex emojiModifierBases
+    emojiModifiers emojiPresentationRanges emojiRanges riRanges variationEntries allBelow contains entryCount Sets·member memberAt one
+    bareAsText bareAsTextKeycap defaultPolicy preferBare preferBareKeycap holdsBase ruleOf singletonRule bytesOf isPolicy keyWords
+    noUnusedBit noUnusedBits policyBytes policyOf policyWords wordCount wordsFrom classOf startState splitFrom items kindOf transition
+    found width addChar split countCells countsOf following nonCanonicality render renew replacement replacementOf byFirst byKeycap
+    byModifier byTags isBareSide outcome rule1 rule2 rule3 rule4 rule5 rule6 textFirst withoutSelector
 calls = (refl, refl, refl, refl, refl)
 
 accepted : Accepted theDefault twoFindings

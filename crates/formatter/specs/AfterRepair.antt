@@ -17,21 +17,21 @@ use Rattle.formatter.specs.Demand3.{Accepted}
 use Rattle.formatter.specs.Format.{format}
 use Rattle.formatter.specs.Intake.{intakeRefusal}
 
--- What is claimed of formatting a text after it was repaired.
+-- The claim on formatting a text after it was repaired.
 pub record AfterRepair (text policy : List ℕ) : Type 0 where
-  -- the call on what the intake wrote is the call on the repaired text
+  -- formatting the bytes that `repair` wrote is formatting the repaired text
   pub formats : (n k : ℕ) (lent out : List ℕ) → repair text lent .answer ≡ Repaired n k
       → format (take n (repair text lent .buffer)) policy out ≡ format (repaired text) policy out
-  -- refused by 1 exactly by the repaired text's own length, and never by 3; so it is accepted where it is short enough
+  -- refusal 1 depends on the repaired text's own length, and refusal 3 never applies; so a repaired text within the limit is accepted
   pub too-long : (intakeRefusal (repaired text) policy ≡ some TextTooLong) ↔ (16777217 ≤ length (repaired text))
   pub never-ill-formed : (n : ℕ) → intakeRefusal (repaired text) policy ≡ some (NotWellFormed n) → ⊥
   pub accepted : length (repaired text) ≤ 16777216 → isPolicy policy ≡ true → Accepted policy (repaired text)
-  -- a well-formed text is formatted as without the intake
+  -- a well-formed text gives the same outcome with and without repairing
   pub as-before : WellFormed text → (out : List ℕ) → format (repaired text) policy out ≡ format text policy out
 
 unfoldable pub EveryAfterRepair : Type 0
 EveryAfterRepair = (text policy : List ℕ) → AfterRepair text policy
 
--- A damaged text within the limit can pass it when it is repaired: from 5,592,406 bad bytes on.
+-- A repaired text can be over the limit although the damaged text is within it: from 5,592,406 bytes FF on.
 unfoldable pub RepairMayPassLimit : Type 0
 RepairMayPassLimit = (n : ℕ) (policy : List ℕ) → 5592406 ≤ n → intakeRefusal (repaired (replicate n 0xFF)) policy ≡ some TextTooLong

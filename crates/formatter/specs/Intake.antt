@@ -19,11 +19,13 @@ listLimit = 4194304
 
 -- ---- tests of a text and a policy
 
--- "Tested in this order": the text is over the limit (1), the policy is refused (2), the text is not well-formed (3). `none` where all
--- three tests pass.
+-- The first two tests: the text is over the limit (1), the policy is refused (2). `none` where both pass.
+unfoldable pub firstTests : List ℕ → List ℕ → Option Refusal
+firstTests text policy = cond (not (leb (length text) textLimit)) (some TextTooLong) (policyRefusal policy)
+
+-- "Tested in this order": the first two tests, and then whether the text is not well-formed (3). `none` where all three tests pass.
 unfoldable pub intakeRefusal : List ℕ → List ℕ → Option Refusal
 intakeRefusal text policy =
-    cond (not (leb (length text) textLimit)) (some TextTooLong)
-    (orElse (policyRefusal policy) some
+    orElse (firstTests text policy) some
     (cond (not (eqb (validUpTo text) (length text))) (some (NotWellFormed (validUpTo text)))
-    none))
+    none)

@@ -38,9 +38,9 @@ module _ (p : Policy) (text : List ℕ) where
       omega (arith, size-width (formatCells p t), render-bytes p t [], size-chars (drop at text), validUpTo-le (drop at text))
 
   -- Where no character begins, nothing is left to write.
-  pub none-left : (at : ℕ) → chars (drop at text) ≡ [] → formattedFrom p text at ≡ []
+  pub formattedFrom-none : (at : ℕ) → chars (drop at text) ≡ [] → formattedFrom p text at ≡ []
   unfolding formatCells split render renew encodeAll
-  none-left at e = ap (λ (t : List ℕ). encodeAll (formatCells p t)) e
+  formattedFrom-none at e = ap (λ (t : List ℕ). encodeAll (formatCells p t)) e
 
   none-counted : (at : ℕ) → chars (drop at text) ≡ [] → totalFrom p text at ≡ 0
   unfolding totalCells split countCells
@@ -127,7 +127,7 @@ module _ (p : Policy) (text : List ℕ) where
         omega (arith, s .valid, z)
 
     pub survey-length : len ≡ length (formattedFrom p text 0)
-    survey-length = omega (arith, s .measured, ap length (none-left at e))
+    survey-length = omega (arith, s .measured, ap length (formattedFrom-none at e))
 
   -- ---- the first change
 

@@ -15,11 +15,10 @@ ghost use Rattle.policy.specs.PolicyBytes.{policyOf};
 ghost use Rattle.text_pass.specs.Changes.{NextChange, formattedFrom, selectorBytes};
 ghost use Rattle.formatter.specs.Format.{format, formatRow};
 ghost use Rattle.formatting.specs.FirstChange.{FirstChange};
+use base::Check;
 use base::Refusal;
-use base::TEXT_LIMIT;
 use formatter::FormatAnswer;
-use policy::policy_bytes::is_policy;
-use policy::policy_bytes::policy_refusal;
+use formatter::intake::first_tests;
 use scanner::selectors::SELECTOR_BYTES;
 use text_pass::Change;
 use text_pass::next_change;
@@ -198,11 +197,8 @@ fn format_at_once(text: &[u8], policy: &[u8], first: Change, out: &mut [u8]) -> 
 pub fn format_text(text: &[u8], policy: &[u8], out: &mut [u8]) -> FormatAnswer
     ensures { λ r. ⌜ EndsAs formatRow (format (now (text .entry)) (now (policy .entry)) (now (out .entry))) r (now (out .exit)) ⌝ }
 {
-    if TEXT_LIMIT < text.len() {
-        return FormatAnswer::Refused(Refusal::TextTooLong);
-    }
-    if !is_policy(policy) {
-        return FormatAnswer::Refused(policy_refusal(policy));
+    if let Check::Refused(refusal) = first_tests(text, policy) {
+        return FormatAnswer::Refused(refusal);
     }
     let first = next_change(text, policy, 0);
     let end = first.end;

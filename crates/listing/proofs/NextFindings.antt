@@ -15,7 +15,7 @@ use Rattle.analysis.specs.declared.types.Finding.{Finding}
 use Rattle.analysis.specs.declared.types.NonCanonicality.{NonCanonicality}
 use Rattle.text_pass.specs.Findings.{Counted, Finds, NextFinding, NoFindingBetween}
 use Rattle.text_pass.specs.declared.findings.FindingSpan.{FindingSpan}
-use Rattle.text_pass.proofs.Passing.{finds-here, finds-room, finds-some, left-length}
+use Rattle.text_pass.proofs.Passing.{finds-here, finds-room, finds-some, skipsFindings-length}
 use Rattle.formatter.proofs.Steps.{Ahead, none-found, rowsFrom}
 
 -- ---- the limit is the end of the text: all findings are passed
@@ -29,7 +29,7 @@ module _ {p : Policy} {text : List ℕ} {r : FindingSpan} (n : NextFinding p tex
       go false e = n .2 e .0
 
   pub all-counted : r .passed ≡ length (findingsFrom p text 0)
-  all-counted = omega (arith, left-length (n .0 .skips), ap length (none-found p text (r .start) none-more))
+  all-counted = omega (arith, skipsFindings-length (n .0 .skips), ap length (none-found p text (r .start) none-more))
 
   pub all-valid : r .start ≡ validUpTo text
   all-valid = omega (arith, n .0 .advances .valid, size-chars (drop (r .start) text), ap (size width) none-more)

@@ -18,12 +18,11 @@ ghost use Rattle.analysis.specs.Findings.{findingsFrom};
 ghost use Rattle.formatter.specs.List.{listBytes, rowBytes, rowNumbers};
 ghost use Rattle.listing.specs.Table.{findingRows};
 use analysis::types::Finding;
+use base::Check;
 use base::ListAnswer;
 use base::Refusal;
-use base::TEXT_LIMIT;
 use base::WORD_BYTES;
-use policy::policy_bytes::is_policy;
-use policy::policy_bytes::policy_refusal;
+use formatter::intake::first_tests;
 use text_pass::findings::FindingSpan;
 use text_pass::findings::next_finding;
 
@@ -130,11 +129,8 @@ fn fill_table(text: &[u8], policy: &[u8], findings: usize, table: &mut [u8]) -> 
 pub fn list_findings(text: &[u8], policy: &[u8], table: &mut [u8]) -> ListAnswer
     ensures { λ r. ⌜ EndsAs listRow (listBytes (now (text .entry)) (now (policy .entry)) (now (table .entry))) r (now (table .exit)) ⌝ }
 {
-    if TEXT_LIMIT < text.len() {
-        return ListAnswer::Refused(Refusal::TextTooLong);
-    }
-    if !is_policy(policy) {
-        return ListAnswer::Refused(policy_refusal(policy));
+    if let Check::Refused(refusal) = first_tests(text, policy) {
+        return ListAnswer::Refused(refusal);
     }
     let FindingCount {
         findings,

@@ -21,11 +21,11 @@ use Rattle.analysis.proofs.StartingItems.{no-finding-past}
 use Rattle.formatter.proofs.Steps.{none-found}
 
 -- Findings before the limit o do not change which finding starts at o.
-left-at : (o : ℕ) {n : ℕ} {fs gs : List Found} → SkipsFindings o fs n gs → findingAt o fs ≡ findingAt o gs
+skipsFindings-at : (o : ℕ) {n : ℕ} {fs gs : List Found} → SkipsFindings o fs n gs → findingAt o fs ≡ findingAt o gs
 unfolding findingAt
-left-at o none-skipped = refl
-left-at o (one-skipped {f} {fs} h a) = ap (λ (b : Bool). cond b (some (f .item)) (findingAt o fs)) (ne-eqb (f .start) o (λ e. omega arith))
-    ∙ left-at o a
+skipsFindings-at o none-skipped = refl
+skipsFindings-at o (one-skipped {f} {fs} h a) =
+    ap (λ (b : Bool). cond b (some (f .item)) (findingAt o fs)) (ne-eqb (f .start) o (λ e. omega arith)) ∙ skipsFindings-at o a
 
 module _ {p : Policy} {text : List ℕ} where
   module _ (o : ℕ) {start end : ℕ} (h : Finds p text start end) where
@@ -50,7 +50,7 @@ module _ {p : Policy} {text : List ℕ} where
   -- The next finding that does not start before the offset.
   module _ (o : ℕ) {r : FindingSpan} (n : NextFinding p text o 0 r) where
     next-same : findingAt o (findingsFrom p text 0) ≡ findingAt o (findingsFrom p text (r .start))
-    next-same = left-at o (n .0 .skips)
+    next-same = skipsFindings-at o (n .0 .skips)
 
     -- No finding is present.
     pub none-further : r .present ≡ false → FindingStarting p text o (record { end = r .end; present = false })

@@ -16,11 +16,9 @@ ghost use Rattle.mending.specs.Parts.{FindingStarting, Starts, cellsWrit
 use analysis::types::MendAnswer;
 use base::Check;
 use base::Refusal;
-use base::TEXT_LIMIT;
+use formatter::intake::first_tests;
 use policy::Policy;
 use policy::ReadPolicy;
-use policy::policy_bytes::is_policy;
-use policy::policy_bytes::policy_refusal;
 use replacing::decisions::check_decisions;
 use replacing::measure::Measure;
 use replacing::measure::measure_cells;
@@ -126,11 +124,8 @@ pub fn mend(
     ensures { λ r. ⌜ EndsAs mendRow (mend (now (text .entry)) (now (policy .entry)) offset (now (decisions .entry)) (now (out .entry))) r
         (now (out .exit)) ⌝ }
 {
-    if TEXT_LIMIT < text.len() {
-        return MendAnswer::Refused(Refusal::TextTooLong);
-    }
-    if !is_policy(policy) {
-        return MendAnswer::Refused(policy_refusal(policy));
+    if let Check::Refused(refusal) = first_tests(text, policy) {
+        return MendAnswer::Refused(refusal);
     }
     let FindingStart { end, present } = finding_starting(text, policy, offset);
     let valid_up_to = end + utf8::valid_up_to(&text[end..]);

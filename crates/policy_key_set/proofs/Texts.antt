@@ -27,10 +27,10 @@ hex-length zero n = refl
 hex-length (suc k) n = ap suc (hex-length k n)
 
 -- The first of k digits, and the others.
-pub hex-step : (k n : ℕ) → 0 < k → hexDigits k n ≡ hexDigit (n / 2 ^ (4 * (k - 1)) % 16) ∷ hexDigits (k - 1) n
+pub hexDigits-cons : (k n : ℕ) → 0 < k → hexDigits k n ≡ hexDigit (n / 2 ^ (4 * (k - 1)) % 16) ∷ hexDigits (k - 1) n
 unfolding hexDigits
-hex-step zero n h = absurd (not-suc-le-zero h)
-hex-step (suc k) n h =
+hexDigits-cons zero n h = absurd (not-suc-le-zero h)
+hexDigits-cons (suc k) n h =
     let e : k ≡ suc k - 1 = omega arith in
     ap (λ (m : ℕ). hexDigit (n / 2 ^ (4 * m) % 16) ∷ hexDigits m n) e
 

@@ -1,4 +1,4 @@
--- What a loop over a damaged text goes by: the well-formed bytes from a place on, and the bad place after them.
+-- The laws that the loops of `measure` and `write_repaired` use: the well-formed bytes from an offset on, and the bad place after them.
 use mathlib.Core.Path.{_≡_, sym, ap, ap₂, _∙_, subst}
 use mathlib.Core.List.{List, [], _++_, append-assoc}
 use Prim.Native.Nat.{ℕ, suc, _+_, _-_, _≤_, _<_}
@@ -27,12 +27,12 @@ use Rattle.repair.proofs.Places.{repaired-bad, repaired-char, repaired-
 use Rattle.utf8.proofs.Subparts.{bad-maximal}
 use Rattle.utf8.proofs.Unfinished.{bad-after}
 
--- What the longest well-formed beginning is to the repaired text.
+-- The repaired text begins with the longest well-formed beginning of the text.
 pub record Front (s : List ℕ) : Type 0 where
   pub text : repaired s ≡ encodeAll (chars s) ++ repaired (drop (validUpTo s) s)
   pub number : replacements s ≡ replacements (drop (validUpTo s) s)
 
--- Where no character is read, the beginning is empty.
+-- If no character is read at the front, the longest well-formed beginning is empty.
 stopped : (s : List ℕ) → chars s ≡ [] → validUpTo s ≡ 0 → Front s
 unfolding encodeAll
 stopped s c v = record {
@@ -60,9 +60,9 @@ front-of {s} (read-more v w e r) =
 pub front : (s : List ℕ) → Front s
 front s = front-of (reading s)
 
--- ---- at a place of a text
+-- ---- at an offset of a text
 
--- From `at` to `end` the text is well-formed and stays, and after stands a bad place, or nothing.
+-- The bytes from `at` to `end` are well-formed, and repairing keeps them. At `end` there is a bad place, or the text ends.
 pub record Kept (text : List ℕ) (at end : ℕ) : Type 0 where
   pub forward : at ≤ end
   pub room : end ≤ length text
@@ -94,7 +94,7 @@ kept text at end h e =
       stops = λ r. subst (λ (t : List ℕ). readChar t ≡ IllFormed (subpartOf t)) d (bad-after s (omega arith));
     }
 
--- At `at` stands a bad place of n bytes, which is replaced.
+-- A bad place of n bytes at the offset `at`: it is replaced.
 pub record Replaced (text : List ℕ) (at n : ℕ) : Type 0 where
   pub some : 1 ≤ n
   pub room : at + n ≤ length text
@@ -118,7 +118,7 @@ replaced text at n h e q =
       number = replacements-bad s n p ∙ ap (λ (l : List ℕ). suc (replacements l)) d;
     }
 
--- At the end nothing is left.
+-- At the end of the text there is nothing to repair.
 pub record Ended (text : List ℕ) (at : ℕ) : Type 0 where
   pub bytes : repaired (drop at text) ≡ []
   pub number : replacements (drop at text) ≡ 0

@@ -1,4 +1,4 @@
--- The three outcomes of `repair`, the bounds of its numbers, and what the code goes by.
+-- The three outcomes of `repair`, the bounds of its numbers, and the laws that the proofs of the functions use.
 use mathlib.Core.Path.{_≡_, refl, sym, ap, ap₂, _∙_, subst}
 use mathlib.Core.Bool.{Bool, true, false, cond}
 use mathlib.Core.List.{List, _++_}
@@ -77,7 +77,7 @@ the-call text out = record {
       (le-leb (length (repaired text)) (length out) (omega (arith, times (stretches text)))));
 }
 
--- What a call has written.
+-- The bytes that a call has written.
 pub wrote : (text out : List ℕ) (n k : ℕ) → repair text out .answer ≡ Repaired n k → take n (repair text out .buffer) ≡ repaired text
 wrote text out n k e =
     let is = repair-is text out refl refl in
@@ -85,7 +85,7 @@ wrote text out n k e =
     ∙ front text (leb (length text) textLimit) (leb (length (repaired text)) (length out)) out n k
     (ap (λ (x : After RepairAnswer ℕ). x .answer) (sym is) ∙ e)
 
--- ---- what the code goes by: each outcome under its own names
+-- ---- for the proofs of the functions: each outcome, with the numbers that the code has
 
 pub too-long : (text out : List ℕ) → textLimit < length text → record { answer = Refused TextTooLong; buffer = out } ≡ repair text out
 too-long text out h = sym (the-call text out .long h)
@@ -105,7 +105,7 @@ module _ (text out : List ℕ) (h : length text ≤ textLimit) where
       ∙ ap (λ (k : ℕ). repaired text ++ drop k out) (zero-add (length (repaired text))) in
       (λ i. record { answer = a i; buffer = b i }) ∙ sym (the-call text out .done h (omega arith))
 
-  -- .. of a text without a bad place, which is copied
+  -- the text has no bad place, and is copied
   pub copied : (n k : ℕ) → n ≡ length (repaired text) → k ≡ replacements text → k ≡ 0 → n ≤ length out → {after : List ℕ}
       → after ≡ cond (roomFor text out 0) (sets out 0 text) out → record { answer = Repaired n k; buffer = after } ≡ repair text out
   copied n k e q z l {after} w =

@@ -1,5 +1,5 @@
--- How a fold over all places goes on from the front: at a character, at a bad place, at the end; and the induction over a
--- text, place by place.
+-- One step of a fold over all places of a text: at a character, at a bad place, at the end; and the induction over a text, place by
+-- place. A place is a character or a bad place.
 use mathlib.Core.Path.{_≡_, refl, ap, _∙_, subst}
 use mathlib.Core.List.{List, [], _∷_, _++_}
 use Prim.Native.Nat.{ℕ, zero, suc, _-_, _≤_}
@@ -14,7 +14,7 @@ use Rattle.utf8.specs.declared.ReadChar.{ReadChar}
 use Rattle.utf8.specs.declared.ReadChar.the-variants.{Char, IllFormed, End}
 use Rattle.utf8.proofs.Subparts.{bad-maximal}
 
--- A character and a bad place have a byte at least.
+-- A character has at least one byte, and so has a bad place.
 pub char-some : (s : List ℕ) (v w : ℕ) → readChar s ≡ Char v w → 1 ≤ w
 char-some s v w e = char-begins s v w e .some
 
@@ -87,7 +87,7 @@ pub replacements-bad : (s : List ℕ) (n : ℕ) → readChar s ≡ IllFormed n �
 unfolding replacements
 replacements-bad s n e = fold-bad 0 (λ v w r. r) (λ n r. suc r) s n e
 
--- ---- a text, place by place: what inductions over all of a text go by
+-- ---- induction over a text, place by place
 
 pub data Places : List ℕ → Type 0 where
   at-end : {s : List ℕ} → readChar s ≡ End → Places s

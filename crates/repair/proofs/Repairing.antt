@@ -1,4 +1,4 @@
--- The repaired text is the one that the stretches give, and there is no other; what follows from the stretches alone.
+-- The repaired text is the only text that `Repairs` gives, and laws that follow from `Repairs` alone.
 use mathlib.Core.Path.{_≡_, refl, sym, ap, ap₂, _∙_, subst}
 use mathlib.Core.Bool.{Bool, true, _&&_}
 use mathlib.Core.List.{List, [], _∷_, _++_}
@@ -51,7 +51,7 @@ use Rattle.repair.proofs.Places.{
 use Rattle.utf8.proofs.Subparts.{bad-maximal, maximal-reads}
 use Rattle.utf8.proofs.Unfinished.{grammar-read}
 
--- The same under other names.
+-- The same for equal texts and numbers.
 repairs-as : {s s′ t t′ : List ℕ} {k k′ : ℕ} → s ≡ s′ → t ≡ t′ → k ≡ k′ → Repairs s t k → Repairs s′ t′ k′
 repairs-as {s} {s′} {t} {t′} {k} {k′} p q e r =
     subst (λ (x : List ℕ). Repairs x t′ k′) p (subst (λ (x : List ℕ). Repairs s x k′) q (subst (λ (n : ℕ). Repairs s t n) e r))
@@ -74,9 +74,9 @@ from-places {s} (at-bad n e p) =
 pub stretches : (s : List ℕ) → Repairs s (repaired s) (replacements s)
 stretches s = from-places (places s)
 
--- ---- and there is no other way
+-- ---- no other text and no other number
 
--- The repaired text and the number of replacements are these.
+-- Every text and number that `Repairs` gives are the repaired text and the number of replacements.
 pub record Is (s t : List ℕ) (k : ℕ) : Type 0 where
   pub text : t ≡ repaired s
   pub number : k ≡ replacements s
@@ -104,7 +104,7 @@ only (a-stretch {s} {t} {k} bs m r) =
       number = ap suc (ih .number ∙ ap replacements (sym d)) ∙ sym (replacements-bad (bs ++ s) (length bs) p);
     }
 
--- ---- what the stretches say
+-- ---- laws that follow from `Repairs`
 
 pub result-well-formed : {s t : List ℕ} {k : ℕ} → Repairs s t k → WellFormed t
 unfolding utf8-char utf8-3
@@ -129,7 +129,7 @@ times nothing-left = (omega arith, omega arith)
 times (a-char {s} {t} {k} bs e r) = let h = times r in omega (arith, length-append bs s, length-append bs t)
 times (a-stretch {s} {t} {k} bs m r) = let h = times r in let o = m .some in omega (arith, length-append bs s)
 
--- ---- its characters
+-- ---- the characters of the repaired text
 
 scalars : {s : List ℕ} → Places s → allScalar (repairedChars s) ≡ true
 unfolding allScalar isScalar
@@ -142,7 +142,7 @@ pub result-chars : (s : List ℕ) → chars (repaired s) ≡ repairedChars s
 unfolding repaired
 result-chars s = chars-encodeAll-alone (repairedChars s) (scalars (places s))
 
--- ---- three times is reached
+-- ---- a text whose repaired text has three times its bytes
 
 FF-bad : (s : List ℕ) → readChar (0xFF ∷ s) ≡ IllFormed 1
 unfolding readChar readFour utf8-1 utf8-2 utf8-3 utf8-4 subpart begun-2 begun-3

@@ -11,14 +11,14 @@ use Rattle.repair.specs.Repaired.{repaired, replacements}
 use Rattle.repair.specs.declared.RepairAnswer.{RepairAnswer}
 use Rattle.repair.specs.declared.RepairAnswer.the-variants.{Refused, Repaired}
 
--- Done with two values, the length written and the number of replacements, or the refusal.
+-- The row of the answer: done with two values, the length written and the number of replacements; or the refusal's row.
 unfoldable pub repairRow : RepairAnswer → RefusalRow
 repairRow (Repaired len replaced) = done (twoValues len replaced)
 repairRow (Refused r) = refusalRow r
 
 -- The call: refusals 1 and 8. "A new intake writes the text with each such stretch replaced by FFFD (three bytes), and the number of
--- replacements. .. The intake's limit 1 is on the bytes taken in. A short output is refused as before, with the wanted length." A
--- well-formed text is written out too.
+-- replacements. .. The intake's limit 1 is on the bytes taken in. A short output is refused as before, with the wanted length." The call
+-- writes a well-formed text too.
 unfoldable pub repair : List ℕ → List ℕ → After RepairAnswer ℕ
 repair text out =
     let result = repaired text in

@@ -1,5 +1,6 @@
--- The repaired text and the number of replacements (document 02, ii): by the stretches of a text, and computed. Both are the same, and
--- there is no third: specs/Theorems.antt, EveryRepairedText. A stretch is document 02's word for the bytes of a bad place.
+-- The repaired text and the number of replacements (document 02, ii), in two forms: by the stretches of a text (`Repairs`), and computed
+-- (`repaired`, `replacements`). `EveryRepairedText` of specs/Theorems.antt says that `Repairs` gives the computed text and number, and no
+-- others. A stretch is document 02's word for the bytes of a bad place.
 use mathlib.Core.Path.{_≡_}
 use mathlib.Core.Bool.{true}
 use mathlib.Core.List.{List, [], _∷_, _++_}
@@ -19,7 +20,7 @@ replacementBytes = 0xEF ∷ 0xBF ∷ 0xBD ∷ []
 
 -- ---- by the stretches and RFC 3629's grammar
 
--- s falls into characters and stretches, from the front on, each stretch the maximal subpart of what is left; t is s "with each such
+-- s is a list of characters and stretches. Each stretch is the maximal subpart of the bytes from its start on. t is s "with each such
 -- stretch replaced by FFFD", and k is "the number of replacements".
 pub data Repairs : List ℕ → List ℕ → ℕ → Type 0 where
   nothing-left : Repairs [] [] 0
@@ -29,22 +30,22 @@ pub data Repairs : List ℕ → List ℕ → ℕ → Type 0 where
 
 -- ---- computed
 
--- A value made of all places from the front on: `more` at a character, by its value and its width, `bad` at a bad place, by its width,
--- each with what is made of the bytes after it; `stop` at the end.
+-- A fold over all characters and bad places of a text. `more` takes a character's value, its width and the fold of the bytes after it.
+-- `bad` takes the width of a bad place and the fold of the bytes after it. `stop` is the fold of no bytes.
 module _ {A : Type 0} (stop : A) (more : ℕ → ℕ → A → A) (bad : ℕ → A → A) where
-  -- What is made where `readChar` gave this answer; `rest w` is what is made of the bytes after the first w.
+  -- One step of the fold, from the answer of `readChar`. `rest w` is the fold of the bytes after the first w.
   unfoldable pub placeStep : ReadChar → (ℕ → A) → A
   placeStep (Char v w) rest = more v w (rest w)
   placeStep (IllFormed n) rest = bad n (rest n)
   placeStep End rest = stop
 
-  -- The number counts the bytes that still belong to the place before.
+  -- The number is the number of bytes at the front that belong to the character or the bad place before them.
   unfoldable pub foldPlaces : ℕ → List ℕ → A
   foldPlaces skip [] = stop
   foldPlaces zero (a ∷ s) = placeStep (readChar (a ∷ s)) (λ w. foldPlaces (w - 1) s)
   foldPlaces (suc skip) (a ∷ s) = foldPlaces skip s
 
--- The characters, with FFFD for each stretch.
+-- The characters of the repaired text: those of the text, with FFFD for each stretch.
 unfoldable pub repairedChars : List ℕ → List ℕ
 repairedChars s = foldPlaces [] (λ v w r. v ∷ r) (λ n r. replacementChar ∷ r) 0 s
 

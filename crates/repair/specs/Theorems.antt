@@ -1,4 +1,4 @@
--- What is claimed of the repaired text and of the call. Each statement is proved in proofs/Claims.antt, under the same name in lower case
+-- The claims on the repaired text and on the call `repair`. proofs/Claims.antt proves each statement, under the same name in lower case
 -- with hyphens.
 use mathlib.Core.Path.{_≡_}
 use mathlib.Core.Logic.{_↔_}
@@ -13,31 +13,32 @@ use Rattle.repair.specs.Repair.{repair}
 use Rattle.repair.specs.Repaired.{Repairs, repaired, repairedChars, replacements}
 use Rattle.repair.specs.declared.RepairAnswer.the-variants.{Refused, Repaired}
 
--- What is claimed of the repaired text.
+-- The claim on the repaired text.
 pub record RepairedText (s : List ℕ) : Type 0 where
-  -- characters and stretches tile the text, and the repaired text has the same characters and FFFD for each stretch, in this order; no
-  -- other text and no other number are so made
+  -- the text is a list of characters and stretches, and the repaired text has the same characters, and FFFD for each stretch, in the same
+  -- order; `Repairs` gives no other text and no other number
   pub stretches : Repairs s (repaired s) (replacements s)
   pub no-other : (t : List ℕ) (k : ℕ) → Repairs s t k → (t ≡ repaired s) × (k ≡ replacements s)
   -- "the result always passes the UTF-8 test"
   pub well-formed : WellFormed (repaired s)
   pub characters : chars (repaired s) ≡ repairedChars s
-  -- "A text that was well formed comes out unchanged with number 0"; and only such a text has the number 0
+  -- "A text that was well formed comes out unchanged with number 0"; and only a well-formed text has the number 0
   pub unchanged : WellFormed s → repaired s ≡ s
   pub none-replaced : WellFormed s ↔ (replacements s ≡ 0)
-  -- at most 3 times the bytes taken in, and at most a replacement for each byte
+  -- the repaired text has at most 3 times the bytes of the text, and there is at most one replacement for each byte
   pub three-times : length (repaired s) ≤ 3 * length s
   pub few : replacements s ≤ length s
 
 unfoldable pub EveryRepairedText : Type 0
 EveryRepairedText = (s : List ℕ) → RepairedText s
 
--- 3 times is reached, at every length, by a text of bad bytes.
+-- For every length there is a text whose repaired text has exactly 3 times its bytes: one of bytes FF.
 unfoldable pub ThreeTimesReached : Type 0
 ThreeTimesReached = (n : ℕ) → (length (repaired (replicate n 0xFF)) ≡ 3 * n) × (replacements (replicate n 0xFF) ≡ n)
 
--- What is claimed of the call: limit 1 is on the bytes taken in; refusal 8 gives the wanted length; else the repaired text is at the front.
--- Both values of an answer are below 2^28, and so is what a refusal returns. An output of 3 times the bytes taken in is always long enough.
+-- The claim on the call: limit 1 is on the bytes taken in; refusal 8 gives the wanted length; otherwise the repaired text is at the front
+-- of the output. Both values of an answer are below 2^28, and so is the value that a refusal returns. An output of 3 times the bytes taken
+-- in is always long enough.
 pub record RepairCall (text out : List ℕ) : Type 0 where
   pub long : 16777217 ≤ length text → repair text out ≡ unwritten (Refused TextTooLong) out
   pub short : length text ≤ 16777216 → length out < length (repaired text)

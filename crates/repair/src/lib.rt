@@ -1,6 +1,6 @@
-// Taking damaged text in: each maximal subpart of a bad place is replaced by FFFD (document 02, ii). The Rust crate gets a `str`, and
-// has no such call. The text is gone through from bad place to bad place and written on the way; only for an output that may be too
-// short it is measured before. `repair` equals `repair` of specs/Repair.antt.
+// Taking damaged text in: `repair` replaces each bad place of a text by FFFD (document 02, ii). The crate evfmt takes a `str`, and has no
+// such call. `repair` goes through the text from bad place to bad place and writes the repaired text on the way. Only if the output may be
+// too short, it first measures the repaired text. `repair` equals `repair` of specs/Repair.antt.
 ghost use mathlib.Core.Path.{_≡_};
 ghost use Prim.Native.Nat.{_+_, _-_, _≤_};
 ghost use lib.ListN.{drop, length, take};
@@ -13,10 +13,10 @@ ghost use Rattle.repair.specs.Repaired.{repaired, replacementBytes, repl
 use base::Refusal;
 use base::TEXT_LIMIT;
 
-// FFFD has three bytes, and a bad place has one at least: a repaired text has at most three times the bytes of the text.
+// FFFD has three bytes, and a bad place has at least one. So a repaired text has at most three times the bytes of the text.
 const REPLACEMENT_BYTES: usize = 3;
 
-// The answer: the length of the repaired text and the number of replacements, or why nothing was written.
+// The answer: the length of the repaired text and the number of replacements, or a refusal.
 pub enum RepairAnswer {
     Repaired { len: usize, replaced: usize },
     Refused(Refusal),
@@ -28,7 +28,7 @@ struct Size {
     replaced: usize,
 }
 
-// Where the well-formed bytes from a place on end.
+// Returns the end of the longest run of well-formed characters that starts at an offset.
 fn well_formed_end(text: &[u8], at: usize) -> usize
     requires { ⌜ at ≤ length (now text) ⌝ }
     ensures { λ r. ⌜ r ≡ at + validUpTo (drop at (now (text .entry))) ⌝ }
@@ -36,7 +36,7 @@ fn well_formed_end(text: &[u8], at: usize) -> usize
     at + utf8::valid_up_to(&text[at..])
 }
 
-// Measures the repaired text of a text within the limit.
+// Measures the repaired text, without writing it. The text is within the limit.
 fn measure(text: &[u8]) -> Size
     requires { ⌜ length (now text) ≤ textLimit ⌝ }
     ensures len { λ r. ⌜ r .len ≡ length (repaired (now (text .entry))) ⌝ }
@@ -57,7 +57,7 @@ fn measure(text: &[u8]) -> Size
     }
 }
 
-// Puts the bytes of a text from one offset up to another, for which there is room, and says where they end.
+// Puts the bytes of a text between two offsets into the output, which has room for them, and returns where they end there.
 fn put_part(text: &[u8], from: usize, to: usize, out: &mut [u8], at: usize) -> usize
     requires { ⌜ (from ≤ to) × (to ≤ length (now text)) × (at + (to - from) ≤ length (now out)) ⌝ }
     ensures { λ r. ⌜ PutAt (now (out .entry)) at (take (to - from) (drop from (now (text .entry)))) (now (out .exit)) r ⌝ }
@@ -66,7 +66,7 @@ fn put_part(text: &[u8], from: usize, to: usize, out: &mut [u8], at: usize) -> u
     at + (to - from)
 }
 
-// Puts the bytes of FFFD, for which there is room, and says where they end.
+// Puts the bytes of FFFD into the output, which has room for them, and returns where they end there.
 fn put_replacement(out: &mut [u8], at: usize) -> usize
     requires { ⌜ at + 3 ≤ length (now out) ⌝ }
     ensures { λ r. ⌜ PutAt (now (out .entry)) at replacementBytes (now (out .exit)) r ⌝ }
@@ -77,7 +77,7 @@ fn put_replacement(out: &mut [u8], at: usize) -> usize
     at + REPLACEMENT_BYTES
 }
 
-// Writes the repaired text of a text within the limit, for which there is room.
+// Writes the repaired text of a text within the limit into an output that has room for it.
 fn write_repaired(text: &[u8], out: &mut [u8]) -> Size
     requires { ⌜ (length (now text) ≤ textLimit) × (length (repaired (now text)) ≤ length (now out)) ⌝ }
     ensures len { λ r. ⌜ PutAt (now (out .entry)) 0 (repaired (now (text .entry))) (now (out .exit)) (r .len) ⌝ }
@@ -98,7 +98,8 @@ fn write_repaired(text: &[u8], out: &mut [u8]) -> Size
     }
 }
 
-// Repairs a text within the limit into an output that may be too short: it is measured before. A well-formed text is copied at once.
+// Repairs a text within the limit into an output that may be too short: it measures the repaired text before it writes. It copies a
+// well-formed text.
 fn repair_measured(text: &[u8], out: &mut [u8]) -> RepairAnswer
     requires { ⌜ length (now text) ≤ textLimit ⌝ }
     ensures { λ r. ⌜ record { answer = r; buffer = now (out .exit) } ≡ repair (now (text .entry)) (now (out .entry)) ⌝ }
@@ -115,7 +116,7 @@ fn repair_measured(text: &[u8], out: &mut [u8]) -> RepairAnswer
     RepairAnswer::Repaired { len, replaced }
 }
 
-// Writes the text with FFFD for each bad place at the front of the output, or refuses.
+// Repairs a text: writes it at the front of the output, with FFFD in place of each bad place, or refuses.
 pub fn repair(text: &[u8], out: &mut [u8]) -> RepairAnswer
     ensures { λ r. ⌜ EndsAs repairRow (repair (now (text .entry)) (now (out .entry))) r (now (out .exit)) ⌝ }
 {

@@ -56,7 +56,7 @@ use Rattle.analysis.specs.Rules.{
 }
 use Rattle.analysis.specs.Findings.{totals}
 use Rattle.formatter.specs.Findings.{findingRow, findings}
-use Rattle.formatter.specs.Intake.{intakeRefusal}
+use Rattle.formatter.specs.Intake.{firstTests, intakeRefusal}
 use Rattle.formatter.specs.List.{countNumbers}
 use Rattle.message_io.specs.Lines.{decimal, decimalBy, findingLine, line, programOutput, totalLine}
 use Rattle.report.specs.Report.{linesFrom, reportLines, reportNumbers, reported, findingLines, totalsAt}
@@ -69,13 +69,13 @@ report-has-room = report-fits
 
 pub example-reported : ExampleReported
 unfolding ExampleReported findingLine totalLine line parted decimal decimalBy tagsComplete tagModifications tagRuns withTags allComplete
-    intakeRefusal policyRefusal findingRow findings totals littleEndian number wordBytes chars encode encodeAll foldChars foldStep readChar
-    readFour utf8-1 utf8-2 utf8-3 utf8-4 validUpTo asSelector fromSelector isSelector inRanges indexOf member next hasVariationSequence
-    isEmoji isEmojiDefault isEmojiModifier isEmojiModifierBase isEmojiPresentation isRi isTag variationSequenceIndex emojiModifierBases
-    emojiModifiers emojiPresentationRanges emojiRanges riRanges variationEntries allBelow contains entryCount Sets·member memberAt one
-    bareAsText bareAsTextKeycap defaultPolicy preferBare preferBareKeycap holdsBase ruleOf singletonRule bytesOf isPolicy keyWords
-    noUnusedBit noUnusedBits policyBytes policyOf policyWords wordCount wordsFrom classOf startState splitFrom items kindOf transition found
-    width addChar split countCells countsOf following nonCanonicality render renew replacement replacementOf byFirst byKeycap byModifier
-    byTags isBareSide outcome rule1 rule2 rule3 rule4 rule5 rule6 textFirst withoutSelector programOutput reported reportLines linesFrom
-    findingLines totalsAt countNumbers reportNumbers
+    firstTests intakeRefusal policyRefusal findingRow findings totals littleEndian number wordBytes chars encode encodeAll foldChars
+    foldStep readChar readFour utf8-1 utf8-2 utf8-3 utf8-4 validUpTo asSelector fromSelector isSelector inRanges indexOf member next
+    hasVariationSequence isEmoji isEmojiDefault isEmojiModifier isEmojiModifierBase isEmojiPresentation isRi isTag variationSequenceIndex
+    emojiModifierBases emojiModifiers emojiPresentationRanges emojiRanges riRanges variationEntries allBelow contains entryCount
+    Sets·member memberAt one bareAsText bareAsTextKeycap defaultPolicy preferBare preferBareKeycap holdsBase ruleOf singletonRule bytesOf
+    isPolicy keyWords noUnusedBit noUnusedBits policyBytes policyOf policyWords wordCount wordsFrom classOf startState splitFrom items
+    kindOf transition found width addChar split countCells countsOf following nonCanonicality render renew replacement replacementOf
+    byFirst byKeycap byModifier byTags isBareSide outcome rule1 rule2 rule3 rule4 rule5 rule6 textFirst withoutSelector programOutput
+    reported reportLines linesFrom findingLines totalsAt countNumbers reportNumbers
 example-reported = refl

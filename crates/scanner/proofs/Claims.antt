@@ -57,7 +57,7 @@ use Rattle.scanner.specs.Theorems.{
   SpansAreItems,
   SpansTile,
   SpansTileFrom,
-  Spells,
+  SpansOfItems,
   span,
   StructureFlattens,
   StructureIsDerived,
@@ -79,7 +79,7 @@ use Rattle.scanner.proofs.Bytes.{chars-inside}
 use Rattle.scanner.proofs.ClassTests.{run-links, run-modifications, run-passthrough, run-selectors, run-tags}
 use Rattle.scanner.proofs.Complete.{all-complete-means}
 use Rattle.scanner.proofs.EmojiRuns.{unit-item}
-use Rattle.scanner.proofs.RestRuns.{unit-ends, unit-joins, unit-left}
+use Rattle.scanner.proofs.RestRuns.{unit-ends, unit-joins, unit-left-over}
 use Rattle.scanner.proofs.ItemRuns.{item-links, item-passthrough, item-selectors}
 use Rattle.scanner.proofs.ItemWalks.{structure-walk}
 use Rattle.scanner.proofs.LongestRuns.{
@@ -105,7 +105,7 @@ use Rattle.scanner.proofs.RunLaws.{
   unit-derived,
 }
 use Rattle.scanner.proofs.Runs.{Stops, at-char, at-end}
-use Rattle.scanner.proofs.Spans.{scan-after, scan-spells, scan-tiles, spells-first}
+use Rattle.scanner.proofs.Spans.{scan-after, scan-spans-of-items, scan-tiles, spans-first}
 use Rattle.scanner.proofs.Tiling.{afresh, never-empty, tiling}
 use Rattle.scanner.proofs.Reading.{derive-inner, derives-alike, item-alone, item-derives, only-reading, reading}
 use Rattle.scanner.proofs.Structure.{StructureRead, emoji-headed-read, links-only-read}
@@ -178,8 +178,8 @@ rest-by-runs = (
   λ c t e f. unit-ends (at-char e) (at-char f),
   λ t c u e f. ap (λ (a : List ℕ × List Item). a .0) (unit-joins t c u e f)
       ∙ ap (λ (l : List ℕ). 0x200D ∷ (selectorsAt t ++ l)) (unit-item c u f .item),
-  λ t e. unit-left t (subst (Stops isEmoji) (sym e) at-end),
-  λ t c u e f. unit-left t (subst (Stops isEmoji) (sym e) (at-char f)),
+  λ t e. unit-left-over t (subst (Stops isEmoji) (sym e) at-end),
+  λ t c u e f. unit-left-over t (subst (Stops isEmoji) (sym e) (at-char f)),
 )
 
 pub spans-tile-from : SpansTileFrom
@@ -196,7 +196,7 @@ spans-cover text w = subst (Tiles 0 (scan text)) (well-formed-whole w) (spans-ti
 
 pub spans-are-items : SpansAreItems
 unfolding SpansAreItems scan
-spans-are-items text = scan-spells text 0
+spans-are-items text = scan-spans-of-items text 0
 
 pub spans-afresh : SpansAfresh
 unfolding SpansAfresh scan
@@ -277,13 +277,13 @@ runs-by-class t = (run-selectors t, run-links t, run-modifications t, run-tags t
 
 pub structure-is-walked : StructureIsWalked
 unfolding StructureIsWalked scanAt scanFrom spans firstOf
-structure-is-walked text at x e k = go (items (chars (drop at text))) refl (scan-spells text at) e
+structure-is-walked text at x e k = go (items (chars (drop at text))) refl (scan-spans-of-items text at) e
   where
     Walked : ScanItem → Type 0
     Walked y = (t : List ℕ) × (take (y .end - y .start) (drop (y .start) text) ≡ encodeAll t)
         × SequenceWalk text (y .start) (y .end) (structure t)
 
-    go : (xs : List Item) → items (chars (drop at text)) ≡ xs → Spells text (spans at xs) xs → firstOf (spans at xs) ≡ Step.Item x
+    go : (xs : List Item) → items (chars (drop at text)) ≡ xs → SpansOfItems text (spans at xs) xs → firstOf (spans at xs) ≡ Step.Item x
         → Walked x
     go [] p s q = absurd (true≢false (cc))
     go (y ∷ ys) p s q =
@@ -291,7 +291,7 @@ structure-is-walked text at x e k = go (items (chars (drop at text))) refl (scan
         let m = subst (λ (z : ScanItem). Structured (z .kind)) (sym f) k in
         subst Walked f (
           y .chars,
-          spells-first s,
+          spans-first s,
           structure-walk text at y ys p m
               (item-structure (chars (drop at text)) y (subst (List·Memᴰ y) (sym p) (List·Memᴰ·head refl)) m .are),
         )

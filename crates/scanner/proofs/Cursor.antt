@@ -25,12 +25,12 @@ use Rattle.scanner.proofs.Classes.{class-is, is-selector, is-tag}
 use Rattle.scanner.proofs.ClassTests.{isTagOrSelectorClass, tags-test}
 use Rattle.scanner.proofs.ItemRuns.{walk-passes}
 use Rattle.scanner.proofs.Peek.{Seen, Unseen}
-use Rattle.scanner.proofs.States.{headed-step, tag-begins}
+use Rattle.scanner.proofs.States.{headed-transition, tag-begins}
 use Rattle.scanner.proofs.Rescan.{size-append}
 use Rattle.scanner.proofs.Runs.{Stops, at-char, at-end, after-stops, run-after, run-passes}
 use Rattle.scanner.proofs.RunsAt.{run-on}
-use Rattle.scanner.proofs.Walk.{walk-cut}
-use Rattle.scanner.proofs.Tiling.{cut-none, cut-some}
+use Rattle.scanner.proofs.Walk.{splitFrom-walk}
+use Rattle.scanner.proofs.Tiling.{splitFrom-none, splitFrom-some}
 use Rattle.scanner.proofs.TagsRead.{first-tags, tags-headed, tags-nil, tags-on, tags-then}
 
 -- ---- the code's answer for a transition
@@ -54,13 +54,13 @@ module _ {text : List ℕ} {at v : ℕ} {k : Class} {next : ℕ} (h : Seen text 
   rest-on q e =
       ap (λ (l : List ℕ). (splitFrom p l) .0) (h .chars-on)
       ∙ ap (λ (r : List ℕ × List Item). r .0)
-      (cut-some p q v (chars (drop next text)) (ap (transition p) (sym (h .class)) ∙ next-on (transition p k) q e))
+      (splitFrom-some p q v (chars (drop next text)) (ap (transition p) (sym (h .class)) ∙ next-on (transition p k) q e))
 
   pub rest-ends : nextOf (transition p k) ≡ Next.Stop → restAt text at p ≡ []
   rest-ends e =
       ap (λ (l : List ℕ). (splitFrom p l) .0) (h .chars-on)
       ∙ ap (λ (r : List ℕ × List Item). r .0)
-      (cut-none p v (chars (drop next text)) (ap (transition p) (sym (h .class)) ∙ next-stop (transition p k) e))
+      (splitFrom-none p v (chars (drop next text)) (ap (transition p) (sym (h .class)) ∙ next-stop (transition p k) e))
 
   -- The rest from the next character on has the same end.
   width-on : (q : State) → nextOf (transition p k) ≡ Next.On q → at + size width (restAt text at p) ≡ next + size width (restAt text next q)
@@ -73,14 +73,14 @@ unfolding transition
 tags-stay c e = ⊎-elim (λ t. ap (transition unit) (class-is (is-tag t))) (λ t. ap (transition unit) (class-is (is-selector t)))
     (either-true (isTag c) (isSelector c) e)
 
-cut-stops : (f : ℕ → Bool) (p : State) {t : List ℕ} → Stops f t → Stops f ((splitFrom p t) .0)
+splitFrom-stops : (f : ℕ → Bool) (p : State) {t : List ℕ} → Stops f t → Stops f ((splitFrom p t) .0)
 unfolding splitFrom
-cut-stops f p at-end = at-end
-cut-stops f p (at-char {c = c} {s = t} e) = go (transition p (classOf c)) refl
+splitFrom-stops f p at-end = at-end
+splitFrom-stops f p (at-char {c = c} {s = t} e) = go (transition p (classOf c)) refl
   where
     go : (o : Option State) → transition p (classOf c) ≡ o → Stops f ((splitFrom p (c ∷ t)) .0)
-    go (some q) g = rw (cut-some p q c t g) (at-char e)
-    go none g = rw (cut-none p c t g) at-end
+    go (some q) g = rw (splitFrom-some p q c t g) (at-char e)
+    go none g = rw (splitFrom-none p c t g) at-end
 
 -- If a tag leads to the state `unit`, the rest is the tag modification there and the rest after it.
 module _ {text : List ℕ} {at v next : ℕ} (h : Seen text at v tag next) (p : State) (e : nextOf (transition p tag) ≡ Next.On unit) where
@@ -100,7 +100,7 @@ module _ {text : List ℕ} {at v next : ℕ} (h : Seen text at v tag next) (p : 
   unfolding transition
   rest-parts =
       rest-on h p unit e ∙ sym (rest-on h unit unit refl) ∙ ap (λ (l : List ℕ). (splitFrom unit l) .0) (sym (run-after inTags t))
-      ∙ ap (λ (r : List ℕ × List Item). r .0) (walk-cut (walk-passes unit inTags tags-stay (run-passes inTags t)) (afterRun inTags t))
+      ∙ ap (λ (r : List ℕ × List Item). r .0) (splitFrom-walk (walk-passes unit inTags tags-stay (run-passes inTags t)) (afterRun inTags t))
       ∙ ap (λ (l : List ℕ). tags ++ (splitFrom unit l) .0) (sym after-tags)
 
   tags-width : at + size width (restAt text at p) ≡ end + size width (restAt text end unit)
@@ -109,8 +109,8 @@ module _ {text : List ℕ} {at v next : ℕ} (h : Seen text at v tag next) (p : 
   tags-parts : tagsComplete (kindOf p) (restAt text at p) ≡
       (allComplete (tagModifications tags) && tagsComplete (kindOf unit) (restAt text end unit))
   tags-parts =
-      let stops = cut-stops inTags unit (subst (Stops inTags) (sym after-tags) (after-stops inTags t)) in
-      tags-headed p (restAt text at p) (headed-step p unit tag (next-on (transition p tag) unit e))
+      let stops = splitFrom-stops inTags unit (subst (Stops inTags) (sym after-tags) (after-stops inTags t)) in
+      tags-headed p (restAt text at p) (headed-transition p unit tag (next-on (transition p tag) unit e))
       ∙ ap (λ (l : List ℕ). allComplete (tagModifications l)) rest-parts ∙ tags-then (run-passes inTags t) stops
       ∙ ap (λ (b : Bool). allComplete (tagModifications tags) && b) (sym (tags-headed unit (restAt text end unit) refl))
 

@@ -215,11 +215,12 @@ walk-links p e f no-links = stay
 walk-links p e f (link-and a l) = walk-append (walk-link p e f a) (walk-links p e f l)
 
 -- A walk over the links left over after a unit.
-walk-left : {s : List ℕ} {p : State} → InUnit p → Links s → SomeWalk p s
+walk-left-over : {s : List ℕ} {p : State} → InUnit p → Links s → SomeWalk p s
 unfolding transition
-walk-left {s} {p} i no-links = record { end = p; walked = stay }
-walk-left {s} {p} i (link-and a no-links) = record { end = joined; walked = walk-append (walk-link joined (to-joined p i) refl a) stay }
-walk-left {s} {p} i (link-and a (link-and b l)) =
+walk-left-over {s} {p} i no-links = record { end = p; walked = stay }
+walk-left-over {s} {p} i (link-and a no-links) =
+    record { end = joined; walked = walk-append (walk-link joined (to-joined p i) refl a) stay }
+walk-left-over {s} {p} i (link-and a (link-and b l)) =
     record {
       end = leftOver;
       walked = walk-append (walk-link joined (to-joined p i) refl a)
@@ -259,7 +260,7 @@ derive-walk (selector-run e s) = record { end = selectors; walked = front (is-se
 derive-walk (emoji-headed v j l) =
     let a = walk-unit first v in
     let b = walk-joined (a .inside) j in
-    let c = walk-left (b .inside) l in
+    let c = walk-left-over (b .inside) l in
     record { end = c .end; walked = front-append (a .walked) (walk-append (b .walked) (c .walked)) }
 derive-walk (passthrough {c = c} p h) = record {
   end = plain;

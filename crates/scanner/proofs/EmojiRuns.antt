@@ -50,8 +50,8 @@ use Rattle.scanner.proofs.Classes.{
   modifier-no-ri,
   ri-emoji,
 }
-use Rattle.scanner.proofs.Tiling.{cut-none, cut-some}
-use Rattle.scanner.proofs.Walk.{Walk, walk-append, walk-cut}
+use Rattle.scanner.proofs.Tiling.{splitFrom-none, splitFrom-some}
+use Rattle.scanner.proofs.Walk.{Walk, walk-append, splitFrom-walk}
 use Rattle.scanner.proofs.DerivedWalks.{InUnit, in-oneRi, in-unit, via, walk-S}
 use Rattle.scanner.proofs.Runs.{passes-S, run-after, run-false, run-passes, Stops, at-char, at-end, after-stops}
 use Rattle.scanner.proofs.ItemRuns.{walk-passes}
@@ -183,33 +183,33 @@ after-stem {c} {t} r =
 
 -- ---- after a stem, the state after one RI leads to the same results as the state after a complete stem
 
-cut-step : (p q : State) (c : ℕ) (t : List ℕ) → transition p (classOf c) ≡ transition q (classOf c) → splitFrom p (c ∷ t)
+splitFrom-transition : (p q : State) (c : ℕ) (t : List ℕ) → transition p (classOf c) ≡ transition q (classOf c) → splitFrom p (c ∷ t)
     ≡ splitFrom q (c ∷ t)
-cut-step p q c t e = go (transition q (classOf c)) refl
+splitFrom-transition p q c t e = go (transition q (classOf c)) refl
   where
     go : (o : Option State) → transition q (classOf c) ≡ o → splitFrom p (c ∷ t) ≡ splitFrom q (c ∷ t)
-    go (some r) f = cut-some p r c t (e ∙ f) ∙ sym (cut-some q r c t f)
-    go none f = cut-none p c t (e ∙ f) ∙ sym (cut-none q c t f)
+    go (some r) f = splitFrom-some p r c t (e ∙ f) ∙ sym (splitFrom-some q r c t f)
+    go none f = splitFrom-none p c t (e ∙ f) ∙ sym (splitFrom-none q c t f)
 
-same-step : {c : ℕ} {k : Class} → HasClass c k → isSelector c ≡ false → isRi c ≡ false → transition oneRi k ≡ transition unit k
+same-transition : {c : ℕ} {k : Class} → HasClass c k → isSelector c ≡ false → isRi c ≡ false → transition oneRi k ≡ transition unit k
 unfolding transition
-same-step (is-selector s) e f = absurd (true≢false (sym s ∙ e))
-same-step (is-link s) e f = refl
-same-step (is-keycap s) e f = refl
-same-step (is-tag s) e f = refl
-same-step (is-ri s) e f = absurd (true≢false (sym s ∙ f))
-same-step (is-modifier s) e f = refl
-same-step (is-emoji s r m) e f = refl
-same-step (is-other s k t) e f = refl
+same-transition (is-selector s) e f = absurd (true≢false (sym s ∙ e))
+same-transition (is-link s) e f = refl
+same-transition (is-keycap s) e f = refl
+same-transition (is-tag s) e f = refl
+same-transition (is-ri s) e f = absurd (true≢false (sym s ∙ f))
+same-transition (is-modifier s) e f = refl
+same-transition (is-emoji s r m) e f = refl
+same-transition (is-other s k t) e f = refl
 
-same-cut : {r : List ℕ} → Stops isSelector r → Stops isRi r → splitFrom oneRi r ≡ splitFrom unit r
+splitFrom-oneRi : {r : List ℕ} → Stops isSelector r → Stops isRi r → splitFrom oneRi r ≡ splitFrom unit r
 unfolding splitFrom
-same-cut at-end i = refl
-same-cut (at-char {c = c} {s = t} e) (at-char f) = cut-step oneRi unit c t (same-step (hasClass c) e f)
+splitFrom-oneRi at-end i = refl
+splitFrom-oneRi (at-char {c = c} {s = t} e) (at-char f) = splitFrom-transition oneRi unit c t (same-transition (hasClass c) e f)
 
-stem-cut : {p : State} {r : List ℕ} → InUnit p → Stops isSelector r → (p ≡ oneRi → Stops isRi r) → splitFrom p r ≡ splitFrom unit r
-stem-cut in-oneRi s n = same-cut s (n refl)
-stem-cut in-unit s n = refl
+splitFrom-stem : {p : State} {r : List ℕ} → InUnit p → Stops isSelector r → (p ≡ oneRi → Stops isRi r) → splitFrom p r ≡ splitFrom unit r
+splitFrom-stem in-oneRi s n = splitFrom-oneRi s (n refl)
+splitFrom-stem in-unit s n = refl
 
 -- ---- the unit at the front of an item
 
@@ -235,10 +235,10 @@ unit-item c t e =
     let d : afterUnit (c ∷ t) ≡ b = ap (λ (x : List ℕ). drop (length x) (c ∷ t)) u ∙ ap (drop (length (c ∷ (r .tail ++ m)))) (sym w)
     ∙ drop-append-seam (c ∷ (r .tail ++ m)) b in
     let k : splitFrom (startState (classOf c)) t ≡ (r .tail ++ (m ++ (splitFrom unit b) .0), (splitFrom unit b) .1) =
-    ap (splitFrom (startState (classOf c))) (sym (r .whole)) ∙ walk-cut (r .walked) (r .rest)
-    ∙ ap (λ (a : List ℕ × List Item). (r .tail ++ a .0, a .1)) (stem-cut (r .inside) (r .stops) (r .no-ri)
+    ap (splitFrom (startState (classOf c))) (sym (r .whole)) ∙ splitFrom-walk (r .walked) (r .rest)
+    ∙ ap (λ (a : List ℕ × List Item). (r .tail ++ a .0, a .1)) (splitFrom-stem (r .inside) (r .stops) (r .no-ri)
     ∙ ap (splitFrom unit) (sym (run-after inModifications (r .rest)))
-    ∙ walk-cut (walk-passes unit inModifications modifications-on (run-passes inModifications (r .rest))) b) in
+    ∙ splitFrom-walk (walk-passes unit inModifications modifications-on (run-passes inModifications (r .rest))) b) in
     record {
       whole = ap₂ (λ (x y : List ℕ). x ++ y) u d ∙ w;
       item = ap (λ (a : List ℕ × List Item). c ∷ a .0) k

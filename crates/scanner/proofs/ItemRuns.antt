@@ -31,9 +31,9 @@ use Rattle.scanner.proofs.Classes.{
   ri-emoji,
   tag-plain,
 }
-use Rattle.scanner.proofs.States.{plain-step}
-use Rattle.scanner.proofs.Tiling.{cut-none}
-use Rattle.scanner.proofs.Walk.{Walk, stay, pass, walk-cut}
+use Rattle.scanner.proofs.States.{plain-transition}
+use Rattle.scanner.proofs.Tiling.{splitFrom-none}
+use Rattle.scanner.proofs.Walk.{Walk, stay, pass, splitFrom-walk}
 use Rattle.scanner.proofs.Runs.{Passes, all-pass, pass-and, run-after, run-passes, run-true, Stops, at-char, at-end, after-stops}
 
 -- ---- a state to which every character of a run leads back
@@ -44,16 +44,16 @@ module _ (p : State) (f : ℕ → Bool) (on : (c : ℕ) → f c ≡ true → tra
   walk-passes (pass-and {c = c} e h) = pass (on c e) (walk-passes h)
 
   module _ (off : (c : ℕ) → f c ≡ false → transition p (classOf c) ≡ none) where
-    cut-stops : {t : List ℕ} → Stops f t → (splitFrom p t) .0 ≡ []
+    splitFrom-stops : {t : List ℕ} → Stops f t → (splitFrom p t) .0 ≡ []
     unfolding splitFrom
-    cut-stops at-end = refl
-    cut-stops (at-char {c = c} {s = t} e) = ap (λ (a : List ℕ × List Item). a .0) (cut-none p c t (off c e))
+    splitFrom-stops at-end = refl
+    splitFrom-stops (at-char {c = c} {s = t} e) = ap (λ (a : List ℕ × List Item). a .0) (splitFrom-none p c t (off c e))
 
-    pub cut-run : (t : List ℕ) → (splitFrom p t) .0 ≡ run f t
-    cut-run t =
+    pub splitFrom-run : (t : List ℕ) → (splitFrom p t) .0 ≡ run f t
+    splitFrom-run t =
         ap (λ (l : List ℕ). (splitFrom p l) .0) (sym (run-after f t))
-        ∙ ap (λ (a : List ℕ × List Item). a .0) (walk-cut (walk-passes (run-passes f t)) (afterRun f t))
-        ∙ ap (λ (l : List ℕ). run f t ++ l) (cut-stops (after-stops f t)) ∙ append-nil (run f t)
+        ∙ ap (λ (a : List ℕ × List Item). a .0) (splitFrom-walk (walk-passes (run-passes f t)) (afterRun f t))
+        ∙ ap (λ (l : List ℕ). run f t ++ l) (splitFrom-stops (after-stops f t)) ∙ append-nil (run f t)
 
 -- ---- selectors, links, passthrough
 
@@ -128,23 +128,23 @@ pub item-selectors : (c : ℕ) (t : List ℕ) → isSelector c ≡ true → c �
 unfolding startState
 item-selectors c t e =
     ap (λ (k : Class). c ∷ (splitFrom (startState k) t) .0) (class-selector c e)
-    ∙ ap (λ (l : List ℕ). c ∷ l) (cut-run selectors isSelector selectors-on (λ d f. selectors-off (hasClass d) f) t)
+    ∙ ap (λ (l : List ℕ). c ∷ l) (splitFrom-run selectors isSelector selectors-on (λ d f. selectors-off (hasClass d) f) t)
     ∙ sym (run-true isSelector c t e)
 
 pub item-links : (c : ℕ) (t : List ℕ) → eqb c 0x200D ≡ true → c ∷ (splitFrom (startState (classOf c)) t) .0 ≡ linksAt (c ∷ t)
 unfolding startState transition linksAt
 item-links c t e =
     ap (λ (k : Class). c ∷ (splitFrom (startState k) t) .0) (class-link c e)
-    ∙ ap (λ (l : List ℕ). c ∷ l) (cut-run links inLinks (links-on links refl refl) (λ d f. links-off (hasClass d) f .0) t)
+    ∙ ap (λ (l : List ℕ). c ∷ l) (splitFrom-run links inLinks (links-on links refl refl) (λ d f. links-off (hasClass d) f .0) t)
     ∙ sym (run-true inLinks c t (either-left (eqb c 0x200D) (isSelector c) e)) ∙ ap (λ (b : Bool). cond b (run inLinks (c ∷ t)) []) (sym e)
 
 pub item-passthrough : (c : ℕ) (t : List ℕ) → isPassthrough c ≡ true → c ∷ (splitFrom (startState (classOf c)) t) .0 ≡ passthroughAt (c ∷ t)
 unfolding passthroughAt
 item-passthrough c t e =
     ap (λ (p : State). c ∷ (splitFrom p t) .0) (go (classOf c) (passthrough-on (hasClass c) e))
-    ∙ ap (λ (l : List ℕ). c ∷ l) (cut-run plain isPassthrough (λ d f. passthrough-on (hasClass d) f)
+    ∙ ap (λ (l : List ℕ). c ∷ l) (splitFrom-run plain isPassthrough (λ d f. passthrough-on (hasClass d) f)
     (λ d f. passthrough-off (hasClass d) f) t)
     ∙ sym (run-true isPassthrough c t e)
   where
     go : (k : Class) → transition plain k ≡ some plain → startState k ≡ plain
-    go k f = plain-step k plain f .1
+    go k f = plain-transition k plain f .1

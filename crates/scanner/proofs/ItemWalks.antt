@@ -78,9 +78,10 @@ module _ (text : List ℕ) (end at : ℕ) {s t : List ℕ} (h : S s) (p : Stops 
   link-after = ap (λ (n : ℕ). chars (drop n text)) link-end ∙ chars-from text at (0x200D ∷ s) t e
 
   -- A link is left over if no emoji follows it within the item.
-  link-left : at < end → (linkFrom at the-link .end < end → Stops isEmoji t) → partRead text end at ≡ LeftOverLink (linkFrom at the-link)
+  link-left-over : at < end → (linkFrom at the-link .end < end → Stops isEmoji t)
+      → partRead text end at ≡ LeftOverLink (linkFrom at the-link)
   unfolding joins
-  link-left n q = ⊎-elim (λ k. sym (part-last text end at n link-is k))
+  link-left-over n q = ⊎-elim (λ k. sym (part-last text end at n link-is k))
       (λ k. sym (joins-is text end at n link-is k) ∙ ap (joins (linkFrom at the-link)) link-after ∙ go (q k))
       (le-or-lt end (linkFrom at the-link .end))
     where
@@ -117,7 +118,7 @@ links-walk text end at r (link-are {s = s} {l = l} h k) p e n =
     let q = e ∙ ap (λ (x : List ℕ). 0x200D ∷ x) (append-assoc s l r) in
     let b = links-selector k p in
     let z = size-append width s l in
-    link-and (link-left text end at h b q (omega (arith, n, z, width-some 0x200D))
+    link-and (link-left-over text end at h b q (omega (arith, n, z, width-some 0x200D))
     (λ i. links-emoji r k (omega (arith, n, z, i, link-end text end at h b q))))
     (links-walk text end (at + size width (0x200D ∷ s)) r k p (chars-from text at (0x200D ∷ s) (l ++ r) q) (omega (arith, n, z)))
 

@@ -45,7 +45,7 @@ use Rattle.scanner.proofs.Classes.{
   of-other,
   plain-class,
 }
-use Rattle.scanner.proofs.Tiling.{first, after, cut-some, cut-none, tiling}
+use Rattle.scanner.proofs.Tiling.{first, after, splitFrom-some, splitFrom-none, tiling}
 use Rattle.scanner.proofs.Walk.{Walk, stay, pass, same-walk}
 use Rattle.scanner.proofs.States.{inner, kind-emoji, kind-links}
 use Rattle.scanner.proofs.DerivedWalks.{derive-walk, accepted-walk}
@@ -81,25 +81,25 @@ record Read (p : State) (t : List ℕ) : Type 0 where
 read-first : (c : ℕ) (t : List ℕ) → Read (startState (classOf c)) t → Reads (join (first c t ∷ after c t)) (first c t ∷ after c t)
 read-first c t h = reads-item (join (after c t)) (walk-derive c (h .walked)) (first-longest c _ _ _ (h .walked) (h .stops)) (h .reads)
 
-read-cut : (p : State) (t : List ℕ) → Read p t
+splitFrom-read : (p : State) (t : List ℕ) → Read p t
 unfolding splitFrom
-read-cut p [] = record { end = p; walked = stay; stops = λ d f e. cc; reads = at-the-end }
-read-cut p (c ∷ t) = go (transition p (classOf c)) refl (λ q. read-cut q t)
+splitFrom-read p [] = record { end = p; walked = stay; stops = λ d f e. cc; reads = at-the-end }
+splitFrom-read p (c ∷ t) = go (transition p (classOf c)) refl (λ q. splitFrom-read q t)
   where
     go : (o : Option State) → transition p (classOf c) ≡ o → ((q : State) → Read q t) → Read p (c ∷ t)
     go (some q) e h = record {
       end = h q .end;
-      walked = rw (cut-some p q c t e) (pass e (h q .walked));
-      stops = rw (cut-some p q c t e)
+      walked = rw (splitFrom-some p q c t e) (pass e (h q .walked));
+      stops = rw (splitFrom-some p q c t e)
           (h q .stops);
-      reads = rw (cut-some p q c t e) (h q .reads);
+      reads = rw (splitFrom-some p q c t e) (h q .reads);
     }
     go none e h = record {
       end = p;
-      walked = rw (cut-none p c t e) stay;
-      stops = rw (cut-none p c t e) (λ d f z. cc);
+      walked = rw (splitFrom-none p c t e) stay;
+      stops = rw (splitFrom-none p c t e) (λ d f z. cc);
       reads =
-          rw (cut-none p c t e) (read-first c t (h (startState (classOf c))));
+          rw (splitFrom-none p c t e) (read-first c t (h (startState (classOf c))));
     }
 
 pub reading : (t : List ℕ) → Reads t (items t)
@@ -108,7 +108,7 @@ reading t = subst (λ (l : List ℕ). Reads l (items t)) (tiling t) (go t)
   where
     go : (t : List ℕ) → Reads (join (items t)) (items t)
     go [] = at-the-end
-    go (c ∷ t) = read-first c t (read-cut (startState (classOf c)) t)
+    go (c ∷ t) = read-first c t (splitFrom-read (startState (classOf c)) t)
 
 -- ---- the first character of a derivation decides its kind
 
@@ -158,18 +158,18 @@ derive-head (passthrough {c = c} p h) = record {
 -- Two beginnings of one text: one is a beginning of the other.
 data Fronts (s r s′ r′ : List ℕ) : Type 0 where
   same-front : s ≡ s′ → r ≡ r′ → Fronts s r s′ r′
-  longer-right : (d : ℕ) (f : List ℕ) → s′ ≡ s ++ d ∷ f → r ≡ d ∷ (f ++ r′) → Fronts s r s′ r′
-  longer-left : (d : ℕ) (f : List ℕ) → s ≡ s′ ++ d ∷ f → r′ ≡ d ∷ (f ++ r) → Fronts s r s′ r′
+  second-longer : (d : ℕ) (f : List ℕ) → s′ ≡ s ++ d ∷ f → r ≡ d ∷ (f ++ r′) → Fronts s r s′ r′
+  first-longer : (d : ℕ) (f : List ℕ) → s ≡ s′ ++ d ∷ f → r′ ≡ d ∷ (f ++ r) → Fronts s r s′ r′
 
 fronts-cons : {s r s′ r′ : List ℕ} (c e : ℕ) → c ≡ e → Fronts s r s′ r′ → Fronts (c ∷ s) r (e ∷ s′) r′
 fronts-cons c e z (same-front p q) = same-front (ap₂ (λ (c : ℕ) (l : List ℕ). c ∷ l) z p) q
-fronts-cons c e z (longer-right d f p q) = longer-right d f (ap₂ (λ (c : ℕ) (l : List ℕ). c ∷ l) (sym z) p) q
-fronts-cons c e z (longer-left d f p q) = longer-left d f (ap₂ (λ (c : ℕ) (l : List ℕ). c ∷ l) z p) q
+fronts-cons c e z (second-longer d f p q) = second-longer d f (ap₂ (λ (c : ℕ) (l : List ℕ). c ∷ l) (sym z) p) q
+fronts-cons c e z (first-longer d f p q) = first-longer d f (ap₂ (λ (c : ℕ) (l : List ℕ). c ∷ l) z p) q
 
 fronts : (s r s′ r′ : List ℕ) → s ++ r ≡ s′ ++ r′ → Fronts s r s′ r′
 fronts [] r [] r′ e = same-front refl e
-fronts [] r (d ∷ f) r′ e = longer-right d f refl e
-fronts (d ∷ f) r [] r′ e = longer-left d f refl (sym e)
+fronts [] r (d ∷ f) r′ e = second-longer d f refl e
+fronts (d ∷ f) r [] r′ e = first-longer d f refl (sym e)
 fronts (c ∷ s) r (d ∷ s′) r′ e = fronts-cons c d (head-eq-of-cons-eq e) (fronts s r s′ r′ (tail-eq-of-cons-eq e))
 
 -- Two readings of a text are equal.
@@ -191,8 +191,8 @@ unique (reads-item {x = x} {xs = xs} r d l h) (reads-item {x = y} {xs = ys} r′
 
     go : Fronts (x .chars) r (y .chars) r′ → (r ≡ r′ → xs ≡ ys) → x ∷ xs ≡ y ∷ ys
     go (same-front p q) i = λ j. record { kind = same-kind p j; chars = p j } ∷ i q j
-    go (longer-right c f p q) i = absurd (l (y .kind) c f r′ q (subst (λ (s : List ℕ). Derives (y .kind) s) p d′))
-    go (longer-left c f p q) i = absurd (l′ (x .kind) c f r q (subst (λ (s : List ℕ). Derives (x .kind) s) p d))
+    go (second-longer c f p q) i = absurd (l (y .kind) c f r′ q (subst (λ (s : List ℕ). Derives (y .kind) s) p d′))
+    go (first-longer c f p q) i = absurd (l′ (x .kind) c f r q (subst (λ (s : List ℕ). Derives (x .kind) s) p d))
 
 pub only-reading : (t : List ℕ) (xs : List Item) → Reads t xs → xs ≡ items t
 only-reading t xs h = unique h (reading t) refl

@@ -12,9 +12,9 @@ use Rattle.scanner.specs.Items.{State, plain, transition, startState, ki
 use Rattle.scanner.specs.Spans.{Found, size, found}
 use Rattle.scanner.specs.declared.ScanKind.{ScanKind}
 use Rattle.scanner.specs.declared.ScanKind.the-variants.{Passthrough}
-use Rattle.scanner.proofs.States.{isPlain, kind-plain, plain-step}
-use Rattle.scanner.proofs.Tiling.{first, after, cut-some, cut-none}
-use Rattle.scanner.proofs.Walk.{Walk, walk-plain, walk-cut, stops, merges, Chain, done, then}
+use Rattle.scanner.proofs.States.{isPlain, kind-plain, plain-transition}
+use Rattle.scanner.proofs.Tiling.{first, after, splitFrom-some, splitFrom-none}
+use Rattle.scanner.proofs.Walk.{Walk, walk-plain, splitFrom-walk, stops, merges, Chain, done, then}
 
 module _ (w : ℕ → ℕ) where
   pub size-append : (s t : List ℕ) → size w (s ++ t) ≡ size w s + size w t
@@ -48,13 +48,13 @@ module _ (test : Item → Bool) (w : ℕ → ℕ) (plain-fails : (x : Item) → 
   abbrev next : Item → List Item → State → ℕ → List ℕ → Item
   next x xs q c s = record { kind = x .kind; chars = c ∷ (s ++ (splitFrom q (join xs)) .0) }
 
-  cut-next : (p : State) {q : State} (x : Item) (xs : List Item) (c : ℕ) (s : List ℕ) → transition p (classOf c) ≡ none → x .kind
+  splitFrom-next : (p : State) {q : State} (x : Item) (xs : List Item) (c : ℕ) (s : List ℕ) → transition p (classOf c) ≡ none → x .kind
       ≡ kindOf (startState (classOf c)) → x .chars ≡ c ∷ s → Walk (startState (classOf c)) s q
       → splitFrom p (join (x ∷ xs)) ≡ ([], next x xs q c s ∷ (splitFrom q (join xs)) .1)
-  cut-next p {q} x xs c s e k l wk =
-      ap (λ (t : List ℕ). splitFrom p (t ++ join xs)) l ∙ cut-none p c (s ++ join xs) e
+  splitFrom-next p {q} x xs c s e k l wk =
+      ap (λ (t : List ℕ). splitFrom p (t ++ join xs)) l ∙ splitFrom-none p c (s ++ join xs) e
       ∙ ap (λ (a : List ℕ × List Item). ([], record { kind = kindOf (startState (classOf c)); chars = c ∷ a .0 } ∷ a .1))
-      (walk-cut wk (join xs))
+      (splitFrom-walk wk (join xs))
       ∙ ap (λ (i : ScanKind). ([], record { kind = i; chars = c ∷ (s ++ (splitFrom q (join xs)) .0) } ∷ (splitFrom q (join xs)) .1)) (sym k)
 
   again-plain : {q : State} (x : Item) {xs : List Item} (c : ℕ) (s : List ℕ) → x .kind ≡ Passthrough → x .chars ≡ c ∷ s → Again q xs
@@ -64,10 +64,10 @@ module _ (test : Item → Bool) (w : ℕ → ℕ) (plain-fails : (x : Item) → 
       let a : n + size w (c ∷ (s ++ R .0)) ≡ n + size w (x .chars) + size w (R .0) = omega (arith, size-append w s (R .0), ap (size w) l) in
       ap (λ (m : ℕ). found test w m (R .1)) a ∙ h .same (n + size w (x .chars)) ∙ sym (found-skip n x xs k)
 
-  again-solid : {q : State} (x : Item) {xs : List Item} (c : ℕ) (s : List ℕ) → x .chars ≡ c ∷ s → (splitFrom q (join xs)) .0 ≡ []
+  again-not-plain : {q : State} (x : Item) {xs : List Item} (c : ℕ) (s : List ℕ) → x .chars ≡ c ∷ s → (splitFrom q (join xs)) .0 ≡ []
       → Again q xs
       → (n : ℕ) → found test w n (next x xs q c s ∷ (splitFrom q (join xs)) .1) ≡ found test w n (x ∷ xs)
-  again-solid {q} x {xs} c s l z h n =
+  again-not-plain {q} x {xs} c s l z h n =
       let R = splitFrom q (join xs) in
       let y : next x xs q c s ≡ x = λ i.
       record { kind = x .kind; chars = (ap (λ (r : List ℕ). c ∷ (s ++ r)) z ∙ ap (λ (r : List ℕ). c ∷ r) (append-nil s) ∙ sym l) i } in
@@ -79,8 +79,8 @@ module _ (test : Item → Bool) (w : ℕ → ℕ) (plain-fails : (x : Item) → 
   again-none : {p q : State} {x : Item} {xs : List Item} (c : ℕ) (s : List ℕ) → transition p (classOf c) ≡ none → x .kind
       ≡ kindOf (startState (classOf c)) → x .chars ≡ c ∷ s → Walk (startState (classOf c)) s q → Again q xs → Again p (x ∷ xs)
   again-none {p} {q} {x} {xs} c s e k l wk h = record {
-    same = λ n. rw (cut-next p x xs c s e k l wk) (go (isPlain (startState (classOf c))) refl n);
-    whole = λ _. ap (λ (a : List ℕ × List Item). a .0) (cut-next p x xs c s e k l wk);
+    same = λ n. rw (splitFrom-next p x xs c s e k l wk) (go (isPlain (startState (classOf c))) refl n);
+    whole = λ _. ap (λ (a : List ℕ × List Item). a .0) (splitFrom-next p x xs c s e k l wk);
   }
     where
       go : (b : Bool) → isPlain (startState (classOf c)) ≡ b → (n : ℕ) → found test w (n + 0) (next x xs q c s ∷ (splitFrom q (join xs)) .1)
@@ -88,19 +88,19 @@ module _ (test : Item → Bool) (w : ℕ → ℕ) (plain-fails : (x : Item) → 
       go true i n =
           let kp : x .kind ≡ Passthrough = k ∙ kind-plain (startState (classOf c)) i in
           found-skip (n + 0) (next x xs q c s) ((splitFrom q (join xs)) .1) kp ∙ rw (add-zero n) (again-plain x c s kp l h n)
-      go false i n = rw (add-zero n) (again-solid x c s l (h .whole (sym (walk-plain wk) ∙ i)) h n)
+      go false i n = rw (add-zero n) (again-not-plain x c s l (h .whole (sym (walk-plain wk) ∙ i)) h n)
 
   -- The case in which the passthrough before x goes on with x.
   again-some : {q : State} {x : Item} {xs : List Item} (c : ℕ) (s : List ℕ) (r : State) → transition plain (classOf c) ≡ some r → x .kind
       ≡ kindOf (startState (classOf c)) → x .chars ≡ c ∷ s → Walk (startState (classOf c)) s q → Again q xs → Again plain (x ∷ xs)
   unfolding kindOf
   again-some {q} {x} {xs} c s r e k l wk h =
-      let b = plain-step (classOf c) r e in
+      let b = plain-transition (classOf c) r e in
       let kp : x .kind ≡ Passthrough = k ∙ ap kindOf (b .1) in
       let f : splitFrom plain (join (x ∷ xs)) ≡ (c ∷ (s ++ (splitFrom q (join xs)) .0), (splitFrom q (join xs)) .1) =
-      ap (λ (t : List ℕ). splitFrom plain (t ++ join xs)) l ∙ cut-some plain r c (s ++ join xs) e
+      ap (λ (t : List ℕ). splitFrom plain (t ++ join xs)) l ∙ splitFrom-some plain r c (s ++ join xs) e
       ∙ ap (λ (a : List ℕ × List Item). (c ∷ a .0, a .1))
-      (ap (λ (p : State). splitFrom p (s ++ join xs)) (b .0 ∙ sym (b .1)) ∙ walk-cut wk (join xs)) in
+      (ap (λ (p : State). splitFrom p (s ++ join xs)) (b .0 ∙ sym (b .1)) ∙ splitFrom-walk wk (join xs)) in
       record { same = λ n. rw f (again-plain x c s kp l h n); whole = λ i. absurd (true≢false i) }
 
   again-both : {q : State} {x : Item} {xs : List Item} (c : ℕ) (s : List ℕ) (o : Option State) → transition plain (classOf c) ≡ o → x .kind
@@ -124,12 +124,12 @@ module _ (test : Item → Bool) (w : ℕ → ℕ) (plain-fails : (x : Item) → 
     where
       go : (o : Option State) → transition plain (classOf c) ≡ o
           → found test w n (first c t ∷ after c t) ≡ found test w (n + size w ((splitFrom plain (c ∷ t)) .0)) ((splitFrom plain (c ∷ t)) .1)
-      go none e = rw (cut-none plain c t e) (ap (λ (m : ℕ). found test w m (first c t ∷ after c t)) (sym (add-zero n)))
+      go none e = rw (splitFrom-none plain c t e) (ap (λ (m : ℕ). found test w m (first c t ∷ after c t)) (sym (add-zero n)))
       go (some q) e =
-          let b = plain-step (classOf c) q e in
+          let b = plain-transition (classOf c) q e in
           found-skip n (first c t) (after c t) (ap kindOf (b .1))
           ∙ ap (λ (p : State). found test w (n + size w (c ∷ (splitFrom p t) .0)) ((splitFrom p t) .1)) (b .1 ∙ sym (b .0))
-          ∙ sym (ap (λ (a : List ℕ × List Item). found test w (n + size w (a .0)) (a .1)) (cut-some plain q c t e))
+          ∙ sym (ap (λ (a : List ℕ × List Item). found test w (n + size w (a .0)) (a .1)) (splitFrom-some plain q c t e))
 
   -- A scan of the characters of items in a row gives the items that pass the test.
   pub found-again : {xs : List Item} → Chain plain xs → (n : ℕ) → found test w n (items (join xs)) ≡ found test w n xs

@@ -34,8 +34,8 @@ use Rattle.scanner.proofs.Classes.{
   modifier-emoji,
   ri-emoji,
 }
-use Rattle.scanner.proofs.Tiling.{cut-none, cut-some}
-use Rattle.scanner.proofs.Walk.{walk-cut}
+use Rattle.scanner.proofs.Tiling.{splitFrom-none, splitFrom-some}
+use Rattle.scanner.proofs.Walk.{splitFrom-walk}
 use Rattle.scanner.proofs.DerivedWalks.{walk-S}
 use Rattle.scanner.proofs.Runs.{
   Passes,
@@ -51,7 +51,7 @@ use Rattle.scanner.proofs.Runs.{
   at-end,
   after-stops,
 }
-use Rattle.scanner.proofs.ItemRuns.{cut-run, links-off, links-on}
+use Rattle.scanner.proofs.ItemRuns.{splitFrom-run, links-off, links-on}
 
 unit-off : {c : ℕ} {k : Class} → HasClass c k → inModifications c ≡ false → eqb c 0x200D ≡ false → transition unit k ≡ none
 unfolding transition isModification
@@ -73,16 +73,17 @@ unit-off (is-other s k t) e f = refl
 pub unit-ends : {r : List ℕ} → Stops inModifications r → Stops (λ c. eqb c 0x200D) r → (splitFrom unit r) .0 ≡ []
 unfolding splitFrom
 unit-ends at-end i = refl
-unit-ends (at-char {c = c} {s = t} e) (at-char f) = ap (λ (a : List ℕ × List Item). a .0) (cut-none unit c t (unit-off (hasClass c) e f))
+unit-ends (at-char {c = c} {s = t} e) (at-char f) =
+    ap (λ (a : List ℕ × List Item). a .0) (splitFrom-none unit c t (unit-off (hasClass c) e f))
 
 -- The text from 200D on, split after this link and its S.
-link-cut : (t : List ℕ) → splitFrom unit (0x200D ∷ t)
+splitFrom-link : (t : List ℕ) → splitFrom unit (0x200D ∷ t)
     ≡ (0x200D ∷ (selectorsAt t ++ (splitFrom joined (afterSelectors t)) .0), (splitFrom joined (afterSelectors t)) .1)
 unfolding transition
-link-cut t =
-    cut-some unit joined 0x200D t (ap (transition unit) (class-is {c = 0x200D} (is-link refl)))
+splitFrom-link t =
+    splitFrom-some unit joined 0x200D t (ap (transition unit) (class-is {c = 0x200D} (is-link refl)))
     ∙ ap (λ (a : List ℕ × List Item). (0x200D ∷ a .0, a .1))
-    (ap (splitFrom joined) (sym (run-after isSelector t)) ∙ walk-cut (walk-S joined refl (passes-S (run-passes isSelector t)))
+    (ap (splitFrom joined) (sym (run-after isSelector t)) ∙ splitFrom-walk (walk-S joined refl (passes-S (run-passes isSelector t)))
     (afterSelectors t))
 
 joined-on : {c : ℕ} → EmojiClass c → transition joined (classOf c) ≡ some (startState (classOf c))
@@ -98,8 +99,8 @@ pub unit-joins : (t : List ℕ) (c : ℕ) (u : List ℕ) → afterSelectors t �
       (splitFrom (startState (classOf c)) u) .1,
     )
 unit-joins t c u e f =
-    link-cut t ∙ ap (λ (a : List ℕ × List Item). (0x200D ∷ (selectorsAt t ++ a .0), a .1))
-    (ap (splitFrom joined) e ∙ cut-some joined (startState (classOf c)) c u (joined-on (emoji-class c f)))
+    splitFrom-link t ∙ ap (λ (a : List ℕ × List Item). (0x200D ∷ (selectorsAt t ++ a .0), a .1))
+    (ap (splitFrom joined) e ∙ splitFrom-some joined (startState (classOf c)) c u (joined-on (emoji-class c f)))
 
 -- After one link and its S, the item ends at a character that is no selector, no link and no emoji.
 joined-off : {c : ℕ} {k : Class} → HasClass c k → isSelector c ≡ false → eqb c 0x200D ≡ false → isEmoji c ≡ false → transition joined k
@@ -121,11 +122,11 @@ joined-links (at-char {c = c} {s = t} e) (at-char g) = go (eqb c 0x200D) refl
   where
     go : (b : Bool) → eqb c 0x200D ≡ b → (splitFrom joined (c ∷ t)) .0 ≡ run inLinks (c ∷ t)
     go true f =
-        ap (λ (a : List ℕ × List Item). a .0) (cut-some joined leftOver c t (ap (transition joined) (class-link c f)))
-        ∙ ap (λ (l : List ℕ). c ∷ l) (cut-run leftOver inLinks (links-on leftOver refl refl) (λ d h. links-off (hasClass d) h .1) t)
+        ap (λ (a : List ℕ × List Item). a .0) (splitFrom-some joined leftOver c t (ap (transition joined) (class-link c f)))
+        ∙ ap (λ (l : List ℕ). c ∷ l) (splitFrom-run leftOver inLinks (links-on leftOver refl refl) (λ d h. links-off (hasClass d) h .1) t)
         ∙ sym (run-true inLinks c t (either-left (eqb c 0x200D) (isSelector c) f))
     go false f =
-        ap (λ (a : List ℕ × List Item). a .0) (cut-none joined c t (joined-off (hasClass c) e f g))
+        ap (λ (a : List ℕ × List Item). a .0) (splitFrom-none joined c t (joined-off (hasClass c) e f g))
         ∙ sym (run-false inLinks c t (ap₂ (λ (x y : Bool). x || y) f e))
 
 run-selectors : {s : List ℕ} (t : List ℕ) → Passes isSelector s → run inLinks (s ++ t) ≡ s ++ run inLinks t
@@ -133,10 +134,10 @@ run-selectors t all-pass = refl
 run-selectors t (pass-and {c = c} {s = s} e h) = run-true inLinks c (s ++ t) (either-right (eqb c 0x200D) (isSelector c) e)
     ∙ ap (λ (l : List ℕ). c ∷ l) (run-selectors t h)
 
-pub unit-left : (t : List ℕ) → Stops isEmoji (afterSelectors t) → (splitFrom unit (0x200D ∷ t)) .0 ≡ linksAt (0x200D ∷ t)
+pub unit-left-over : (t : List ℕ) → Stops isEmoji (afterSelectors t) → (splitFrom unit (0x200D ∷ t)) .0 ≡ linksAt (0x200D ∷ t)
 unfolding linksAt
-unit-left t n =
-    ap (λ (a : List ℕ × List Item). a .0) (link-cut t)
+unit-left-over t n =
+    ap (λ (a : List ℕ × List Item). a .0) (splitFrom-link t)
     ∙ ap (λ (l : List ℕ). 0x200D ∷ l) (ap (λ (l : List ℕ). selectorsAt t ++ l) (joined-links (after-stops isSelector t) n)
     ∙ sym (run-selectors (afterSelectors t) (run-passes isSelector t)) ∙ ap (run inLinks) (run-after isSelector t))
     ∙ sym (run-true inLinks 0x200D t refl)

@@ -7,7 +7,7 @@ use lib.ListN.{length, take, drop}
 use Rattle.utf8.specs.Rfc3629.{chars, encodeAll, validUpTo}
 use Rattle.scanner.specs.Items.{Item, items, join}
 use Rattle.scanner.specs.Spans.{scanFrom, size, spans, width}
-use Rattle.scanner.specs.Theorems.{Spells, no-spans, span-and, Tiles}
+use Rattle.scanner.specs.Theorems.{SpansOfItems, no-spans, span-and, Tiles}
 use Rattle.scanner.specs.declared.ScanItem.{ScanItem}
 use Rattle.scanner.proofs.Tiling.{Filled, no-item, and-item, filled, tiling, items-after, join-append}
 use Rattle.scanner.proofs.Rescan.{size-append}
@@ -33,22 +33,22 @@ scan-tiles text at =
 
 -- ---- spans are the encodings of their items
 
-spans-spell : (text : List ℕ) (at : ℕ) (xs : List Item) → chars (drop at text) ≡ join xs → Spells text (spans at xs) xs
+spans-of-items : (text : List ℕ) (at : ℕ) (xs : List Item) → chars (drop at text) ≡ join xs → SpansOfItems text (spans at xs) xs
 unfolding spans
-spans-spell text at [] e = no-spans
-spans-spell text at (x ∷ xs) e =
+spans-of-items text at [] e = no-spans
+spans-of-items text at (x ∷ xs) e =
     let n = size width (x .chars) in
     let d : at + n - at ≡ length (encodeAll (x .chars)) = let w = size-width (x .chars) in omega arith in
     span-and (ap (λ (m : ℕ). take m (drop at text)) d ∙ take-chars (drop at text) (x .chars) (join xs) e) refl refl
-    (spans-spell text (at + n) xs (chars-from text at (x .chars) (join xs) e))
+    (spans-of-items text (at + n) xs (chars-from text at (x .chars) (join xs) e))
 
-pub scan-spells : (text : List ℕ) (at : ℕ) → Spells text (scanFrom text at) (items (chars (drop at text)))
+pub scan-spans-of-items : (text : List ℕ) (at : ℕ) → SpansOfItems text (scanFrom text at) (items (chars (drop at text)))
 unfolding scanFrom
-scan-spells text at = spans-spell text at (items (chars (drop at text))) (sym (tiling (chars (drop at text))))
+scan-spans-of-items text at = spans-of-items text at (items (chars (drop at text))) (sym (tiling (chars (drop at text))))
 
-pub spells-first : {text : List ℕ} {s : ScanItem} {ss : List ScanItem} {x : Item} {xs : List Item} → Spells text (s ∷ ss) (x ∷ xs)
+pub spans-first : {text : List ℕ} {s : ScanItem} {ss : List ScanItem} {x : Item} {xs : List Item} → SpansOfItems text (s ∷ ss) (x ∷ xs)
     → take (s .end - s .start) (drop (s .start) text) ≡ encodeAll (x .chars)
-spells-first (span-and b c d h) = b
+spans-first (span-and b c d h) = b
 
 -- ---- a scan from a span's end
 

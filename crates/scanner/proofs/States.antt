@@ -65,11 +65,11 @@ abbrev pub onSome : (State → Bool) → Option State → Bool
 onSome f (some q) = f q
 onSome f none = true
 
-abbrev pub onStep : (State → State → Bool) → State → Class → Bool
-onStep f p k = onSome (f p) (transition p k)
+abbrev pub onTransition : (State → State → Bool) → State → Class → Bool
+onTransition f p k = onSome (f p) (transition p k)
 
-pub on-step : (f : State → State → Bool) → Every (onStep f) → (p q : State) (k : Class) → transition p k ≡ some q → T (f p q)
-on-step f h p q k e = subst (λ (o : Option State). T (onSome (f p) o)) e (everywhere (onStep f) h p k)
+pub on-transition : (f : State → State → Bool) → Every (onTransition f) → (p q : State) (k : Class) → transition p k ≡ some q → T (f p q)
+on-transition f h p q k e = subst (λ (o : Option State). T (onSome (f p) o)) e (everywhere (onTransition f) h p k)
 
 -- ---- passthrough
 
@@ -84,7 +84,7 @@ isPlain leftOver = false
 
 pub same-side : (p q : State) (k : Class) → transition p k ≡ some q → isPlain p ≡ isPlain q
 unfolding transition
-same-side p q k e = same-bool (isPlain p) (isPlain q) (on-step (λ p q. Bool·beq (isPlain p) (isPlain q)) always p q k e)
+same-side p q k e = same-bool (isPlain p) (isPlain q) (on-transition (λ p q. Bool·beq (isPlain p) (isPlain q)) always p q k e)
 
 pub is-plain : (p : State) → isPlain p ≡ true → p ≡ plain
 is-plain plain e = refl
@@ -103,9 +103,9 @@ kind-plain p e = subst (λ (q : State). kindOf q ≡ Passthrough) (sym (is-plain
 plainOn : Class → State → Bool
 plainOn k q = isPlain q && isPlain (startState k)
 
-pub plain-step : (k : Class) (q : State) → transition plain k ≡ some q → (q ≡ plain) × (startState k ≡ plain)
+pub plain-transition : (k : Class) (q : State) → transition plain k ≡ some q → (q ≡ plain) × (startState k ≡ plain)
 unfolding transition startState plainOn
-plain-step k q e =
+plain-transition k q e =
     let t : T (plainOn k q) = subst (λ (o : Option State). T (onSome (plainOn k) o)) e
     (row-of (λ k. onSome (plainOn k) (transition plain k)) (tt, tt, tt, tt, tt, tt, tt, tt) k) in
     let b = both-true (isPlain q) (isPlain (startState k)) (is-true (plainOn k q) t) in
@@ -122,20 +122,20 @@ inner unit = true
 inner joined = true
 inner leftOver = true
 
-pub inner-step : (p q : State) (k : Class) → transition p k ≡ some q → inner p ≡ inner q
+pub inner-transition : (p q : State) (k : Class) → transition p k ≡ some q → inner p ≡ inner q
 unfolding transition
-inner-step p q k e = same-bool (inner p) (inner q) (on-step (λ p q. Bool·beq (inner p) (inner q)) always p q k e)
+inner-transition p q k e = same-bool (inner p) (inner q) (on-transition (λ p q. Bool·beq (inner p) (inner q)) always p q k e)
 
 -- A selector leads from every state other than passthrough to the same state.
-pub solid-selector : (p : State) → isPlain p ≡ false → transition p selector ≡ some p
+pub not-plain-selector : (p : State) → isPlain p ≡ false → transition p selector ≡ some p
 unfolding transition
-solid-selector plain e = absurd (true≢false e)
-solid-selector selectors e = refl
-solid-selector links e = refl
-solid-selector oneRi e = refl
-solid-selector unit e = refl
-solid-selector joined e = refl
-solid-selector leftOver e = refl
+not-plain-selector plain e = absurd (true≢false e)
+not-plain-selector selectors e = refl
+not-plain-selector links e = refl
+not-plain-selector oneRi e = refl
+not-plain-selector unit e = refl
+not-plain-selector joined e = refl
+not-plain-selector leftOver e = refl
 
 -- A selector begins an item only after passthrough, or at the start of a text.
 pub selector-ends : (p : State) → transition p selector ≡ none → p ≡ plain
@@ -148,40 +148,40 @@ selector-ends unit e = cc
 selector-ends joined e = cc
 selector-ends leftOver e = cc
 
-pub inner-solid : (p : State) → inner p ≡ true → isPlain p ≡ false
-inner-solid plain e = absurd (false≢true e)
-inner-solid selectors e = refl
-inner-solid links e = refl
-inner-solid oneRi e = refl
-inner-solid unit e = refl
-inner-solid joined e = refl
-inner-solid leftOver e = refl
+pub inner-not-plain : (p : State) → inner p ≡ true → isPlain p ≡ false
+inner-not-plain plain e = absurd (false≢true e)
+inner-not-plain selectors e = refl
+inner-not-plain links e = refl
+inner-not-plain oneRi e = refl
+inner-not-plain unit e = refl
+inner-not-plain joined e = refl
+inner-not-plain leftOver e = refl
 
 pub inner-selector : (p : State) → inner p ≡ true → transition p selector ≡ some p
-inner-selector p e = solid-selector p (inner-solid p e)
+inner-selector p e = not-plain-selector p (inner-not-plain p e)
 
 -- Only a selector continues a run of selectors.
-pub selectors-step : (k : Class) (q : State) → transition selectors k ≡ some q → (k ≡ selector) × (q ≡ selectors)
+pub selectors-transition : (k : Class) (q : State) → transition selectors k ≡ some q → (k ≡ selector) × (q ≡ selectors)
 unfolding transition
-selectors-step selector q e = (refl, cc)
-selectors-step link q e = (cc, cc)
-selectors-step ri q e = (cc, cc)
-selectors-step modifier q e = (cc, cc)
-selectors-step emoji q e = (cc, cc)
-selectors-step keycap q e = (cc, cc)
-selectors-step tag q e = (cc, cc)
-selectors-step other q e = (cc, cc)
+selectors-transition selector q e = (refl, cc)
+selectors-transition link q e = (cc, cc)
+selectors-transition ri q e = (cc, cc)
+selectors-transition modifier q e = (cc, cc)
+selectors-transition emoji q e = (cc, cc)
+selectors-transition keycap q e = (cc, cc)
+selectors-transition tag q e = (cc, cc)
+selectors-transition other q e = (cc, cc)
 
 -- A character of class emoji leads to the state of a unit whose stem is complete.
-pub emoji-step : (p q : State) → transition p emoji ≡ some q → q ≡ unit
+pub emoji-transition : (p q : State) → transition p emoji ≡ some q → q ≡ unit
 unfolding transition
-emoji-step plain r e = cc
-emoji-step selectors r e = cc
-emoji-step links r e = cc
-emoji-step oneRi r e = cc
-emoji-step unit r e = cc
-emoji-step joined r e = cc
-emoji-step leftOver r e = cc
+emoji-transition plain r e = cc
+emoji-transition selectors r e = cc
+emoji-transition links r e = cc
+emoji-transition oneRi r e = cc
+emoji-transition unit r e = cc
+emoji-transition joined r e = cc
+emoji-transition leftOver r e = cc
 
 -- ---- the states of emoji-headed items, and tags there
 
@@ -194,19 +194,19 @@ headed unit = true
 headed joined = true
 headed leftOver = true
 
-pub headed-step : (p q : State) (k : Class) → transition p k ≡ some q → headed p ≡ headed q
+pub headed-transition : (p q : State) (k : Class) → transition p k ≡ some q → headed p ≡ headed q
 unfolding transition
-headed-step p q k e = same-bool (headed p) (headed q) (on-step (λ p q. Bool·beq (headed p) (headed q)) always p q k e)
+headed-transition p q k e = same-bool (headed p) (headed q) (on-transition (λ p q. Bool·beq (headed p) (headed q)) always p q k e)
 
-pub tag-step : (p q : State) → transition p tag ≡ some q → headed p ≡ true → q ≡ unit
+pub tag-transition : (p q : State) → transition p tag ≡ some q → headed p ≡ true → q ≡ unit
 unfolding transition
-tag-step plain q e h = absurd (false≢true h)
-tag-step selectors q e h = cc
-tag-step links q e h = cc
-tag-step oneRi q e h = cc
-tag-step unit q e h = cc
-tag-step joined q e h = cc
-tag-step leftOver q e h = cc
+tag-transition plain q e h = absurd (false≢true h)
+tag-transition selectors q e h = cc
+tag-transition links q e h = cc
+tag-transition oneRi q e h = cc
+tag-transition unit q e h = cc
+tag-transition joined q e h = cc
+tag-transition leftOver q e h = cc
 
 -- A tag modification begins with a tag that leads to the state `unit`.
 pub tag-begins : (q : State) (k : Class) → beginsTags q k ≡ true → (k ≡ tag) × (q ≡ unit)

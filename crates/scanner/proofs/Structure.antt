@@ -71,18 +71,18 @@ use Rattle.scanner.proofs.Tags.{link-tags, unit-tags}
 
 -- ---- splitting at links
 
-cut-char : (c : ℕ) (t : List ℕ) → eqb c 0x200D ≡ false → splitAtLinks (c ∷ t) ≡ (c ∷ (splitAtLinks t) .0, (splitAtLinks t) .1)
+splitAtLinks-char : (c : ℕ) (t : List ℕ) → eqb c 0x200D ≡ false → splitAtLinks (c ∷ t) ≡ (c ∷ (splitAtLinks t) .0, (splitAtLinks t) .1)
 unfolding splitAtLinks
-cut-char c t e = simp e
+splitAtLinks-char c t e = simp e
 
-cut-no-link : {v : List ℕ} (w : List ℕ) → NoLink v → splitAtLinks (v ++ w) ≡ (v ++ (splitAtLinks w) .0, (splitAtLinks w) .1)
-cut-no-link w no-more = refl
-cut-no-link w (no-link-and {c = c} {s = s} e h) = cut-char c (s ++ w) e
-    ∙ ap (λ (r : List ℕ × List (List ℕ)). (c ∷ r .0, r .1)) (cut-no-link w h)
+splitAtLinks-no-link : {v : List ℕ} (w : List ℕ) → NoLink v → splitAtLinks (v ++ w) ≡ (v ++ (splitAtLinks w) .0, (splitAtLinks w) .1)
+splitAtLinks-no-link w no-more = refl
+splitAtLinks-no-link w (no-link-and {c = c} {s = s} e h) = splitAtLinks-char c (s ++ w) e
+    ∙ ap (λ (r : List ℕ × List (List ℕ)). (c ∷ r .0, r .1)) (splitAtLinks-no-link w h)
 
-cut-link : (t : List ℕ) → splitAtLinks (0x200D ∷ t) ≡ ([], (splitAtLinks t) .0 ∷ (splitAtLinks t) .1)
+splitAtLinks-link : (t : List ℕ) → splitAtLinks (0x200D ∷ t) ≡ ([], (splitAtLinks t) .0 ∷ (splitAtLinks t) .1)
 unfolding splitAtLinks
-cut-link t = refl
+splitAtLinks-link t = refl
 
 -- ---- characters and their structure
 
@@ -128,8 +128,8 @@ unfolding flattenLinks flattenLink joinedOf joinOne tagModifications withTags
 link-more {s} {l} h r =
     let ss = (splitAtLinks l) .1 in
     let c : splitAtLinks (0x200D ∷ (s ++ l)) ≡ ([], (s ++ []) ∷ ss) =
-    cut-link (s ++ l) ∙ ap (λ (a : List ℕ × List (List ℕ)). ([], a .0 ∷ a .1))
-    (cut-no-link l (S-no-link h) ∙ ap (λ (b : List ℕ). (s ++ b, ss)) (r .before)) in
+    splitAtLinks-link (s ++ l) ∙ ap (λ (a : List ℕ × List (List ℕ)). ([], a .0 ∷ a .1))
+    (splitAtLinks-no-link l (S-no-link h) ∙ ap (λ (b : List ℕ). (s ++ b, ss)) (r .before)) in
     let p : selectorsAt (s ++ []) ≡ s = run-all isSelector (S-passes h) at-end in
     let q : afterSelectors (s ++ []) ≡ [] = after-all isSelector (S-passes h) at-end in
     record {
@@ -180,7 +180,7 @@ record JoinsRead (w : List ℕ) : Type 0 where
   flat : flattenJoined joined ++ flattenLinks left ≡ w
   tags : tagRuns w ≡ ([], tagsOfJoined joined)
   joined-derive : (j : ZwjJoinedEmoji) → List·Memᴰ j joined → Link (flattenLink (j .link)) × UnitDerives (j .emoji)
-  left-derive : (l : ZwjLink) → List·Memᴰ l left → Link (flattenLink l)
+  left-over-derives : (l : ZwjLink) → List·Memᴰ l left → Link (flattenLink l)
   are : JoinsAre w joined left
 
 no-joins : {l : List ℕ} → LinksRead l → JoinsRead l
@@ -193,7 +193,7 @@ no-joins {l} r = record {
   flat = r .flat;
   tags = r .tags;
   joined-derive = λ j m. absurd (List·Memᴰ·not-nil m);
-  left-derive = links-derive ((splitAtLinks l) .1);
+  left-over-derives = links-derive ((splitAtLinks l) .1);
   are = no-joins-are (r .are);
 }
 
@@ -205,9 +205,9 @@ one-join {s} {v} {w} h d r =
     let x : EmojiLike = emojiLike (u .char) (u .rest) in
     let st : Stops isSelector v = subst (Stops isSelector) (sym (u .split)) (at-char (emoji-no-selector (u .char) (u .is-emoji))) in
     let c : splitAtLinks (0x200D ∷ (s ++ (v ++ w))) ≡ ([], (s ++ v) ∷ ss) =
-    cut-link (s ++ (v ++ w)) ∙ ap (λ (a : List ℕ × List (List ℕ)). ([], a .0 ∷ a .1)) (cut-no-link (v ++ w) (S-no-link h)
+    splitAtLinks-link (s ++ (v ++ w)) ∙ ap (λ (a : List ℕ × List (List ℕ)). ([], a .0 ∷ a .1)) (splitAtLinks-no-link (v ++ w) (S-no-link h)
     ∙ ap (λ (a : List ℕ × List (List ℕ)). (s ++ a .0, a .1))
-    (cut-no-link w (unit-no-link d) ∙ ap (λ (b : List ℕ). (b, ss)) (ap (λ (b : List ℕ). v ++ b) (r .before) ∙ append-nil v))) in
+    (splitAtLinks-no-link w (unit-no-link d) ∙ ap (λ (b : List ℕ). (b, ss)) (ap (λ (b : List ℕ). v ++ b) (r .before) ∙ append-nil v))) in
     let p : selectorsAt (s ++ v) ≡ s = run-all isSelector (S-passes h) st in
     let q : afterSelectors (s ++ v) ≡ u .char ∷ u .rest = after-all isSelector (S-passes h) st ∙ u .split in
     let l : ZwjLink = record { after = s } in
@@ -225,7 +225,7 @@ one-join {s} {v} {w} h d r =
           (unit-tags w (tagsOfJoined (r .joined)) (r .tags) u);
       joined-derive = λ j m. ⊎-elim (λ e. subst (λ (y : ZwjJoinedEmoji). Link (flattenLink (y .link)) × UnitDerives (y .emoji)) (sym e)
           (a-link h, unit-derives u)) (λ i. r .joined-derive j i) (List·Memᴰ·cases-cons m);
-      left-derive = r .left-derive;
+      left-over-derives = r .left-over-derives;
       are = join-are h d (r .are);
     }
 
@@ -250,12 +250,12 @@ sequence-read {v} {w} d r =
     let u = unit-read d in
     let x : EmojiLike = emojiLike (u .char) (u .rest) in
     let e : structure (v ++ w) ≡ emojiHeaded x (r .joined) (r .left) =
-    ap (λ (a : List ℕ × List (List ℕ)). sequenceOf (a .0) (a .1)) (cut-no-link w (unit-no-link d))
+    ap (λ (a : List ℕ × List (List ℕ)). sequenceOf (a .0) (a .1)) (splitAtLinks-no-link w (unit-no-link d))
     ∙ ap (λ (b : List ℕ). sequenceOf b ((splitAtLinks w) .1)) (ap (λ (b : List ℕ). v ++ b) (r .before) ∙ append-nil v ∙ u .split)
     ∙ ap (λ (a : List ZwjJoinedEmoji × List ZwjLink). emojiHeaded x (a .0) (a .1)) (r .parts) in
     record {
       flat = ap flatten e ∙ ap₂ (λ (a b : List ℕ). a ++ b) (unit-flatten u) (r .flat);
-      derives = subst StructureDerives (sym e) (unit-derives u, r .joined-derive, r .left-derive);
+      derives = subst StructureDerives (sym e) (unit-derives u, r .joined-derive, r .left-over-derives);
       tags = ap (λ (a : List ℕ × List (List ℕ)). withTags (a .0) (a .1)) (unit-tags w (tagsOfJoined (r .joined)) (r .tags) u)
           ∙ sym (ap tagsOf e);
       are = subst (SequenceAre (v ++ w)) (sym e) (emoji-are d (r .are));

@@ -47,7 +47,7 @@ use Rattle.scanner.specs.RunKinds.{isSelectorClass, isTagClass}
 use Rattle.scanner.proofs.ClassTests.{selector-test, tag-test}
 use Rattle.scanner.proofs.Complete.{complete-end, complete-other, complete-selector, complete-start, complete-tag, completeFrom}
 use Rattle.scanner.proofs.Peek.{Seen, Unseen}
-use Rattle.scanner.proofs.States.{headed, headed-step, tag-step}
+use Rattle.scanner.proofs.States.{headed, headed-transition, tag-transition}
 use Rattle.scanner.proofs.Runs.{Passes, all-pass, pass-and, Stops, at-char, at-end, run-false, run-true}
 use Rattle.scanner.proofs.Tags.{tag-runs-other, tag-runs-selector}
 
@@ -198,12 +198,13 @@ no-tag p q ri e h b = refl
 no-tag p q modifier e h b = refl
 no-tag p q emoji e h b = refl
 no-tag p q keycap e h b = refl
-no-tag p q tag e h b = absurd (true≢false (sym (ap (λ (r : State). beginsTags r tag) (tag-step p q e h)) ∙ b))
+no-tag p q tag e h b = absurd (true≢false (sym (ap (λ (r : State). beginsTags r tag) (tag-transition p q e h)) ∙ b))
 no-tag p q other e h b = refl
 
 pub tags-on : (p q : State) {k : Class} (c : ℕ) (s : List ℕ) → k ≡ classOf c → transition p k ≡ some q → beginsTags q k ≡ false
     → tagsComplete (kindOf p) (c ∷ s) ≡ tagsComplete (kindOf q) s
-tags-on p q {k} c s i e b = tags-by p (c ∷ s) ∙ go (headed p) refl ∙ ap (λ (h : Bool). tagsIn h s) (headed-step p q k e) ∙ sym (tags-by q s)
+tags-on p q {k} c s i e b =
+    tags-by p (c ∷ s) ∙ go (headed p) refl ∙ ap (λ (h : Bool). tagsIn h s) (headed-transition p q k e) ∙ sym (tags-by q s)
   where
     go : (h : Bool) → headed p ≡ h → tagsIn h (c ∷ s) ≡ tagsIn h s
     go true f = ap allComplete (other-tags c s (tag-test c ∙ ap isTagClass (sym i) ∙ no-tag p q k e f b))

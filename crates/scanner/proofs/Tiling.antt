@@ -17,30 +17,30 @@ first c t = record { kind = kindOf (startState (classOf c)); chars = c ∷ (spli
 abbrev pub after : ℕ → List ℕ → List Item
 after c t = (splitFrom (startState (classOf c)) t) .1
 
-pub cut-some : (p q : State) (c : ℕ) (t : List ℕ) → transition p (classOf c) ≡ some q → splitFrom p (c ∷ t)
+pub splitFrom-some : (p q : State) (c : ℕ) (t : List ℕ) → transition p (classOf c) ≡ some q → splitFrom p (c ∷ t)
     ≡ (c ∷ (splitFrom q t) .0, (splitFrom q t) .1)
 unfolding splitFrom
-cut-some p q c t e = rw (e, splitFrom)
+splitFrom-some p q c t e = rw (e, splitFrom)
 
-pub cut-none : (p : State) (c : ℕ) (t : List ℕ) → transition p (classOf c) ≡ none → splitFrom p (c ∷ t) ≡ ([], first c t ∷ after c t)
+pub splitFrom-none : (p : State) (c : ℕ) (t : List ℕ) → transition p (classOf c) ≡ none → splitFrom p (c ∷ t) ≡ ([], first c t ∷ after c t)
 unfolding splitFrom
-cut-none p c t e = rw (e, splitFrom)
+splitFrom-none p c t e = rw (e, splitFrom)
 
-pub cut-tile : (p : State) (t : List ℕ) → (splitFrom p t) .0 ++ join ((splitFrom p t) .1) ≡ t
+pub splitFrom-tiles : (p : State) (t : List ℕ) → (splitFrom p t) .0 ++ join ((splitFrom p t) .1) ≡ t
 unfolding splitFrom
-cut-tile p [] = refl
-cut-tile p (c ∷ t) = go (transition p (classOf c)) refl (λ q. cut-tile q t)
+splitFrom-tiles p [] = refl
+splitFrom-tiles p (c ∷ t) = go (transition p (classOf c)) refl (λ q. splitFrom-tiles q t)
   where
     go : (o : Option State) → transition p (classOf c) ≡ o → ((q : State) → (splitFrom q t) .0 ++ join ((splitFrom q t) .1) ≡ t)
         → (splitFrom p (c ∷ t)) .0 ++ join ((splitFrom p (c ∷ t)) .1) ≡ c ∷ t
-    go (some q) e h = rw (cut-some p q c t e) (ap (λ (l : List ℕ). c ∷ l) (h q))
-    go none e h = rw (cut-none p c t e) (ap (λ (l : List ℕ). c ∷ l) (h (startState (classOf c))))
+    go (some q) e h = rw (splitFrom-some p q c t e) (ap (λ (l : List ℕ). c ∷ l) (h q))
+    go none e h = rw (splitFrom-none p c t e) (ap (λ (l : List ℕ). c ∷ l) (h (startState (classOf c))))
 
 -- The characters of the items, one item after the other, are the text.
 pub tiling : (t : List ℕ) → join (items t) ≡ t
 unfolding items
 tiling [] = refl
-tiling (c ∷ t) = ap (λ (l : List ℕ). c ∷ l) (cut-tile (startState (classOf c)) t)
+tiling (c ∷ t) = ap (λ (l : List ℕ). c ∷ l) (splitFrom-tiles (startState (classOf c)) t)
 
 -- ---- a scan from an item's end
 
@@ -52,20 +52,20 @@ restart p (c ∷ t) = go (transition p (classOf c)) refl (λ q. restart q t)
     go : (o : Option State) → transition p (classOf c) ≡ o
         → ((q : State) → (splitFrom q t) .1 ≡ items (drop (length ((splitFrom q t) .0)) t))
         → (splitFrom p (c ∷ t)) .1 ≡ items (drop (length ((splitFrom p (c ∷ t)) .0)) (c ∷ t))
-    go (some q) e h = rw (cut-some p q c t e) (h q)
-    go none e h = rw (cut-none p c t e)
+    go (some q) e h = rw (splitFrom-some p q c t e) (h q)
+    go none e h = rw (splitFrom-none p c t e)
 
 -- The items after the item at a state are the items of the remaining text, scanned alone.
-pub cut-restart : (p : State) (t : List ℕ) → items (join ((splitFrom p t) .1)) ≡ (splitFrom p t) .1
-cut-restart p t =
+pub splitFrom-restart : (p : State) (t : List ℕ) → items (join ((splitFrom p t) .1)) ≡ (splitFrom p t) .1
+splitFrom-restart p t =
     ap items (sym (drop-append-seam ((splitFrom p t) .0) (join ((splitFrom p t) .1)))
-    ∙ ap (drop (length ((splitFrom p t) .0))) (cut-tile p t)) ∙ sym (restart p t)
+    ∙ ap (drop (length ((splitFrom p t) .0))) (splitFrom-tiles p t)) ∙ sym (restart p t)
 
 pub items-tail : (t : List ℕ) (x : Item) (xs : List Item) → items t ≡ x ∷ xs → items (join xs) ≡ xs
 unfolding items
 items-tail [] x xs e = absurd (cons-ne-nil x xs (sym e))
 items-tail (c ∷ t) x xs e = let z : (splitFrom (startState (classOf c)) t) .1 ≡ xs = cc in ap (λ (l : List Item). items (join l)) (sym z)
-    ∙ cut-restart (startState (classOf c)) t ∙ z
+    ∙ splitFrom-restart (startState (classOf c)) t ∙ z
 
 -- A scan from an item's end gives the remaining items.
 pub items-after : (t : List ℕ) (xs ys : List Item) → items t ≡ xs ++ ys → items (join ys) ≡ ys
@@ -87,19 +87,19 @@ pub data Filled : List Item → Type 0 where
   no-item : Filled []
   and-item : {x : Item} {xs : List Item} (c : ℕ) (s : List ℕ) → x .chars ≡ c ∷ s → Filled xs → Filled (x ∷ xs)
 
-pub filled-cut : (p : State) (t : List ℕ) → Filled ((splitFrom p t) .1)
+pub splitFrom-filled : (p : State) (t : List ℕ) → Filled ((splitFrom p t) .1)
 unfolding splitFrom
-filled-cut p [] = no-item
-filled-cut p (c ∷ t) = go (transition p (classOf c)) refl (λ q. filled-cut q t)
+splitFrom-filled p [] = no-item
+splitFrom-filled p (c ∷ t) = go (transition p (classOf c)) refl (λ q. splitFrom-filled q t)
   where
     go : (o : Option State) → transition p (classOf c) ≡ o → ((q : State) → Filled ((splitFrom q t) .1)) → Filled ((splitFrom p (c ∷ t)) .1)
-    go (some q) e h = rw (cut-some p q c t e) (h q)
-    go none e h = rw (cut-none p c t e) (and-item c _ refl (h (startState (classOf c))))
+    go (some q) e h = rw (splitFrom-some p q c t e) (h q)
+    go none e h = rw (splitFrom-none p c t e) (and-item c _ refl (h (startState (classOf c))))
 
 pub filled : (t : List ℕ) → Filled (items t)
 unfolding items
 filled [] = no-item
-filled (c ∷ t) = and-item c _ refl (filled-cut (startState (classOf c)) t)
+filled (c ∷ t) = and-item c _ refl (splitFrom-filled (startState (classOf c)) t)
 
 filled-member : {xs : List Item} {x : Item} → Filled xs → List·Memᴰ x xs → x .chars ≢ []
 filled-member (and-item c s l h) (List·Memᴰ·head p) e = cons-ne-nil c s (sym l ∙ ap (λ (i : Item). i .chars) (sym p) ∙ e)

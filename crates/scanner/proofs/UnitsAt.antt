@@ -243,5 +243,5 @@ module _ (text : List ℕ) (end at : ℕ) where
           pub part-joins : isEmojiClass c ≡ true → JoiningLink s ≡ partRead text end at
           part-joins f = joins-by true f
 
-          pub part-left : isEmojiClass c ≡ false → LeftOverLink s ≡ partRead text end at
-          part-left f = joins-by false f
+          pub part-left-over : isEmojiClass c ≡ false → LeftOverLink s ≡ partRead text end at
+          part-left-over f = joins-by false f

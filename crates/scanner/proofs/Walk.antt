@@ -10,8 +10,8 @@ use Rattle.unicode.specs.Presentation.{isSelector}
 use Rattle.scanner.specs.Classes.{Class, classOf, strip}
 use Rattle.scanner.specs.Items.{State, plain, selectors, transition, startState, kindOf, Item, splitFrom, items}
 use Rattle.scanner.proofs.Classes.{class-selector, selector-class}
-use Rattle.scanner.proofs.Tiling.{cut-some, cut-none}
-use Rattle.scanner.proofs.States.{isPlain, same-side, inner, inner-step, inner-selector, selectors-step}
+use Rattle.scanner.proofs.Tiling.{splitFrom-some, splitFrom-none}
+use Rattle.scanner.proofs.States.{isPlain, same-side, inner, inner-transition, inner-selector, selectors-transition}
 
 -- ---- a walk from state to state
 
@@ -30,13 +30,14 @@ walk-plain (pass {p = p} {q = q} {c = c} e w) = same-side p q (classOf c) e ∙ 
 
 pub walk-inner : {p q : State} {t : List ℕ} → Walk p t q → inner p ≡ inner q
 walk-inner stay = refl
-walk-inner (pass {p = p} {q = q} {c = c} e w) = inner-step p q (classOf c) e ∙ walk-inner w
+walk-inner (pass {p = p} {q = q} {c = c} e w) = inner-transition p q (classOf c) e ∙ walk-inner w
 
 -- The characters of a walk belong to the item.
-pub walk-cut : {p q : State} {s : List ℕ} → Walk p s q → (t : List ℕ) → splitFrom p (s ++ t) ≡ (s ++ (splitFrom q t) .0, (splitFrom q t) .1)
-walk-cut stay t = refl
-walk-cut (pass {p = p} {q = q} {r = r} {c = c} {t = s} e w) t = cut-some p q c (s ++ t) e
-    ∙ ap (λ (a : List ℕ × List Item). (c ∷ a .0, a .1)) (walk-cut w t)
+pub splitFrom-walk : {p q : State} {s : List ℕ} → Walk p s q → (t : List ℕ)
+    → splitFrom p (s ++ t) ≡ (s ++ (splitFrom q t) .0, (splitFrom q t) .1)
+splitFrom-walk stay t = refl
+splitFrom-walk (pass {p = p} {q = q} {r = r} {c = c} {t = s} e w) t = splitFrom-some p q c (s ++ t) e
+    ∙ ap (λ (a : List ℕ × List Item). (c ∷ a .0, a .1)) (splitFrom-walk w t)
 
 -- ---- items in a row
 
@@ -63,14 +64,14 @@ rest p (c ∷ t) = go (transition p (classOf c)) refl (λ q. rest q t)
     go : (o : Option State) → transition p (classOf c) ≡ o → ((q : State) → Rest q t) → Rest p (c ∷ t)
     go (some q) e h = record {
       end = h q .end;
-      walked = rw (cut-some p q c t e) (pass e (h q .walked));
-      chain = rw (cut-some p q c t e)
+      walked = rw (splitFrom-some p q c t e) (pass e (h q .walked));
+      chain = rw (splitFrom-some p q c t e)
           (h q .chain);
     }
     go none e h = record {
       end = p;
-      walked = rw (cut-none p c t e) stay;
-      chain = rw (cut-none p c t e)
+      walked = rw (splitFrom-none p c t e) stay;
+      chain = rw (splitFrom-none p c t e)
           (then c _ (stops e) refl refl (h (startState (classOf c)) .walked) (h (startState (classOf c)) .chain));
     }
 
@@ -98,7 +99,7 @@ pub strip-walk : {p q : State} {t : List ℕ} → inner p ≡ true → Walk p t 
 unfolding strip
 strip-walk i stay = stay
 strip-walk i (pass {p = p} {q = q} {r = r} {c = c} {t = t} e w) = go (isSelector c) refl
-    (strip-walk (sym (inner-step p q (classOf c) e) ∙ i) w)
+    (strip-walk (sym (inner-transition p q (classOf c) e) ∙ i) w)
   where
     go : (b : Bool) → isSelector c ≡ b → Walk q (strip t) r → Walk p (strip (c ∷ t)) r
     go true s h =
@@ -119,7 +120,7 @@ fill-walk {p} {q} (c ∷ t) i w = go (isSelector c) refl (λ x j v. fill-walk {p
     go true s h = let m : transition p (classOf c) ≡ some p = rw (class-selector c s) (inner-selector p i) in pass m
         (h p i (rw (strip-selector c t s) at w))
     go false s h = let v = walk-cons (rw (strip-char c t s) at w) in pass (v .1)
-        (h (v .0) (sym (inner-step p (v .0) (classOf c) (v .1)) ∙ i) (v .2))
+        (h (v .0) (sym (inner-transition p (v .0) (classOf c) (v .1)) ∙ i) (v .2))
 
 -- Two lists with the same characters other than selectors lead from a state of links or units to the same state.
 pub same-walk : {p q : State} (s t : List ℕ) → inner p ≡ true → strip s ≡ strip t → Walk p s q → Walk p t q
@@ -135,5 +136,5 @@ pub selectors-strip : {p q : State} {s : List ℕ} → p ≡ selectors → Walk 
 unfolding strip
 selectors-strip e stay = refl
 selectors-strip e (pass {q = q} {c = c} {t = t} f w) =
-    let k = selectors-step (classOf c) q (ap (λ (p : State). transition p (classOf c)) (sym e) ∙ f) in
+    let k = selectors-transition (classOf c) q (ap (λ (p : State). transition p (classOf c)) (sym e) ∙ f) in
     strip-selector c t (selector-class c (k .0)) ∙ selectors-strip (k .1) w

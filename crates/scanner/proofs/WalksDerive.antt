@@ -143,64 +143,64 @@ abbrev TailAfter : Option State → List ℕ → Type 0
 TailAfter none t = ⊥
 TailAfter (some q) t = Tail q t
 
-tail-step : (p : State) {k : Class} {c : ℕ} (t : List ℕ) → HasClass c k → TailAfter (transition p k) t → Tail p (c ∷ t)
+tail-transition : (p : State) {k : Class} {c : ℕ} (t : List ℕ) → HasClass c k → TailAfter (transition p k) t → Tail p (c ∷ t)
 unfolding transition
-tail-step plain u (is-selector e) h = absurd h
-tail-step plain u (is-link e) h = absurd h
-tail-step plain u (is-ri e) h = absurd h
-tail-step plain u (is-modifier e) h = absurd h
-tail-step plain u (is-emoji e r m) h = absurd h
-tail-step plain u (is-keycap e) h = keycap-run (is-keycap e) h
-tail-step plain {c = c} u (is-tag e) h = plain-and (tag-plain c e) h
-tail-step plain u (is-other p k t) h = plain-and p h
-tail-step selectors u (is-selector e) h = selector-and e h
-tail-step selectors u (is-link e) h = absurd h
-tail-step selectors u (is-ri e) h = absurd h
-tail-step selectors u (is-modifier e) h = absurd h
-tail-step selectors u (is-emoji e r m) h = absurd h
-tail-step selectors u (is-keycap e) h = absurd h
-tail-step selectors u (is-tag e) h = absurd h
-tail-step selectors u (is-other p k t) h = absurd h
-tail-step links u (is-selector e) h = links-selector e h
-tail-step links u (is-link e) h = link-more (is-link e) h
-tail-step links u (is-ri e) h = absurd h
-tail-step links u (is-modifier e) h = absurd h
-tail-step links u (is-emoji e r m) h = absurd h
-tail-step links u (is-keycap e) h = absurd h
-tail-step links u (is-tag e) h = absurd h
-tail-step links u (is-other p k t) h = absurd h
-tail-step oneRi u (is-selector e) h = ri-selector e h
-tail-step oneRi u (is-link e) h = no-flag (link-tail (is-link e) h)
-tail-step oneRi {c = c} u (is-ri e) h = flag-tail c no-selectors e h
-tail-step oneRi u (is-modifier e) h = no-flag (modifier-tail (is-modifier e) h)
-tail-step oneRi u (is-emoji e r m) h = absurd h
-tail-step oneRi u (is-keycap e) h = no-flag (keycap-tail (is-keycap e) h)
-tail-step oneRi u (is-tag e) h = no-flag (tag-tail (is-tag e) h)
-tail-step oneRi u (is-other p k t) h = absurd h
-tail-step unit u (is-selector e) h = unit-selector e h
-tail-step unit u (is-link e) h = link-tail (is-link e) h
-tail-step unit u (is-ri e) h = absurd h
-tail-step unit u (is-modifier e) h = modifier-tail (is-modifier e) h
-tail-step unit u (is-emoji e r m) h = absurd h
-tail-step unit u (is-keycap e) h = keycap-tail (is-keycap e) h
-tail-step unit u (is-tag e) h = tag-tail (is-tag e) h
-tail-step unit u (is-other p k t) h = absurd h
-tail-step joined u (is-selector e) h = join-selector e h
-tail-step joined u (is-link e) h = no-unit (link-more (is-link e) h)
-tail-step joined u (is-ri e) h = join-ri e h
-tail-step joined {c = c} u (is-modifier e) h = join-single (modifier-emoji c e) h
-tail-step joined u (is-emoji e r m) h = join-single e h
-tail-step joined u (is-keycap e) h = absurd h
-tail-step joined u (is-tag e) h = absurd h
-tail-step joined u (is-other p k t) h = absurd h
-tail-step leftOver u (is-selector e) h = links-selector e h
-tail-step leftOver u (is-link e) h = link-more (is-link e) h
-tail-step leftOver u (is-ri e) h = absurd h
-tail-step leftOver u (is-modifier e) h = absurd h
-tail-step leftOver u (is-emoji e r m) h = absurd h
-tail-step leftOver u (is-keycap e) h = absurd h
-tail-step leftOver u (is-tag e) h = absurd h
-tail-step leftOver u (is-other p k t) h = absurd h
+tail-transition plain u (is-selector e) h = absurd h
+tail-transition plain u (is-link e) h = absurd h
+tail-transition plain u (is-ri e) h = absurd h
+tail-transition plain u (is-modifier e) h = absurd h
+tail-transition plain u (is-emoji e r m) h = absurd h
+tail-transition plain u (is-keycap e) h = keycap-run (is-keycap e) h
+tail-transition plain {c = c} u (is-tag e) h = plain-and (tag-plain c e) h
+tail-transition plain u (is-other p k t) h = plain-and p h
+tail-transition selectors u (is-selector e) h = selector-and e h
+tail-transition selectors u (is-link e) h = absurd h
+tail-transition selectors u (is-ri e) h = absurd h
+tail-transition selectors u (is-modifier e) h = absurd h
+tail-transition selectors u (is-emoji e r m) h = absurd h
+tail-transition selectors u (is-keycap e) h = absurd h
+tail-transition selectors u (is-tag e) h = absurd h
+tail-transition selectors u (is-other p k t) h = absurd h
+tail-transition links u (is-selector e) h = links-selector e h
+tail-transition links u (is-link e) h = link-more (is-link e) h
+tail-transition links u (is-ri e) h = absurd h
+tail-transition links u (is-modifier e) h = absurd h
+tail-transition links u (is-emoji e r m) h = absurd h
+tail-transition links u (is-keycap e) h = absurd h
+tail-transition links u (is-tag e) h = absurd h
+tail-transition links u (is-other p k t) h = absurd h
+tail-transition oneRi u (is-selector e) h = ri-selector e h
+tail-transition oneRi u (is-link e) h = no-flag (link-tail (is-link e) h)
+tail-transition oneRi {c = c} u (is-ri e) h = flag-tail c no-selectors e h
+tail-transition oneRi u (is-modifier e) h = no-flag (modifier-tail (is-modifier e) h)
+tail-transition oneRi u (is-emoji e r m) h = absurd h
+tail-transition oneRi u (is-keycap e) h = no-flag (keycap-tail (is-keycap e) h)
+tail-transition oneRi u (is-tag e) h = no-flag (tag-tail (is-tag e) h)
+tail-transition oneRi u (is-other p k t) h = absurd h
+tail-transition unit u (is-selector e) h = unit-selector e h
+tail-transition unit u (is-link e) h = link-tail (is-link e) h
+tail-transition unit u (is-ri e) h = absurd h
+tail-transition unit u (is-modifier e) h = modifier-tail (is-modifier e) h
+tail-transition unit u (is-emoji e r m) h = absurd h
+tail-transition unit u (is-keycap e) h = keycap-tail (is-keycap e) h
+tail-transition unit u (is-tag e) h = tag-tail (is-tag e) h
+tail-transition unit u (is-other p k t) h = absurd h
+tail-transition joined u (is-selector e) h = join-selector e h
+tail-transition joined u (is-link e) h = no-unit (link-more (is-link e) h)
+tail-transition joined u (is-ri e) h = join-ri e h
+tail-transition joined {c = c} u (is-modifier e) h = join-single (modifier-emoji c e) h
+tail-transition joined u (is-emoji e r m) h = join-single e h
+tail-transition joined u (is-keycap e) h = absurd h
+tail-transition joined u (is-tag e) h = absurd h
+tail-transition joined u (is-other p k t) h = absurd h
+tail-transition leftOver u (is-selector e) h = links-selector e h
+tail-transition leftOver u (is-link e) h = link-more (is-link e) h
+tail-transition leftOver u (is-ri e) h = absurd h
+tail-transition leftOver u (is-modifier e) h = absurd h
+tail-transition leftOver u (is-emoji e r m) h = absurd h
+tail-transition leftOver u (is-keycap e) h = absurd h
+tail-transition leftOver u (is-tag e) h = absurd h
+tail-transition leftOver u (is-other p k t) h = absurd h
 
 tail-end : (p : State) → Tail p []
 tail-end plain = no-plain
@@ -213,7 +213,7 @@ tail-end leftOver = links-tail no-selectors no-links
 
 tail-walk : {p q : State} {s : List ℕ} → Walk p s q → Tail p s
 tail-walk {p} stay = tail-end p
-tail-walk (pass {p = p} {c = c} {t = t} e w) = tail-step p t (hasClass c)
+tail-walk (pass {p = p} {c = c} {t = t} e w) = tail-transition p t (hasClass c)
     (subst (λ (o : Option State). TailAfter o t) (sym e) (tail-walk w))
 
 -- ---- items

@@ -171,17 +171,17 @@ unfoldable pub SpansTileFrom : Type 0
 SpansTileFrom = (text : List ℕ) (at : ℕ) → Tiles at (scanFrom text at) (at + validUpTo (drop at text))
 
 -- Each span stands for an item: its bytes are the encoding of the item's characters, and it has the item's kind and tag report.
-pub data Spells (text : List ℕ) : List ScanItem → List Item → Type 0 where
-  no-spans : Spells text [] []
+pub data SpansOfItems (text : List ℕ) : List ScanItem → List Item → Type 0 where
+  no-spans : SpansOfItems text [] []
   span-and :
       {s : ScanItem} {ss : List ScanItem} {x : Item} {xs : List Item}
       → take (s .end - s .start) (drop (s .start) text) ≡ encodeAll (x .chars) → s .kind ≡ x .kind → s .«tags_complete»
-      ≡ tagsComplete (x .kind) (x .chars) → Spells text ss xs
-      → Spells text (s ∷ ss) (x ∷ xs)
+      ≡ tagsComplete (x .kind) (x .chars) → SpansOfItems text ss xs
+      → SpansOfItems text (s ∷ ss) (x ∷ xs)
 
 -- The spans of a text stand for its items, one for each, in order.
 unfoldable pub SpansAreItems : Type 0
-SpansAreItems = (text : List ℕ) → Spells text (scan text) (items (chars text))
+SpansAreItems = (text : List ℕ) → SpansOfItems text (scan text) (items (chars text))
 
 -- A scan of a text from an item's end gives the items after that item.
 unfoldable pub SpansAfresh : Type 0

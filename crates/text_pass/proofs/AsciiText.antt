@@ -33,7 +33,7 @@ use Rattle.scanner.specs.declared.char_class.Class.{Class}
 use Rattle.scanner.specs.declared.char_class.Class.the-variants.{Emoji as emoji, Other as other}
 use Rattle.scanner.specs.declared.state.State.the-variants.{Unit as unit}
 use Rattle.scanner.proofs.Classes.{HasClass, hasClass, is-emoji, is-keycap, is-link, is-modifier, is-other, is-ri, is-selector, is-tag}
-use Rattle.scanner.proofs.Tiling.{cut-none}
+use Rattle.scanner.proofs.Tiling.{splitFrom-none}
 use Rattle.analysis.specs.Analysis.{chosen, following}
 use Rattle.analysis.specs.Cells.{Cell, cells, leading, split}
 use Rattle.analysis.specs.Counts.{total}
@@ -53,15 +53,15 @@ unfolding isSelector
 ascii-no-selector c h = simp (ne-eqb c 0xFE0E (λ e. omega arith), ne-eqb c 0xFE0F (λ e. omega arith))
 
 -- The characters after a base begin with no selector, and for the rules with no modifier, no tag and not with 20E3.
-pub record Harmless (t : List ℕ) : Type 0 where
+pub record NoEffectBefore (t : List ℕ) : Type 0 where
   pub leads-none : leading t ≡ []
   pub rules : SameRules other (following (cells t))
   -- An item that is one base ends before these characters.
   pub ends : (splitFrom unit t) .0 ≡ []
 
-harmless-end : Harmless []
+noEffect-end : NoEffectBefore []
 unfolding split following splitFrom
-harmless-end = record { leads-none = refl; rules = record { modifier = refl; tags = refl; keycap = refl }; ends = refl }
+noEffect-end = record { leads-none = refl; rules = record { modifier = refl; tags = refl; keycap = refl }; ends = refl }
 
 -- An ASCII character is of the class emoji or other.
 ascii-class : (c : ℕ) → c ≤ 0x7F → (classOf c ≡ emoji) ⊎ (classOf c ≡ other)
@@ -84,22 +84,22 @@ unit-none : (k : Class) → (k ≡ emoji) ⊎ (k ≡ other) → transition unit 
 unfolding transition
 unit-none k h = ⊎-elim (λ e. ap (transition unit) e) (λ e. ap (transition unit) e) h
 
-harmless-ascii : (c : ℕ) (t : List ℕ) → c ≤ 0x7F → Harmless (c ∷ t)
+noEffect-ascii : (c : ℕ) (t : List ℕ) → c ≤ 0x7F → NoEffectBefore (c ∷ t)
 unfolding following
-harmless-ascii c t h =
+noEffect-ascii c t h =
     let s = split-char c t (ascii-no-selector c h) in
     record {
       leads-none = ap (λ (a : List Presentation × List Cell). a .0) s;
       rules = subst (λ (a : List Presentation × List Cell). SameRules other (following (a .1))) (sym s) (rules-before c (omega arith));
-      ends = ap (λ (a : List ℕ × List Item). a .0) (cut-none unit c t (unit-none (classOf c) (ascii-class c h)));
+      ends = ap (λ (a : List ℕ × List Item). a .0) (splitFrom-none unit c t (unit-none (classOf c) (ascii-class c h)));
     }
 
--- The characters from an ASCII byte on, or from the end of the text on, are harmless.
-harmless-at : (text : List ℕ) (k : ℕ) → getD text k 0 ≤ 0x7F → Harmless (chars (drop k text))
-harmless-at text k h =
-    ⊎-elim (λ l. subst Harmless (sym (chars-end (drop k text) (readChar-past-end text k l))) harmless-end)
-    (λ l. subst Harmless (sym (read text k (getD text k 0) 1 (readChar-ascii-at text k l h) .chars-on))
-    (harmless-ascii (getD text k 0) (chars (drop (k + 1) text)) h))
+-- The characters from an ASCII byte on, or from the end of the text on, have no effect on the base before them.
+noEffect-at : (text : List ℕ) (k : ℕ) → getD text k 0 ≤ 0x7F → NoEffectBefore (chars (drop k text))
+noEffect-at text k h =
+    ⊎-elim (λ l. subst NoEffectBefore (sym (chars-end (drop k text) (readChar-past-end text k l))) noEffect-end)
+    (λ l. subst NoEffectBefore (sym (read text k (getD text k 0) 1 (readChar-ascii-at text k l h) .chars-on))
+    (noEffect-ascii (getD text k 0) (chars (drop (k + 1) text)) h))
     (le-or-lt (length text) k)
 
 -- Rule 6 leaves a base bare and counts nothing, if it has no selector and the policy keeps it bare.
@@ -109,7 +109,7 @@ unfolding rule6 withoutSelector
 bare-outcome r h = ⊎-elim (λ e. rw e (refl, refl)) (λ e. rw e (refl, refl)) h
 
 module _ {p : Policy} (b : AsciiBare p) {text : List ℕ} where
-  stays-ascii : {at v : ℕ} → Step text at v 1 → v ≤ 0x7F → Harmless (chars (drop (at + 1) text)) → UnchangedBetween p text at (at + 1)
+  stays-ascii : {at v : ℕ} → Step text at v 1 → v ≤ 0x7F → NoEffectBefore (chars (drop (at + 1) text)) → UnchangedBetween p text at (at + 1)
   stays-ascii {at} {v} h l s = go (hasVariationSequence v) refl
     where
       go : (x : Bool) → hasVariationSequence v ≡ x → UnchangedBetween p text at (at + 1)
@@ -123,8 +123,9 @@ module _ {p : Policy} (b : AsciiBare p) {text : List ℕ} where
           stays-char p h (ascii-no-selector v l) (ap (λ (x : Outcome). chosen (x .slot) []) o ∙ n .0)
           (ap (λ (x : Outcome). total (x .counts)) o ∙ n .1 ∙ sym (ap length (s .leads-none)))
 
-  -- No finding starts at an ASCII character before harmless characters.
-  passes-ascii : {at v : ℕ} → Step text at v 1 → v ≤ 0x7F → Harmless (chars (drop (at + 1) text)) → NoFindingBetween p text at (at + 1)
+  -- No finding starts at an ASCII character before characters that have no effect on it.
+  passes-ascii : {at v : ℕ} → Step text at v 1 → v ≤ 0x7F → NoEffectBefore (chars (drop (at + 1) text))
+      → NoFindingBetween p text at (at + 1)
   unfolding items startState
   passes-ascii {at} {v} h l s = ⊎-elim key (λ e. passes-plain p h (ap startState e)) (ascii-class v l)
     where
@@ -139,7 +140,7 @@ module _ {p : Policy} (b : AsciiBare p) {text : List ℕ} where
           let z : (splitFrom (startState (classOf v)) t) .0 ≡ [] = ap (λ (k : Class). (splitFrom (startState k) t) .0) e ∙ s .ends in
           uncounted-item p text at (at + 1) f (omega (arith, step-width h, ap (size width) z)) (stays-ascii h l s .counted)
 
-  skips-ascii : {at v : ℕ} → Step text at v 1 → v ≤ 0x7F → Harmless (chars (drop (at + 1) text)) → PlainBetween p text at (at + 1)
+  skips-ascii : {at v : ℕ} → Step text at v 1 → v ≤ 0x7F → NoEffectBefore (chars (drop (at + 1) text)) → PlainBetween p text at (at + 1)
   skips-ascii h l s = (stays-ascii h l s, passes-ascii h l s)
 
   pub ascii-skips : (n i : ℕ) → i + n ≤ length text → ((k : ℕ) → i ≤ k → k ≤ i + n → getD text k 0 ≤ 0x7F) → PlainBetween p text i (i + n)
@@ -148,7 +149,7 @@ module _ {p : Policy} (b : AsciiBare p) {text : List ℕ} where
       let e : i + 1 + n ≡ i + suc n = omega arith in
       let s = read text i (getD text i 0) 1 (readChar-ascii-at text i (omega arith) (f i (omega arith) (omega arith))) in
       subst (PlainBetween p text i) e
-      (skips-on (skips-ascii s (f i (omega arith) (omega arith)) (harmless-at text (i + 1) (f (i + 1) (omega arith) (omega arith))))
+      (skips-on (skips-ascii s (f i (omega arith) (omega arith)) (noEffect-at text (i + 1) (f (i + 1) (omega arith) (omega arith))))
       (ascii-skips n (i + 1) (omega arith) (λ k a c. f k (omega arith) (omega arith))))
 
   -- A run of ASCII whose last character has the class other is plain text, whatever follows.

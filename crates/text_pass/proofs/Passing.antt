@@ -53,21 +53,21 @@ module _ {p : Policy} {text : List ℕ} where
 
 -- ---- stretches with findings that start before a limit
 
-left-on : {limit m n : ℕ} {fs gs hs : List Found} → SkipsFindings limit fs m gs → SkipsFindings limit gs n hs
+skipsFindings-append : {limit m n : ℕ} {fs gs hs : List Found} → SkipsFindings limit fs m gs → SkipsFindings limit gs n hs
     → SkipsFindings limit fs (m + n) hs
-left-on {limit} {n = n} {fs} {hs = hs} none-skipped b = let z : n
+skipsFindings-append {limit} {n = n} {fs} {hs = hs} none-skipped b = let z : n
     ≡ 0 + n = omega arith in subst (λ (k : ℕ). SkipsFindings limit fs k hs) z b
-left-on {limit} {n = n} {fs} {hs = hs} (one-skipped {n = m} h a) b = let z : suc (m + n)
-    ≡ suc m + n = omega arith in subst (λ (k : ℕ). SkipsFindings limit fs k hs) z (one-skipped h (left-on a b))
+skipsFindings-append {limit} {n = n} {fs} {hs = hs} (one-skipped {n = m} h a) b = let z : suc (m + n)
+    ≡ suc m + n = omega arith in subst (λ (k : ℕ). SkipsFindings limit fs k hs) z (one-skipped h (skipsFindings-append a b))
 
 -- A list of findings is as long as the number of skipped findings and the list of the others together.
-pub left-length : {limit n : ℕ} {fs gs : List Found} → SkipsFindings limit fs n gs → length fs ≡ n + length gs
-left-length none-skipped = omega arith
-left-length (one-skipped h a) = let e = left-length a in omega arith
+pub skipsFindings-length : {limit n : ℕ} {fs gs : List Found} → SkipsFindings limit fs n gs → length fs ≡ n + length gs
+skipsFindings-length none-skipped = omega arith
+skipsFindings-length (one-skipped h a) = let e = skipsFindings-length a in omega arith
 
-none-passed : {n : ℕ} {fs gs : List Found} → SkipsFindings 0 fs n gs → fs ≡ gs
-none-passed none-skipped = refl
-none-passed (one-skipped h a) = absurd (omega arith)
+skipsFindings-none : {n : ℕ} {fs gs : List Found} → SkipsFindings 0 fs n gs → fs ≡ gs
+skipsFindings-none none-skipped = refl
+skipsFindings-none (one-skipped h a) = absurd (omega arith)
 
 module _ {p : Policy} {text : List ℕ} {limit : ℕ} where
   pub over-here : (i : ℕ) → FindingsBetween p text limit i i 0
@@ -83,7 +83,7 @@ module _ {p : Policy} {text : List ℕ} {limit : ℕ} where
       record {
         advances = advances-on (a .advances) (b .advances);
         few = omega arith;
-        skips = left-on (a .skips) (b .skips);
+        skips = skipsFindings-append (a .skips) (b .skips);
       }
 
   -- A stretch in which findings are passed, followed by a stretch without a finding.
@@ -100,7 +100,7 @@ module _ {p : Policy} {text : List ℕ} {limit : ℕ} where
 
 -- No finding starts before offset 0, so that with this limit none is passed.
 pub over-none : {p : Policy} {text : List ℕ} {i j n : ℕ} → FindingsBetween p text 0 i j n → NoFindingBetween p text i j
-over-none a = record { advances = a .advances; same = none-passed (a .skips) }
+over-none a = record { advances = a .advances; same = skipsFindings-none (a .skips) }
 
 -- ---- an item, and the totals from its start and from its end on
 

@@ -46,11 +46,11 @@ use Rattle.scanner.proofs.Classes.{class-selector, selector-class}
 use Rattle.scanner.proofs.Cursor.{next-on, next-stop}
 use Rattle.scanner.proofs.Bytes.{width-some}
 use Rattle.scanner.proofs.ItemRuns.{item-selectors, walk-passes}
-use Rattle.scanner.proofs.States.{inner, inner-selector, inner-step, kind-emoji, kind-links, kind-selector}
+use Rattle.scanner.proofs.States.{inner, inner-selector, inner-transition, kind-emoji, kind-links, kind-selector}
 use Rattle.scanner.proofs.Rescan.{size-append}
 use Rattle.scanner.proofs.Runs.{Stops, at-char, at-end, after-stops, run-after, run-passes}
-use Rattle.scanner.proofs.Tiling.{cut-none, cut-some}
-use Rattle.scanner.proofs.Walk.{inner-no-selector, walk-cut}
+use Rattle.scanner.proofs.Tiling.{splitFrom-none, splitFrom-some}
+use Rattle.scanner.proofs.Walk.{inner-no-selector, splitFrom-walk}
 use Rattle.scanner.proofs.state.State.{the-type as the-state}
 use Rattle.analysis.specs.Analysis.{chosen, following}
 use Rattle.analysis.specs.CellView.{classInFront, totalCells}
@@ -243,19 +243,19 @@ module _ {p : Policy} {text : List ℕ} {limit from start base : ℕ} {index : V
   text-after = ap (λ (n : ℕ). chars (drop n text)) (c .end-is) ∙ after-at text at
 
   -- The selectors of the cell belong to the item.
-  cut-selectors : (splitFrom state T) .0 ≡ selectorsAt T ++ (splitFrom state U) .0
-  cut-selectors =
+  splitFrom-selectors : (splitFrom state T) .0 ≡ selectorsAt T ++ (splitFrom state U) .0
+  splitFrom-selectors =
       let w = walk-passes state isSelector (λ x e. ap (transition state) (class-selector x e) ∙ inner-selector state (l .inside))
       (run-passes isSelector T) in
       ap (λ (t : List ℕ). (splitFrom state t) .0) (sym (run-after isSelector T))
-      ∙ ap (λ (a : List ℕ × List Item). a .0) (walk-cut w (afterSelectors T))
+      ∙ ap (λ (a : List ℕ × List Item). a .0) (splitFrom-walk w (afterSelectors T))
       ∙ ap (λ (t : List ℕ). selectorsAt T ++ (splitFrom state t) .0) (sym text-after)
 
   end-on : start + size width (l .item .chars) ≡ cell .end + size width ((splitFrom state U) .0)
   end-on = omega (
     arith,
     l .end-same,
-    ap (size width) cut-selectors,
+    ap (size width) splitFrom-selectors,
     size-append width (selectorsAt T) ((splitFrom state U) .0),
     selectors-end text at,
     c .end-is,
@@ -324,8 +324,8 @@ module _ {p : Policy} {text : List ℕ} {limit from start base : ℕ} {index : V
     pub reads-next : 1 ≤ cell .packed → Step text (cell .end) (cell .packed / 8) (cell .packed % 8)
     reads-next h = packed-step text (cell .end) (cell .packed) (c .packed-is) (λ z. omega arith)
 
-    clean-next : {v w : ℕ} → Step text (cell .end) v w → isSelector v ≡ false
-    clean-next {v} {w} s = go (after-stops isSelector T) (sym text-after ∙ s .chars-on)
+    no-selector-next : {v w : ℕ} → Step text (cell .end) v w → isSelector v ≡ false
+    no-selector-next {v} {w} s = go (after-stops isSelector T) (sym text-after ∙ s .chars-on)
       where
         go : {t : List ℕ} → Stops isSelector t → t ≡ v ∷ chars (drop (cell .end + w) text) → isSelector v ≡ false
         go at-end e = let z : 0 ≡ suc (length (chars (drop (cell .end + w) text))) = ap length e in absurd (omega arith)
@@ -358,16 +358,16 @@ module _ {p : Policy} {text : List ℕ} {limit from start base : ℕ} {index : V
             let m : transition state (classOf v) ≡ some q = ap (transition state) (sym (c .class-is)) ∙ on in
             let t = chars (drop (cell .end + cell .packed % 8) text) in
             let f : (splitFrom state U) .0 ≡ v ∷ (splitFrom q t) .0 = ap (λ (x : List ℕ). (splitFrom state x) .0) (s .chars-on)
-            ∙ ap (λ (a : List ℕ × List Item). a .0) (cut-some state q v t m) in
+            ∙ ap (λ (a : List ℕ × List Item). a .0) (splitFrom-some state q v t m) in
             record {
               passed = l .passed;
               entry = sym (c .index-is);
-              inside = sym (inner-step state q (classOf v) m) ∙ l .inside;
+              inside = sym (inner-transition state q (classOf v) m) ∙ l .inside;
               pos = cell .end;
               wide = cell .packed % 8;
               reads = s;
               at-is = refl;
-              clean = clean-next s;
+              clean = no-selector-next s;
               on = omega (arith, further);
               item = l .item;
               after = l .after;
@@ -382,9 +382,9 @@ module _ {p : Policy} {text : List ℕ} {limit from start base : ℕ} {index : V
 
     -- The item ends before that character.
     module _ (e : nextOf (transition state (cell .class)) ≡ Next.Stop) where
-      nothing-left : (splitFrom state U) .0 ≡ []
+      splitFrom-empty : (splitFrom state U) .0 ≡ []
       unfolding splitFrom
-      nothing-left = ⊎-elim go (λ h. ap (λ (x : List ℕ). (splitFrom state x) .0) (no-char (omega arith))) (le-or-lt 1 (cell .packed))
+      splitFrom-empty = ⊎-elim go (λ h. ap (λ (x : List ℕ). (splitFrom state x) .0) (no-char (omega arith))) (le-or-lt 1 (cell .packed))
         where
           go : 1 ≤ cell .packed → (splitFrom state U) .0 ≡ []
           go h =
@@ -393,10 +393,10 @@ module _ {p : Policy} {text : List ℕ} {limit from start base : ℕ} {index : V
               ∙ next-stop (transition state (cell .class)) e in
               ap (λ (x : List ℕ). (splitFrom state x) .0) (s .chars-on)
               ∙ ap (λ (a : List ℕ × List Item). a .0)
-              (cut-none state (cell .packed / 8) (chars (drop (cell .end + cell .packed % 8) text)) m)
+              (splitFrom-none state (cell .packed / 8) (chars (drop (cell .end + cell .packed % 8) text)) m)
 
       ends-here : cell .end ≡ start + size width (l .item .chars)
-      ends-here = omega (arith, end-on, ap (size width) nothing-left)
+      ends-here = omega (arith, end-on, ap (size width) splitFrom-empty)
 
       finds : b ≡ true → Counted p text start (cell .end) Sum
       finds t = counted-item p text start (cell .end) (l .items-are) ends-here Sum (some-of (total Sum) refl) total-on
@@ -448,7 +448,7 @@ module _ {p : Policy} {text : List ℕ} {limit from start base : ℕ} {index : V
               let s = reads-next h in
               let j = c .class-is in
               let i : inner (startState (classOf (cell .packed / 8))) ≡ true =
-              begins-inner (classOf (cell .packed / 8)) (λ z. true≢false (sym (selector-class (cell .packed / 8) z) ∙ clean-next s))
+              begins-inner (classOf (cell .packed / 8)) (λ z. true≢false (sym (selector-class (cell .packed / 8) z) ∙ no-selector-next s))
               (λ z. q (ap startState j ∙ z)) in
               rw j (walking-begin p text limit from (cell .index) a y s (sym (c .index-is)) i)
 

@@ -9,19 +9,19 @@ use Rattle.scanner.specs.Spans.{scan}
 use Rattle.scanner.specs.Theorems.{SpansCover}
 use Rattle.scanner.proofs.Claims.{spans-cover}
 use Rattle.text_scanner.specs.Scanner.{NextGivesItems, ScanGivesItems, RawIsItemBytes, RawsJoin}
-use Rattle.text_scanner.proofs.HandingOut.{hands-out, join-raw, scan-gives-items, raw-is-item-bytes}
+use Rattle.text_scanner.proofs.GivenItems.{gives-items, join-raw, scan-gives, raw-bytes}
 
 pub next-gives-items : NextGivesItems
 unfolding NextGivesItems
-next-gives-items = hands-out
+next-gives-items = gives-items
 
-pub made-scanner-hands-out : ScanGivesItems
+pub scan-gives-items : ScanGivesItems
 unfolding ScanGivesItems
-made-scanner-hands-out = scan-gives-items
+scan-gives-items = scan-gives
 
-pub raw-spells-item : RawIsItemBytes
+pub raw-is-item-bytes : RawIsItemBytes
 unfolding RawIsItemBytes
-raw-spells-item = raw-is-item-bytes
+raw-is-item-bytes = raw-bytes
 
 pub raws-join : RawsJoin
 unfolding RawsJoin SpansCover

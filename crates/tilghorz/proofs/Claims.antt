@@ -12,22 +12,32 @@ use Rattle.tilghorz.specs.Theorems.{WordsDetermineAnswers, WordsHaveBoth
 use Rattle.tilghorz.proofs.SmallFeeds.{begun-small, called-small, totals-small}
 use Rattle.tilghorz.proofs.SmallAnswers.{default-small, entry-small, format-small, items-small, list-small, mend-small}
 use Rattle.base.proofs.Rows.{list-rows, write-rows}
-use Rattle.tilghorz.proofs.Telling.{both-values, entry-rows, feed-rows, format-rows, mend-rows, repair-rows, repair-small, tell}
+use Rattle.tilghorz.proofs.AnswerWords.{
+  both-values,
+  entry-rows,
+  feed-rows,
+  format-rows,
+  mend-rows,
+  repair-rows,
+  repair-small,
+  words-determine,
+}
 
 pub words-determine-answers : WordsDetermineAnswers
 unfolding WordsDetermineAnswers
 words-determine-answers = (
-  tell formatRow _ (λ c. omega (arith, format-small (c .0) (c .1) (c .2))) (λ i j. format-rows _ _),
-  tell listRow _ (λ c. omega (arith, list-small (c .0) (c .1) (c .2))) (λ i j. list-rows _ _),
-  tell mendRow _ (λ c. omega (arith, mend-small (c .0) (c .1) (c .2 .offset) (c .2 .decisions) (c .2 .out))) (λ i j. mend-rows _ _),
-  tell listRow _ (λ c. omega (arith, items-small (c .0) (c .1))) (λ i j. list-rows _ _),
-  tell writeRow _ (λ out. omega (arith, default-small out)) (λ i j. write-rows _ _),
-  tell entryRow variationEntry (λ i. omega (arith, entry-small i)) (λ i j. entry-rows _ _),
-  tell repairRow _ (λ c. repair-small _ (the-call (c .0) (c .1) .small) (the-call (c .0) (c .1) .small-refusal))
+  words-determine formatRow _ (λ c. omega (arith, format-small (c .0) (c .1) (c .2))) (λ i j. format-rows _ _),
+  words-determine listRow _ (λ c. omega (arith, list-small (c .0) (c .1) (c .2))) (λ i j. list-rows _ _),
+  words-determine mendRow _ (λ c. omega (arith, mend-small (c .0) (c .1) (c .2 .offset) (c .2 .decisions) (c .2 .out)))
+      (λ i j. mend-rows _ _),
+  words-determine listRow _ (λ c. omega (arith, items-small (c .0) (c .1))) (λ i j. list-rows _ _),
+  words-determine writeRow _ (λ out. omega (arith, default-small out)) (λ i j. write-rows _ _),
+  words-determine entryRow variationEntry (λ i. omega (arith, entry-small i)) (λ i j. entry-rows _ _),
+  words-determine repairRow _ (λ c. repair-small _ (the-call (c .0) (c .1) .small) (the-call (c .0) (c .1) .small-refusal))
       (λ i j. repair-rows _ _ (the-call (i .0) (i .1) .small) (the-call (j .0) (j .1) .small)),
-  tell feedRow _ (λ c. omega (arith, begun-small (c .0) (c .1))) (λ i j. feed-rows _ _),
-  tell feedRow _ (λ c. omega (arith, called-small (c .0) (c .1))) (λ i j. feed-rows _ _),
-  tell writeRow _ (λ c. omega (arith, totals-small (c .0) (c .1))) (λ i j. write-rows _ _),
+  words-determine feedRow _ (λ c. omega (arith, begun-small (c .0) (c .1))) (λ i j. feed-rows _ _),
+  words-determine feedRow _ (λ c. omega (arith, called-small (c .0) (c .1))) (λ i j. feed-rows _ _),
+  words-determine writeRow _ (λ c. omega (arith, totals-small (c .0) (c .1))) (λ i j. write-rows _ _),
 )
 
 pub words-have-both-values : WordsHaveBothValues

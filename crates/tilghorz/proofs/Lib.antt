@@ -1,6 +1,6 @@
 -- The proofs of the answer words.
 pub mod Outcomes
-pub mod Telling
+pub mod AnswerWords
 pub mod FewItems
 pub mod SmallAnswers
 pub mod SmallFeeds

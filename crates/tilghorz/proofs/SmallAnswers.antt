@@ -48,7 +48,7 @@ use Rattle.base.specs.declared.ListAnswer.the-variants as Listing
 use Rattle.formatter.proofs.Formatting.{formatTests}
 use Rattle.formatter.proofs.FormattedClaim.{formatted-claim}
 use Rattle.formatter.proofs.Judging.{some-bad}
-use Rattle.formatter.proofs.Passing.{byTests, intake-is, passed-accepted}
+use Rattle.formatter.proofs.Passing.{byTests, intake-is, passed-accepted, with-policy}
 use Rattle.formatter.proofs.Replacements.{four-times}
 use Rattle.analysis.specs.Decisions.{mendRow}
 use Rattle.base.specs.Answers.{listRow, writeRow}
@@ -139,10 +139,11 @@ unfolding listItems listRow
 items-small text table =
     let a = leb (length text) textLimit in
     let f = eqb (validUpTo text) (length text) in
+    let same = with-policy a f TextTooLong text ∙ sym (text-is text refl refl) in
     tested listRow Listing.Refused (λ r. refl) (textRefusal text) table _
-    (λ r e. tests-small TextTooLong (omega arith) text a true f refl r (sym (text-is text refl refl) ∙ e))
+    (λ r e. tests-small TextTooLong (omega arith) text a true f refl r (same ∙ e))
     (λ e. table-small itemNumbers itemBytes (scan text) table text (few-spans text)
-    (tests-short text a f refl (sym (text-is text refl refl) ∙ e)))
+    (tests-short text a f refl (same ∙ e)))
 
 module _ (text policy : List ℕ) (offset : ℕ) (decisions out : List ℕ) where
   abbrev P : Policy

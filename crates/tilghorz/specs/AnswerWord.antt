@@ -1,8 +1,8 @@
 -- The word that a C function returns for an answer: its top 8 bits are a number, its low 56 bits a value. The row of an answer
 -- (crates/base/specs/Answers.antt) has both. The number is 0 for "done" (the value says how much was written, or is the code point),
 -- document 01's number for a refusal (the value is what the refusal returns), and 255 for "nothing to do". If an
--- answer has two values, they are one value of the row (`twoValues` of crates/base/specs/Answers.antt): `WordsHaveBothValues` of
--- specs/Theorems.antt.
+-- answer has two values, `twoValues` of crates/base/specs/Answers.antt makes one value of them. `WordsHaveBothValues` of
+-- specs/Theorems.antt says that the word has both.
 use Prim.Native.Nat.{ℕ, _+_, _*_, _%_, _^_}
 use Rattle.base.specs.Refusals.{RefusalRow}
 

@@ -23,27 +23,28 @@ use Rattle.unicode.specs.Rows.{entryRow}
 
 -- The words of a C function determine its answers: if two calls return the same word, their answers are equal, whatever the arguments. The
 -- top 8 bits of a word are the answer's number, and its low 56 bits are the answer's value.
-pub record Tell {I A : Type 0} (row : A → RefusalRow) (answer : I → A) : Type 0 where
+pub record WordsDetermine {I A : Type 0} (row : A → RefusalRow) (answer : I → A) : Type 0 where
   pub same : (i j : I) → word (row (answer i)) ≡ word (row (answer j)) → answer i ≡ answer j
   pub number : (i : I) → word (row (answer i)) / 2 ^ 56 ≡ row (answer i) .number
   pub value : (i : I) → word (row (answer i)) % 2 ^ 56 ≡ row (answer i) .value
 
--- The words of each C function determine its answers: formatting, listing findings, mending, listing items, the default policy, an entry,
--- repairing, beginning a feed, a piece or an end of a feed, the totals of a feed.
+-- The words of each C function determine its answers. In order: formatting, listing findings, mending, listing items, the default policy,
+-- a variation entry, repairing, beginning a feed, a piece or an end of a feed, the totals of a feed.
 unfoldable pub WordsDetermineAnswers : Type 0
 WordsDetermineAnswers =
-    Tell formatRow (λ (c : List ℕ × List ℕ × List ℕ). format (c .0) (c .1) (c .2) .answer)
-    × Tell listRow (λ (c : List ℕ × List ℕ × List ℕ). listBytes (c .0) (c .1) (c .2) .answer)
-    × Tell mendRow (λ (c : List ℕ × List ℕ × Call). mendCall (c .0) (c .1) (c .2) .answer)
-    × Tell listRow (λ (c : List ℕ × List ℕ). listItems (c .0) (c .1) .answer)
-    × Tell writeRow (λ (out : List ℕ). answerOf (policyBytes defaultPolicy) out)
-    × Tell entryRow variationEntry
-    × Tell repairRow (λ (c : List ℕ × List ℕ). repair (c .0) (c .1) .answer)
-    × Tell feedRow (λ (c : List ℕ × List ℕ). begun (c .0) (c .1) .answer)
-    × Tell feedRow (λ (c : List ℕ × Feed.Call). called (c .0) (c .1) .answer)
-    × Tell writeRow (λ (c : List ℕ × List ℕ). answerOf (bytesOf (eightWords (totalsOf (c .0)))) (c .1))
+    WordsDetermine formatRow (λ (c : List ℕ × List ℕ × List ℕ). format (c .0) (c .1) (c .2) .answer)
+    × WordsDetermine listRow (λ (c : List ℕ × List ℕ × List ℕ). listBytes (c .0) (c .1) (c .2) .answer)
+    × WordsDetermine mendRow (λ (c : List ℕ × List ℕ × Call). mendCall (c .0) (c .1) (c .2) .answer)
+    × WordsDetermine listRow (λ (c : List ℕ × List ℕ). listItems (c .0) (c .1) .answer)
+    × WordsDetermine writeRow (λ (out : List ℕ). answerOf (policyBytes defaultPolicy) out)
+    × WordsDetermine entryRow variationEntry
+    × WordsDetermine repairRow (λ (c : List ℕ × List ℕ). repair (c .0) (c .1) .answer)
+    × WordsDetermine feedRow (λ (c : List ℕ × List ℕ). begun (c .0) (c .1) .answer)
+    × WordsDetermine feedRow (λ (c : List ℕ × Feed.Call). called (c .0) (c .1) .answer)
+    × WordsDetermine writeRow (λ (c : List ℕ × List ℕ). answerOf (bytesOf (eightWords (totalsOf (c .0)))) (c .1))
 
--- A word of two values has both: the low 28 bits are the length of the repaired text, the 28 bits above them the number of replacements.
+-- The word of a repaired text has both values: its low 28 bits are the length of the repaired text, and the 28 bits above them are the
+-- number of replacements.
 unfoldable pub WordsHaveBothValues : Type 0
 WordsHaveBothValues =
     (text out : List ℕ) (len replaced : ℕ) → repair text out .answer ≡ Repaired len replaced

@@ -23,7 +23,7 @@ use unicode::VariationEntry;
 // One more than the largest value of a word: values have 56 bits.
 const VALUES: u64 = 0x100_0000_0000_0000;
 
-// One more than the largest value where a word has two: each has 28 bits.
+// One more than the largest of two values in a word: each of the two has 28 bits.
 const HALF_VALUES: u64 = 0x1000_0000;
 
 // The number of an answer that says "nothing to do": the text needs no change, or there is no such entry.
@@ -37,7 +37,7 @@ fn word_of(number: u64, value: usize) -> u64
     number * VALUES + value as u64 % VALUES
 }
 
-// The word of two values.
+// The word of an answer that is done with two values.
 fn word_of_two(first: usize, second: usize) -> u64
     ensures { λ r. ⌜ r ≡ word (record { number = 0; value = twoValues first second }) ⌝ }
 {
@@ -102,7 +102,7 @@ pub fn entry_word(entry: VariationEntry) -> u64
     }
 }
 
-// The word of the answer to taking damaged text in.
+// The word of the answer of `repair`.
 pub fn repair_word(answer: RepairAnswer) -> u64
     ensures { λ r. ⌜ r ≡ word (repairRow answer) ⌝ }
 {

@@ -75,8 +75,8 @@ pub extern "C" fn tilghorz_scan(text: &[u8], table: &mut [u8]) -> u64
     list_word(listing::items::list_items(text, table))
 }
 
-// Writes a text with FFFD in place of each bad place. It may answer the refusals 1 and 8. The low 28 bits of its value are the length
-// written, and the bits above them the number of replacements.
+// Writes a text with FFFD in place of each bad place. It may answer refusals 1 and 8. If it is done, the low 28 bits of the value are the
+// length written, and the bits above them are the number of replacements.
 #[no_mangle]
 pub extern "C" fn tilghorz_repair(text: &[u8], out: &mut [u8]) -> u64
     ensures word { λ r. ⌜ r ≡ word (repairRow (repair (now (text .entry)) (now (out .entry)) .answer)) ⌝ }

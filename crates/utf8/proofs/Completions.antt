@@ -1,4 +1,4 @@
--- Bytes that begin a character: which completions there are, by the rows of RFC 3629, section 4.
+-- Bytes that begin a character, and the bytes that complete them to a character, by the rows of RFC 3629, section 4.
 use mathlib.Core.Path.{_≡_, refl, sym, ap, _∙_}
 use mathlib.Core.Logic.{_⊎_, inl, inr, ⊎-elim}
 use mathlib.Core.Bool.{Bool, true, false, _&&_, _||_, and-false, true≢false}
@@ -11,7 +11,7 @@ use Rattle.base.proofs.Tests.{In, both-true, either-left, either-right, either-
 use Rattle.utf8.proofs.FirstBytes.{four-F0, four-F1-F3, four-F4, three-E0, three-E1-EC, three-ED, three-EE-EF, two-C2-DF}
 use Rattle.utf8.specs.Subparts.{Begins, unfinished}
 
--- ---- the rows with the tails' test as one Boolean
+-- ---- the rows, with the test of the tails as one Boolean
 
 abbrev pub three-with : ℕ → ℕ → Bool → Bool
 three-with a b t =
@@ -34,7 +34,7 @@ four-so : (a b : ℕ) (t : Bool) → four-with a b t ≡ true → t ≡ true
 four-so a b true e = refl
 four-so a b false e = simp and-false at e
 
--- The last tail may be 80, and so may the last two.
+-- If the tails of a character are replaced by 80, from the third byte on, the result is still a character.
 three-80 : (a b c : ℕ) → utf8-3 a b c ≡ true → utf8-3 a b 0x80 ≡ true
 unfolding utf8-3
 three-80 a b c e = ap (three-with a b) (sym (three-so a b (utf8-tail c) e)) ∙ e
@@ -53,7 +53,7 @@ four-80 a b c d e =
     let t = both-true (utf8-tail c) (utf8-tail d) (four-so a b (utf8-tail c && utf8-tail d) e) in
     ap (λ (x : Bool). four-with a b (utf8-tail c && x)) (sym (t .1)) ∙ e
 
--- ---- what the first byte of a character of two or more bytes is
+-- ---- the range of the first byte of a character of two or more bytes
 
 pub first-2 : (a b : ℕ) → utf8-2 a b ≡ true → within 0xC2 0xF4 a ≡ true
 unfolding utf8-2
@@ -61,7 +61,7 @@ first-2 a b e =
     let i = within-in 0xC2 0xDF a (both-true (within 0xC2 0xDF a) (utf8-tail b) e .0) in
     within-true 0xC2 0xF4 a (omega arith) (omega arith)
 
--- A test of a, b and the tails is passed by an a in range.
+-- If a, b and the tails pass the test of a row, a is in the range.
 row-first : (lo hi a : ℕ) (t : Bool) → 0xC2 ≤ lo → hi ≤ 0xF4 → (within lo hi a && t) ≡ true → within 0xC2 0xF4 a ≡ true
 row-first lo hi a t p q e =
     let i = within-in lo hi a (both-true (within lo hi a) t e .0) in
@@ -92,7 +92,7 @@ pub begun-by-4 : (a b c d : ℕ) → utf8-4 a b c d ≡ true → begun-2 a b ≡
 unfolding begun-2
 begun-by-4 a b c d e = either-right (utf8-3 a b 0x80) (utf8-4 a b 0x80 0x80) (four-80-80 a b c d e)
 
--- Bytes of which more make a character are unfinished.
+-- Bytes that become a character with more bytes after them are unfinished.
 pub more-bytes : (u : List ℕ) (x : ℕ) (t : List ℕ) → utf8-char (u ++ x ∷ t) ≡ true → unfinished u ≡ true
 unfolding utf8-char unfinished begun-3
 more-bytes [] x t e = refl
@@ -108,7 +108,7 @@ more-bytes (a ∷ b ∷ c ∷ []) d (y ∷ t) e = absurd (true≢false (sym e))
 more-bytes (a ∷ b ∷ c ∷ d ∷ []) x t e = absurd (true≢false (sym e))
 more-bytes (a ∷ b ∷ c ∷ d ∷ y ∷ u) x t e = absurd (true≢false (sym e))
 
--- Bytes that begin a character are one, or unfinished.
+-- Bytes that begin a character are a character, or unfinished.
 pub begins-cases : (u : List ℕ) → Begins u → (utf8-char u ≡ true) ⊎ (unfinished u ≡ true)
 begins-cases u b = go (b .after) (b .makes)
   where
@@ -118,7 +118,7 @@ begins-cases u b = go (b .after) (b .makes)
 
 -- ---- from the test to a completion
 
--- u goes on to be a character.
+-- u becomes a character with the byte b and the bytes t after it.
 abbrev pub GoesOn : List ℕ → Type 0
 GoesOn u = (b : ℕ) × (t : List ℕ) × (utf8-char (u ++ b ∷ t) ≡ true)
 
@@ -143,9 +143,9 @@ goes-on (a ∷ b ∷ []) e = inr (⊎-elim (λ p. (0x80, [], p)) (λ p. (0x80, 0
 goes-on (a ∷ b ∷ c ∷ []) e = inr (0x80, [], e)
 goes-on (a ∷ b ∷ c ∷ d ∷ s) e = absurd (true≢false (sym e))
 
--- ---- bytes that are not there
+-- ---- after the end of the text
 
--- 0 is no second byte, and no third.
+-- After the end a byte counts as 0, and 0 is not the second or the third byte of a character.
 pub no-second : (a : ℕ) → begun-2 a 0 ≡ false
 unfolding begun-2 utf8-3 utf8-4
 no-second a = simp and-false

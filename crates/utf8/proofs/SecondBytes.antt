@@ -1,4 +1,5 @@
--- What `second_fits` and `bad_width` go by: the range of the second byte by the rows of Table 3-7, and the width by three tests.
+-- The laws that the proofs of `second_fits` and `bad_width` use: the range of the second byte by the rows of Table 3-7, and the width by
+-- three tests.
 use mathlib.Core.Path.{_≡_, refl, sym, ap, ap₂, _∙_}
 use mathlib.Core.Logic.{⊎-elim}
 use mathlib.Core.Bool.{Bool, true, false, cond, _&&_, _||_, and-true, or-false, true≢false}
@@ -99,13 +100,13 @@ module _ (a b : ℕ) where
   unfolding begun-3 utf8-4
   width-3 c e h t = width-is c (ap (λ (x : Bool). four-with a b (x && true)) t ∙ four-begun h e) e
 
--- The front of bytes that are there.
+-- The first bytes of a text that has them.
 pub width-front : (t : List ℕ) → 0 < length t → subpart (getD t 0 0) (getD t 1 0) (getD t 2 0) ≡ subpartOf t
 unfolding subpartOf
 width-front [] h = absurd (omega arith)
 width-front (a ∷ t) h = refl
 
--- The width of bytes that were read one by one.
+-- The width of a bad place, from its bytes read one by one.
 pub width-at : (t : List ℕ) {a b c n : ℕ} → 0 < length t → a ≡ getD t 0 0 → b ≡ getD t 1 0 → c ≡ getD t 2 0 → subpart a b c ≡ n
     → n ≡ subpartOf t
 width-at t h p q r e = cc (width-front t h)

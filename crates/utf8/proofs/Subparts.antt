@@ -19,7 +19,7 @@ use Rattle.utf8.proofs.Texts.{validUpTo-append}
 use Rattle.utf8.specs.Subparts.{Begins, MaximalSubpart, unfinished}
 use Rattle.utf8.proofs.Completions.{begins-cases, goes-on, no-second, no-third}
 
--- ---- no character stands at a bad place
+-- ---- no character begins at a bad place
 
 pub char-some : (u : List ℕ) → utf8-char u ≡ true → 1 ≤ length u
 unfolding utf8-char
@@ -59,7 +59,7 @@ subpart-three : (a b c : ℕ) → begun-3 a b c ≡ true → 3 ≤ subpart a b c
 unfolding subpart
 subpart-three a b c e = rw e (omega arith)
 
--- What the width says: 1, or so many bytes begin a character.
+-- The width n of a bad place: n is 1, or the first n bytes begin a character.
 data Width (a b c : ℕ) : ℕ → Type 0 where
   one-byte : Width a b c 1
   two-bytes : begun-2 a b ≡ true → Width a b c 2
@@ -74,7 +74,7 @@ width a b c = go (begun-3 a b c) (begun-2 a b) refl refl
     go false true p q = two-bytes q
     go false false p q = one-byte
 
--- The bytes of the subpart are there, and begin a character where they are more than one.
+-- The text has the bytes of the subpart. If they are more than one, they begin a character.
 record There (s : List ℕ) (n : ℕ) : Type 0 where
   inside : n ≤ length s
   begins : 1 < n → Begins (take n s)
@@ -92,7 +92,7 @@ there a [] (three-bytes e) = absurd (true≢false (sym e ∙ no-third a 0))
 there a (b ∷ []) (three-bytes e) = absurd (true≢false (sym e ∙ no-third a b))
 there a (b ∷ c ∷ s) (three-bytes e) = record { inside = omega arith; begins = λ h. begun (a ∷ b ∷ c ∷ []) (omega arith) e }
 
--- No longer beginning is unfinished.
+-- No longer beginning of the text is unfinished.
 unfinished-within : (a : ℕ) (s : List ℕ) (m : ℕ) → m ≤ length (a ∷ s) → unfinished (take m (a ∷ s)) ≡ true → m ≤ subpartOf (a ∷ s)
 unfolding unfinished subpartOf
 unfinished-within a s zero h e = omega arith
@@ -121,7 +121,7 @@ maximal-at (a ∷ s) e =
 pub bad-maximal : (s : List ℕ) (n : ℕ) → readChar s ≡ IllFormed n → MaximalSubpart s n
 bad-maximal s n e = subst (MaximalSubpart s) (sym (ill-formed-width s n e)) (maximal-at s e)
 
--- ---- and there is no other maximal subpart
+-- ---- there is no other maximal subpart
 
 pub same-subpart : (s : List ℕ) (m n : ℕ) → MaximalSubpart s m → MaximalSubpart s n → m ≤ n
 same-subpart s m n p q = go m (p .some) (p .begins) (p .inside)

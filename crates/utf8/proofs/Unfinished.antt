@@ -1,4 +1,4 @@
--- What is left after the longest well-formed beginning, and how the text can go on.
+-- The bytes after the longest well-formed beginning, and whether bytes appended to the text make it well-formed.
 use mathlib.Core.Path.{_≡_, refl, sym, ap, _∙_, subst}
 use mathlib.Core.Logic.{⊎-elim}
 use mathlib.Core.Bool.{true, true≢false}
@@ -19,7 +19,7 @@ use Rattle.utf8.specs.Subparts.{unfinished}
 use Rattle.utf8.proofs.Completions.{goes-on, more-bytes}
 use Rattle.utf8.proofs.Subparts.{char-some, no-char-at}
 
--- ---- after the longest well-formed beginning stands a bad place, or nothing
+-- ---- after the longest well-formed beginning there is a bad place, or the text ends
 
 stops : {s : List ℕ} → Reading s → validUpTo s < length s → readChar (drop (validUpTo s) s) ≡ IllFormed (subpartOf (drop (validUpTo s) s))
 stops {s} (read-end e) h = absurd (omega (arith, ap length (end-empty s e)))
@@ -35,7 +35,7 @@ stops {s} (read-more v w e r) h =
 pub bad-after : (s : List ℕ) → validUpTo s < length s → readChar (drop (validUpTo s) s) ≡ IllFormed (subpartOf (drop (validUpTo s) s))
 bad-after s h = stops (reading s) h
 
--- A character by the grammar is read.
+-- `readChar` reads a character of the grammar.
 pub record ReadBy (bs s : List ℕ) : Type 0 where
   pub value : ℕ
   pub bytes : encode value ≡ bs
@@ -58,7 +58,7 @@ well-formed-append {b = b} (more bs s e v) w = subst WellFormed (sym (append-ass
 char-well-formed : (u : List ℕ) → utf8-char u ≡ true → WellFormed u
 char-well-formed u e = subst WellFormed (append-nil u) (more u [] e none)
 
--- ---- the rest goes on
+-- ---- unfinished bytes become a character
 
 pub can-go-on : (s : List ℕ) → unfinished (drop (validUpTo s) s) ≡ true → (t : List ℕ) × WellFormed (s ++ t)
 can-go-on s e =
@@ -73,9 +73,9 @@ can-go-on s e =
     ))
     (goes-on (drop v s) e)
 
--- ---- what goes on is unfinished
+-- ---- only unfinished bytes become a character
 
--- r is no character and begins with none, and its continuation begins with the character bs.
+-- r does not begin with a character, and r with more bytes after it begins with the character bs.
 goes-past : (r t bs s : List ℕ) → ((m : ℕ) → utf8-char (take m r) ≡ true → ⊥) → utf8-char bs ≡ true → bs ++ s ≡ r ++ t → unfinished r ≡ true
 goes-past r t bs s f e p =
     ⊎-elim

@@ -116,6 +116,10 @@ module _ (s : List ℕ) (at : ℕ) (h : at < length s) where
       → 8 * value-3 a b c + 3 ≡ packed (readChar (drop at s))
   reads-3-at p q r l i = reads-3 a b c d p q r l i ∙ at-place
 
+  pub reads-4-at : In 0xF0 0xF4 a → Tail b → Tail c → Tail d → In 0x10000 0x10FFFF (value-4 a b c d)
+      → 8 * value-4 a b c d + 4 ≡ packed (readChar (drop at s))
+  reads-4-at p q r t i = reads-4 a b c d p q r t i ∙ at-place
+
   pub refused-at : Not1 a → Not2 a b → Not3 a b c → Not4 a b c d → 0 ≡ packed (readChar (drop at s))
   refused-at f g i k = refused a b c d f g i k ∙ at-place
 

@@ -63,21 +63,21 @@ value-3 a b c = ((a - 0xE0) * 64 + (b - 0x80)) * 64 + (c - 0x80)
 abbrev pub value-4 : ℕ → ℕ → ℕ → ℕ → ℕ
 value-4 a b c d = (((a - 0xF0) * 64 + (b - 0x80)) * 64 + (c - 0x80)) * 64 + (d - 0x80)
 
--- Two bytes that begin a character of three or four. 80 is a tail that may stand third and fourth in every row.
+-- Two bytes begin a character of three or four bytes. In every row 80 can be the third byte and the fourth.
 unfoldable pub begun-2 : ℕ → ℕ → Bool
 begun-2 a b = utf8-3 a b 0x80 || utf8-4 a b 0x80 0x80
 
--- Three bytes that begin a character of four.
+-- Three bytes begin a character of four bytes.
 unfoldable pub begun-3 : ℕ → ℕ → ℕ → Bool
 begun-3 a b c = utf8-4 a b c 0x80
 
--- How many bytes belong to a bad place that begins with these: the longest beginning of a character, or one byte (document 02,
--- ii: "the maximal subpart of the Unicode Standard, chapter 3"; specs/Subparts).
+-- The number of bytes of a bad place that begins with these bytes: those that begin a character, as many as possible, or one byte
+-- (document 02, ii: "the maximal subpart of the Unicode Standard, chapter 3"; specs/Subparts).
 unfoldable pub subpart : ℕ → ℕ → ℕ → ℕ
 subpart a b c = cond (begun-3 a b c) 3 (cond (begun-2 a b) 2 1)
 
--- The character at the front of four bytes: section 4 says which bytes are a character, and section 3 gives its value. Or the number of
--- bytes that belong to the bad place.
+-- The character at the front of four bytes, or the number of bytes of the bad place there. Section 4 says which bytes are a character,
+-- and section 3 gives its value.
 unfoldable pub readFour : ℕ → ℕ → ℕ → ℕ → ReadChar
 readFour a b c d =
     cond (utf8-1 a) (Char a 1)
@@ -91,7 +91,7 @@ unfoldable pub readChar : List ℕ → ReadChar
 readChar [] = End
 readChar (a ∷ s) = readFour a (getD s 0 0) (getD s 1 0) (getD s 2 0)
 
--- How many bytes belong to a bad place at the front of a list of bytes.
+-- The number of bytes of a bad place at the front of a list of bytes.
 unfoldable pub subpartOf : List ℕ → ℕ
 subpartOf [] = 0
 subpartOf (a ∷ s) = subpart a (getD s 0 0) (getD s 1 0)

@@ -1,5 +1,6 @@
--- Bytes that begin a character: the maximal subpart of the Unicode Standard, chapter 3 (D93b), by the grammar alone, and bytes that
--- begin a character and are none yet. The width that `readChar` gives a bad place is that of the maximal subpart: SubpartIsMaximal.
+-- Bytes that begin a character. `MaximalSubpart` is the maximal subpart of the Unicode Standard, chapter 3 (D93b), by RFC 3629's grammar
+-- alone. `unfinished` bytes begin a character and need more bytes. `SubpartIsMaximal` (specs/Theorems.antt) says that the width that
+-- `readChar` gives for a bad place is the length of its maximal subpart.
 use mathlib.Core.Path.{_≡_}
 use mathlib.Core.Bool.{Bool, true, false}
 use mathlib.Core.List.{List, [], _∷_, _++_}
@@ -10,13 +11,13 @@ use Rattle.utf8.specs.Rfc3629.{utf8-char, begun-2, begun-3}
 
 -- ---- by the grammar alone
 
--- Bytes that begin a well-formed character: with some bytes after them, or none, they are one (RFC 3629, section 4).
+-- The bytes begin a character: with the bytes `after` appended, or with none, they are one character (RFC 3629, section 4).
 pub record Begins (u : List ℕ) : Type 0 where
   pub after : List ℕ
   pub makes : utf8-char (u ++ after) ≡ true
 
--- D93b: where no well-formed character stands at the front of s, the longest beginning of s that begins one, or one byte.
--- n is its length.
+-- D93b: n is the length of the maximal subpart at the front of s. No character begins there, and the maximal subpart is the longest
+-- beginning of s that begins a character, or one byte.
 pub record MaximalSubpart (s : List ℕ) (n : ℕ) : Type 0 where
   pub no-char : (m : ℕ) → utf8-char (take m s) ≡ true → ⊥
   pub some : 1 ≤ n
@@ -24,7 +25,7 @@ pub record MaximalSubpart (s : List ℕ) (n : ℕ) : Type 0 where
   pub begins : 1 < n → Begins (take n s)
   pub longest : (m : ℕ) → m ≤ length s → Begins (take m s) → m ≤ n
 
--- Bytes that begin a character and are none yet. No bytes at all count too.
+-- The bytes begin a character and need at least one more byte. The empty list is unfinished too.
 unfoldable pub unfinished : List ℕ → Bool
 unfinished [] = true
 unfinished (a ∷ []) = within 0xC2 0xF4 a

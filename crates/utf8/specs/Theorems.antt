@@ -44,18 +44,18 @@ CharsAreScalar = (s : List ℕ) → allScalar (chars s) ≡ true
 unfoldable pub ReadEnd : Type 0
 ReadEnd = (s : List ℕ) → (readChar s ≡ End) ↔ (s ≡ [])
 
--- The width of a bad place is the length of its maximal subpart, and no other number is: all completions are quantified (document 02, ii:
--- "Reading one character now also answers, for a bad place, how many bytes belong to it").
+-- `readChar` gives n for a bad place exactly if n is the length of its maximal subpart. `MaximalSubpart` quantifies over all bytes that
+-- could complete a character (document 02, ii: "Reading one character now also answers, for a bad place, how many bytes belong to it").
 unfoldable pub SubpartIsMaximal : Type 0
 SubpartIsMaximal = (s : List ℕ) (n : ℕ) → (readChar s ≡ IllFormed n) ↔ MaximalSubpart s n
 
--- Bytes are unfinished exactly where there are none, or where they begin a character that has more bytes.
+-- Bytes are unfinished exactly if there are none, or if they become a character with one or more bytes after them.
 unfoldable pub UnfinishedMeans : Type 0
 UnfinishedMeans =
     (u : List ℕ) → (unfinished u ≡ true) ↔ ((u ≡ []) ⊎ ((b : ℕ) × (t : List ℕ) × (utf8-char (u ++ b ∷ t) ≡ true)))
 
--- The bytes after the longest well-formed beginning are unfinished exactly where the text can go on to be well-formed: all continuations
--- are quantified.
+-- The bytes after the longest well-formed beginning are unfinished exactly if some bytes t make the text well-formed when they are
+-- appended.
 unfoldable pub UnfinishedRest : Type 0
 UnfinishedRest = (s : List ℕ) → (unfinished (drop (validUpTo s) s) ≡ true) ↔ ((t : List ℕ) × WellFormed (s ++ t))
 
@@ -88,7 +88,8 @@ Rfc3629Examples =
     ∷ []
     ∷ [])
     ≡ (IllFormed 1 ∷ IllFormed 1 ∷ IllFormed 1 ∷ IllFormed 1 ∷ IllFormed 1 ∷ IllFormed 2 ∷ End ∷ []))
-    -- a second byte out of its row's range, a character cut off at the end and before another one, bytes that never begin a character
+    -- a second byte outside the range of its row; a character without its last bytes, at the end and before another one; bytes that never
+    -- begin a character
     × (map readChar
     ((0xE0 ∷ 0x80 ∷ 0x80 ∷ [])
     ∷ (0xED ∷ 0xA0 ∷ 0x80 ∷ [])

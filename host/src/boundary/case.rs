@@ -88,7 +88,7 @@ pub struct Case {
 }
 
 impl Case {
-    /// What the call does but for the test of the room, by the reading of documents 01 and 02.
+    /// What the call does, without the test of the room, by the independent implementation of documents 01 and 02.
     #[must_use]
     pub fn draft(&self) -> Draft {
         let Inputs {

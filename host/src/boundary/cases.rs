@@ -174,7 +174,7 @@ impl<'a> Boundary<'a> {
 
     /// Every call on a text under a policy; mending at the front, at the end, and at the last finding.
     fn all_calls(&mut self, text: &[u8], policy: &[u8]) -> Result<(), Difference> {
-        for call in [Call::Format, Call::List, Call::Scan] {
+        for call in [Call::Format, Call::List, Call::Scan, Call::Repair] {
             self.try_call(call, text, policy, &[])?;
         }
         let book = Book::new(text, policy);
@@ -230,7 +230,7 @@ impl<'a> Boundary<'a> {
     /// How many calls there were, or the first difference.
     fn in_rooms(&self, case: &Case, layouts: &[Layout]) -> Result<u64, Difference> {
         let draft = case.draft();
-        let rooms = rooms(&draft, case.call);
+        let rooms = rooms(&draft, case);
         for room in &rooms {
             for layout in layouts {
                 case.check(self.calls, &draft, *room, layout)?;
@@ -240,9 +240,10 @@ impl<'a> Boundary<'a> {
     }
 }
 
-/// The rooms of an output: none, one byte, and what is wanted, one byte less and more, and so for a row of a table.
-fn rooms(draft: &Draft, call: Call) -> BTreeSet<usize> {
-    let row = match call {
+/// The rooms of an output: none, one byte, and what is wanted, one byte less and more, and so for a row of a table. To repair,
+/// also three times the text, which is always enough, and one byte less.
+fn rooms(draft: &Draft, case: &Case) -> BTreeSet<usize> {
+    let row = match case.call {
         Call::Format | Call::Mend(_) | Call::Repair => 8,
         Call::List => FINDING_BYTES,
         Call::Scan => ITEM_BYTES,
@@ -252,11 +253,15 @@ fn rooms(draft: &Draft, call: Call) -> BTreeSet<usize> {
     for size in [wanted, wanted.saturating_sub(row), wanted + row] {
         rooms.extend([size.saturating_sub(1), size, size + 1]);
     }
+    if case.call == Call::Repair {
+        let enough = 3 * case.inputs.text.len();
+        rooms.extend([enough.saturating_sub(1), enough]);
+    }
     rooms
 }
 
-/// Texts of a length: plain, of digits, of all kinds of characters and cut anywhere, the same but well-formed, and of bad
-/// places of each width.
+/// Texts of a length: of plain characters, of digits, of all kinds of characters, with the last one incomplete and with all
+/// complete, and of bad places of each width.
 pub fn texts(length: usize) -> [Vec<u8>; 5] {
     let sequence = "\u{2764}\u{FE0F}\u{FE0E}\u{200D}\u{1F1E6}\u{FE0E}\u{1F1E7}\u{E9}1\u{20E3}\u{261D}\u{FE0F}\u{1F3FB}\
         \u{FE0F}\u{231A}\u{E0061}\u{FE0F}\u{E007F}\u{200D}\u{200D}\u{A9}\u{1F3F4}\u{E007F}";

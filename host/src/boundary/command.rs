@@ -11,7 +11,7 @@ use crate::comparison::lent::Difference;
 /// How the program is called.
 const USAGE: &str = "\
 usage: boundary [--cases N] [--seed N] [--limits]
-  --cases N  so many drawn texts (10000)
+  --cases N  the number of drawn texts (10000)
   --seed N   the seed of what is drawn (1)
   --limits   the lengths around the limits of a text too";
 

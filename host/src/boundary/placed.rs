@@ -16,8 +16,8 @@ const AROUND: [&[u8]; 9] = [
     b"\x00\x01\x00\x02",
 ];
 
-/// Where an input stands: so many bytes after the start of its allocation, and before such bytes. With none of both it
-/// fills its allocation.
+/// Where an input stands in its allocation: how many bytes are before it, and which bytes are after it. If there are
+/// none before and none after, it fills its allocation.
 #[derive(Debug, Clone, Copy, PartialEq, Eq, Default)]
 pub struct Spot {
     /// The bytes before it. An allocation starts at a multiple of 8, so they are its alignment.
@@ -30,13 +30,13 @@ impl Spot {
     /// The whole of an allocation.
     pub const EXACT: Self = Self::at_the_end(0);
 
-    /// At the end of an allocation, after so many bytes.
+    /// At the end of an allocation, after `before` other bytes.
     #[must_use]
     pub const fn at_the_end(before: usize) -> Self {
         Self { before, after: 0 }
     }
 
-    /// A drawn spot, by a coin one at the end of the allocation.
+    /// A drawn spot. In half of the cases it is at the end of the allocation.
     pub const fn drawn(random: &mut Random) -> Self {
         let before = random.below(17);
         if random.coin() {

@@ -61,6 +61,14 @@ pub enum Fault {
     ForgetsFindings,
     /// Each byte of a bad place is replaced.
     ReplacesEachByte,
+    /// Bad places that follow each other are one.
+    JoinsBadPlaces,
+    /// A bad place takes the ASCII byte after it.
+    SwallowsNextByte,
+    /// A bad place at the end of the text is lost.
+    LosesCutEnd,
+    /// An output shorter than three times the text is refused.
+    WantsThreeTimes,
     /// The number of replacements is one too many.
     ReplacementNumber,
     /// A text without a bad place is not written.
@@ -94,7 +102,7 @@ pub enum Fault {
 }
 
 /// The faults with their names.
-pub const FAULTS: [(&str, Fault); 44] = [
+pub const FAULTS: [(&str, Fault); 48] = [
     ("keycap-rule", Fault::KeycapRule),
     ("finding-span", Fault::FindingSpan),
     ("item-span", Fault::ItemSpan),
@@ -124,6 +132,10 @@ pub const FAULTS: [(&str, Fault); 44] = [
     ("mends-all-at-once", Fault::MendsAllAtOnce),
     ("forgets-findings", Fault::ForgetsFindings),
     ("replaces-each-byte", Fault::ReplacesEachByte),
+    ("joins-bad-places", Fault::JoinsBadPlaces),
+    ("swallows-next-byte", Fault::SwallowsNextByte),
+    ("loses-cut-end", Fault::LosesCutEnd),
+    ("wants-three-times", Fault::WantsThreeTimes),
     ("replacement-number", Fault::ReplacementNumber),
     ("whole-unwritten", Fault::WholeUnwritten),
     ("limit-on-repaired", Fault::LimitOnRepaired),

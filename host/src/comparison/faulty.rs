@@ -1,6 +1,7 @@
 //! A wrapper of calls with a planted fault.
 
 use std::cell::{Cell, RefCell};
+use std::iter::repeat_n;
 
 use super::faults::Fault;
 use super::faulty_feed::FaultyFeed;
@@ -119,7 +120,7 @@ impl<'a> Faulty<'a> {
         }
     }
 
-    /// What taking a text in answers instead, where it was done.
+    /// The answer of the faulty repair, where the sound one was done.
     fn repair_answer(&self, length: u64, number: u64) -> Answer {
         match self.fault {
             Fault::WholeUnwritten if number == 0 => Answer::NOTHING,
@@ -161,12 +162,25 @@ const fn two_values(first: u64, second: u64) -> Answer {
     Answer::new(Answer::DONE, first + (second << 28))
 }
 
-/// The text with each byte of a bad place as a bad place of its own.
-fn in_single_bytes(text: &[u8]) -> Vec<u8> {
+/// The text with the bad places that a fault makes of its own, each a single byte.
+fn with_other_places(text: &[u8], fault: Fault) -> Vec<u8> {
     let mut out = Vec::with_capacity(text.len());
-    for chunk in text.utf8_chunks() {
-        out.extend(chunk.valid().as_bytes());
-        out.extend(chunk.invalid().iter().map(|_| 0xFF));
+    let mut is_after_bad = false;
+    let mut chunks = text.utf8_chunks().peekable();
+    while let Some(chunk) = chunks.next() {
+        let (valid, bad) = (chunk.valid().as_bytes(), chunk.invalid().len());
+        let takes_next = fault == Fault::SwallowsNextByte
+            && is_after_bad
+            && valid.first().is_some_and(u8::is_ascii);
+        out.extend(&valid[usize::from(takes_next)..]);
+        let places = match fault {
+            Fault::ReplacesEachByte => bad,
+            Fault::JoinsBadPlaces if is_after_bad && valid.is_empty() => 0,
+            Fault::LosesCutEnd if chunks.peek().is_none() => 0,
+            _ => bad.min(1),
+        };
+        out.extend(repeat_n(0xFF, places));
+        is_after_bad = bad > 0;
     }
     out
 }
@@ -272,7 +286,13 @@ impl Calls for Faulty<'_> {
 
     fn repair(&self, text: &[u8], out: &mut [u8]) -> u64 {
         let word = self.around(text, &[], out, |text, _, out| match self.fault {
-            Fault::ReplacesEachByte => self.calls.repair(&in_single_bytes(text), out),
+            Fault::ReplacesEachByte
+            | Fault::JoinsBadPlaces
+            | Fault::SwallowsNextByte
+            | Fault::LosesCutEnd => self.calls.repair(&with_other_places(text, self.fault), out),
+            Fault::WantsThreeTimes if out.len() < 3 * text.len() => {
+                Answer::new(8, 3 * text.len() as u64).word()
+            }
             _ => self.calls.repair(text, out),
         });
         let answer = Answer::of_word(word);

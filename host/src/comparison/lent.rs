@@ -57,8 +57,7 @@ pub fn lend(
     lend_between([MARGIN; 2], name, draft, room, call)
 }
 
-/// The same with margins of so many bytes before and after the buffer. Buffer and margins are one allocation, which has
-/// not a byte more.
+/// The same with margins of `before` and `after` bytes around the buffer. Buffer and margins fill one allocation.
 pub fn lend_between(
     [before, after]: [usize; 2],
     name: impl Fn() -> String,

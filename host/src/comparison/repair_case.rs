@@ -1,5 +1,5 @@
 //! What taking a damaged text in does to one text, and the texts for it: every short one of bytes at the edges of the
-//! ranges, and drawn ones.
+//! ranges, drawn ones, and drawn runs of characters.
 
 use std::collections::BTreeSet;
 
@@ -8,23 +8,24 @@ use crate::Random;
 use crate::calls::Calls;
 use crate::reference::calls::{self, Draft, LONGEST_TEXT};
 
-/// The bytes at the edges of the ranges of the Unicode Standard's Table 3-7, and one inside each range.
+/// The bytes at the edges of the ranges of the Unicode Standard's Table 3-7, and the letter A.
 #[rustfmt::skip]
 pub const EDGES: [u8; 25] = [
     0x00, 0x41, 0x7F, 0x80, 0x8F, 0x90, 0x9F, 0xA0, 0xBF, 0xC0, 0xC1, 0xC2, 0xDF,
     0xE0, 0xE1, 0xEC, 0xED, 0xEE, 0xEF, 0xF0, 0xF1, 0xF3, 0xF4, 0xF5, 0xFF,
 ];
 
-/// Of these the texts of four bytes are made: an edge of each range of a second byte, and a first byte of each row.
+/// The bytes of the texts of four bytes: an edge of each range of a second byte, and a first byte of each row.
 #[rustfmt::skip]
 pub const FEWER_EDGES: [u8; 14] = [
     0x41, 0x80, 0x8F, 0x90, 0x9F, 0xA0, 0xBF, 0xC2, 0xE0, 0xE2, 0xED, 0xF0, 0xF1, 0xF4,
 ];
 
-/// A text longer than this has fewer calls.
+/// For a text longer than this, fewer rooms are tried.
 const LONG_TEXT: usize = 1_000_000;
 
-/// Compares the call on a text with the reading of document 02, and that reading with the standard library.
+/// Compares the call on a text with the independent implementation of document 02, and that implementation with the
+/// standard library.
 pub fn check(calls: &dyn Calls, text: &[u8]) -> Result<(), Difference> {
     let draft = calls::repair(text);
     if let Draft::Writes { bytes, second, .. } = &draft {
@@ -47,8 +48,8 @@ fn bad_places(text: &[u8]) -> u64 {
     chunks.filter(|chunk| !chunk.invalid().is_empty()).count() as u64
 }
 
-/// The rooms to try: none, what is wanted and one byte off, and three times the text, where every result fits, and one
-/// byte less.
+/// The rooms to try: none; the length of the result, one byte less and one byte more; three times the length of the text,
+/// which is enough for every result, and one byte less.
 fn rooms(draft: &Draft, text: &[u8]) -> BTreeSet<usize> {
     let (wanted, most) = (draft.wanted(), 3 * text.len().min(LONGEST_TEXT));
     if text.len() > LONG_TEXT {
@@ -59,7 +60,7 @@ fn rooms(draft: &Draft, text: &[u8]) -> BTreeSet<usize> {
     [0].into_iter().chain(off).chain(most).collect()
 }
 
-/// Hands every text of this many bytes of the list to a function, until it has an error.
+/// Calls a function with every text of this length over a list of bytes, until it returns an error.
 pub fn every_text<E>(
     bytes: &[u8],
     length: usize,
@@ -74,15 +75,47 @@ pub fn every_text<E>(
     Ok(())
 }
 
-/// A drawn text of such bytes.
+/// A drawn text of these bytes.
 #[must_use]
 pub fn drawn(random: &mut Random) -> Vec<u8> {
     let length = random.below(24);
     (0..length).map(|_| random.element(&EDGES)).collect()
 }
 
-/// Texts of a length around the limit: bad bytes alone, which become three times as long, and a cut character at the
-/// end.
+/// Characters of each width, for runs of them. Some have a first byte after which the second byte has a range of its own.
+const IN_RUNS: [&str; 12] = [
+    "a",
+    " ",
+    "\u{80}",
+    "\u{436}",
+    "\u{7FF}",
+    "\u{905}",
+    "\u{4E2D}",
+    "\u{D55C}",
+    "\u{FE0F}",
+    "\u{1F600}",
+    "\u{50000}",
+    "\u{10FFFF}",
+];
+
+/// A drawn text of runs of characters, in which some bytes are others. A text is tested in runs of one width.
+#[must_use]
+pub fn runs(random: &mut Random) -> Vec<u8> {
+    let mut text = Vec::new();
+    for _ in 0..1 + random.below(5) {
+        let most = random.element(&[1, 2, 12]);
+        let times = 1 + random.below(most);
+        text.extend(random.element(&IN_RUNS).repeat(times).bytes());
+    }
+    for _ in 0..random.below(3) {
+        let at = random.below(text.len());
+        text[at] = random.element(&EDGES);
+    }
+    text
+}
+
+/// Texts of a length around the limit: one of bad bytes alone, whose result is three times as long, and one that ends
+/// with the first bytes of a character.
 #[must_use]
 pub fn around_limit(length: usize) -> [Vec<u8>; 2] {
     let mut cut = vec![b'a'; length];

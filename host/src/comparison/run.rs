@@ -176,7 +176,7 @@ impl<'a> Run<'a> {
         }))
     }
 
-    /// Compares what taking a text in does; a difference is reduced first.
+    /// Compares repairing a text. A text that shows a difference is reduced to a short one.
     fn repair(&self, kind: &str, text: &[u8]) -> Result<(), Stop> {
         let check = |text: &[u8]| repair_case::check(self.calls, text).err();
         let Some(difference) = check(text) else {
@@ -188,7 +188,8 @@ impl<'a> Run<'a> {
         Err(Stop::Difference(format!("{head}{difference}")))
     }
 
-    /// Every text of up to three bytes at the edges of their ranges, and of four bytes over fewer of them.
+    /// Every text of up to three bytes at the edges of the ranges of Table 3-7, and every text of four bytes over fewer
+    /// of them.
     fn every_damaged_text(&mut self) -> Result<(), Stop> {
         let mut texts = 0;
         let all = (0..=3).map(|length| (&repair_case::EDGES[..], length));
@@ -304,7 +305,7 @@ impl<'a> Run<'a> {
         let stopped = self.stopped();
         self.told("random", cases, &format!("texts{stopped}"))?;
         self.told("damaged", cases, "texts or policies")?;
-        self.told("repaired", cases, "damaged texts, formatted after it")?;
+        self.told("repaired", cases, "texts, and the calls after it")?;
         let what = format!("lists of mending calls, {calls} calls");
         self.told("lists", cases, &what)?;
         let what = format!("drawn threads and bytes that are no feed, {feed_calls} calls");
@@ -333,15 +334,18 @@ impl<'a> Run<'a> {
         self.text("damaged", &text, &policy)
     }
 
-    /// A damaged text that is taken in, and what formatting does to it after that.
+    /// Makes the calls on a text that may be damaged, repairs it, and makes the calls on the result.
     fn repaired_text(&self, random: &mut Random) -> Result<(), Stop> {
-        let text = match random.below(3) {
+        let text = match random.below(4) {
             0 => repair_case::drawn(random),
+            1 => repair_case::runs(random),
             _ => self.alphabet.damaged(random),
         };
+        let policy = self.drawn_policy(random);
+        self.text("repaired", &text, &policy)?;
         self.repair("repaired", &text)?;
         let (text, _) = repaired(&text);
-        self.text("repaired", &text, &self.drawn_policy(random))
+        self.text("repaired", &text, &policy)
     }
 
     /// A list of mending calls, and how many they are.

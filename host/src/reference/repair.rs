@@ -12,10 +12,10 @@ use super::utf8;
 /// The bytes of FFFD.
 pub const REPLACEMENT: [u8; 3] = [0xEF, 0xBF, 0xBD];
 
-/// The most bytes of a beginning that is no character yet.
+/// The largest number of bytes that begin a character without being one.
 const MOST: usize = 3;
 
-/// The beginnings of all characters that are none yet.
+/// All lists of bytes that begin a character without being one.
 static BEGINNINGS: LazyLock<HashSet<Vec<u8>>> = LazyLock::new(|| {
     let mut beginnings = HashSet::new();
     for character in '\0'..=char::MAX {
@@ -35,7 +35,7 @@ pub fn is_unfinished(bytes: &[u8]) -> bool {
     BEGINNINGS.contains(bytes)
 }
 
-/// How many bytes belong to the bad place at the front of the bytes, of which there is one at least.
+/// The number of bytes of the bad place at the front of the bytes. There is at least one byte.
 #[must_use]
 pub fn stretch(bytes: &[u8]) -> usize {
     let begins = |length: &usize| is_unfinished(&bytes[..*length]);

@@ -8,11 +8,13 @@ use tilghorz::{Context, KeySet, Presentation};
 
 use crate::fix::Fix;
 use crate::follow::Follow;
-use crate::format::{Format, Mode};
+use crate::format::Format;
 use crate::help::Topic;
 use crate::policy::{Edit, Policy, PolicyFile};
+use crate::repair::Repair;
 use crate::replace::InPlace;
 use crate::report::Report;
+use crate::rewriting::{Mode, Rewriting};
 use crate::show::Show;
 use crate::source::Source;
 use crate::walk::{Pattern, Selection};
@@ -30,6 +32,8 @@ pub enum Command {
     Format(Format),
     /// `format --follow`.
     Follow(Follow),
+    /// `repair`.
+    Repair(Repair),
     /// `report`.
     Report(Report),
     /// `fix`.
@@ -105,6 +109,7 @@ fn command(topic: Topic, words: Words) -> Result<Command, String> {
     match topic {
         Topic::All | Topic::Folders => Ok(Command::Help(topic)),
         Topic::Format => format(words),
+        Topic::Repair => repair(words).map(Command::Repair),
         Topic::Report => report(words).map(Command::Report),
         Topic::Fix => fix(words).map(Command::Fix),
         Topic::Show => show(words).map(Command::Show),
@@ -216,24 +221,66 @@ impl Changing {
 }
 
 fn format(words: Words) -> Result<Command, String> {
+    let (mut repairs, mut is_followed) = (false, false);
+    let (rewriting, policy) = rewriting(words, |option| {
+        set(&mut repairs, REPAIR, option) || set(&mut is_followed, "--follow", option)
+    })?;
+    if is_followed {
+        return follow(rewriting, policy, repairs).map(Command::Follow);
+    }
+    Ok(Command::Format(Format {
+        policy,
+        repairs,
+        rewriting,
+    }))
+}
+
+/// A text that is followed.
+fn follow(rewriting: Rewriting, policy: PolicyFile, repairs: bool) -> Result<Follow, String> {
+    let Rewriting {
+        mode, mut names, ..
+    } = rewriting;
+    let other = match mode {
+        Mode::Check => Some("--check"),
+        Mode::InPlace => Some("--in-place"),
+        Mode::Write => repairs.then_some(REPAIR),
+    };
+    if let Some(other) = other {
+        return Err(format!("--follow and {other} cannot be used together"));
+    }
+    if names.len() > 1 {
+        return Err("--follow takes standard input or one file".to_owned());
+    }
+    Ok(Follow {
+        policy,
+        source: names.pop().unwrap_or(Source::Input),
+    })
+}
+
+fn repair(words: Words) -> Result<Repair, String> {
+    let (rewriting, policy) = rewriting(words, |_| false)?;
+    if policy.0.is_some() {
+        return unknown("--policy");
+    }
+    Ok(Repair { rewriting })
+}
+
+/// The option on bad places.
+const REPAIR: &str = "--repair";
+
+/// The texts and the policy of a command that writes texts anew. A function knows its further options.
+fn rewriting(
+    words: Words,
+    mut further: impl FnMut(&str) -> bool,
+) -> Result<(Rewriting, PolicyFile), String> {
     let (mut check, mut changing, mut going) = (false, Changing::default(), Going::default());
-    let mut is_followed = false;
     let (names, policy) = texts(words, |option, words| {
         Ok(set(&mut check, "--check", option)
-            || set(&mut is_followed, "--follow", option)
+            || further(option)
             || changing.take(option)
             || going.take(option, words)?)
     })?;
     going.test()?;
-    if is_followed {
-        let others = [
-            (check, "--check"),
-            (changing.in_place, "--in-place"),
-            (changing.new_owner, "--new-owner"),
-            (changing.no_sync, "--no-sync"),
-        ];
-        return follow(names, policy, &others).map(Command::Follow);
-    }
     let mode = match (check, changing.in_place) {
         (true, true) => {
             return Err("--check and --in-place cannot be used together".to_owned());
@@ -247,31 +294,13 @@ fn format(words: Words) -> Result<Command, String> {
         mut manner,
     } = going;
     manner.in_place = changing.of(&names)?;
-    Ok(Command::Format(Format {
+    let rewriting = Rewriting {
         mode,
-        policy,
         names,
         selection,
         manner,
-    }))
-}
-
-/// A text that is followed. These other options cannot be used with it.
-fn follow(
-    mut names: Vec<Source>,
-    policy: PolicyFile,
-    others: &[(bool, &str)],
-) -> Result<Follow, String> {
-    if let Some((_, other)) = others.iter().find(|(is_given, _)| *is_given) {
-        return Err(format!("--follow and {other} cannot be used together"));
-    }
-    if names.len() > 1 {
-        return Err("--follow takes standard input or one file".to_owned());
-    }
-    Ok(Follow {
-        policy,
-        source: names.pop().unwrap_or(Source::Input),
-    })
+    };
+    Ok((rewriting, policy))
 }
 
 /// Whether names can be changed in place.
@@ -283,10 +312,12 @@ fn are_files(names: &[Source]) -> Result<(), String> {
 }
 
 fn report(words: Words) -> Result<Report, String> {
-    let (mut json, mut items, mut going) = (false, false, Going::default());
+    let (mut json, mut items, mut repairs) = (false, false, false);
+    let mut going = Going::default();
     let (names, policy) = texts(words, |option, words| {
         Ok(set(&mut json, "--json", option)
             || set(&mut items, "--items", option)
+            || set(&mut repairs, REPAIR, option)
             || going.take(option, words)?)
     })?;
     going.test()?;
@@ -294,6 +325,7 @@ fn report(words: Words) -> Result<Report, String> {
     Ok(Report {
         json,
         items,
+        repairs,
         policy,
         names,
         selection,
@@ -303,11 +335,16 @@ fn report(words: Words) -> Result<Report, String> {
 
 fn fix(words: Words) -> Result<Fix, String> {
     let (mut at, mut decisions, mut changing) = (None, Vec::new(), Changing::default());
+    let (mut repairs, mut binary) = (false, false);
     let (mut names, policy) = texts(words, |option, words| {
         match option {
             "--at" => at = Some(offset(&words.text(option)?)?),
             "--decide" => decide(words, &mut decisions)?,
-            _ => return Ok(changing.take(option)),
+            _ => {
+                return Ok(set(&mut repairs, REPAIR, option)
+                    || set(&mut binary, "--binary", option)
+                    || changing.take(option));
+            }
         }
         Ok(true)
     })?;
@@ -318,6 +355,8 @@ fn fix(words: Words) -> Result<Fix, String> {
     Ok(Fix {
         at: at.ok_or("--at OFFSET is missing")?,
         decisions,
+        repairs,
+        binary,
         in_place,
         policy,
         source: names.pop().unwrap_or(Source::Input),
@@ -346,11 +385,14 @@ fn decide(words: &mut Words, decisions: &mut Vec<Presentation>) -> Result<(), St
 }
 
 fn show(words: Words) -> Result<Show, String> {
-    let mut going = Going::default();
-    let (names, policy) = texts(words, |option, words| going.take(option, words))?;
+    let (mut repairs, mut going) = (false, Going::default());
+    let (names, policy) = texts(words, |option, words| {
+        Ok(set(&mut repairs, REPAIR, option) || going.take(option, words)?)
+    })?;
     going.test()?;
     let Going { selection, manner } = going;
     Ok(Show {
+        repairs,
         policy,
         names,
         selection,

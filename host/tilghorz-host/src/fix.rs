@@ -5,6 +5,7 @@ use std::io::{self, Write};
 use tilghorz::{Presentation, Refusal};
 
 use crate::console::{Console, Status};
+use crate::intake::{self, Purpose};
 use crate::interrupt;
 use crate::policy::PolicyFile;
 use crate::replace::{Batch, Folders, InPlace};
@@ -17,6 +18,10 @@ pub struct Fix {
     pub at: usize,
     /// The decisions.
     pub decisions: Vec<Presentation>,
+    /// Whether bad places are replaced first.
+    pub repairs: bool,
+    /// Whether a binary file may be changed.
+    pub binary: bool,
     /// How the file is changed, if it is.
     pub in_place: Option<InPlace>,
     /// The policy.
@@ -38,10 +43,15 @@ impl Fix {
                 return Ok(Status::Fault);
             }
         };
-        let mended = match tilghorz::mend(&text.bytes, &policy, self.at, &self.decisions) {
+        let taken = intake::take_in(&text, self.repairs);
+        let replaced = taken.replaced;
+        if replaced > 0 {
+            console.complain(&intake::told(&self.source, &text, replaced, Purpose::Read));
+        }
+        let mended = match tilghorz::mend(&taken.text, &policy, self.at, &self.decisions) {
             Ok(mended) => mended,
             Err(refusal) => {
-                console.complain(&self.source.refused(refusal, &text.bytes));
+                console.complain(&intake::refused(&self.source, refusal, &taken));
                 self.advise(refusal, console);
                 return Ok(Status::Fault);
             }
@@ -50,7 +60,9 @@ impl Fix {
             console.out.write_all(&mended)?;
             return Ok(Status::Good);
         };
-        if let Err(fault) = self.replace(&text, &mended, how) {
+        let fault = intake::fault(&text, replaced, self.binary);
+        let fault = fault.map(|fault| format!("{}: {fault}", self.source));
+        if let Some(fault) = fault.or_else(|| self.replace(&text, &mended, how).err()) {
             console.complain(&fault);
             return Ok(Status::Fault);
         }
@@ -74,7 +86,10 @@ impl Fix {
     fn advise(&self, refusal: Refusal, console: &mut Console) {
         match refusal {
             Refusal::NoFinding => {
-                console.say(&"try: tilghorz-host report, which lists where findings start")
+                let option = if self.repairs { " --repair" } else { "" };
+                console.say(&format_args!(
+                    "try: tilghorz-host report{option}, which lists where findings start"
+                ));
             }
             Refusal::WrongNumberOfDecisions { wanted: 0 } => console.say(&"try: without --decide"),
             Refusal::WrongNumberOfDecisions { wanted } => {

@@ -3,39 +3,23 @@
 use std::borrow::Cow;
 use std::io;
 
-use tilghorz::Policy;
+use tilghorz::{Policy, Repaired};
 
 use crate::console::{Console, Status};
+use crate::intake;
 use crate::policy::PolicyFile;
+use crate::rewriting::Rewriting;
 use crate::source::{Source, Text};
-use crate::tally::Outcome;
-use crate::walk::{Entries, Selection};
-use crate::work::{self, Manner, Page};
-
-/// What is done with a formatted text.
-#[derive(Debug, Clone, Copy, PartialEq, Eq)]
-pub enum Mode {
-    /// It is written to standard output.
-    Write,
-    /// Its file is named if it differs.
-    Check,
-    /// Its file is changed if it differs.
-    InPlace,
-}
 
 /// The command.
 #[derive(Debug, PartialEq, Eq)]
 pub struct Format {
-    /// What is done with the formatted texts.
-    pub mode: Mode,
     /// The policy.
     pub policy: PolicyFile,
-    /// The texts.
-    pub names: Vec<Source>,
-    /// Which files of folders are taken.
-    pub selection: Selection,
-    /// How they are gone through.
-    pub manner: Manner,
+    /// Whether bad places are replaced first.
+    pub repairs: bool,
+    /// The texts, and what is done with the formatted ones.
+    pub rewriting: Rewriting,
 }
 
 impl Format {
@@ -44,60 +28,30 @@ impl Format {
         let Some(policy) = self.policy.read_or_complain(console) else {
             return Ok(Status::Fault);
         };
-        let is_folder = |name: &Source| matches!(name, Source::File(path) if path.is_dir());
-        if self.mode == Mode::Write && (self.names.len() > 1 || self.names.iter().any(is_folder)) {
-            console.complain(
-                &"format: several texts go with --in-place or --check; standard output takes one",
-            );
-            return Ok(Status::Fault);
-        }
-        let entries = Entries::of(&self.names, &self.selection, self.mode == Mode::InPlace);
-        let words = match self.mode {
-            Mode::Check => ["would change", "would not"],
-            _ => ["changed", "unchanged"],
-        };
-        let one = |source: &Source, text: &Text, page: &mut Page<'_, '_>| {
-            self.one(source, text, &policy, page)
-        };
-        let tally = work::each(&entries, words, self.manner, console, one)?;
-        Ok(tally.status(match self.mode {
-            Mode::Check => Status::Different,
-            _ => Status::Good,
-        }))
+        self.rewriting.run("format", console, |source, text| {
+            self.rewrite(source, text, &policy)
+        })
     }
 
     /// Formats a text.
-    fn one(
+    fn rewrite<'t>(
         &self,
         source: &Source,
-        text: &Text,
+        text: &'t Text,
         policy: &Policy,
-        page: &mut Page<'_, '_>,
-    ) -> io::Result<Outcome> {
-        let formatted = match tilghorz::format(&text.bytes, policy) {
-            Ok(formatted) => formatted,
-            Err(refusal) => {
-                page.complain(source.refused(refusal, &text.bytes));
-                return Ok(Outcome::Refused);
-            }
+    ) -> Result<Repaired<'t>, String> {
+        let taken = intake::take_in(text, self.repairs);
+        let changed = match tilghorz::format(&taken.text, policy) {
+            Ok(Cow::Owned(bytes)) => Some(bytes),
+            Ok(Cow::Borrowed(_)) => None,
+            Err(refusal) => return Err(intake::refused(source, refusal, &taken)),
         };
-        match (self.mode, &formatted) {
-            (Mode::Write, _) => page.out.write_all(&formatted)?,
-            (_, Cow::Borrowed(_)) => {}
-            (Mode::Check, Cow::Owned(_)) => {
-                page.out.write_all(source.name())?;
-                page.out.write_all(b"\n")?;
-            }
-            (Mode::InPlace, Cow::Owned(bytes)) => {
-                if let Err(error) = page.replace(source, text, bytes) {
-                    page.complain(format!("{source}: {error}"));
-                    return Ok(Outcome::Failed);
-                }
-            }
-        }
-        Ok(match formatted {
-            Cow::Borrowed(_) => Outcome::Clean,
-            Cow::Owned(_) => Outcome::Found,
+        Ok(match changed {
+            None => taken,
+            Some(bytes) => Repaired {
+                text: Cow::Owned(bytes),
+                replaced: taken.replaced,
+            },
         })
     }
 }

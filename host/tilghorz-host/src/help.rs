@@ -7,6 +7,8 @@ pub enum Topic {
     All,
     /// `format`.
     Format,
+    /// `repair`.
+    Repair,
     /// `report`.
     Report,
     /// `fix`.
@@ -24,6 +26,7 @@ impl Topic {
     pub fn of(name: &str) -> Option<Self> {
         Some(match name {
             "format" => Self::Format,
+            "repair" => Self::Repair,
             "report" => Self::Report,
             "fix" => Self::Fix,
             "show" => Self::Show,
@@ -41,6 +44,7 @@ pub fn text(topic: Topic) -> &'static str {
     match topic {
         Topic::All => ALL,
         Topic::Format => FORMAT,
+        Topic::Repair => REPAIR,
         Topic::Report => REPORT,
         Topic::Fix => FIX,
         Topic::Show => SHOW,
@@ -58,20 +62,21 @@ usage: tilghorz-host COMMAND [OPTIONS] [FILES]
   report    list the findings: where a text would change, and why
   fix       mend one finding
   show      show the text with its selectors made visible and its findings marked
+  repair    write a damaged text with U+FFFD for each bad place, change files in place, or check them
   policy    print, compare or write policies
   help      show this, or the help of a command: tilghorz-host help format
   version   show the version
 
-A text is UTF-8 of at most 16,777,216 bytes. FILES are read as bytes; none, or -, is standard input. Of a folder every
-file is taken, with those of its folders, but for binary files, ignored files, names that begin with a full stop,
-symbolic links and special files: tilghorz-host help folders.
+A text is UTF-8 of at most 16,777,216 bytes; with --repair it may be damaged. FILES are read as bytes; none, or -, is
+standard input. Of a folder every file is taken, with those of its folders, but for binary files, ignored files, names
+that begin with a full stop, symbolic links and special files: tilghorz-host help folders.
 
-Exit status: 0 done; 1 a text would change (format --check) or two policies differ (policy compare); 2 a text was
-refused, a file could not be read or written, or the command line is wrong.
+Exit status: 0 done; 1 a text would change (format --check, repair --check) or two policies differ (policy compare); 2 a
+text was refused, a file could not be read or written, or the command line is wrong.
 ";
 
 const FORMAT: &str = "\
-usage: tilghorz-host format [--check | --in-place | --follow] [--policy FILE] [OPTIONS] [FILES]
+usage: tilghorz-host format [--check | --in-place | --follow] [--repair] [--policy FILE] [OPTIONS] [FILES]
 
 Formats texts. Without an option one text is written to standard output; on a refusal nothing is.
 
@@ -88,6 +93,8 @@ Formats texts. Without an option one text is written to standard output; on a re
                  at once; an unfinished character and a last base wait for what comes next. The text ends with standard
                  input, or at SIGINT, SIGTERM or SIGHUP, and then the rest is written. On a refusal, what is formatted
                  before the damaged place has been written
+  --repair       replace each bad place of a damaged text by U+FFFD first: tilghorz-host help repair. A text is too long
+                 if it is so after that. A file that was only repaired has changed, too
   --policy FILE  the policy: 192 bytes, as `tilghorz-host policy write` writes them; else the default one
 
 More OPTIONS: --exclude, --include, --no-ignore, --binary, --jobs, --quiet, --verbose: tilghorz-host help folders.
@@ -97,8 +104,27 @@ written to standard error. If SIGINT, SIGTERM or SIGHUP ends it, it first remove
 says how far it came.
 ";
 
+const REPAIR: &str = "\
+usage: tilghorz-host repair [--check | --in-place] [OPTIONS] [FILES]
+
+Replaces each bad place of damaged texts by U+FFFD, and changes nothing else: the result is well-formed UTF-8. A bad
+place is a maximal subpart of the Unicode Standard, chapter 3: the bytes of a character that breaks off, or one byte.
+Without an option one text is written to standard output. It may become longer than a text that format takes.
+
+How many places were replaced in which file, and where the first is, is told on standard error, also with --quiet. It
+does not alter the exit status. The bytes that were replaced are lost in the new text: keep a copy of the old one.
+
+  --check        write nothing but the names of the files with bad places; status 1 if there is one
+  --in-place     change the files, as in format, with --new-owner and --no-sync. A file with a byte 00 and bad places
+                 may be no text, and is left as it was, unless --binary is given
+
+format, report, show and fix do the same with --repair before their work. Offsets are then those of the repaired text.
+
+More OPTIONS: --exclude, --include, --no-ignore, --binary, --jobs, --quiet, --verbose: tilghorz-host help folders.
+";
+
 const FOLDERS: &str = "\
-usage: tilghorz-host format|report|show [OPTIONS] FOLDER ..
+usage: tilghorz-host format|report|show|repair [OPTIONS] FOLDER ..
 
 Of a folder every file is taken, with those of its folders, in the order of their paths. Passed over are: names that
 begin with a full stop, symbolic links, special files, what a .gitignore ignores, what --exclude matches and --include
@@ -108,7 +134,7 @@ that is named itself is always taken.
   --exclude GLOB  pass over what matches, with all that is in it; may be given several times
   --include GLOB  take only what matches, with all that is in it; may be given several times. --exclude comes first
   --no-ignore     take what a .gitignore ignores, too
-  --binary        take binary files, too
+  --binary        take binary files, too. With it alone, a file with a byte 00 and bad places is repaired in place
   --jobs N        let N threads work, at most 256; else as many as there are processors. The output is the same for
                   each N
   --quiet         write no summary and no progress; faults are told
@@ -126,7 +152,7 @@ that have ended.
 ";
 
 const REPORT: &str = "\
-usage: tilghorz-host report [--json] [--items] [--policy FILE] [OPTIONS] [FILES]
+usage: tilghorz-host report [--json] [--items] [--repair] [--policy FILE] [OPTIONS] [FILES]
 
 Writes a line for each finding: start, end and eight counts, and a line with the totals. The counts: unsanctioned,
 modifier-defective, additional-defective, tag-conflicting, tag-forced, tag-redundant, policy-redundant, decisions. The
@@ -137,29 +163,35 @@ number and any offset. Of several files each has a line with its name first.
                  what is not UTF-8 is U+FFFD
   --items        the items of the text instead: start, end, kind, and whether the tags are complete; with --json, beside
                  the findings
+  --repair       replace each bad place by U+FFFD first: tilghorz-host help repair. Offsets are those of the repaired
+                 text; with --json, `replaced` is the number of replacements
   --policy FILE  the policy, as in format
 
 More OPTIONS: --exclude, --include, --no-ignore, --binary, --jobs, --quiet, --verbose: tilghorz-host help folders.
 ";
 
 const FIX: &str = "\
-usage: tilghorz-host fix --at OFFSET [--decide text|emoji ..] [--in-place] [--policy FILE] [OPTIONS] [FILE]
+usage: tilghorz-host fix --at OFFSET [--decide text|emoji ..] [--in-place] [--repair] [--policy FILE] [OPTIONS] [FILE]
 
 Mends the finding that starts at the byte offset, and writes the whole text to standard output.
 
   --at OFFSET    a start that report has
   --decide ..    a decision, text or emoji, for each that the finding counts, in text order
   --in-place     change the file instead, as in format, with --new-owner and --no-sync
+  --repair       replace each bad place by U+FFFD first: tilghorz-host help repair. OFFSET is one of the repaired text.
+                 With --in-place, --binary changes a file that has a byte 00 and bad places, too
   --policy FILE  the policy, as in format
 ";
 
 const SHOW: &str = "\
-usage: tilghorz-host show [--policy FILE] [OPTIONS] [FILES]
+usage: tilghorz-host show [--repair] [--policy FILE] [OPTIONS] [FILES]
 
 Shows texts line by line. Selectors, links, tags and control characters are shown by their code points, as <FE0F>.
 Findings are marked under the line, each with its bytes, its counts and what format would write. On a terminal it is
 coloured, unless the variable NO_COLOR is set.
 
+  --repair       replace each bad place by U+FFFD first: tilghorz-host help repair. Offsets are those of the repaired
+                 text
   --policy FILE  the policy, as in format
 
 More OPTIONS: --exclude, --include, --no-ignore, --binary, --jobs, --quiet, --verbose: tilghorz-host help folders.

@@ -19,7 +19,7 @@ pub struct Ignores {
 /// A file.
 struct Ignore {
     path: Arc<Path>,
-    /// How many names of a path lead to its folder.
+    /// The number of names in a path that lead to the folder of this file.
     depth: usize,
     patterns: Vec<Pattern>,
 }
@@ -42,7 +42,7 @@ impl Ignores {
         self.files.truncate(length);
     }
 
-    /// Adds the file of a folder to which so many names lead.
+    /// Adds the file of a folder. `depth` is the number of names in the path that lead to this folder.
     pub fn add(&mut self, folder: &Path, depth: usize) -> io::Result<()> {
         let path = folder.join(FILE);
         let patterns = patterns(&fs::read(&path)?);

@@ -1,4 +1,4 @@
-//! The command `tilghorz-host`: formats, reports, fixes and shows the emoji selectors of texts.
+//! The command `tilghorz-host`: formats, reports, fixes and shows the emoji selectors of texts, and repairs damaged texts.
 //!
 //! `tilghorz-host help` has the commands. Everything that matters is in the library `tilghorz`; here are the command
 //! line, files, folders and standard input, and what a person reads. What is unsafe of it stands in the module `system`.
@@ -14,11 +14,14 @@ mod format;
 mod glob;
 mod help;
 mod ignore;
+mod intake;
 mod interrupt;
 mod json;
 mod policy;
+mod repair;
 mod replace;
 mod report;
+mod rewriting;
 mod show;
 mod source;
 mod system;
@@ -54,6 +57,7 @@ fn run(command: &Command, console: &mut Console) -> io::Result<Status> {
         Command::Version => console.print(help::VERSION),
         Command::Format(format) => format.run(console),
         Command::Follow(follow) => follow.run(console),
+        Command::Repair(repair) => repair.run(console),
         Command::Report(report) => report.run(console),
         Command::Fix(fix) => fix.run(console),
         Command::Show(show) => show.run(console),

@@ -6,6 +6,7 @@ use std::io::{self, Write};
 use tilghorz::{Finding, Item, ItemKind, Policy, Refusal, Table};
 
 use crate::console::{Console, Status};
+use crate::intake::{self, Purpose};
 use crate::json::{CountsObject, FindingObject, ItemObject, Quoted, RefusalObject};
 use crate::policy::PolicyFile;
 use crate::source::{Source, Text};
@@ -20,6 +21,8 @@ pub struct Report {
     pub json: bool,
     /// Whether the items are asked for.
     pub items: bool,
+    /// Whether bad places are replaced first.
+    pub repairs: bool,
     /// The policy.
     pub policy: PolicyFile,
     /// The texts.
@@ -45,7 +48,7 @@ impl Report {
         };
         let entries = Entries::of(&self.names, &self.selection, false);
         console.keep_progress_off_terminal();
-        let words = ["with findings", "without"];
+        let words = ["with findings", "without", "repaired"];
         let one = |source: &Source, text: &Text, page: &mut Page<'_, '_>| {
             self.one(source, text, &policy, entries.are_many, page)
         };
@@ -62,13 +65,16 @@ impl Report {
         are_many: bool,
         page: &mut Page<'_, '_>,
     ) -> io::Result<Outcome> {
-        let found = self.find(&text.bytes, policy);
-        if let Err(refusal) = found {
-            page.complain(source.refused(refusal, &text.bytes));
+        let taken = intake::take_in(text, self.repairs);
+        let found = self.find(&taken.text, policy);
+        match found {
+            Ok(_) => page.tell_replaced(source, text, taken.replaced, Purpose::Read),
+            Err(refusal) => page.complain(intake::refused(source, refusal, &taken)),
         }
         let out = &mut *page.out;
         if self.json {
-            write_json(source, text.bytes.len(), &found, out)?;
+            let replaced = self.repairs.then_some(taken.replaced);
+            write_json(source, replaced, taken.text.len(), &found, out)?;
         } else {
             if are_many {
                 writeln!(out, "==> {source} <==")?;
@@ -148,15 +154,19 @@ fn write_numbers(numbers: &[usize], out: &mut dyn Write) -> io::Result<()> {
     writeln!(out)
 }
 
-/// Writes an object in a line.
+/// Writes an object in a line. The number of replacements is in it if bad places were to be replaced.
 fn write_json(
     source: &Source,
+    replaced: Option<usize>,
     bytes: usize,
     found: &Result<Found, Refusal>,
     out: &mut dyn Write,
 ) -> io::Result<()> {
     let name = String::from_utf8_lossy(source.name());
     write!(out, "{{\"file\":{}", Quoted(&name))?;
+    if let Some(replaced) = replaced {
+        write!(out, ",\"replaced\":{replaced}")?;
+    }
     match found {
         Err(refusal) => write!(out, ",\"refused\":{}", RefusalObject(*refusal))?,
         Ok(Found { findings, items }) => {

@@ -2,9 +2,10 @@
 
 use std::io::{self, Write};
 
-use tilghorz::{Counts, Finding, Policy};
+use tilghorz::{Counts, Finding, Policy, Table};
 
 use crate::console::{Console, Status};
+use crate::intake::{self, Purpose};
 use crate::policy::PolicyFile;
 use crate::source::{Source, Text};
 use crate::tally::Outcome;
@@ -15,6 +16,8 @@ use crate::work::{self, Manner, Page};
 /// The command.
 #[derive(Debug, PartialEq, Eq)]
 pub struct Show {
+    /// Whether bad places are replaced first.
+    pub repairs: bool,
     /// The policy.
     pub policy: PolicyFile,
     /// The texts.
@@ -66,34 +69,53 @@ impl Show {
         } else {
             PLAIN
         };
-        let words = ["with findings", "without"];
+        let words = ["with findings", "without", "repaired"];
         let one = |source: &Source, text: &Text, page: &mut Page<'_, '_>| {
             if entries.are_many {
                 writeln!(page.out, "==> {source} <==")?;
             }
-            one(source, text, &policy, &style, page)
+            self.one(source, text, &policy, &style, page)
         };
         let tally = work::each(&entries, words, self.manner, console, one)?;
         Ok(tally.status(Status::Good))
     }
+
+    /// Shows a text.
+    fn one(
+        &self,
+        source: &Source,
+        text: &Text,
+        policy: &Policy,
+        style: &Style,
+        page: &mut Page<'_, '_>,
+    ) -> io::Result<Outcome> {
+        let taken = intake::take_in(text, self.repairs);
+        let findings = match tilghorz::findings(&taken.text, policy) {
+            Ok(findings) => findings,
+            Err(refusal) => {
+                page.complain(intake::refused(source, refusal, &taken));
+                return Ok(Outcome::Refused);
+            }
+        };
+        page.tell_replaced(source, text, taken.replaced, Purpose::Read);
+        write_text(&taken.text, &findings, policy, style, page.out)?;
+        Ok(if findings.is_empty() {
+            Outcome::Clean
+        } else {
+            Outcome::Found
+        })
+    }
 }
 
-/// Shows a text.
-fn one(
-    source: &Source,
-    text: &Text,
+/// Writes the lines of a text, and under each its findings.
+fn write_text(
+    text: &[u8],
+    findings: &Table<Finding>,
     policy: &Policy,
     style: &Style,
-    page: &mut Page<'_, '_>,
-) -> io::Result<Outcome> {
-    let findings = match tilghorz::findings(&text.bytes, policy) {
-        Ok(findings) => findings,
-        Err(refusal) => {
-            page.complain(source.refused(refusal, &text.bytes));
-            return Ok(Outcome::Refused);
-        }
-    };
-    let shown = String::from_utf8_lossy(&text.bytes);
+    out: &mut dyn Write,
+) -> io::Result<()> {
+    let shown = String::from_utf8_lossy(text);
     let mut rest = findings.iter().peekable();
     let mut start = 0;
     for (index, line) in shown.split_inclusive('\n').enumerate() {
@@ -103,17 +125,13 @@ fn one(
             in_line.push(finding);
         }
         let line = line.strip_suffix('\n').unwrap_or(line);
-        write_line(index + 1, line, start, &in_line, style, page.out)?;
+        write_line(index + 1, line, start, &in_line, style, out)?;
         for finding in in_line {
-            write_finding(&finding, &text.bytes, policy, style, page.out)?;
+            write_finding(&finding, text, policy, style, out)?;
         }
         start = end;
     }
-    Ok(if findings.is_empty() {
-        Outcome::Clean
-    } else {
-        Outcome::Found
-    })
+    Ok(())
 }
 
 /// Writes a line that starts at an offset, and the marks of its findings under it.

@@ -124,7 +124,7 @@ fn room(metadata: &Metadata) -> usize {
 }
 
 /// The number of the line in which a byte is, counted from 1.
-fn line_of(text: &[u8], offset: usize) -> usize {
+pub fn line_of(text: &[u8], offset: usize) -> usize {
     let before = text.iter().take(offset);
     1 + before.filter(|byte| **byte == b'\n').count()
 }

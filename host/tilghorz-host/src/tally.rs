@@ -3,6 +3,7 @@
 use std::fmt::{self, Display, Formatter};
 
 use crate::console::Status;
+use crate::intake::places;
 use crate::walk::Why;
 
 /// What became of an entry. Those up to `Binary` are of files that were read, or could not be.
@@ -54,26 +55,35 @@ impl From<&Why> for Outcome {
 
 /// How many entries had each outcome.
 pub struct Tally {
-    /// What is said of texts with findings, and without.
-    words: [&'static str; 2],
+    /// What is said of texts with findings, of those without, and of those that were repaired.
+    words: [&'static str; 3],
     counts: [usize; OUTCOMES],
+    /// How many files were repaired, and how many bad places they had.
+    repaired: usize,
+    replaced: usize,
     /// Whether folders could not be synced.
     is_unsynced: bool,
 }
 
 impl Tally {
     /// Nothing yet.
-    pub fn new(words: [&'static str; 2]) -> Self {
+    pub fn new(words: [&'static str; 3]) -> Self {
         Self {
             words,
             counts: [0; OUTCOMES],
+            repaired: 0,
+            replaced: 0,
             is_unsynced: false,
         }
     }
 
-    /// Counts an entry.
-    pub fn count(&mut self, outcome: Outcome) {
+    /// Counts an entry, in which `replaced` bad places were replaced. An entry that was not written is not counted as repaired.
+    pub fn count(&mut self, outcome: Outcome, replaced: usize) {
         self.counts[outcome as usize] += 1;
+        if replaced > 0 && matches!(outcome, Outcome::Found | Outcome::Clean) {
+            self.repaired += 1;
+            self.replaced += replaced;
+        }
     }
 
     /// Notes that folders could not be synced.
@@ -104,7 +114,8 @@ impl Tally {
 }
 
 impl Display for Tally {
-    /// The numbers after the colon are all the files before it. What was passed over without a look into it follows.
+    /// The numbers after the colon are all the files before it. How many of them were repaired follows, and what was passed
+    /// over without a look into it.
     fn fmt(&self, out: &mut Formatter<'_>) -> fmt::Result {
         use Outcome::*;
         let number = |outcome, one, several| match self.of(outcome) {
@@ -112,14 +123,18 @@ impl Display for Tally {
             number => format!("{number} {several}"),
         };
         let files = self.files();
-        let file = if files == 1 { "file" } else { "files" };
-        let [found, clean] = self.words;
+        let file = |number| if number == 1 { "file" } else { "files" };
+        let [found, clean, repaired] = self.words;
         let (found, clean) = (number(Found, found, found), number(Clean, clean, clean));
-        write!(out, "{files} {file}: {found}, {clean}")?;
+        write!(out, "{files} {}: {found}, {clean}", file(files))?;
         for (outcome, word) in [(Refused, "refused"), (Failed, "failed"), (Binary, "binary")] {
             if self.of(outcome) > 0 {
                 write!(out, ", {}", number(outcome, word, word))?;
             }
+        }
+        if self.repaired > 0 {
+            let (file, places) = (file(self.repaired), places(self.replaced));
+            write!(out, "; {repaired}: {} {file}, {places}", self.repaired)?;
         }
         let passed_over = [
             (Hidden, "hidden", "hidden"),

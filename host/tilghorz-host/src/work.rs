@@ -11,6 +11,7 @@ use std::sync::{Condvar, Mutex, MutexGuard, PoisonError};
 use std::thread;
 
 use crate::console::Console;
+use crate::intake::{self, Purpose};
 use crate::interrupt;
 use crate::replace::{Batch, Folders, InPlace};
 use crate::source::{Source, Text};
@@ -40,12 +41,27 @@ pub struct Page<'a, 'b> {
     messages: &'a mut Vec<String>,
     batch: Option<&'a mut Batch<'b>>,
     is_prepared: &'a mut bool,
+    replaced: &'a mut usize,
 }
 
 impl Page<'_, '_> {
     /// Says something with the command's name.
     pub fn complain(&mut self, message: String) {
         self.messages.push(message);
+    }
+
+    /// Says how many bad places of a text are replaced, if there are some, and counts them.
+    pub fn tell_replaced(
+        &mut self,
+        source: &Source,
+        text: &Text,
+        replaced: usize,
+        purpose: Purpose,
+    ) {
+        if replaced > 0 {
+            self.complain(intake::told(source, text, replaced, purpose));
+        }
+        *self.replaced = replaced;
     }
 
     /// Changes the file of a text, with others.
@@ -68,13 +84,15 @@ struct Done {
     outcome: Outcome,
     out: Vec<u8>,
     messages: Vec<String>,
+    /// How many bad places were replaced.
+    replaced: usize,
 }
 
 /// Does something with each text. What cannot be read is told, and the others go on. Of several texts a summary is
 /// said.
 pub fn each(
     entries: &Entries,
-    words: [&'static str; 2],
+    words: [&'static str; 3],
     manner: Manner,
     console: &mut Console,
     one: impl Work,
@@ -156,7 +174,7 @@ impl<W: Work> Go<'_, W> {
     /// Goes through one entry, and writes as it goes.
     fn alone(&self, entry: &Entry, order: &mut Order<'_>) -> io::Result<()> {
         let mut batch = self.batch();
-        let (mut messages, mut is_prepared) = (Vec::new(), false);
+        let (mut messages, mut is_prepared, mut replaced) = (Vec::new(), false, 0);
         let outcome = self.entry(
             entry,
             Page {
@@ -164,12 +182,14 @@ impl<W: Work> Go<'_, W> {
                 messages: &mut messages,
                 batch: batch.as_mut(),
                 is_prepared: &mut is_prepared,
+                replaced: &mut replaced,
             },
         )?;
         let mut all = vec![Done {
             outcome,
             out: Vec::new(),
             messages,
+            replaced,
         }];
         if let Some(mut batch) = batch {
             let mut waiting = Vec::from_iter(is_prepared.then_some(0));
@@ -242,12 +262,14 @@ impl<W: Work> Go<'_, W> {
         // The places of those that wait to be committed.
         let mut waiting = Vec::new();
         for entry in entries {
-            let (mut out, mut messages, mut is_prepared) = (Vec::new(), Vec::new(), false);
+            let (mut out, mut messages) = (Vec::new(), Vec::new());
+            let (mut is_prepared, mut replaced) = (false, 0);
             let page = Page {
                 out: &mut out,
                 messages: &mut messages,
                 batch: batch.as_mut(),
                 is_prepared: &mut is_prepared,
+                replaced: &mut replaced,
             };
             // Writing to memory does not fail.
             let outcome = self.entry(entry, page).unwrap_or(Outcome::Failed);
@@ -258,6 +280,7 @@ impl<W: Work> Go<'_, W> {
                 outcome,
                 out,
                 messages,
+                replaced,
             });
             if let Some(batch) = &mut batch
                 && (batch.is_full() || all.len() == entries.len())
@@ -357,7 +380,7 @@ impl Order<'_> {
     /// Writes and says what there is of some entries.
     fn write(&mut self, all: Vec<Done>) -> io::Result<()> {
         for done in all {
-            self.tally.count(done.outcome);
+            self.tally.count(done.outcome, done.replaced);
             for message in done.messages {
                 self.console.complain(&message);
             }

@@ -19,10 +19,11 @@ fn help_and_version_go_to_standard_output() {
         ),
         (&["fix", "-h"], "usage: tilghorz-host fix "),
         (&["help", "show"], "usage: tilghorz-host show "),
+        (&["help", "repair"], "usage: tilghorz-host repair "),
         (&["help", "policy"], "usage: tilghorz-host policy "),
         (
             &["help", "folders"],
-            "usage: tilghorz-host format|report|show ",
+            "usage: tilghorz-host format|report|show|repair ",
         ),
         (&["help", "help"], "Puts the emoji selectors"),
         (&["help", "version"], "Puts the emoji selectors"),
@@ -92,6 +93,27 @@ fn wrong_command_lines_are_told_on_standard_error() {
             "show: --exclude [a: not a pattern: a bracket is not closed",
         ),
         (&["fix", "--jobs", "1"], "fix: --jobs: not an option"),
+        (
+            &["report", "--repair=yes"],
+            "report: --repair: takes no value",
+        ),
+        (&["repair", "--repair"], "repair: --repair: not an option"),
+        (
+            &["repair", "--policy", "a"],
+            "repair: --policy: not an option",
+        ),
+        (
+            &["repair", "a", "b"],
+            "repair: several texts go with --in-place or --check",
+        ),
+        (
+            &["repair", "--in-place"],
+            "repair: --in-place: standard input cannot be changed in place",
+        ),
+        (
+            &["policy", "--repair"],
+            "policy: unknown policy command --repair",
+        ),
         (&["folders"], "folders: not a command"),
         (&["report", "--at", "1"], "report: --at: not an option"),
         (&["fix"], "fix: --at OFFSET is missing"),
@@ -151,7 +173,7 @@ fn wrong_command_lines_are_told_on_standard_error() {
 fn a_closed_pipe_is_quiet() {
     let folder = Folder::new("pipe");
     folder.write("many", "\u{A9}\n".repeat(100_000));
-    for command in ["format", "report", "show"] {
+    for command in ["format", "report", "show", "repair"] {
         let mut command = Command::new(COMMAND)
             .args([command, "many"])
             .current_dir(folder.path(""))
@@ -224,6 +246,20 @@ fn no_input_ends_in_a_panic() {
                 !ran.err.is_empty(),
                 "{arguments:?} {bytes:X?}"
             );
+        }
+        // With the option no text of these is refused, and a message says only that bad places were replaced.
+        let is_damaged = std::str::from_utf8(&bytes).is_err();
+        for arguments in [
+            &["repair"][..],
+            &["format", "--repair"],
+            &["report", "--json", "--repair"],
+            &["show", "--repair"],
+        ] {
+            let ran = folder.run_with(arguments, &bytes);
+            assert_eq!(ran.status, 0, "{arguments:?} {bytes:X?} {}", ran.err);
+            assert_eq!(is_damaged, ran.err.contains(" replaced by U+FFFD, "));
+            assert_eq!(is_damaged, !ran.err.is_empty());
+            assert!(std::str::from_utf8(&ran.out).is_ok());
         }
     }
 }

@@ -27,10 +27,10 @@ pub fn read(word: u64) -> Result<Option<usize>, Refusal> {
     }
 }
 
-/// Where the second of two values begins.
+/// The number of the lowest bit of the second value.
 const SECOND_SHIFT: u32 = 28;
 
-/// The two values of a call that has two.
+/// The two values of an answer that has two.
 pub fn read_two(word: u64) -> Result<(usize, usize), Refusal> {
     let first = (1 << SECOND_SHIFT) - 1;
     read_done(word).map(|value| (value & first, value >> SECOND_SHIFT))

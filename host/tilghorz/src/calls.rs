@@ -24,10 +24,10 @@ pub enum Formatted {
     },
 }
 
-/// A text that was taken in: a bad place is the maximal subpart of the Unicode Standard, chapter 3.
+/// A repaired text. A bad place is a maximal subpart of the Unicode Standard, chapter 3.
 #[derive(Debug, Clone, PartialEq, Eq, Hash)]
 pub struct Repaired<'a> {
-    /// The text with FFFD for each bad place, which is well-formed: the text itself where there is none.
+    /// The text with FFFD for each bad place. It is well-formed. If there is no bad place, it is the text itself.
     pub text: Cow<'a, [u8]>,
     /// The number of replacements.
     pub replaced: usize,
@@ -100,9 +100,9 @@ pub fn repair(text: &[u8]) -> Result<Repaired<'_>, Refusal> {
     Ok(Repaired { text, replaced })
 }
 
-/// Repairs into the caller's buffer, and gives the length of the repaired text and the number of replacements. Three
-/// times the text's length is always enough room. A text without a bad place is written too. What is after the
-/// repaired text stays as it was.
+/// Writes the repaired text into the caller's buffer, and returns its length and the number of replacements. Three times
+/// the length of the text is always enough room. A text without a bad place is written too. The bytes after the repaired
+/// text are unchanged.
 ///
 /// # Errors
 /// Refusals 1 and 8; the buffer is then as it was.
@@ -189,8 +189,8 @@ fn table<R: Row>(call: impl Fn(&mut [u8]) -> u64) -> Result<Table<R>, Refusal> {
     Ok(Table::new(bytes, rows))
 }
 
-/// Makes a call with a buffer of so many bytes, and once more with the room wanted where it is too short. The room
-/// wanted is told in places of so many bytes.
+/// Makes a call with a buffer of `room` bytes. If this buffer is too short, it makes the call once more, with the room
+/// that the refusal asks for. The refusal counts places of `place` bytes.
 fn with_room<T>(
     room: usize,
     place: usize,

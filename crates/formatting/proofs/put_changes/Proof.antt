@@ -8,7 +8,7 @@ use borrow.Author.Tests.{not-false, not-true}
 use Rattle.base.proofs.Writer.{Writing, begin, finish}
 use Rattle.policy.specs.PolicyBytes.{policyOf}
 use Rattle.text_pass.specs.Changes.{NextChange, formattedFrom}
-use Rattle.formatting.proofs.Surveying.{change-put, change-room, none-left, passed, passed-less}
+use Rattle.formatting.proofs.Surveying.{change-put, change-room, formattedFrom-none, passed, passed-less}
 use Rattle.formatting.proofs.put_changes.Statement.{statement}
 use Rattle.formatting.proofs.put_changes.Tie as tie
 
@@ -42,7 +42,7 @@ returns c =
     let l = c .before .before .before .before .before .before .loop in
     let h = passed p t (l .inv .0) (l .inv .2) in
     finish _ _ _ _ (change-put p t (l .inv .1) h (c .before .before .before .before .put-change .ensures))
-    (none-left p t (l .change .end) (l .inv .2 .1 (not-true _ (c .if1 .taken)) .ends))
+    (formattedFrom-none p t (l .change .end) (l .inv .2 .1 (not-true _ (c .if1 .taken)) .ends))
 
 loop-less : tie.Need-loop-less Inv-loop μ-loop
 loop-less c =

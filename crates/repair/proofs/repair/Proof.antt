@@ -1,4 +1,4 @@
--- `repair::repair` meets its contract: its outcomes (Outcomes), and that three times the text is room enough.
+-- `repair::repair` meets its contract: the outcomes are those of Outcomes, and an output of three times the text is long enough.
 use mathlib.Core.Path.{_∙_}
 use native.Mathlib.Nat.{zero-add}
 use native.Mathlib.Omega.{arith}

@@ -1,4 +1,4 @@
--- `repair::repair_measured` meets its contract: its outcomes (Outcomes).
+-- `repair::repair_measured` meets its contract: the outcomes are those of Outcomes.
 use native.Mathlib.Omega.{arith}
 use borrow.Author.Needs.{needs}
 use Rattle.repair.proofs.Outcomes.{copied, done, too-short}

@@ -1,5 +1,6 @@
--- `repair::write_repaired` meets its contract. The loop's invariant: what is left from `at` on is still to be written, at `len`, and the
--- number so far, with that of what is left, is the whole. The measure is the number of bytes left.
+-- `repair::write_repaired` meets its contract. The loop's invariant: the repaired rest, from `at` on, is still to be written at the
+-- offset `len`; and the number of replacements so far and that of the rest are together the whole number. The measure is the number of
+-- bytes from `at` on.
 use mathlib.Core.Path.{_≡_, refl}
 use Prim.Native.Nat.{_+_, _-_, _≤_}
 use native.Mathlib.Omega.{arith}

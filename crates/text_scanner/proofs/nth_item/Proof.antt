@@ -105,7 +105,7 @@ use Rattle.scanner.specs.declared.ScanStep.{ScanStep}
 use Rattle.text_scanner.specs.declared.NthItem.{NthItem}
 use Rattle.text_scanner.specs.declared.Scanned.{Scanned}
 use Rattle.text_scanner.specs.declared.Scanner.{Scanner}
-use Rattle.text_scanner.proofs.HandingOut.{nth-answer}
+use Rattle.text_scanner.proofs.GivenItems.{nth-answer}
 use Rattle.text_scanner.proofs.Lending.{Aside, Cell, Next, Own, answerOf, lends, loan, moved, owns-scanner, takes-back, to-next}
 use Rattle.scanner.proofs.ScanStep as R
 use Rattle.scanner.proofs.ScanStep.Laws as R′

@@ -93,7 +93,7 @@ use Rattle.text_scanner.specs.Scanner.{nthItem, part, rawOf}
 use Rattle.scanner.specs.declared.ScanItem.{ScanItem}
 use Rattle.text_scanner.specs.declared.NthItem.{NthItem}
 use Rattle.text_scanner.specs.declared.Scanner.{Scanner}
-use Rattle.text_scanner.proofs.HandingOut.{raw-item}
+use Rattle.text_scanner.proofs.GivenItems.{raw-item}
 use Rattle.text_scanner.proofs.Lending.{Own, owns-scanner}
 use Rattle.scanner.proofs.ScanItem as I
 use Rattle.scanner.proofs.ScanItem.Laws as I′

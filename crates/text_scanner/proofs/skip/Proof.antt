@@ -117,7 +117,7 @@ use Rattle.text_scanner.specs.Helpers.{leftAfter, skipped}
 use Rattle.text_scanner.specs.Scanner.{atOffset, offsetAfterStep, offsetAfter}
 use Rattle.scanner.specs.declared.ScanStep.{ScanStep}
 use Rattle.text_scanner.specs.declared.Scanner.{Scanner}
-use Rattle.text_scanner.proofs.HandingOut.{fewer-left, no-call, one-call}
+use Rattle.text_scanner.proofs.GivenItems.{fewer-left, no-call, one-call}
 use Rattle.text_scanner.proofs.Lending.{Aside, Cell, Next, Own, answerOf, lends, loan, moved, takes-back, to-next}
 use Rattle.scanner.proofs.ScanStep as R
 use Rattle.scanner.proofs.ScanStep.Laws as R′

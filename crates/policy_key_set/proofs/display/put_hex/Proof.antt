@@ -4,7 +4,7 @@ use mathlib.Core.List.{_∷_}
 use Prim.Native.Nat.{ℕ, _-_, _≤_}
 use native.Mathlib.Omega.{arith}
 use Rattle.policy_key_set.specs.Display.{hexDigits}
-use Rattle.policy_key_set.proofs.Texts.{hex-length, hex-step}
+use Rattle.policy_key_set.proofs.Texts.{hex-length, hexDigits-cons}
 use Rattle.base.proofs.Writer.{Writing, begin, byte-put, byte-room, finish}
 use Rattle.policy_key_set.proofs.display.put_hex.Statement.{statement}
 use Rattle.policy_key_set.proofs.display.put_hex.Tie as tie
@@ -29,7 +29,7 @@ slice-write-out c =
     let l = c .before .before .loop in
     let a = c .before .before .before .before .args in
     let r = byte-room (hexDigits (a .width) (a .ch)) (a .start) (a .out .now) (hexDigits (l .k) (a .ch)) (l .inv .2)
-    (hex-step (l .k) (a .ch) (omega arith)) in
+    (hexDigits-cons (l .k) (a .ch) (omega arith)) in
     omega arith
 
 add-at : tie.Need-add-at Inv-loop μ-loop
@@ -37,7 +37,7 @@ add-at c =
     let l = c .before .before .loop in
     let a = c .before .before .before .before .args in
     let r = byte-room (hexDigits (a .width) (a .ch)) (a .start) (a .out .now) (hexDigits (l .k) (a .ch)) (l .inv .2)
-    (hex-step (l .k) (a .ch) (omega arith)) in
+    (hexDigits-cons (l .k) (a .ch) (omega arith)) in
     omega arith
 
 loop-again : tie.Need-loop-again Inv-loop μ-loop
@@ -47,7 +47,7 @@ loop-again c =
       omega arith,
       l .inv .1,
       byte-put (hexDigits (a .width) (a .ch)) (a .start) (a .out .now) (hexDigits (l .k) (a .ch)) (l .inv .2)
-          (hex-step (l .k) (a .ch) (omega arith) ∙ ap (λ (d : ℕ). d ∷ hexDigits (l .k - 1) (a .ch)) (sym (c .hex-digit .ensures))),
+          (hexDigits-cons (l .k) (a .ch) (omega arith) ∙ ap (λ (d : ℕ). d ∷ hexDigits (l .k - 1) (a .ch)) (sym (c .hex-digit .ensures))),
     )
 
 same-length : tie.Need-same-length Inv-loop μ-loop

@@ -14,7 +14,7 @@ use Rattle.scanner.specs.RunKinds.{isLinkClass}
 use Rattle.scanner.proofs.ClassTests.{link-test}
 use Rattle.scanner.proofs.Peek.{seen, seen-arm, unseen}
 use Rattle.scanner.proofs.RunsAt.{run-none, run-on, run-over}
-use Rattle.analysis.proofs.ChoicePlaces.{link-end, offLink}
+use Rattle.analysis.proofs.ChoicesAt.{link-end, offLink}
 use Rattle.replacing.proofs.choice.end_before_link.Statement.{statement}
 use Rattle.replacing.proofs.choice.end_before_link.Tie as tie
 

@@ -8,7 +8,7 @@ use lib.ListN.{length}
 use Rattle.scanner.proofs.Peek.{seen, unseen}
 use Rattle.analysis.specs.ChoicesAt.{choiceAt}
 use Rattle.analysis.proofs.CellsAt.{is-selector, not-selector}
-use Rattle.analysis.proofs.ChoicePlaces.{choice-found, choice-none, choice-passed, choice-selector, undecided}
+use Rattle.analysis.proofs.ChoicesAt.{choice-found, choice-none, choice-passed, choice-selector, undecided}
 use Rattle.replacing.proofs.choice.next_choice.Statement.{statement}
 use Rattle.replacing.proofs.choice.next_choice.Tie as tie
 

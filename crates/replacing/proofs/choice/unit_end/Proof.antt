@@ -2,7 +2,7 @@
 use mathlib.Core.Path.{sym, _∙_}
 use borrow.Author.Needs.{needs}
 use Rattle.scanner.proofs.Peek.{seen, unseen}
-use Rattle.analysis.proofs.ChoicePlaces.{first-cell, unit-none, unit-on}
+use Rattle.analysis.proofs.ChoicesAt.{first-cell, unit-none, unit-on}
 use Rattle.replacing.proofs.choice.unit_end.Statement.{statement}
 use Rattle.replacing.proofs.choice.unit_end.Tie as tie
 

@@ -32,9 +32,9 @@ good ds i l g =
 bad : (ds : List ℕ) (i : ℕ) → i < length ds → 1 < getD ds i 0 → badDecision i (drop i ds) ≡ some (BadDecision i)
 bad ds i l g = ap (badDecision i) (drop-cons ds i 0 l) ∙ refused i (getD ds i 0) (drop (suc i) ds) g
 
-none-left : (ds : List ℕ) (i : ℕ) → length ds ≤ i → badDecision i (drop i ds) ≡ none
+badDecision-none : (ds : List ℕ) (i : ℕ) → length ds ≤ i → badDecision i (drop i ds) ≡ none
 unfolding badDecision
-none-left ds i l = ap (badDecision i) (drop-of-length-le ds l)
+badDecision-none ds i l = ap (badDecision i) (drop-of-length-le ds l)
 
 abbrev Inv-loop : tie.InvT-loop
 Inv-loop decisions i₀ i = badDecision 0 decisions ≡ badDecision i (drop i decisions)
@@ -59,7 +59,7 @@ loop-again c =
     l .inv ∙ good _ (l .i) (c .before .before .loop-test .taken) (c .if1 .left)
 
 returns-2 : tie.Need-returns-2 Inv-loop μ-loop
-returns-2 c = sym (ap checked (c .before .loop .inv ∙ none-left _ (c .before .loop .i) (c .loop-test .left)))
+returns-2 c = sym (ap checked (c .before .loop .inv ∙ badDecision-none _ (c .before .loop .i) (c .loop-test .left)))
 
 pub check-bytes-spec : {M : Type 1} → statement M
 check-bytes-spec = tie.close

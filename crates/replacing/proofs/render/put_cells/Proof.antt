@@ -15,14 +15,14 @@ use Rattle.analysis.specs.Cells.{Cell, leading}
 use Rattle.analysis.specs.Helpers.{cellBytes}
 use Rattle.analysis.specs.Decisions.{meaning}
 use Rattle.analysis.proofs.CellsAt.{read-end, split-at}
-use Rattle.analysis.proofs.Rendering.{left-cell, left-leading, left-none, leftAt, used-few}
+use Rattle.analysis.proofs.Rendering.{bytesFrom-cell, bytesFrom-leading, bytesFrom-none, bytesFrom, used-few}
 use Rattle.replacing.proofs.render.put_cells.Statement.{statement}
 use Rattle.replacing.proofs.render.put_cells.Tie as tie
 
 abbrev Inv-loop : tie.InvT-loop
 Inv-loop text policy decisions out₀ start at₀ to₀ used₀ out at to used =
     (used ≤ at) × (leading (chars (drop at text)) ≡ [])
-    × Writing (leftAt policy text decisions 0 0) 0 out₀ (leftAt policy text decisions at used) out to
+    × Writing (bytesFrom policy text decisions 0 0) 0 out₀ (bytesFrom policy text decisions at used) out to
 
 abbrev μ-loop : tie.MeasureT-loop
 μ-loop text policy decisions out₀ start at₀ to₀ used₀ out at to used = length text - at
@@ -35,7 +35,7 @@ loop-holds c =
     let e = read-end (x .text .now) 0 (r .result) (r .ensures) in (
       omega arith,
       ap (λ (a : List Presentation × List Cell). a .0) (split-at (x .text .now) 0 e),
-      pass _ _ _ _ _ (begin _ _ _ (let h = s .pre in omega arith)) (left-leading (x .policy) (x .text .now) (x .decisions .now) 0 0 e),
+      pass _ _ _ _ _ (begin _ _ _ (let h = s .pre in omega arith)) (bytesFrom-leading (x .policy) (x .text .now) (x .decisions .now) 0 0 e),
     )
 
 same-length : tie.Need-same-length Inv-loop μ-loop
@@ -46,7 +46,7 @@ returns c =
     let x = c .before .before .before .before .before .before .before .args in
     let l = c .before .before .loop in
     let d = c .before .decode in
-    finish _ _ _ _ (l .inv .2) (left-none (x .policy) (x .text .now) (x .decisions .now) (l .at) (l .used)
+    finish _ _ _ _ (l .inv .2) (bytesFrom-none (x .policy) (x .text .now) (x .decisions .now) (l .at) (l .used)
     (packed-stop (x .text .now) (l .at) (d .result) (d .ensures) (c .if1 .taken)))
 
 add-cell-outcome : tie.Need-add-cell-outcome Inv-loop μ-loop
@@ -64,8 +64,8 @@ put-cell-requires c κs =
     let d = c .before .before .before .before .decode in
     let k = packed-step (x .text .now) (l .at) (d .result) (d .ensures) (c .before .before .before .if1 .left) in
     let o = c .before .before .cell-outcome in
-    let f = left-cell (x .policy) (x .text .now) (x .decisions .now) (l .at) (l .used) k (l .inv .1) (o .result .outcome) (o .result .end)
-    (o .ensures .0) (o .ensures .1) in (
+    let f = bytesFrom-cell (x .policy) (x .text .now) (x .decisions .now) (l .at) (l .used) k (l .inv .1) (o .result .outcome)
+    (o .result .end) (o .ensures .0) (o .ensures .1) in (
       k .is-scalar,
       room _ _ _ _ (cellBytes (d .result / 8) (o .result .outcome .slot) (map meaning (drop (l .used) (x .decisions .now)))) _
           (l .inv .2) f,
@@ -105,8 +105,8 @@ loop-again c =
     let k = packed-step (x .text .now) (l .at) (d .result) (d .ensures)
     (c .before .before .before .before .before .before .before .if1 .left) in
     let o = c .before .before .before .before .before .before .cell-outcome in
-    let f = left-cell (x .policy) (x .text .now) (x .decisions .now) (l .at) (l .used) k (l .inv .1) (o .result .outcome) (o .result .end)
-    (o .ensures .0) (o .ensures .1) in
+    let f = bytesFrom-cell (x .policy) (x .text .now) (x .decisions .now) (l .at) (l .used) k (l .inv .1) (o .result .outcome)
+    (o .result .end) (o .ensures .0) (o .ensures .1) in
     let n = c .decisions-used .ensures in (
       omega (arith, k .some, l .inv .0, o .ensures .1, n, used-few (o .result .outcome .slot)),
       ap (λ (a : List Presentation × List Cell). a .0) (split-at (x .text .now) (l .at + d .result % 8) (o .ensures .1)),

@@ -5,7 +5,7 @@ use mathlib.Core.List.{[], _∷_}
 use borrow.Author.Needs.{needs}
 use Rattle.scanner.specs.RunKinds.{isEmojiClass}
 use Rattle.scanner.proofs.Peek.{seen, seen-arm, unseen}
-use Rattle.scanner.proofs.UnitsAt.{part-before-none, part-joins, part-last, part-left, part-none, part-past}
+use Rattle.scanner.proofs.UnitsAt.{part-before-none, part-joins, part-last, part-left-over, part-none, part-past}
 use Rattle.scanner.proofs.parts.consume_sequence_part.Statement.{statement}
 use Rattle.scanner.proofs.parts.consume_sequence_part.Tie as tie
 
@@ -39,7 +39,7 @@ returns-4 c =
     let g = c .before .before .before .before .before .before .before .before .selectors .given in
     let k = seen (x .text .now) (g .0 .0 .end)
     (sym (c .before .before .before .before .peek .ensures) ∙ c .before .before .class .given .1) in
-    part-left (x .text .now) (x .item-end) (x .at)
+    part-left-over (x .text .now) (x .item-end) (x .at)
     (c .before .before .before .before .before .before .before .before .before .before .before .if1 .left)
     (sym (g .1) ∙ c .before .before .before .before .before .before .before .before .before .before .consume-zwj-link .ensures)
     (c .before .before .before .before .before .if2 .left) k

@@ -1,4 +1,5 @@
--- `utf8::runs::three_end` meets its contract. The loop's invariant: what was passed is characters. The measure is the number of bytes left.
+-- `utf8::runs::three_end` meets its contract. The loop's invariant: the bytes from `from` to `at` are
+-- characters. The measure is the number of bytes from `at` on.
 use Prim.Native.Nat.{_-_}
 use native.Mathlib.Omega.{arith}
 use lib.ListN.{length}

@@ -1,4 +1,4 @@
--- `utf8::runs::width_end` meets its contract: a run of each width (WidthRuns).
+-- `utf8::runs::width_end` meets its contract: by a run of each width (WidthRuns).
 use borrow.Author.Needs.{needs}
 use Rattle.utf8.proofs.WidthRuns.{ascii-more, none-passed}
 use Rattle.utf8.proofs.runs.width_end.Statement.{statement}
@@ -11,13 +11,13 @@ returns-2 : tie.Need-returns-2
 returns-2 c = ascii-more (c .ascii-end .ensures)
 
 returns-3 : tie.Need-returns-3
-returns-3 c h = c .two-end .ensures
+returns-3 c h = c .short-end .ensures
 
 returns-4 : tie.Need-returns-4
 returns-4 c h = c .three-end .ensures
 
 returns-5 : tie.Need-returns-5
-returns-5 c = let x = c .before .before .before .before .before .args in none-passed (x .s .now) (x .from)
+returns-5 c h = c .long-end .ensures
 
 pub width-end-spec : {M : Type 1} → statement M
 width-end-spec =
@@ -30,4 +30,5 @@ width-end-spec =
     returns-3
     (λ c κs. search needs)
     returns-4
+    (λ c κs. search needs)
     returns-5)

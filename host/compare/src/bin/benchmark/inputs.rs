@@ -15,9 +15,9 @@ pub struct Input {
     pub message: Option<usize>,
     /// Whether it is measured under the empty policy, and not under the default one.
     pub empty_policy: bool,
-    /// How often the crate's time of formatting this text is to hold ours.
+    /// The wanted ratio: the crate's time of formatting this text divided by the library's.
     pub wanted: Option<f64>,
-    /// Makes a text of so many bytes.
+    /// Makes a text with this number of bytes.
     make: fn(&Self, usize) -> String,
 }
 
@@ -92,7 +92,8 @@ impl Input {
         self
     }
 
-    /// A text of this kind and of so many bytes, but for a part of a message. It is the same in every run.
+    /// A text of this kind with `bytes` bytes, or some bytes fewer if the last message would not be whole. It is the
+    /// same in every run.
     #[must_use]
     pub fn make(&self, bytes: usize) -> String {
         (self.make)(self, bytes)

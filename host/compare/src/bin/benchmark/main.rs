@@ -6,6 +6,7 @@
 //! cargo run --offline --release --package compare --bin benchmark                  # all tables, about a minute
 //! cargo run --offline --release --package compare --bin benchmark -- --rounds 31 ascii mixed-48
 //! cargo run --offline --release --package compare --bin benchmark -- --growth      # 64 KiB, 1 MiB and 16 MiB alone
+//! cargo run --offline --release --package compare --bin benchmark -- --repairing   # damaged texts alone
 //! TILGHORZ_LIBRARY=FOLDER cargo run ..                                             # another libtilghorz.a
 //! ```
 //!
@@ -32,21 +33,33 @@ use std::process::ExitCode;
 
 use feeding::{Feeding, PIECES};
 use inputs::{INPUTS, Input};
+use repairing::Repairing;
 use work::Work;
 
 /// How the program is called.
 const USAGE: &str = "\
-usage: benchmark [--rounds N] [--growth] [INPUT ..]
-       benchmark repeat format|list|mend|scan|feed INPUT BYTES TIMES
-  --rounds N  the rounds of each measurement (15)
-  --growth    only the cost at 64 KiB, 1 MiB and 16 MiB
-  repeat      one call of the library, so many times, and nothing else: for counts of instructions. feed is a thread in
-              pieces of 4 KiB";
+usage: benchmark [--rounds N] [--growth | --repairing | --feeding] [INPUT ..]
+       benchmark repeat format|list|mend|scan|repair|repair-damaged|feed INPUT BYTES TIMES
+  --rounds N   the rounds of each measurement (15)
+  --growth     only the cost at 64 KiB, 1 MiB and 16 MiB
+  --repairing  only the table of repairing
+  --feeding    only the table of threads in pieces
+  repeat       one call of the library, TIMES times, and nothing else: for counts of instructions. feed is a thread in
+               pieces of 4 KiB";
+
+/// The tables that are printed.
+#[derive(PartialEq)]
+enum Tables {
+    All,
+    Growth,
+    Repairing,
+    Feeding,
+}
 
 /// What the program is asked to do.
 struct Command {
     rounds: usize,
-    growth_alone: bool,
+    tables: Tables,
     inputs: Vec<&'static Input>,
 }
 
@@ -74,14 +87,16 @@ fn main() -> ExitCode {
 fn parse(words: &[&str]) -> Result<Command, String> {
     let mut command = Command {
         rounds: 15,
-        growth_alone: false,
+        tables: Tables::All,
         inputs: Vec::new(),
     };
     let mut words = words.iter();
     while let Some(&word) = words.next() {
         match word {
             "--rounds" => command.rounds = number(words.next().copied().unwrap_or(""))?,
-            "--growth" => command.growth_alone = true,
+            "--growth" => command.tables = Tables::Growth,
+            "--repairing" => command.tables = Tables::Repairing,
+            "--feeding" => command.tables = Tables::Feeding,
             _ => command.inputs.push(input(word)?),
         }
     }
@@ -96,13 +111,21 @@ fn parse(words: &[&str]) -> Result<Command, String> {
 
 /// Prints the tables.
 fn run(command: &Command) -> Result<(), String> {
-    if !command.growth_alone {
-        tables::formatting(&command.inputs, command.rounds)?;
-        tables::listing(&command.inputs, command.rounds)?;
-        tables::repairing(&command.inputs, command.rounds)?;
-        tables::feeding(&command.inputs, command.rounds)?;
+    let (inputs, rounds) = (&command.inputs, command.rounds);
+    let is_printed = |tables| command.tables == Tables::All || command.tables == tables;
+    if command.tables == Tables::All {
+        tables::formatting(inputs, rounds)?;
+        tables::listing(inputs, rounds)?;
     }
-    tables::growth(&command.inputs, command.rounds);
+    if is_printed(Tables::Repairing) {
+        tables::repairing(inputs, rounds)?;
+    }
+    if is_printed(Tables::Feeding) {
+        tables::feeding(inputs, rounds)?;
+    }
+    if is_printed(Tables::Growth) {
+        tables::growth(inputs, rounds);
+    }
     Ok(())
 }
 
@@ -113,6 +136,11 @@ fn repeat(words: &[&str]) -> Result<(), String> {
     };
     let input = input(name)?;
     let text = input.make(number(bytes)?);
+    if let Some(one_in) = repairing::bad_bytes(call) {
+        let mut work = Repairing::new(&text, one_in)?;
+        (0..number(times)?).for_each(|_| work.with_room());
+        return Ok(());
+    }
     let (work, mut buffers) = Work::new(input, &text);
     let mut items = work.item_table();
     let mut feeding = Feeding::new(input, &text)?;

@@ -14,8 +14,20 @@ pub struct Repairing {
     pub bad: u64,
 }
 
+/// In a damaged text one byte of this number is bad.
+pub const BAD_ONE_IN: usize = 100;
+
+/// One bad byte in how many the text has with which a call is repeated, if it is such a call.
+pub fn bad_bytes(call: &str) -> Option<Option<usize>> {
+    match call {
+        "repair" => Some(None),
+        "repair-damaged" => Some(Some(BAD_ONE_IN)),
+        _ => None,
+    }
+}
+
 impl Repairing {
-    /// A text with one bad byte in so many, or none.
+    /// A text with one bad byte in every `one_in` bytes, or with none.
     pub fn new(text: &str, one_in: Option<usize>) -> Result<Self, String> {
         let mut text = text.as_bytes().to_vec();
         if let Some(one_in) = one_in {

@@ -2,7 +2,7 @@
 
 use crate::feeding::{Feeding, PIECES};
 use crate::inputs::Input;
-use crate::repairing::Repairing;
+use crate::repairing::{BAD_ONE_IN, Repairing};
 use crate::timing::{FEWEST, Times, interleaved};
 use crate::work::Work;
 
@@ -23,19 +23,17 @@ const LISTING: &str = "\
 Listing the findings into a lent table, beside the crate's scan and analysis, which keep nothing: a ratio of 3 is wanted
 on mixed and dense. Mending the first and the last finding: its time to that of a listing and a copy.";
 
-/// What stands above the table of repairing.
+/// The text above the table of repairing.
 const REPAIRING: &str = "\
-Taking damaged text in, beside from_utf8_lossy made into an owned string: the texts as they are, and with one bad byte in
-a hundred. room: into a buffer of three times the text; exact: into one that the result fills. ratio: the standard
-library's time to ours; 0.8 is wanted for the texts as they are, 1 for the damaged ones.";
+Repairing, compared with from_utf8_lossy made into an owned string: well-formed texts, and texts with one bad byte in a
+hundred. room: into a buffer of three times the text; exact: into a buffer that the result fills. ratios: the standard
+library's time divided by the library's, by the medians and by the best; 0.8 is wanted for well-formed texts, 1 for
+damaged ones.";
 
 /// What stands above the table of feeding.
 const FEEDING: &str = "\
 A thread fed in pieces of 4 KiB and of 64 bytes, beside formatting it in one call. ratio: the time of the one call to that of
 the pieces; on ascii and mixed 0.5 is wanted for 4 KiB, and 0.2 for 64 bytes.";
-
-/// One bad byte in so many.
-const BAD_ONE_IN: usize = 100;
 
 /// Formatting beside the crate's, the standard library's test of a text, and a copy.
 pub fn formatting(inputs: &[&Input], rounds: usize) -> Result<(), String> {
@@ -127,9 +125,13 @@ pub fn listing(inputs: &[&Input], rounds: usize) -> Result<(), String> {
 pub fn repairing(inputs: &[&Input], rounds: usize) -> Result<(), String> {
     println!("\n{REPAIRING}");
     println!(
-        "{:<11} {:>8} {:>15} {:>15} {:>15} {:>7} {:>7} {:>7}",
-        "input", "bad", "lossy", "room", "exact", "ratio", "exact", "wanted"
+        "{:<11} {:>8} {:>15} {:>15} {:>15} {:>13} {:>13} {:>7}",
+        "input", "bad", "lossy", "room", "exact", "ratio, room", "ratio, exact", "wanted"
     );
+    let ratios = |lossy: Times, ours: Times| {
+        let (median, best) = (lossy.median / ours.median, lossy.best / ours.best);
+        format!("{median:.2} ({best:.2})")
+    };
     for input in inputs.iter().filter(|input| input.message.is_none()) {
         let text = input.make(LENGTH);
         for (one_in, wanted) in [(None, 0.8), (Some(BAD_ONE_IN), 1.0)] {
@@ -140,14 +142,14 @@ pub fn repairing(inputs: &[&Input], rounds: usize) -> Result<(), String> {
                 _ => work.exactly(),
             });
             println!(
-                "{:<11} {:>8} {:>15} {:>15} {:>15} {:>7.2} {:>7.2} {wanted:>7.1}",
+                "{:<11} {:>8} {:>15} {:>15} {:>15} {:>13} {:>13} {wanted:>7.1}",
                 input.name,
                 work.bad,
                 speed(work.bytes(), lossy),
                 speed(work.bytes(), room),
                 speed(work.bytes(), exact),
-                lossy.median / room.median,
-                lossy.median / exact.median,
+                ratios(lossy, room),
+                ratios(lossy, exact),
             );
         }
     }

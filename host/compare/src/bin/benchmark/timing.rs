@@ -18,8 +18,8 @@ pub struct Times {
     pub best: f64,
 }
 
-/// Does each of `N` works, by its number, once without a clock, and then in turns in so many rounds, or fewer if they
-/// take long. Taking turns, each has its share of what else the machine does.
+/// Does each of `N` works, by its number: first once without a clock, and then in turns, `rounds` times, or fewer times
+/// if that takes long. Since the works take turns, other work on the machine slows all of them alike.
 pub fn interleaved<const N: usize>(rounds: usize, mut work: impl FnMut(usize)) -> [Times; N] {
     let mut seconds = [const { Vec::new() }; N];
     let first = Instant::now();

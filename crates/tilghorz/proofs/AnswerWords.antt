@@ -21,7 +21,7 @@ use Rattle.repair.specs.declared.RepairAnswer.{RepairAnswer}
 use Rattle.repair.specs.declared.RepairAnswer.the-variants as Repair
 use Rattle.tilghorz.specs.AnswerWord.{word}
 use Rattle.unicode.specs.Rows.{entryRow}
-use Rattle.tilghorz.specs.Theorems.{Tell}
+use Rattle.tilghorz.specs.Theorems.{WordsDetermine}
 
 -- ---- words
 
@@ -37,9 +37,9 @@ same-row r s h k e =
     let v : r .value ≡ s .value = omega (arith, e) in
     λ i. record { number = n i; value = v i }
 
-pub tell : {I A : Type 0} (row : A → RefusalRow) (answer : I → A) → ((i : I) → row (answer i) .value < 2 ^ 56)
-    → ((i j : I) → row (answer i) ≡ row (answer j) → answer i ≡ answer j) → Tell row answer
-tell row answer small rows = record {
+pub words-determine : {I A : Type 0} (row : A → RefusalRow) (answer : I → A) → ((i : I) → row (answer i) .value < 2 ^ 56)
+    → ((i j : I) → row (answer i) ≡ row (answer j) → answer i ≡ answer j) → WordsDetermine row answer
+words-determine row answer small rows = record {
   same = λ i j e. rows i j (same-row (row (answer i)) (row (answer j)) (small i) (small j) e);
   number = λ i. number-of (row (answer i)) (small i);
   value = λ i. value-of (row (answer i)) (small i);
@@ -82,7 +82,7 @@ feed-rows (Feed.Refused r) (Feed.Refused s) e = ap Feed.Refused (refusals r s e)
 
 -- ---- two values below 2^28 in one
 
--- What is known of an answer's two values.
+-- Both values of an answer are below 2^28.
 abbrev pub BothSmall : RepairAnswer → Type 0
 BothSmall a = (n k : ℕ) → a ≡ Repair.Repaired n k → (n < 2 ^ 28) × (k < 2 ^ 28)
 
@@ -98,7 +98,7 @@ repair-rows (Repair.Repaired n k) (Repair.Refused r) p q e = absurd (omega (arit
 repair-rows (Repair.Refused r) (Repair.Repaired n k) p q e = absurd (omega (arith, num e, refusal-numbers r))
 repair-rows (Repair.Refused r) (Repair.Refused s) p q e = ap Repair.Refused (refusals r s e)
 
--- A small answer's value is small.
+-- The value of the row is below 2^56.
 pub repair-small : (a : RepairAnswer) → BothSmall a → ((r : Refusal) → a ≡ Repair.Refused r → refusalRow r .value < 2 ^ 28)
     → repairRow a .value < 2 ^ 56
 unfolding repairRow

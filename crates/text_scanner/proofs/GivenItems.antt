@@ -16,11 +16,11 @@ use Rattle.scanner.specs.Items.{Item, items}
 use Rattle.text_scanner.specs.Helpers.{itemOf, leftAfter}
 use Rattle.text_scanner.specs.Scanner.{offsetAfterStep, itemsOf, joinRaw, nthItem, offsetAfter, part, rawOf, startOf, verdictOf}
 use Rattle.scanner.specs.Spans.{firstOf, scan, scanAt, scanFrom, spans}
-use Rattle.scanner.specs.Theorems.{Spells, Tiles}
+use Rattle.scanner.specs.Theorems.{SpansOfItems, Tiles}
 use Rattle.scanner.specs.declared.ScanItem.{ScanItem}
 use Rattle.scanner.specs.declared.ScanStep.{ScanStep}
 use Rattle.scanner.specs.declared.ScanStep.the-variants as Step
-use Rattle.scanner.proofs.Spans.{scan-after, scan-spells, scan-tiles, spells-first}
+use Rattle.scanner.proofs.Spans.{scan-after, scan-spans-of-items, scan-tiles, spans-first}
 
 -- ---- successive calls
 
@@ -43,9 +43,9 @@ after-calls text at zero = refl
 after-calls text at (suc n) =
     after-calls text (offsetAfterStep (scanAt text at) at) n ∙ ap (drop n) (after-one text at) ∙ drop-more n (scanFrom text at)
 
-pub hands-out : (text : List ℕ) (at n : ℕ) → scanAt text (offsetAfter text at n) ≡ firstOf (drop n (scanFrom text at))
+pub gives-items : (text : List ℕ) (at n : ℕ) → scanAt text (offsetAfter text at n) ≡ firstOf (drop n (scanFrom text at))
 unfolding scanAt
-hands-out text at n = ap firstOf (after-calls text at n)
+gives-items text at n = ap firstOf (after-calls text at n)
 
 -- ---- the number of calls left
 
@@ -83,9 +83,9 @@ none-after : (text : List ℕ) → scanFrom text (length text) ≡ []
 unfolding scanFrom spans items
 none-after text = ap (λ (t : List ℕ). spans (length text) (items t)) (ap chars (drop-length text) ∙ chars-end [] readChar-nil)
 
-pub scan-gives-items : (text : List ℕ) → scanFrom text (startOf (verdictOf text) text) ≡ itemsOf (verdictOf text) text
+pub scan-gives : (text : List ℕ) → scanFrom text (startOf (verdictOf text) text) ≡ itemsOf (verdictOf text) text
 unfolding scan
-scan-gives-items text = go (verdictOf text)
+scan-gives text = go (verdictOf text)
   where
     go : (v : Check) → scanFrom text (startOf v text) ≡ itemsOf v text
     go Passed = refl
@@ -93,8 +93,8 @@ scan-gives-items text = go (verdictOf text)
 
 -- After n calls the scanner that `scan` makes answers the n-th item.
 pub nth-answer : (text : List ℕ) (n : ℕ) → scanAt text (offsetAfter text (startOf (verdictOf text) text) n) ≡ nthItem text n .step
-nth-answer text n = hands-out text (startOf (verdictOf text) text) n
-    ∙ ap (λ (xs : List ScanItem). firstOf (drop n xs)) (scan-gives-items text)
+nth-answer text n = gives-items text (startOf (verdictOf text) text) n
+    ∙ ap (λ (xs : List ScanItem). firstOf (drop n xs)) (scan-gives text)
 
 -- ---- the bytes of an item
 
@@ -119,19 +119,19 @@ within text at x xs e =
     let l = tiles-le xs (t .2) in
     (omega (arith, t .1), omega (arith, t .0, t .1, validUpTo-le (drop at text), length-drop at text))
 
-pub raw-is-item-bytes : (text : List ℕ) (at : ℕ) (x : ScanItem) (i : Item) (is : List Item)
+pub raw-bytes : (text : List ℕ) (at : ℕ) (x : ScanItem) (i : Item) (is : List Item)
     → scanAt text at ≡ Step.Item x → items (chars (drop at text)) ≡ i ∷ is → part text (x .start) (x .end) ≡ encodeAll (i .chars)
 unfolding scanAt firstOf
-raw-is-item-bytes text at x i is e f = go (scanFrom text at) refl e
+raw-bytes text at x i is e f = go (scanFrom text at) refl e
   where
     go : (xs : List ScanItem) → scanFrom text at ≡ xs → firstOf xs ≡ Step.Item x → part text (x .start) (x .end) ≡ encodeAll (i .chars)
     go [] p q = cc
     go (y ∷ ys) p q =
         let g : y ≡ x = cc in
         let w = within text at y ys p in
-        let s : Spells text (y ∷ ys) (i ∷ is) = subst (λ (zs : List ScanItem). Spells text zs (i ∷ is)) p
-        (subst (Spells text (scanFrom text at)) f (scan-spells text at)) in
-        ap (λ (z : ScanItem). part text (z .start) (z .end)) (sym g) ∙ part-is text (y .start) (y .end) (w .0) (w .1) ∙ spells-first s
+        let s : SpansOfItems text (y ∷ ys) (i ∷ is) = subst (λ (zs : List ScanItem). SpansOfItems text zs (i ∷ is)) p
+        (subst (SpansOfItems text (scanFrom text at)) f (scan-spans-of-items text at)) in
+        ap (λ (z : ScanItem). part text (z .start) (z .end)) (sym g) ∙ part-is text (y .start) (y .end) (w .0) (w .1) ∙ spans-first s
 
 -- The bytes of spans that tile the text from a to b, one after the other, are the bytes from a to b.
 pub join-raw : (text : List ℕ) (a : ℕ) (xs : List ScanItem) (b : ℕ) → Tiles a xs b → b ≤ length text → joinRaw text xs
