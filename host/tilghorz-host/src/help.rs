@@ -92,7 +92,7 @@ Formats texts. Without an option one text is written to standard output; on a re
   --follow       format a text as it comes, from standard input or from one file that grows. What is decided is written
                  at once; an unfinished character and a last base wait for what comes next. The text ends with standard
                  input, or at SIGINT, SIGTERM or SIGHUP, and then the rest is written. On a refusal, what is formatted
-                 before the damaged place has been written
+                 before the damaged place has been written. It cannot be used with --repair
   --repair       replace each bad place of a damaged text by U+FFFD first: tilghorz-host help repair. A text is too long
                  if it is so after that. A file that was only repaired has changed, too
   --policy FILE  the policy: 192 bytes, as `tilghorz-host policy write` writes them; else the default one

@@ -57,7 +57,7 @@ impl Feed {
         Self { bytes, fed: 0 }
     }
 
-    /// The room that the output of a piece of so many bytes must have: 4 times as many and 16. The end is a piece of 0
+    /// The room that the output of a piece of this length must have: 4 times the length, and 16. The end is a piece of 0
     /// bytes.
     #[must_use]
     pub const fn room_for(piece: usize) -> usize {
@@ -165,7 +165,7 @@ impl Debug for Feed {
     }
 }
 
-/// Makes a call with so much room after what the output has, and keeps what it writes.
+/// Makes a call with this room after the bytes of the output, and keeps what it writes.
 fn append(
     room: usize,
     out: &mut Vec<u8>,
