@@ -86,7 +86,7 @@ pub fn lend_between(
     })
 }
 
-/// Makes a call that may change a feed and writes to an output, each between margins of these lengths, and compares all
+/// Makes a call that may change a feed and writes to an output, each between `margins` of bytes, and compares all
 /// that it does with what the draft says. A refusal must leave the feed as it was. Gives the feed after the call.
 pub fn lend_feed(
     margins: [[usize; 2]; 2],

@@ -47,7 +47,7 @@ impl Default for Options {
     }
 }
 
-/// A thread is fed in the first of each `FEED_IN` drawn cases.
+/// In one drawn case of this number a thread is fed too.
 const FEED_IN: u64 = 4;
 
 /// Why a run ended early: a difference, told in lines; cases that were asked for and of which none was tried; or a line

@@ -18,7 +18,7 @@ const MOST: usize = 1 << 13;
 /// The most bytes of all threads that are kept.
 const MOST_BYTES: usize = 1 << 28;
 
-/// The number of last feeds among which an equal one is looked for. An equal feed gets no number of its own.
+/// A feed that is equal to one of the last feeds of this number gets no number of its own.
 const LAST: usize = 4;
 
 /// The feeds that are kept, and the number of the first of them.

@@ -30,10 +30,10 @@ pub enum Command {
     Version,
     /// `format`.
     Format(Format),
-    /// `format --follow`.
-    Follow(Follow),
     /// `repair`.
     Repair(Repair),
+    /// `format --follow`.
+    Follow(Follow),
     /// `report`.
     Report(Report),
     /// `fix`.
@@ -222,30 +222,91 @@ impl Changing {
 
 fn format(words: Words) -> Result<Command, String> {
     let (mut repairs, mut is_followed) = (false, false);
-    let (rewriting, policy) = rewriting(words, |option| {
-        set(&mut repairs, REPAIR, option) || set(&mut is_followed, "--follow", option)
+    let mut writing = Writing::default();
+    let (names, policy) = texts(words, |option, words| {
+        Ok(set(&mut repairs, REPAIR, option)
+            || set(&mut is_followed, "--follow", option)
+            || writing.take(option, words)?)
     })?;
     if is_followed {
-        return follow(rewriting, policy, repairs).map(Command::Follow);
+        let others = [
+            (repairs, REPAIR),
+            (writing.check, "--check"),
+            (writing.changing.in_place, "--in-place"),
+            (writing.changing.new_owner, "--new-owner"),
+            (writing.changing.no_sync, "--no-sync"),
+        ];
+        return follow(names, policy, &others).map(Command::Follow);
     }
     Ok(Command::Format(Format {
         policy,
         repairs,
-        rewriting,
+        rewriting: writing.of(names)?,
     }))
 }
 
-/// A text that is followed.
-fn follow(rewriting: Rewriting, policy: PolicyFile, repairs: bool) -> Result<Follow, String> {
-    let Rewriting {
-        mode, mut names, ..
-    } = rewriting;
-    let other = match mode {
-        Mode::Check => Some("--check"),
-        Mode::InPlace => Some("--in-place"),
-        Mode::Write => repairs.then_some(REPAIR),
-    };
-    if let Some(other) = other {
+fn repair(words: Words) -> Result<Repair, String> {
+    let mut writing = Writing::default();
+    let (names, policy) = texts(words, |option, words| writing.take(option, words))?;
+    if policy.0.is_some() {
+        return unknown("--policy");
+    }
+    Ok(Repair {
+        rewriting: writing.of(names)?,
+    })
+}
+
+/// The option on bad places.
+const REPAIR: &str = "--repair";
+
+/// The options of a command that writes texts anew.
+#[derive(Default)]
+struct Writing {
+    check: bool,
+    changing: Changing,
+    going: Going,
+}
+
+impl Writing {
+    /// Does what an option says, if it is one of these.
+    fn take(&mut self, option: &str, words: &mut Words) -> Result<bool, String> {
+        Ok(set(&mut self.check, "--check", option)
+            || self.changing.take(option)
+            || self.going.take(option, words)?)
+    }
+
+    /// What is to be done with the texts of these names.
+    fn of(self, names: Vec<Source>) -> Result<Rewriting, String> {
+        self.going.test()?;
+        let mode = match (self.check, self.changing.in_place) {
+            (true, true) => {
+                return Err("--check and --in-place cannot be used together".to_owned());
+            }
+            (true, false) => Mode::Check,
+            (false, true) => Mode::InPlace,
+            (false, false) => Mode::Write,
+        };
+        let Going {
+            selection,
+            mut manner,
+        } = self.going;
+        manner.in_place = self.changing.of(&names)?;
+        Ok(Rewriting {
+            mode,
+            names,
+            selection,
+            manner,
+        })
+    }
+}
+
+/// A text that is followed. These other options cannot be used with it.
+fn follow(
+    mut names: Vec<Source>,
+    policy: PolicyFile,
+    others: &[(bool, &str)],
+) -> Result<Follow, String> {
+    if let Some((_, other)) = others.iter().find(|(is_given, _)| *is_given) {
         return Err(format!("--follow and {other} cannot be used together"));
     }
     if names.len() > 1 {
@@ -255,52 +316,6 @@ fn follow(rewriting: Rewriting, policy: PolicyFile, repairs: bool) -> Result<Fol
         policy,
         source: names.pop().unwrap_or(Source::Input),
     })
-}
-
-fn repair(words: Words) -> Result<Repair, String> {
-    let (rewriting, policy) = rewriting(words, |_| false)?;
-    if policy.0.is_some() {
-        return unknown("--policy");
-    }
-    Ok(Repair { rewriting })
-}
-
-/// The option on bad places.
-const REPAIR: &str = "--repair";
-
-/// The texts and the policy of a command that writes texts anew. A function knows its further options.
-fn rewriting(
-    words: Words,
-    mut further: impl FnMut(&str) -> bool,
-) -> Result<(Rewriting, PolicyFile), String> {
-    let (mut check, mut changing, mut going) = (false, Changing::default(), Going::default());
-    let (names, policy) = texts(words, |option, words| {
-        Ok(set(&mut check, "--check", option)
-            || further(option)
-            || changing.take(option)
-            || going.take(option, words)?)
-    })?;
-    going.test()?;
-    let mode = match (check, changing.in_place) {
-        (true, true) => {
-            return Err("--check and --in-place cannot be used together".to_owned());
-        }
-        (true, false) => Mode::Check,
-        (false, true) => Mode::InPlace,
-        (false, false) => Mode::Write,
-    };
-    let Going {
-        selection,
-        mut manner,
-    } = going;
-    manner.in_place = changing.of(&names)?;
-    let rewriting = Rewriting {
-        mode,
-        names,
-        selection,
-        manner,
-    };
-    Ok((rewriting, policy))
 }
 
 /// Whether names can be changed in place.

@@ -89,12 +89,12 @@ Formats texts. Without an option one text is written to standard output; on a re
   --new-owner    with --in-place: where the owner or the group cannot be kept, the file becomes that of whoever runs
                  the command
   --no-sync      with --in-place: sync nothing. After a loss of power a file that was changed may be empty
+  --repair       replace each bad place of a damaged text by U+FFFD first: tilghorz-host help repair. A text is too long
+                 if it is so after that. A file that was only repaired has changed, too
   --follow       format a text as it comes, from standard input or from one file that grows. What is decided is written
                  at once; an unfinished character and a last base wait for what comes next. The text ends with standard
                  input, or at SIGINT, SIGTERM or SIGHUP, and then the rest is written. On a refusal, what is formatted
-                 before the damaged place has been written. It cannot be used with --repair
-  --repair       replace each bad place of a damaged text by U+FFFD first: tilghorz-host help repair. A text is too long
-                 if it is so after that. A file that was only repaired has changed, too
+                 before the damaged place has been written
   --policy FILE  the policy: 192 bytes, as `tilghorz-host policy write` writes them; else the default one
 
 More OPTIONS: --exclude, --include, --no-ignore, --binary, --jobs, --quiet, --verbose: tilghorz-host help folders.

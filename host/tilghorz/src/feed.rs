@@ -57,8 +57,7 @@ impl Feed {
         Self { bytes, fed: 0 }
     }
 
-    /// The room that the output of a piece of this length must have: 4 times the length, and 16. The end is a piece of 0
-    /// bytes.
+    /// The room that the output of a piece must have: 4 times its bytes and 16. The end counts as a piece of 0 bytes.
     #[must_use]
     pub const fn room_for(piece: usize) -> usize {
         piece.saturating_mul(4).saturating_add(16)

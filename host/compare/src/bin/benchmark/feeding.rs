@@ -67,7 +67,7 @@ impl<'a> Feeding<'a> {
         black_box(Library.format(black_box(self.thread), &self.policy, &mut self.out))
     }
 
-    /// Feeds the thread in pieces of this length, each into the same buffer, with just the room that it wants. What each
+    /// Feeds the thread in pieces of `length` bytes, each into the same buffer, with just the room that it wants. What each
     /// call writes is handed to a function.
     pub fn pieces(&mut self, length: usize, mut written: impl FnMut(&[u8])) {
         self.feed.copy_from_slice(&self.begun);

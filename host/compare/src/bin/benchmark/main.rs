@@ -43,12 +43,12 @@ usage: benchmark [--rounds N] [--growth | --repairing | --feeding] [INPUT ..]
   --rounds N   the rounds of each measurement (15)
   --growth     only the cost at 64 KiB, 1 MiB and 16 MiB
   --repairing  only the table of repairing
-  --feeding    only the table of threads in pieces
+  --feeding    only the table of feeding
   repeat       one call of the library, TIMES times, and nothing else: for counts of instructions. feed is a thread in
                pieces of 4 KiB";
 
 /// The tables that are printed.
-#[derive(PartialEq)]
+#[derive(Clone, Copy, PartialEq)]
 enum Tables {
     All,
     Growth,
@@ -112,7 +112,7 @@ fn parse(words: &[&str]) -> Result<Command, String> {
 /// Prints the tables.
 fn run(command: &Command) -> Result<(), String> {
     let (inputs, rounds) = (&command.inputs, command.rounds);
-    let is_printed = |tables| command.tables == Tables::All || command.tables == tables;
+    let is_printed = |tables| [tables, Tables::All].contains(&command.tables);
     if command.tables == Tables::All {
         tables::formatting(inputs, rounds)?;
         tables::listing(inputs, rounds)?;

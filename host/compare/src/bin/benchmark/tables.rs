@@ -30,10 +30,10 @@ hundred. room: into a buffer of three times the text; exact: into a buffer that 
 library's time divided by the library's, by the medians and by the best; 0.8 is wanted for well-formed texts, 1 for
 damaged ones.";
 
-/// What stands above the table of feeding.
+/// The text above the table of feeding.
 const FEEDING: &str = "\
-A thread fed in pieces of 4 KiB and of 64 bytes, beside formatting it in one call. ratio: the time of the one call to that of
-the pieces; on ascii and mixed 0.5 is wanted for 4 KiB, and 0.2 for 64 bytes.";
+A thread fed in pieces of 4 KiB and of 64 bytes, beside formatting it in one call. ratio: the time of the one call divided
+by that of the pieces; on ascii and mixed 0.5 is wanted for 4 KiB, and 0.2 for 64 bytes.";
 
 /// Formatting beside the crate's, the standard library's test of a text, and a copy.
 pub fn formatting(inputs: &[&Input], rounds: usize) -> Result<(), String> {
