@@ -228,6 +228,10 @@ fn what_cannot_be_followed_is_told() {
             "format: --follow and --in-place cannot be used together",
         ),
         (
+            &["--no-sync"],
+            "format: --follow and --no-sync cannot be used together",
+        ),
+        (
             &["--repair"],
             "format: --follow and --repair cannot be used together",
         ),
