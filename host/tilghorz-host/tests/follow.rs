@@ -232,6 +232,10 @@ fn what_cannot_be_followed_is_told() {
             "format: --follow and --no-sync cannot be used together",
         ),
         (
+            &["--repair"],
+            "format: --follow and --repair cannot be used together",
+        ),
+        (
             &["a", "b"],
             "format: --follow takes standard input or one file",
         ),

@@ -164,7 +164,7 @@ impl Debug for Feed {
     }
 }
 
-/// Makes a call with so much room after what the output has, and keeps what it writes.
+/// Makes a call with this room after the bytes of the output, and keeps what it writes.
 fn append(
     room: usize,
     out: &mut Vec<u8>,
