@@ -165,6 +165,7 @@ impl Prepared {
         if !is_synced {
             File::open(&beside.path)?.sync_all()?;
         }
+        let _old = held(&self.path);
         let _turn = interrupt::turn();
         is_as_seen(&self.path, &self.seen)?;
         fs::rename(&beside.path, &self.path)?;
@@ -172,6 +173,17 @@ impl Prepared {
         interrupt::count_changed();
         Ok(())
     }
+}
+
+/// What a path names, kept and not opened. Without it the renaming over a file frees its blocks, and the file system may wait
+/// for the disk then, while nothing else can be made or renamed in the folder. With it they are freed after the renaming, and
+/// the other threads go on. Where it cannot be kept, the renaming frees them.
+fn held(path: &Path) -> Option<File> {
+    /// O_PATH of Linux. Such an open needs no permission to read, and waits for no pipe.
+    const PATH_ONLY: i32 = 0o10_000_000;
+    let mut options = OpenOptions::new();
+    options.read(true).custom_flags(PATH_ONLY);
+    options.open(path).ok()
 }
 
 impl Beside {
