@@ -1,0 +1,114 @@
+-- The last character of a part of a text, and the last base with its selectors.
+use mathlib.Core.Path.{_≡_, refl, ap, sym, _∙_, subst}
+use mathlib.Core.Logic.{⊎-elim}
+use mathlib.Core.Bool.{true, false}
+use mathlib.Core.List.{List, [], _∷_, _++_, append-assoc, append-nil, map}
+use Prim.Native.Nat.{ℕ, zero, suc, _+_, _*_, _-_, _<_, _≤_}
+use native.Mathlib.Omega.{arith}
+use lib.ListN.{drop, length, length-append}
+use Rattle.base.proofs.Tests.{le-or-lt}
+use Rattle.utf8.specs.Rfc3629.{charLen, chars, encode, encodeAll, packed, readChar, validUpTo}
+use Rattle.utf8.specs.declared.ReadChar.the-variants.{Char}
+use Rattle.utf8.proofs.Encoding.{encode-few}
+use Rattle.utf8.proofs.Folds.{Reading, chars-end, chars-ill-formed, read-end, read-ill-formed, read-more, reading}
+use Rattle.utf8.proofs.Packed.{len-reads, packed-reads}
+use Rattle.utf8.proofs.Places.{Step, step}
+use Rattle.utf8.proofs.Texts.{encodeAll-append, length-encodeAll-chars}
+use Rattle.unicode.specs.Presentation.{asSelector, fromSelector, isSelector}
+use Rattle.unicode.specs.declared.presentation.FromSelector.{FromSelector}
+use Rattle.unicode.specs.declared.presentation.FromSelector.the-variants.{NoSelector, Selector}
+use Rattle.unicode.specs.declared.presentation.Presentation.{Presentation}
+use Rattle.scanner.specs.SelectorRun.{firstSelector}
+use Rattle.scanner.specs.Spans.{size, width}
+use Rattle.scanner.proofs.Bytes.{chars-from, chars-inside, size-width}
+use Rattle.scanner.proofs.SelectorBytes.{selector-here}
+use Rattle.feed_pass.specs.Parts.{BaseFrom, Between, LastChar, TailFrom}
+
+-- ---- the last element of a list
+
+data Last : List ℕ → Type 0 where
+  none : Last []
+  last : (us : List ℕ) (v : ℕ) → Last (us ++ (v ∷ []))
+
+last-of : (vs : List ℕ) → Last vs
+last-of [] = none
+last-of (v ∷ vs) = go (last-of vs)
+  where
+    go : {vs : List ℕ} → Last vs → Last (v ∷ vs)
+    go none = last [] v
+    go (last us u) = last (v ∷ us) u
+
+-- ---- the character at an offset
+
+-- If v is the first of the characters from an offset on, it stands there.
+pub first-read : (text : List ℕ) (at v : ℕ) (vs : List ℕ) → chars (drop at text) ≡ v ∷ vs → readChar (drop at text) ≡ Char v (length (encode v))
+first-read text at v vs e = go (reading (drop at text))
+  where
+    empty : chars (drop at text) ≡ [] → readChar (drop at text) ≡ Char v (length (encode v))
+    empty n = let z = ap length (sym e ∙ n) in absurd (omega arith)
+
+    go : Reading (drop at text) → readChar (drop at text) ≡ Char v (length (encode v))
+    go (read-end f) = empty (chars-end (drop at text) f)
+    go (read-ill-formed f) = empty (chars-ill-formed (drop at text) f)
+    go (read-more u w f r) =
+        let s = step text at u w f in
+        let p : u ∷ chars (drop (at + w) text) ≡ v ∷ vs = sym (s .chars-on) ∙ e in
+        let q : u ≡ v = cc in
+        f ∙ ap (Char u) (sym (s .width)) ∙ ap (λ (n : ℕ). Char n (length (encode n))) q
+
+-- ---- the last character
+
+module _ {text : List ℕ} {from to : ℕ} (b : Between text from to) where
+  last-in : {vs : List ℕ} → Last vs → b .passed ≡ vs → from < to → (start : ℕ) × LastChar text from to start
+  unfolding encodeAll
+  last-in none e h = absurd (omega (arith, b .to-is, ap (λ (l : List ℕ). length (encodeAll l)) e))
+  last-in (last us v) e h =
+      let start : ℕ = from + length (encodeAll us) in
+      let a = chars (drop to text) in
+      let whole : chars (drop from text) ≡ us ++ (v ∷ a) = b .chars-are ∙ ap (λ (l : List ℕ). l ++ a) e ∙ append-assoc us (v ∷ []) a in
+      let there : chars (drop start text) ≡ v ∷ a =
+      ap (λ (n : ℕ). chars (drop (from + n) text)) (sym (size-width us)) ∙ chars-from text from us (v ∷ a) whole in
+      let read = first-read text start v a there in
+      let ends : to ≡ start + length (encode v) =
+      omega (arith, b .to-is, ap (λ (l : List ℕ). length (encodeAll l)) e, ap length (encodeAll-append us (v ∷ [])), length-append (encodeAll us) (encodeAll (v ∷ [])), length-append (encode v) []) in
+      let wide : length (encode v) ≡ to - start = omega arith in
+      (start, record {
+        value = v;
+        before = omega (arith, encode-few v);
+        reads = read ∙ ap (Char v) wide;
+        passed = record { passed = us; chars-are = whole ∙ ap (λ (l : List ℕ). us ++ l) (sym there); to-is = refl };
+      })
+
+  pub has-last : from < to → (start : ℕ) × LastChar text from to start
+  has-last h = last-in (last-of (b .passed)) refl h
+
+-- A character that begins at most as many bytes before the end as the last character is the last character.
+module _ {text : List ℕ} {from to start : ℕ} (l : LastChar text from to start) where
+  pub last-few : (1 ≤ to - start) × (to - start ≤ 4)
+  last-few = let s = step text start (l .value) (to - start) (l .reads) in (s .some, s .few)
+
+  -- The width of the last character is not less than a width at which none of that width begins.
+  pub wider : (w n : ℕ) → n ≡ charLen (readChar (drop (to - w) text)) → (n ≡ w → ⊥) → w ≤ to - start → w + 1 ≤ to - start
+  unfolding charLen
+  wider w n e d h =
+      ⊎-elim
+      (λ g.
+      let same : start ≡ to - w = omega (arith, l .before) in
+      let z : n ≡ to - start = e ∙ ap (λ (k : ℕ). charLen (readChar (drop k text))) (sym same) ∙ ap charLen (l .reads) in
+      absurd (d (omega arith)))
+      (λ g. omega arith)
+      (le-or-lt (to - start) w)
+
+  pub found-last : (w n : ℕ) → n ≡ charLen (readChar (drop (to - w) text)) → n ≡ w → 1 ≤ w → w ≤ to - start → LastChar text from to (to - w)
+  found-last w n e d m h =
+      ⊎-elim
+      (λ g. let same : start ≡ to - w = omega (arith, l .before) in subst (LastChar text from to) same l)
+      (λ g.
+      let k : ℕ = (to - start) - w in
+      let none = chars-inside text start (l .value) (to - start) k (l .reads) (omega arith) (omega arith) in
+      let same : start + k ≡ to - w = omega (arith, l .before) in
+      let r = len-reads (drop (to - w) text) n e (omega arith) in
+      let s = step text (to - w) (r .value) n (r .reads) in
+      let z = ap length (sym (s .chars-on) ∙ ap (λ (j : ℕ). chars (drop j text)) (sym same) ∙ none) in
+      absurd (omega arith))
+      (le-or-lt (to - start) w)
