@@ -1,2 +1,3 @@
 -- Scratch.
 pub mod Parts
+pub mod Totals

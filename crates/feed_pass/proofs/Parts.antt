@@ -3,13 +3,13 @@ use mathlib.Core.Path.{_≡_, refl, ap, sym, _∙_, subst}
 use mathlib.Core.Logic.{⊎-elim}
 use mathlib.Core.Bool.{true, false}
 use mathlib.Core.List.{List, [], _∷_, _++_, append-assoc, append-nil, map}
-use Prim.Native.Nat.{ℕ, zero, suc, _+_, _*_, _-_, _<_, _≤_}
+use Prim.Native.Nat.{ℕ, zero, suc, _+_, _*_, _/_, _-_, _<_, _≤_}
 use native.Mathlib.Omega.{arith}
 use lib.ListN.{drop, length, length-append}
 use Rattle.base.proofs.Tests.{le-or-lt}
 use Rattle.utf8.specs.Rfc3629.{charLen, chars, encode, encodeAll, packed, readChar, validUpTo}
 use Rattle.utf8.specs.declared.ReadChar.the-variants.{Char}
-use Rattle.utf8.proofs.Encoding.{encode-few}
+use Rattle.utf8.proofs.Encoding.{char-begins, encode-few}
 use Rattle.utf8.proofs.Folds.{Reading, chars-end, chars-ill-formed, read-end, read-ill-formed, read-more, reading}
 use Rattle.utf8.proofs.Packed.{len-reads, packed-reads}
 use Rattle.utf8.proofs.Places.{Step, step}
@@ -20,8 +20,9 @@ use Rattle.unicode.specs.declared.presentation.FromSelector.the-variants.{NoSel
 use Rattle.unicode.specs.declared.presentation.Presentation.{Presentation}
 use Rattle.scanner.specs.SelectorRun.{firstSelector}
 use Rattle.scanner.specs.Spans.{size, width}
-use Rattle.scanner.proofs.Bytes.{chars-from, chars-inside, size-width}
+use Rattle.scanner.proofs.Bytes.{chars-from, chars-inside, size-chars, size-width}
 use Rattle.scanner.proofs.SelectorBytes.{selector-here}
+use Rattle.scanner.proofs.SelectorChars.{other-value}
 use Rattle.feed_pass.specs.Parts.{BaseFrom, Between, LastChar, TailFrom}
 
 -- ---- the last element of a list
@@ -112,3 +113,116 @@ module _ {text : List ℕ} {from to start : ℕ} (l : LastChar text from to star
       let z = ap length (sym (s .chars-on) ∙ ap (λ (j : ℕ). chars (drop j text)) (sym same) ∙ none) in
       absurd (omega arith))
       (le-or-lt (to - start) w)
+
+-- The loop that looks for the last character: its width is not less than `width`.
+pub record Widening (text : List ℕ) (from to width : ℕ) : Type 0 where
+  pub start : ℕ
+  pub last-there : LastChar text from to start
+  pub some : 1 ≤ width
+  pub few : width ≤ to - start
+
+pub widening-begin : {text : List ℕ} {from to : ℕ} → from < to → Between text from to → Widening text from to 1
+widening-begin h b =
+    let l = has-last b h in
+    record { start = l .0; last-there = l .1; some = omega arith; few = last-few (l .1) .0 }
+
+module _ {text : List ℕ} {from to w : ℕ} (g : Widening text from to w) where
+  pub widening-fits : (w ≤ to) × (w ≤ 4)
+  widening-fits = let f = last-few (g .last-there) in let b = g .last-there .before in let k = g .few in (omega arith, omega (arith, f .1))
+
+  pub widening-on : (n : ℕ) → n ≡ charLen (readChar (drop (to - w) text)) → (n ≡ w → ⊥) → Widening text from to (w + 1)
+  widening-on n e d = record {
+    start = g .start;
+    last-there = g .last-there;
+    some = omega arith;
+    few = wider (g .last-there) w n e d (g .few);
+  }
+
+  pub widening-done : (n : ℕ) → n ≡ charLen (readChar (drop (to - w) text)) → n ≡ w → LastChar text from to (to - w)
+  widening-done n e d = found-last (g .last-there) w n e d (g .some) (g .few)
+
+-- ---- going back over selectors
+
+-- From the offset `at` on there are only selectors, up to the offset `to`.
+pub record Backing (text : List ℕ) (from to at : ℕ) : Type 0 where
+  pub selectors : List Presentation
+  pub passed : Between text from at
+  pub after : chars (drop at text) ≡ map asSelector selectors
+  pub ends : to ≡ at + 3 * length selectors
+  pub more : from < at
+
+-- The characters from an offset on end where no character begins.
+pub valid-between : (text : List ℕ) (from to : ℕ) → to ≡ from + validUpTo (drop from text) → Between text from to × (chars (drop to text) ≡ [])
+valid-between text from to e =
+    let vs = chars (drop from text) in
+    let none : chars (drop to text) ≡ [] =
+    ap (λ (n : ℕ). chars (drop n text)) (e ∙ ap (λ (n : ℕ). from + n) (sym (size-chars (drop from text))))
+    ∙ chars-from text from vs [] (sym (append-nil vs)) in
+    (record {
+      passed = vs;
+      chars-are = sym (append-nil vs) ∙ ap (λ (l : List ℕ). vs ++ l) (sym none);
+      to-is = e ∙ ap (λ (n : ℕ). from + n) (sym (length-encodeAll-chars (drop from text)));
+    }, none)
+
+pub backing-begin : {text : List ℕ} {from to : ℕ} → from < to → to ≡ from + validUpTo (drop from text) → Backing text from to to
+backing-begin {text} {from} {to} h e =
+    let b = valid-between text from to e in
+    record { selectors = []; passed = b .0; after = b .1; ends = omega arith; more = h }
+
+abbrev frontAt : List ℕ → ℕ → FromSelector
+frontAt text at = firstSelector (chars (drop at text))
+
+between-on : {text : List ℕ} {i j : ℕ} → Between text i j → i ≤ j
+between-on b = omega (arith, b .to-is)
+
+module _ {text : List ℕ} {from to at start : ℕ} (g : Backing text from to at) (l : LastChar text from at start) where
+  here : Step text start (l .value) (at - start)
+  here = step text start (l .value) (at - start) (l .reads)
+
+  there : start + (at - start) ≡ at
+  there = let b = l .before in omega arith
+
+  -- What is read is the last character.
+  chars-here : chars (drop start text) ≡ l .value ∷ chars (drop at text)
+  chars-here = here .chars-on ∙ ap (λ (n : ℕ). l .value ∷ chars (drop n text)) there
+
+  pub backing-on : {q : Presentation} → frontAt text from ≡ NoSelector → frontAt text start ≡ Selector q → Backing text from to start
+  backing-on {q} first e =
+      let s = selector-here text start q e .read in
+      let p : l .value ∷ chars (drop at text) ≡ asSelector q ∷ chars (drop (start + 3) text) = sym chars-here ∙ s .chars-on in
+      let v : l .value ≡ asSelector q = cc in
+      let w : at - start ≡ 3 = sym (here .width) ∙ ap (λ (c : ℕ). length (encode c)) v ∙ s .width in
+      record {
+        selectors = q ∷ g .selectors;
+        passed = l .passed;
+        after = chars-here ∙ ap (λ (c : ℕ). c ∷ chars (drop at text)) v ∙ ap (λ (t : List ℕ). asSelector q ∷ t) (g .after);
+        ends = omega (arith, g .ends, l .before);
+        more = ⊎-elim
+            (λ h. let z : start ≡ from = omega (arith, between-on (l .passed)) in absurd (differ (sym e ∙ ap (frontAt text) z ∙ first)))
+            (λ h. h) (le-or-lt start from);
+      }
+    where
+      differ : {q : Presentation} → Selector q ≡ NoSelector → ⊥
+      differ f = let n : _≡_ {A = ℕ} 0 1 = cc in omega arith
+
+  pub backing-base : frontAt text start ≡ NoSelector → BaseFrom text from to start
+  unfolding firstSelector
+  backing-base e = record {
+    value = l .value;
+    width = at - start;
+    selectors = g .selectors;
+    passed = l .passed;
+    reads = l .reads;
+    after = ap (λ (n : ℕ). chars (drop n text)) there ∙ g .after;
+    ends = omega (arith, g .ends, there);
+    no-selector = other-value (l .value) (sym (ap firstSelector chars-here) ∙ e);
+  }
+
+-- The value of the character that was read as one number.
+pub packed-value : (t : List ℕ) (v w n : ℕ) → readChar t ≡ Char v w → n ≡ packed (readChar t) → n / 8 ≡ v
+unfolding packed
+packed-value t v w n e p =
+    let f = char-begins t v w e in
+    let q : n ≡ 8 * v + w = p ∙ ap packed e in
+    let few = f .few in
+    omega arith

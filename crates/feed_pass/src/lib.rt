@@ -60,12 +60,16 @@ fn tail_start(text: &[u8], from: usize, to: usize) -> usize
     let mut at = to;
     loop {
         let start = last_char(text, from, at);
-        if let FromSelector::NoSelector = selector_at(text, start) {
-            if unicode::has_variation_sequence_by_block(utf8::decode(text, start) / 8) {
-                return start;
+        match selector_at(text, start) {
+            FromSelector::Selector(_) => {
+                at = start;
             }
-            return to;
+            FromSelector::NoSelector => {
+                if unicode::has_variation_sequence_by_block(utf8::decode(text, start) / 8) {
+                    return start;
+                }
+                return to;
+            }
         }
-        at = start;
     }
 }
