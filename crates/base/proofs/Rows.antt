@@ -16,12 +16,14 @@ use Rattle.base.specs.declared.WriteAnswer.the-variants as Write
 use Rattle.base.specs.declared.Refusal.{Refusal}
 use Rattle.base.specs.declared.Refusal.the-variants.{
   BadDecision,
+  FeedEnded,
   NoFinding,
   NotAPolicy,
   NotWellFormed,
   OutputTooShort,
   TableTooShort,
   TextTooLong,
+  UnfinishedCharacter,
   WrongNumberOfDecisions,
 }
 
@@ -34,7 +36,9 @@ refusalOf w =
     (cond (eqb (w .number) 4) NoFinding
     (cond (eqb (w .number) 5) (WrongNumberOfDecisions (w .value))
     (cond (eqb (w .number) 6) (BadDecision (w .value))
-    (cond (eqb (w .number) 7) (TableTooShort (w .value)) (OutputTooShort (w .value))))))))
+    (cond (eqb (w .number) 7) (TableTooShort (w .value))
+    (cond (eqb (w .number) 8) (OutputTooShort (w .value))
+    (cond (eqb (w .number) 9) FeedEnded UnfinishedCharacter))))))))
 
 refusal-of-row : (r : Refusal) → refusalOf (refusalRow r) ≡ r
 unfolding refusalOf
@@ -46,6 +50,8 @@ refusal-of-row (WrongNumberOfDecisions n) = refl
 refusal-of-row (BadDecision n) = refl
 refusal-of-row (TableTooShort n) = refl
 refusal-of-row (OutputTooShort n) = refl
+refusal-of-row FeedEnded = refl
+refusal-of-row UnfinishedCharacter = refl
 
 pub rows-distinct : RefusalRowsDistinct
 unfolding RefusalRowsDistinct
@@ -61,6 +67,8 @@ refusal-numbers (WrongNumberOfDecisions n) = (omega arith, omega arith)
 refusal-numbers (BadDecision n) = (omega arith, omega arith)
 refusal-numbers (TableTooShort n) = (omega arith, omega arith)
 refusal-numbers (OutputTooShort n) = (omega arith, omega arith)
+refusal-numbers FeedEnded = (omega arith, omega arith)
+refusal-numbers UnfinishedCharacter = (omega arith, omega arith)
 
 -- ---- rows of answers: a refusal's number is from 1 to 254, so it differs from 0 (success) and 255 (nothing)
 

@@ -8,12 +8,14 @@ use Rattle.base.specs.declared.Check.the-variants.{Passed, Refused}
 use Rattle.base.specs.declared.Refusal.{Refusal}
 use Rattle.base.specs.declared.Refusal.the-variants.{
   BadDecision,
+  FeedEnded,
   NoFinding,
   NotAPolicy,
   NotWellFormed,
   OutputTooShort,
   TableTooShort,
   TextTooLong,
+  UnfinishedCharacter,
   WrongNumberOfDecisions,
 }
 
@@ -24,8 +26,9 @@ pub record TableRow : Type 0 where
   pub number : ℕ
   pub returned : Option ℕ
 
--- Document 01's table, row by row. The functions of src/refusals.rt equal it, and all other code gets a refusal's number and value from
--- them.
+-- Document 01's table, row by row, and the rows of document 02: "9, a piece or an end for a feed already ended ..; 10, an end inside a
+-- character", "From here a new refusal joins 01's table and returns nothing more unless it says what". The functions of src/refusals.rt
+-- equal it, and all other code gets a refusal's number and value from them.
 abbrev pub refusalTable : Refusal → TableRow
 refusalTable TextTooLong = record { number = 1; returned = none }
 refusalTable NotAPolicy = record { number = 2; returned = none }
@@ -35,6 +38,8 @@ refusalTable (WrongNumberOfDecisions n) = record { number = 5; returned = some n
 refusalTable (BadDecision n) = record { number = 6; returned = some n }
 refusalTable (TableTooShort n) = record { number = 7; returned = some n }
 refusalTable (OutputTooShort n) = record { number = 8; returned = some n }
+refusalTable FeedEnded = record { number = 9; returned = none }
+refusalTable UnfinishedCharacter = record { number = 10; returned = none }
 
 -- The row of an answer as two numbers: its number, and its value or 0.
 pub record RefusalRow : Type 0 where

@@ -24,8 +24,8 @@ pub enum WriteAnswer {
     TooShort { wanted: usize },
 }
 
-// The reason why a call is refused, with the value that is returned: a row of document 01's table. The functions in
-// refusals.rt give the number and the value.
+// The reason why a call is refused, with the value that is returned: a row of document 01's table, with those of
+// document 02. The functions in refusals.rt give the number and the value.
 pub enum Refusal {
     TextTooLong,
     NotAPolicy,
@@ -35,6 +35,8 @@ pub enum Refusal {
     BadDecision { index: usize },
     TableTooShort { findings: usize },
     OutputTooShort { wanted: usize },
+    FeedEnded,
+    UnfinishedCharacter,
 }
 
 // The answer to filling a table: the number of rows written, or a refusal.

@@ -21,6 +21,8 @@ pub fn refusal_number(refusal: Refusal) -> u64
         Refusal::BadDecision { index: _ } => 6,
         Refusal::TableTooShort { findings: _ } => 7,
         Refusal::OutputTooShort { wanted: _ } => 8,
+        Refusal::FeedEnded => 9,
+        Refusal::UnfinishedCharacter => 10,
     }
 }
 
@@ -37,6 +39,8 @@ pub fn refusal_value(refusal: Refusal) -> usize
         Refusal::BadDecision { index } => index,
         Refusal::TableTooShort { findings } => findings,
         Refusal::OutputTooShort { wanted } => wanted,
+        Refusal::FeedEnded => 0,
+        Refusal::UnfinishedCharacter => 0,
     }
 }
 
@@ -53,5 +57,7 @@ pub fn returns_value(refusal: Refusal) -> bool
         Refusal::BadDecision { index: _ } => true,
         Refusal::TableTooShort { findings: _ } => true,
         Refusal::OutputTooShort { wanted: _ } => true,
+        Refusal::FeedEnded => false,
+        Refusal::UnfinishedCharacter => false,
     }
 }

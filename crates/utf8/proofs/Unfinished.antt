@@ -1,9 +1,9 @@
 -- What is left after the longest well-formed beginning, and how the text can go on.
 use mathlib.Core.Path.{_≡_, refl, sym, ap, _∙_, subst}
 use mathlib.Core.Logic.{⊎-elim}
-use mathlib.Core.Bool.{true}
+use mathlib.Core.Bool.{true, true≢false}
 use mathlib.Core.List.{List, [], _∷_, _++_, append-assoc, append-nil}
-use Prim.Native.Nat.{ℕ, _<_}
+use Prim.Native.Nat.{ℕ, _≤_, _<_}
 use native.Mathlib.Omega.{arith}
 use lib.ListN.{drop, length, length-append, length-drop, take, take-append-drop}
 use lib.Seq.{drop-drop, take-append-le, take-append-seam}
@@ -17,7 +17,7 @@ use Rattle.utf8.proofs.Grammar.{longest-well-formed, utf8-char-encodes,
 use Rattle.utf8.proofs.Texts.{validUpTo-append, validUpTo-le}
 use Rattle.utf8.specs.Subparts.{unfinished}
 use Rattle.utf8.proofs.Completions.{goes-on, more-bytes}
-use Rattle.utf8.proofs.Subparts.{no-char-at}
+use Rattle.utf8.proofs.Subparts.{char-some, no-char-at}
 
 -- ---- after the longest well-formed beginning stands a bad place, or nothing
 
@@ -109,3 +109,31 @@ is-unfinished s t w =
     let l = length-append b (r ++ t) in
     let x : validUpTo (r ++ t) ≡ length (r ++ t) = omega arith in
     rest-unfinished r t (λ h. no-char-at r (bad-after s (omega (arith, length-drop v s)))) (whole-well-formed (r ++ t) x) refl
+
+-- ---- unfinished bytes begin with no character, and are few
+
+pub unfinished-no-char : (u : List ℕ) → unfinished u ≡ true → (m : ℕ) → utf8-char (take m u) ≡ true → ⊥
+unfinished-no-char u e m c =
+    ⊎-elim
+    (λ z. let k = char-some (take m u) c in omega (arith, ap length z, ap length (take-append-drop m u), length-append (take m u) (drop m u)))
+    (λ g.
+    let x = g .0 ∷ g .1 in
+    let p = grammar-read (u ++ x) [] (g .2) in
+    let q = grammar-read (take m u) (drop m u ++ x) c in
+    let j : take m u ++ (drop m u ++ x) ≡ (u ++ x) ++ [] =
+    sym (append-assoc (take m u) (drop m u) x) ∙ ap (λ (l : List ℕ). l ++ x) (take-append-drop m u) ∙ sym (append-nil (u ++ x)) in
+    let r = sym (q .read) ∙ ap readChar j ∙ p .read in
+    let w : length (take m u) ≡ length (u ++ x) = same-width r in
+    omega (arith, length-append u x, ap length (take-append-drop m u), length-append (take m u) (drop m u)))
+    (goes-on u e)
+  where
+    same-width : {a b v w : ℕ} → Char a v ≡ Char b w → v ≡ w
+    same-width r = cc
+
+pub unfinished-few : (u : List ℕ) → unfinished u ≡ true → length u ≤ 3
+unfolding unfinished
+unfinished-few [] e = omega arith
+unfinished-few (a ∷ []) e = omega arith
+unfinished-few (a ∷ b ∷ []) e = omega arith
+unfinished-few (a ∷ b ∷ c ∷ []) e = omega arith
+unfinished-few (a ∷ b ∷ c ∷ d ∷ u) e = absurd (true≢false (sym e))

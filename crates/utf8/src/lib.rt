@@ -145,7 +145,7 @@ pub fn char_len(s: &[u8], at: usize) -> usize
 }
 
 // Whether a byte lies in a range.
-fn in_range(lo: u8, hi: u8, b: u8) -> bool
+pub fn in_range(lo: u8, hi: u8, b: u8) -> bool
     ensures { λ r. ⌜ r ≡ within lo hi b ⌝ }
 {
     if b < lo {
@@ -155,7 +155,7 @@ fn in_range(lo: u8, hi: u8, b: u8) -> bool
 }
 
 // Whether two bytes begin a character of three or four, by the rows of Table 3-7 of the Unicode Standard from E0 on.
-fn second_fits(a: u8, b: u8) -> bool
+pub fn second_fits(a: u8, b: u8) -> bool
     ensures { λ r. ⌜ r ≡ begun-2 a b ⌝ }
 {
     if a < 0xE0 {
