@@ -1,3 +1,4 @@
 -- Scratch.
 pub mod Parts
 pub mod Totals
+pub mod Cuts
