@@ -1,0 +1,318 @@
+-- Lists of calls on a feed: it holds what taking the characters of the thread one after the other leaves.
+use mathlib.Core.Path.{_≡_, refl, ap, ap₂, sym, _∙_, subst}
+use mathlib.Core.Bool.{Bool, true, false, cond, not, true≢false}
+use mathlib.Core.List.{List, [], _∷_, _++_, append-assoc, append-nil}
+use Prim.Native.Nat.{ℕ, _+_, _-_, _≤_}
+use native.Mathlib.Omega.{arith}
+use lib.Dec.{eqb, leb}
+use lib.ListN.{drop, length, length-append, length-drop}
+use lib.Seq.{drop-append-seam, drop-drop}
+use borrow.Author.Tests.{eqb-true, leb-true}
+use Rattle.base.specs.Refusals.{textLimit}
+use Rattle.utf8.specs.Rfc3629.{WellFormed, chars, encodeAll, validUpTo}
+use Rattle.utf8.proofs.Folds.{chars-end, validUpTo-end}
+use Rattle.utf8.proofs.Fronts.{readChar-nil}
+use Rattle.utf8.proofs.Grammar.{whole-well-formed}
+use Rattle.utf8.proofs.Texts.{chars-allScalar, chars-encodeAll, encodeAll-append, encodeAll-chars-rest, validUpTo-encodeAll, validUpTo-le}
+use Rattle.policy.specs.declared.Policy.{Policy}
+use Rattle.unicode.specs.Presentation.{fromSelector}
+use Rattle.scanner.specs.declared.char_class.Class.the-variants.{Other as other}
+use Rattle.analysis.specs.Counts.{_⊕_}
+use Rattle.analysis.proofs.Counts.{empty-plus, plus-assoc, plus-empty}
+use Rattle.utf8.specs.Subparts.{unfinished}
+use Rattle.feed.specs.Feed.{Effect, Fed, Pending, charsOf, fedAs, formatFed, joinEffects, nothing, pieceRoom, settle, takeChar, takeChars, totalFed}
+use Rattle.base.specs.declared.Refusal.{Refusal}
+use Rattle.base.specs.declared.Refusal.the-variants.{FeedEnded, NotWellFormed, OutputTooShort, TextTooLong, UnfinishedCharacter}
+use Rattle.feed.specs.Calls.{
+  Answer,
+  Call,
+  Feed,
+  after,
+  afterEnd,
+  afterPiece,
+  allFed,
+  answer,
+  bytesTaken,
+  bytesWritten,
+  charsTaken,
+  end,
+  fedBy,
+  feedAfter,
+  newFeed,
+  next,
+  outputs,
+  piece,
+  refused,
+  restBy,
+  thread,
+  totalsNow,
+  wrote,
+}
+use Rattle.feed.proofs.Feeding.{WholeFormat, none-held, whole-format}
+
+-- ---- characters in two parts
+
+abbrev pub R : Type 0
+R = Pending × Effect
+
+pub take-append : (s : Pending) (xs ys : List Fed)
+    → takeChars s (xs ++ ys) ≡ (takeChars (takeChars s xs .0) ys .0, joinEffects (takeChars s xs .1) (takeChars (takeChars s xs .0) ys .1))
+unfolding takeChars
+take-append s [] ys =
+    λ i. (takeChars s ys .0, record { text = takeChars s ys .1 .text; counts = sym (empty-plus (takeChars s ys .1 .counts)) i })
+take-append s (x ∷ xs) ys =
+    let r = takeChar (x .policy) s (x .char) (fromSelector (x .char)) in
+    let a = takeChars (r .0) xs in
+    let b = takeChars (a .0) ys in
+    ap (λ (q : R). (q .0, joinEffects (r .1) (q .1))) (take-append (r .0) xs ys)
+    ∙ (λ i. (
+      b .0,
+      record {
+        text = sym (append-assoc (r .1 .text) (a .1 .text) (b .1 .text)) i;
+        counts = sym (plus-assoc (r .1 .counts) (a .1 .counts) (b .1 .counts)) i;
+      },
+    ))
+
+-- ---- bytes in two parts
+
+module _ (t b : List ℕ) where
+  abbrev E : List ℕ
+  E = encodeAll (chars t)
+
+  abbrev D : List ℕ
+  D = drop (validUpTo t) t
+
+  parted : t ++ b ≡ E ++ (D ++ b)
+  parted = ap (λ (l : List ℕ). l ++ b) (sym (encodeAll-chars-rest t)) ∙ append-assoc E D b
+
+  pub chars-parted : chars (t ++ b) ≡ chars t ++ chars (D ++ b)
+  chars-parted = ap chars parted ∙ chars-encodeAll (chars t) (D ++ b) (chars-allScalar t)
+
+  pub valid-parted : validUpTo (t ++ b) ≡ length E + validUpTo (D ++ b)
+  valid-parted = ap validUpTo parted ∙ validUpTo-encodeAll (chars t) (D ++ b) (chars-allScalar t)
+
+  pub rest-parted : drop (validUpTo (t ++ b)) (t ++ b) ≡ drop (validUpTo (D ++ b)) (D ++ b)
+  rest-parted =
+      ap₂ (λ (n : ℕ) (l : List ℕ). drop n l) valid-parted parted
+      ∙ sym (drop-drop (validUpTo (D ++ b)) (length E) (E ++ (D ++ b)))
+      ∙ ap (drop (validUpTo (D ++ b))) (drop-append-seam E (D ++ b))
+
+-- ---- the invariant
+
+pub data Held (f : Feed) (X : List Fed) (W : List ℕ) : Type 0 where
+  going : (w : List ℕ) → f .ended ≡ false → takeChars nothing X ≡ (f .pending, record { text = w; counts = f .totals }) → W ≡ encodeAll w
+      → Held f X W
+  done : f .ended ≡ true → f .rest ≡ [] → f .pending ≡ nothing → encodeAll (formatFed X) ≡ W → totalFed X ≡ f .totals → Held f X W
+
+pub record Inv (f : Feed) (T : List ℕ) (X : List Fed) (W : List ℕ) : Type 0 where
+  pub characters : charsOf X ≡ chars T
+  pub left : f .rest ≡ drop (validUpTo T) T
+  pub length-is : f .len ≡ length T
+  pub bounded : length T ≤ textLimit
+  pub state : Held f X W
+
+-- ---- how a call is answered
+
+data Good (f : Feed) : Call → Answer → Type 0 where
+  turned : {c : Call} {r : Refusal} → Good f c (refused r)
+  took : {b n : List ℕ} → f .ended ≡ false → f .len + length b ≤ textLimit
+      → Good f (piece b n) (wrote (encodeAll (takeChars (f .pending) (fedBy f b) .1 .text)))
+  closed : {n : List ℕ} → f .ended ≡ false → length (f .rest) ≡ 0 → Good f (end n) (wrote (encodeAll (settle (f .pending) other .text)))
+
+good : (f : Feed) (c : Call) → Good f c (answer f c)
+unfolding answer
+good f (piece b n) =
+    go (f .ended) refl (leb (f .len + length b) textLimit) refl (unfinished (restBy f b)) (leb (pieceRoom (length b)) (length n))
+  where
+    go : (a : Bool) → f .ended ≡ a → (d : Bool) → leb (f .len + length b) textLimit ≡ d → (e g : Bool)
+        → Good f (piece b n) (cond a (refused FeedEnded) (cond (not d) (refused TextTooLong)
+        (cond (not e) (refused (NotWellFormed (f .len - length (f .rest) + validUpTo (f .rest ++ b))))
+        (cond (not g) (refused (OutputTooShort (pieceRoom (length b))))
+        (wrote (encodeAll (takeChars (f .pending) (fedBy f b) .1 .text)))))))
+    go true h d i e g = turned
+    go false h false i e g = turned
+    go false h true i false g = turned
+    go false h true i true false = turned
+    go false h true i true true = took h (leb-true _ _ i)
+good f (end n) = go (f .ended) refl (eqb (length (f .rest)) 0) refl (leb (pieceRoom 0) (length n))
+  where
+    go : (a : Bool) → f .ended ≡ a → (d : Bool) → eqb (length (f .rest)) 0 ≡ d → (e : Bool)
+        → Good f (end n) (cond a (refused FeedEnded) (cond (not d) (refused UnfinishedCharacter)
+        (cond (not e) (refused (OutputTooShort (pieceRoom 0))) (wrote (encodeAll (settle (f .pending) other .text))))))
+    go true h d i e = turned
+    go false h false i e = turned
+    go false h true i false = turned
+    go false h true i true = closed h (eqb-true _ _ i)
+
+-- ---- one call
+
+pub chars-tagged : (p : Policy) (cs : List ℕ) → charsOf (fedAs p cs) ≡ cs
+chars-tagged p [] = refl
+chars-tagged p (c ∷ cs) = ap (λ (l : List ℕ). c ∷ l) (chars-tagged p cs)
+
+pub chars-of-append : (xs ys : List Fed) → charsOf (xs ++ ys) ≡ charsOf xs ++ charsOf ys
+chars-of-append [] ys = refl
+chars-of-append (x ∷ xs) ys = ap (λ (l : List ℕ). x .char ∷ l) (chars-of-append xs ys)
+
+no-length : (l : List ℕ) → length l ≡ 0 → l ≡ []
+no-length [] e = refl
+no-length (x ∷ l) e = absurd (omega arith)
+
+module _ {f : Feed} {T : List ℕ} {X : List Fed} {W : List ℕ} (h : Inv f T X W) where
+  -- Nothing is added.
+  same : Inv f (T ++ []) (X ++ []) (W ++ [])
+  same =
+      subst (λ (t : List ℕ). Inv f t (X ++ []) (W ++ [])) (sym (append-nil T))
+      (subst (λ (x : List Fed). Inv f T x (W ++ [])) (sym (append-nil X)) (subst (λ (w : List ℕ). Inv f T X w) (sym (append-nil W)) h))
+
+  step-piece : (b : List ℕ) → f .ended ≡ false → f .len + length b ≤ textLimit
+      → Inv (afterPiece f b) (T ++ b) (X ++ fedBy f b) (W ++ encodeAll (takeChars (f .pending) (fedBy f b) .1 .text))
+  step-piece b e l = go (h .state)
+    where
+      Y : List Fed
+      Y = fedBy f b
+
+      go : Held f X W → Inv (afterPiece f b) (T ++ b) (X ++ Y) (W ++ encodeAll (takeChars (f .pending) Y .1 .text))
+      go (done e′ _ _ _ _) = absurd (true≢false (sym e′ ∙ e))
+      go (going w _ t v) = record {
+        characters =
+            chars-of-append X Y ∙ ap₂ (λ (k l : List ℕ). k ++ l) (h .characters)
+            (chars-tagged (f .policy) (chars (f .rest ++ b)) ∙ ap (λ (r : List ℕ). chars (r ++ b)) (h .left))
+            ∙ sym (chars-parted T b);
+        left = ap (λ (r : List ℕ). drop (validUpTo (r ++ b)) (r ++ b)) (h .left) ∙ sym (rest-parted T b);
+        length-is = let m = h .length-is in omega (arith, length-append T b);
+        bounded = let m = h .length-is in omega (arith, length-append T b);
+        state =
+            going (w ++ takeChars (f .pending) Y .1 .text) refl
+            (take-append nothing X Y ∙ ap (λ (q : R). (takeChars (q .0) Y .0, joinEffects (q .1) (takeChars (q .0) Y .1))) t)
+            (ap (λ (l : List ℕ). l ++ encodeAll (takeChars (f .pending) Y .1 .text)) v ∙ sym
+            (encodeAll-append w (takeChars (f .pending) Y .1 .text)));
+      }
+
+  step-end : f .ended ≡ false → length (f .rest) ≡ 0
+      → Inv (afterEnd f) (T ++ []) (X ++ []) (W ++ encodeAll (settle (f .pending) other .text))
+  step-end e l = go (h .state)
+    where
+      go : Held f X W → Inv (afterEnd f) (T ++ []) (X ++ []) (W ++ encodeAll (settle (f .pending) other .text))
+      go (done e′ _ _ _ _) = absurd (true≢false (sym e′ ∙ e))
+      go (going w _ t v) =
+          let s : WholeFormat nothing X (f .pending, record { text = w; counts = f .totals }) = subst
+          (λ (q : R). WholeFormat nothing X q) t (whole-format nothing none-held X) in
+          subst (λ (y : List ℕ). Inv (afterEnd f) y (X ++ []) (W ++ encodeAll (settle (f .pending) other .text))) (sym (append-nil T))
+          (subst (λ (x : List Fed). Inv (afterEnd f) T x (W ++ encodeAll (settle (f .pending) other .text))) (sym (append-nil X)) (record {
+            characters = h .characters;
+            left = sym (no-length (f .rest) l) ∙ h .left;
+            length-is = h .length-is;
+            bounded = h .bounded;
+            state =
+                done refl refl refl
+                (ap encodeAll (s .text) ∙ encodeAll-append w (settle (f .pending) other .text) ∙ ap
+                (λ (k : List ℕ). k ++ encodeAll (settle (f .pending) other .text)) (sym v))
+                (s .counts);
+          }))
+
+  by-answer : (c : Call) (a : Answer) → Good f c a → Inv (after f c a) (T ++ bytesTaken c a) (X ++ charsTaken f c a) (W ++ bytesWritten a)
+  by-answer (piece b n) (refused r) turned = same
+  by-answer (end n) (refused r) turned = same
+  by-answer (piece b n) (wrote o) (took e l) = step-piece b e l
+  by-answer (end n) (wrote o) (closed e l) = step-end e l
+
+-- ---- a list of calls
+
+runs : {f : Feed} {T : List ℕ} {X : List Fed} {W : List ℕ} → Inv f T X W → (cs : List Call)
+    → Inv (feedAfter f cs) (T ++ thread f cs) (X ++ allFed f cs) (W ++ outputs f cs)
+unfolding feedAfter thread allFed outputs
+runs h [] = same h
+runs {f} {T} {X} {W} h (c ∷ cs) =
+    let a = answer f c in
+    let k = runs (by-answer h c a (good f c)) cs in
+    subst (λ (t : List ℕ). Inv (feedAfter (next f c) cs) t (X ++ (charsTaken f c a ++ allFed (next f c) cs))
+    (W ++ (bytesWritten a ++ outputs (next f c) cs))) (append-assoc T (bytesTaken c a) (thread (next f c) cs))
+    (subst (λ (x : List Fed). Inv (feedAfter (next f c) cs) ((T ++ bytesTaken c a) ++ thread (next f c) cs) x
+    (W ++ (bytesWritten a ++ outputs (next f c) cs))) (append-assoc X (charsTaken f c a) (allFed (next f c) cs))
+    (subst (λ (w : List ℕ). Inv (feedAfter (next f c) cs) ((T ++ bytesTaken c a) ++ thread (next f c) cs)
+    ((X ++ charsTaken f c a) ++ allFed (next f c) cs) w) (append-assoc W (bytesWritten a) (outputs (next f c) cs)) k))
+
+start : (p : Policy) → Inv (newFeed p) [] [] []
+unfolding takeChars encodeAll
+start p = record {
+  characters = sym (chars-end [] readChar-nil);
+  left = ap (λ (n : ℕ). drop n []) (sym (validUpTo-end [] readChar-nil));
+  length-is = refl;
+  bounded = omega arith;
+  state = going [] refl refl refl;
+}
+
+-- ---- the claim on a list of calls
+
+module _ (p : Policy) (cs : List Call) where
+  abbrev pub F : Feed
+  F = feedAfter (newFeed p) cs
+
+  abbrev pub T : List ℕ
+  T = thread (newFeed p) cs
+
+  abbrev pub X : List Fed
+  X = allFed (newFeed p) cs
+
+  -- The characters are those of the thread, the rest is what is unfinished, and text and totals are those of the characters formatted as
+  -- a whole: after the end, and before it with the held base.
+  pub record FeedClaim : Type 0 where
+    pub characters : charsOf X ≡ chars T
+    pub left : F .rest ≡ drop (validUpTo T) T
+    pub length-is : F .len ≡ length T
+    pub bounded : length T ≤ textLimit
+    pub totals : totalsNow F ≡ totalFed X
+    pub ended-whole : F .ended ≡ true → WellFormed T
+    pub ended-text : F .ended ≡ true → outputs (newFeed p) cs ≡ encodeAll (formatFed X)
+    pub open-text : F .ended ≡ false → outputs (newFeed p) cs ++ encodeAll (settle (F .pending) other .text) ≡ encodeAll (formatFed X)
+
+pub claimed : (p : Policy) (cs : List Call) → FeedClaim p cs
+unfolding settle
+claimed p cs = go (k .state)
+  where
+    f : Feed
+    f = F p cs
+
+    thr : List ℕ
+    thr = T p cs
+
+    x : List Fed
+    x = X p cs
+
+    W : List ℕ
+    W = outputs (newFeed p) cs
+
+    k : Inv f thr x W
+    k = runs (start p) cs
+
+    S : WholeFormat nothing x (takeChars nothing x)
+    S = whole-format nothing none-held x
+
+    go : Held f x W → FeedClaim p cs
+    go (going w e t v) =
+        let s : WholeFormat nothing x (f .pending, record { text = w; counts = f .totals }) = subst
+        (λ (q : R). WholeFormat nothing x q) t S in
+        record {
+          characters = k .characters;
+          left = k .left;
+          length-is = k .length-is;
+          bounded = k .bounded;
+          totals = sym (s .counts);
+          ended-whole = λ e′. absurd (true≢false (sym e′ ∙ e));
+          ended-text = λ e′. absurd (true≢false (sym e′ ∙ e));
+          open-text =
+              λ _. ap (λ (l : List ℕ). l ++ encodeAll (settle (f .pending) other .text)) v ∙ sym
+              (encodeAll-append w (settle (f .pending) other .text)) ∙ ap encodeAll (sym (s .text));
+        }
+    go (done e r n a b) = record {
+      characters = k .characters;
+      left = k .left;
+      length-is = k .length-is;
+      bounded = k .bounded;
+      totals = ap (λ (q : Pending). f .totals ⊕ settle q other .counts) n ∙ plus-empty (f .totals) ∙ sym b;
+      ended-whole =
+          λ _. whole-well-formed thr (omega (arith, validUpTo-le thr, ap length (sym (k .left) ∙ r), length-drop (validUpTo thr) thr));
+      ended-text = λ _. sym a;
+      open-text = λ e′. absurd (true≢false (sym e ∙ e′));
+    }

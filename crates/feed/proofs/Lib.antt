@@ -1,0 +1,9 @@
+-- The proofs about a feed: characters taken one after the other, lists of calls, room, and the feed in bytes.
+pub mod Feeding
+pub mod Calls
+pub mod OneCall
+pub mod PieceRoom
+pub mod Reading
+pub mod Testing
+pub mod Writing
+pub mod Back

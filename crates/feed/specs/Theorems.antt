@@ -1,0 +1,117 @@
+-- What is claimed of a feed. Each statement is proved in proofs/Claims.antt, under the same name in lower case with hyphens.
+use mathlib.Core.Path.{_≡_}
+use mathlib.Core.Bool.{true, false}
+use mathlib.Core.List.{List, [], _∷_, _++_}
+use Prim.Native.Nat.{ℕ, _+_, _*_, _≤_, _<_}
+use lib.ListN.{drop, length}
+use Rattle.base.specs.Words.{allBytes}
+use Rattle.base.specs.declared.Refusal.{Refusal}
+use Rattle.base.specs.declared.Refusal.the-variants.{FeedEnded, NotWellFormed, OutputTooShort, TextTooLong, UnfinishedCharacter}
+use Rattle.utf8.specs.Rfc3629.{WellFormed, chars, encodeAll, validUpTo}
+use Rattle.policy.specs.PolicyBytes.{isPolicy}
+use Rattle.scanner.specs.declared.char_class.Class.the-variants.{Other as other}
+use Rattle.formatter.specs.Findings.{textTotals}
+use Rattle.formatter.specs.Format.{formatted}
+use Rattle.feed.specs.Feed.{settle}
+use Rattle.feed.specs.Calls.{Call, end, piece}
+use Rattle.feed.specs.Bytes.{
+  Called,
+  called,
+  feedAfterCalls,
+  feedOf,
+  hasEnded,
+  isFeed,
+  joinedOutputs,
+  newBytes,
+  outOf,
+  refuses,
+  threadOf,
+  totalsOf,
+}
+use Rattle.feed.specs.declared.FeedAnswer.the-variants.{Refused, Written}
+
+-- The pieces of these calls are bytes, as every lent slice is.
+pub data OfBytes : List Call → Type 0 where
+  no-call : OfBytes []
+  and-piece : {b out : List ℕ} {cs : List Call} → allBytes b ≡ true → OfBytes cs → OfBytes (piece b out ∷ cs)
+  and-end : {out : List ℕ} {cs : List Call} → OfBytes cs → OfBytes (end out ∷ cs)
+
+-- A call is done: it writes w at the front of its output and leaves the bytes after it. A room of the given number of bytes was enough.
+pub record Done (r : Called) (out : List ℕ) (most : ℕ) : Type 0 where
+  pub bytes : List ℕ
+  pub answer : r .answer ≡ Written (length bytes)
+  pub out-bytes : r .out ≡ bytes ++ drop (length bytes) out
+  pub room : length bytes ≤ most
+
+-- Some bytes after these make them well-formed.
+abbrev pub GoesOn : List ℕ → Type 0
+GoesOn s = (t : List ℕ) × WellFormed (s ++ t)
+
+-- The feed begun with a policy, after a list of calls: B are its bytes, T is the thread, W are the joined outputs.
+module _ (policy : List ℕ) (cs : List Call) where
+  abbrev pub B : List ℕ
+  B = feedAfterCalls (newBytes policy) cs
+
+  abbrev pub T : List ℕ
+  T = threadOf (newBytes policy) cs
+
+  abbrev pub W : List ℕ
+  W = joinedOutputs (newBytes policy) cs
+
+  -- The next piece b with the output out. Its tests are 9, 1, 3 and 8, in this order; "A refused call changes neither feed nor output."
+  pub record NextPiece (b out : List ℕ) : Type 0 where
+    -- "9, a piece or an end for a feed already ended, tested before all else"
+    pub ended : hasEnded (newBytes policy) cs ≡ true → called B (piece b out) ≡ refuses (Refused FeedEnded) B out
+    -- "The length limit holds for the whole thread."
+    pub long : hasEnded (newBytes policy) cs ≡ false → 16777217 ≤ length T + length b
+        → called B (piece b out) ≡ refuses (Refused TextTooLong) B out
+    -- Refusal 3 exactly where no thread that goes on is well-formed. "An ill-formed place is reported by its offset from the thread's
+    -- start."
+    pub ill-formed : hasEnded (newBytes policy) cs ≡ false → length T + length b ≤ 16777216 → (GoesOn (T ++ b) → ⊥)
+        → called B (piece b out) ≡ refuses (Refused (NotWellFormed (validUpTo (T ++ b)))) B out
+    -- "A piece of n bytes that no other test refuses is taken if the output holds 4n + 16 bytes, else refusal 8 gives that figure"
+    pub short : hasEnded (newBytes policy) cs ≡ false → length T + length b ≤ 16777216 → GoesOn (T ++ b)
+        → length out < 4 * length b + 16 → called B (piece b out) ≡ refuses (Refused (OutputTooShort (4 * length b + 16))) B out
+    pub taken : hasEnded (newBytes policy) cs ≡ false → length T + length b ≤ 16777216 → GoesOn (T ++ b)
+        → 4 * length b + 16 ≤ length out → Done (called B (piece b out)) out (4 * length b + 10)
+
+  -- The end with the output out. Its tests are 9, 10 and 8, in this order.
+  pub record NextEnd (out : List ℕ) : Type 0 where
+    pub ended : hasEnded (newBytes policy) cs ≡ true → called B (end out) ≡ refuses (Refused FeedEnded) B out
+    -- "10, an end inside a character, tested after 9"
+    pub unfinished : hasEnded (newBytes policy) cs ≡ false → (WellFormed T → ⊥)
+        → called B (end out) ≡ refuses (Refused UnfinishedCharacter) B out
+    -- "the end counts as a piece of 0 bytes"
+    pub short : hasEnded (newBytes policy) cs ≡ false → WellFormed T → length out < 16
+        → called B (end out) ≡ refuses (Refused (OutputTooShort 16)) B out
+    pub taken : hasEnded (newBytes policy) cs ≡ false → WellFormed T → 16 ≤ length out → Done (called B (end out)) out 7
+
+  -- What is claimed of a feed after a list of calls.
+  pub record FeedInBytes : Type 0 where
+    -- "At the end, the joined outputs and the totals equal those of the whole thread formatted in one call under the policy the feed began
+    -- with."
+    pub end-whole : hasEnded (newBytes policy) cs ≡ true → WellFormed T
+    pub end-text : hasEnded (newBytes policy) cs ≡ true → W ≡ formatted T policy
+    pub end-totals : hasEnded (newBytes policy) cs ≡ true → totalsOf B ≡ textTotals T policy
+    -- "Its eight totals can be read at any time: they are those of the whole characters fed so far, as if the thread ended there."
+    pub totals : totalsOf B ≡ textTotals (encodeAll (chars T)) policy
+    -- Before the end, the joined outputs and the held base, written as if the thread ended there, are the whole characters formatted.
+    pub open-text : hasEnded (newBytes policy) cs ≡ false
+        → W ++ encodeAll (settle (feedOf B .pending) other .text) ≡ formatted (encodeAll (chars T)) policy
+    -- What every thread has: its length is within the limit, and it can go on.
+    pub within-limit : length T ≤ 16777216
+    pub goes-on : GoesOn T
+    -- The bytes pass the calls' test, and the next call is answered as document 02 says.
+    pub passes : isFeed B ≡ true
+    pub next-piece : (b out : List ℕ) → allBytes b ≡ true → NextPiece b out
+    pub next-end : (out : List ℕ) → NextEnd out
+
+-- Every list of calls, refused ones included, on a feed begun new with a policy and handed on from call to call.
+unfoldable pub EveryFeedInBytes : Type 0
+EveryFeedInBytes = (policy : List ℕ) → isPolicy policy ≡ true → (cs : List Call) → OfBytes cs → FeedInBytes policy cs
+
+-- For any other bytes: "the answer is the program's choice, within the lent buffers, and a refusal still writes nothing."
+unfoldable pub RefusalsWriteNothing : Type 0
+RefusalsWriteNothing =
+    (bs : List ℕ) (c : Call) (r : Refusal) → called bs c .answer ≡ Refused r
+    → (called bs c .feed ≡ bs) × (called bs c .out ≡ outOf c)

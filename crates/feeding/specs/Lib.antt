@@ -1,0 +1,2 @@
+-- Contracts of the helper functions of a feed's calls.
+pub mod Helpers
