@@ -1,4 +1,4 @@
--- `text_totals` meets its contract. The loop's invariant: what was added up and the counts of the findings from `at` on are the totals.
+-- `feeding::middle::text_totals` meets its contract. The loop's invariant: what was added up and the counts of the findings from `at` on are the totals.
 use Prim.Native.Nat.{_-_}
 use native.Mathlib.Omega.{arith}
 use lib.ListN.{length}
@@ -6,9 +6,9 @@ use borrow.Author.Needs.{needs}
 use borrow.Author.Tests.{not-false, not-true}
 use Rattle.policy.specs.PolicyBytes.{policyOf}
 use Rattle.text_pass.proofs.Passing.{finds-room, finds-some, over-none}
-use Rattle.feed_pass.proofs.Totals.{Summing, summing-begin, summing-done, summing-on}
-use Rattle.feed_pass.proofs.text_totals.Statement.{statement}
-use Rattle.feed_pass.proofs.text_totals.Tie as tie
+use Rattle.feeding.proofs.Summing.{Summing, summing-begin, summing-done, summing-on}
+use Rattle.feeding.proofs.middle.text_totals.Statement.{statement}
+use Rattle.feeding.proofs.middle.text_totals.Tie as tie
 
 abbrev Inv-loop : tie.InvT-loop
 Inv-loop text policy at₀ totals₀ at totals = Summing (policyOf policy) text at totals

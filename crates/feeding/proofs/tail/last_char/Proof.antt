@@ -1,10 +1,10 @@
--- `last_char` meets its contract. The loop's invariant: the last character has at least `width` bytes.
+-- `feeding::tail::last_char` meets its contract. The loop's invariant: the last character has at least `width` bytes.
 use Prim.Native.Nat.{_-_}
 use native.Mathlib.Omega.{arith}
 use borrow.Author.Needs.{needs}
-use Rattle.feed_pass.proofs.Parts.{Widening, widening-begin, widening-done, widening-fits, widening-on}
-use Rattle.feed_pass.proofs.last_char.Statement.{statement}
-use Rattle.feed_pass.proofs.last_char.Tie as tie
+use Rattle.feeding.proofs.Tails.{Widening, widening-begin, widening-done, widening-fits, widening-on}
+use Rattle.feeding.proofs.tail.last_char.Statement.{statement}
+use Rattle.feeding.proofs.tail.last_char.Tie as tie
 
 abbrev Inv-loop : tie.InvT-loop
 Inv-loop text from to width₀ width = Widening text from to width

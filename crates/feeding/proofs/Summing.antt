@@ -3,9 +3,9 @@ use mathlib.Core.Path.{_≡_, refl, ap, ap₂, sym, _∙_}
 use mathlib.Core.List.{List, [], _∷_}
 use Prim.Native.Nat.{ℕ, _+_, _<_, _≤_}
 use native.Mathlib.Omega.{arith}
-use lib.ListN.{drop, length, length-append}
-use Rattle.utf8.specs.Rfc3629.{chars, encode, encodeAll}
-use Rattle.utf8.proofs.Encoding.{encode-few}
+use lib.ListN.{drop, length}
+use Rattle.base.specs.Refusals.{textLimit}
+use Rattle.utf8.specs.Rfc3629.{chars, encodeAll}
 use Rattle.utf8.proofs.Texts.{length-encodeAll-chars, validUpTo-le}
 use Rattle.unicode.specs.declared.presentation.Presentation.{Presentation}
 use Rattle.policy.specs.declared.Policy.{Policy}
@@ -23,6 +23,7 @@ use Rattle.analysis.proofs.Sums.{whole-sum}
 use Rattle.text_pass.specs.Findings.{Counted, NoFindingBetween}
 use Rattle.text_pass.proofs.Passing.{finds-here}
 use Rattle.formatter.proofs.CellView.{totals-by-cells}
+use Rattle.feed.proofs.PieceRoom.{count-le}
 use Rattle.formatter.proofs.Marks.{foundTotals}
 use Rattle.formatter.proofs.Steps.{none-found}
 
@@ -34,11 +35,6 @@ count-few p =
     by-chars (λ t. total (countCells p (cells t)) + length (leading t) ≤ length t) (omega arith)
     (λ q t h. omega (arith, h, ap (λ (a : List Presentation × List Cell). total (countCells p (a .1)) + length (a .0)) (split-selector q t)))
     (λ c t e h. omega (arith, h, ap (λ (a : List Presentation × List Cell). total (countCells p (a .1)) + length (a .0)) (split-char c t e), few p c (following (cells t)) (leading t)))
-
-count-le : (cs : List ℕ) → length cs ≤ length (encodeAll cs)
-unfolding encodeAll
-count-le [] = omega arith
-count-le (c ∷ cs) = omega (arith, count-le cs, encode-few c, length-append (encode c) (encodeAll cs))
 
 pub total-few : (p : Policy) (t : List ℕ) → total (totalCells p t) ≤ length t
 unfolding totalCells
@@ -73,7 +69,7 @@ module _ (p : Policy) (text : List ℕ) where
           g .same ∙ ap (λ (l : List Found). sums ⊕ foundTotals p l) (a .same ∙ finds-here (f .finds))
           ∙ ap (λ (m : NonCanonicality). sums ⊕ (m ⊕ foundTotals p (findingsFrom p text end))) (sym (f .counts-are))
 
-      pub summing-on : {s : NonCanonicality} → s ≡ cappedSum sums n → end ≤ length text → length text ≤ 16777216 → Summing end s
+      pub summing-on : {s : NonCanonicality} → s ≡ cappedSum sums n → end ≤ length text → length text ≤ textLimit → Summing end s
       summing-on {s} e r l = record {
         inside = r;
         same =

@@ -15,6 +15,7 @@ use Rattle.utf8.proofs.Packed.{len-reads, packed-reads}
 use Rattle.utf8.proofs.Places.{Step, step}
 use Rattle.utf8.proofs.Texts.{encodeAll-append, length-encodeAll-chars}
 use Rattle.unicode.specs.Presentation.{asSelector, fromSelector, isSelector}
+use Rattle.unicode.specs.Unicode.{hasVariationSequence}
 use Rattle.unicode.specs.declared.presentation.FromSelector.{FromSelector}
 use Rattle.unicode.specs.declared.presentation.FromSelector.the-variants.{NoSelector, Selector}
 use Rattle.unicode.specs.declared.presentation.Presentation.{Presentation}
@@ -22,8 +23,10 @@ use Rattle.scanner.specs.SelectorRun.{firstSelector}
 use Rattle.scanner.specs.Spans.{size, width}
 use Rattle.scanner.proofs.Bytes.{chars-from, chars-inside, size-chars, size-width}
 use Rattle.scanner.proofs.SelectorBytes.{selector-here}
-use Rattle.scanner.proofs.SelectorChars.{other-value}
-use Rattle.feed_pass.specs.Parts.{BaseFrom, Between, LastChar, TailFrom}
+use Rattle.scanner.proofs.SelectorChars.{from-selector, other-value}
+use Rattle.analysis.specs.Rules.{firstAsked}
+use Rattle.feeding.specs.Parts.{BaseFrom, Between, LastChar, TailFrom, none-held, one-held}
+use Rattle.feeding.specs.declared.tail.HeldTail.{HeldTail}
 
 -- ---- the last element of a list
 
@@ -72,13 +75,15 @@ module _ {text : List ℕ} {from to : ℕ} (b : Between text from to) where
       let read = first-read text start v a there in
       let ends : to ≡ start + length (encode v) =
       omega (arith, b .to-is, ap (λ (l : List ℕ). length (encodeAll l)) e, ap length (encodeAll-append us (v ∷ [])), length-append (encodeAll us) (encodeAll (v ∷ [])), length-append (encode v) []) in
-      let wide : length (encode v) ≡ to - start = omega arith in
-      (start, record {
-        value = v;
-        before = omega (arith, encode-few v);
-        reads = read ∙ ap (Char v) wide;
-        passed = record { passed = us; chars-are = whole ∙ ap (λ (l : List ℕ). us ++ l) (sym there); to-is = refl };
-      })
+      let wide : length (encode v) ≡ to - start = omega arith in (
+        start,
+        record {
+          value = v;
+          before = omega (arith, encode-few v);
+          reads = read ∙ ap (Char v) wide;
+          passed = record { passed = us; chars-are = whole ∙ ap (λ (l : List ℕ). us ++ l) (sym there); to-is = refl };
+        },
+      )
 
   pub has-last : from < to → (start : ℕ) × LastChar text from to start
   has-last h = last-in (last-of (b .passed)) refl h
@@ -157,12 +162,14 @@ valid-between text from to e =
     let vs = chars (drop from text) in
     let none : chars (drop to text) ≡ [] =
     ap (λ (n : ℕ). chars (drop n text)) (e ∙ ap (λ (n : ℕ). from + n) (sym (size-chars (drop from text))))
-    ∙ chars-from text from vs [] (sym (append-nil vs)) in
-    (record {
-      passed = vs;
-      chars-are = sym (append-nil vs) ∙ ap (λ (l : List ℕ). vs ++ l) (sym none);
-      to-is = e ∙ ap (λ (n : ℕ). from + n) (sym (length-encodeAll-chars (drop from text)));
-    }, none)
+    ∙ chars-from text from vs [] (sym (append-nil vs)) in (
+      record {
+        passed = vs;
+        chars-are = sym (append-nil vs) ∙ ap (λ (l : List ℕ). vs ++ l) (sym none);
+        to-is = e ∙ ap (λ (n : ℕ). from + n) (sym (length-encodeAll-chars (drop from text)));
+      },
+      none,
+    )
 
 pub backing-begin : {text : List ℕ} {from to : ℕ} → from < to → to ≡ from + validUpTo (drop from text) → Backing text from to to
 backing-begin {text} {from} {to} h e =
@@ -218,6 +225,15 @@ module _ {text : List ℕ} {from to at start : ℕ} (g : Backing text from to at
     no-selector = other-value (l .value) (sym (ap firstSelector chars-here) ∙ e);
   }
 
+-- The first selector, and the number of selectors.
+pub first-selector : {text : List ℕ} {from to at : ℕ} (g : Backing text from to at) → frontAt text at ≡ firstAsked (g .selectors)
+unfolding firstSelector firstAsked
+first-selector {text} {from} {to} {at} g = ap firstSelector (g .after) ∙ go (g .selectors)
+  where
+    go : (qs : List Presentation) → firstSelector (map asSelector qs) ≡ firstAsked qs
+    go [] = refl
+    go (q ∷ qs) = from-selector q
+
 -- The value of the character that was read as one number.
 pub packed-value : (t : List ℕ) (v w n : ℕ) → readChar t ≡ Char v w → n ≡ packed (readChar t) → n / 8 ≡ v
 unfolding packed
@@ -226,3 +242,26 @@ packed-value t v w n e p =
     let q : n ≡ 8 * v + w = p ∙ ap packed e in
     let few = f .few in
     omega arith
+
+-- What is found, by what was read at the last character that is no selector.
+module _ {text : List ℕ} {from to at start n : ℕ} (g : Backing text from to at) (l : LastChar text from at start)
+    (e : frontAt text start ≡ NoSelector) (d : n ≡ packed (readChar (drop start text))) where
+  value-is : n / 8 ≡ l .value
+  value-is = packed-value (drop start text) (l .value) (at - start) n (l .reads) d
+
+  pub tail-held : {r : HeldTail} → hasVariationSequence (n / 8) ≡ true
+      → r ≡ record { start = start; held = record { base = n / 8; first = frontAt text at; count = (to - at) / 3 } } → TailFrom text from to r
+  unfolding backing-base
+  tail-held {r} v q =
+      let b = backing-base g l e in
+      let count : (to - at) / 3 ≡ length (g .selectors) = omega (arith, g .ends) in
+      subst (TailFrom text from to) (sym q)
+      (one-held b (ap hasVariationSequence (sym value-is) ∙ v)
+      (λ i. record { base = value-is i; first = first-selector g i; count = count i }))
+
+  pub tail-none : {r : HeldTail} → hasVariationSequence (n / 8) ≡ false
+      → r ≡ record { start = to; held = record { base = 0; first = NoSelector; count = 0 } }
+      → TailFrom text from to r
+  unfolding backing-base
+  tail-none {r} v q =
+      subst (TailFrom text from to) (sym q) (none-held (backing-base g l e) (ap hasVariationSequence (sym value-is) ∙ v) refl refl)

@@ -1,4 +1,0 @@
--- Scratch.
-pub mod Parts
-pub mod Totals
-pub mod Cuts
