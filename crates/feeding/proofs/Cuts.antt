@@ -1,12 +1,12 @@
 -- Characters taken in three parts: selectors, characters that are formatted by themselves, and a last base with its selectors.
-use mathlib.Core.Path.{_≡_, refl, ap, ap₂, sym, _∙_, subst}
+use mathlib.Core.Path.{_≡_, refl, ap, ap₂, sym, _∙_}
 use mathlib.Core.Bool.{Bool, true, false}
 use mathlib.Core.List.{List, [], _∷_, _++_, append-assoc, append-nil, map}
 use Prim.Native.Nat.{ℕ, suc, _+_}
 use native.Mathlib.Nat.{zero-add}
 use native.Mathlib.Omega.{arith}
 use lib.ListN.{length, length-append}
-use Rattle.unicode.specs.Presentation.{asSelector, fromSelector, isSelector}
+use Rattle.unicode.specs.Presentation.{asSelector, isSelector}
 use Rattle.unicode.specs.Unicode.{hasVariationSequence}
 use Rattle.unicode.specs.declared.presentation.FromSelector.{FromSelector}
 use Rattle.unicode.specs.declared.presentation.FromSelector.the-variants.{NoSelector, Selector}
@@ -21,11 +21,10 @@ use Rattle.analysis.specs.Analysis.{chosen, countCells, render}
 use Rattle.analysis.specs.CellView.{formatCells, totalCells}
 use Rattle.analysis.specs.Cells.{Cell, cells, leading, unsplit}
 use Rattle.analysis.specs.Counts.{_⊕_, empty, total, unsanctioned}
-use Rattle.analysis.specs.Rules.{byKeycap, byModifier, byTags, firstAsked, outcome, runWith}
+use Rattle.analysis.specs.Rules.{byKeycap, byModifier, byTags, firstAsked, runWith}
 use Rattle.analysis.specs.declared.singleton.Outcome.{Outcome}
-use Rattle.analysis.specs.declared.types.NonCanonicality.{NonCanonicality}
 use Rattle.analysis.proofs.Cells.{split-selectors, split-whole}
-use Rattle.analysis.proofs.Counts.{empty-plus, plus-assoc, plus-empty, total-empty}
+use Rattle.analysis.proofs.Counts.{empty-plus, plus-empty, total-empty}
 use Rattle.analysis.proofs.Replacement.{renew-quiet}
 use Rattle.analysis.proofs.Rules.{outcome-unmodified}
 use Rattle.feed.specs.Feed.{
@@ -35,7 +34,6 @@ use Rattle.feed.specs.Feed.{
   base,
   fedAs,
   firstOf,
-  formatFed,
   heldAfter,
   joinEffects,
   noEffect,
@@ -44,7 +42,6 @@ use Rattle.feed.specs.Feed.{
   takeChar,
   takeChars,
   takeSelector,
-  totalFed,
   writtenAlone,
 }
 use Rattle.feed.proofs.Calls.{R, take-append}
@@ -85,7 +82,13 @@ module _ (p : Policy) where
       let q = takeChars (heldAfter p x b) (fedAs p xs) in
       let S = settle s (classOf x) in
       ap (taking s x xs) f
-      ∙ (λ i. (q .0, record { text = append-assoc (S .text) (writtenAlone x b) (q .1 .text) i; counts = S .counts ⊕ sym (empty-plus (q .1 .counts)) i }))
+      ∙ (λ i. (
+        q .0,
+        record {
+          text = append-assoc (S .text) (writtenAlone x b) (q .1 .text) i;
+          counts = S .counts ⊕ sym (empty-plus (q .1 .counts)) i;
+        },
+      ))
       ∙ ap (λ (y : FromSelector). (taking nothing x xs y .0, joinEffects S (taking nothing x xs y .1))) (sym f)
 
   -- ---- selectors
@@ -237,7 +240,8 @@ module _ (p : Policy) where
       omega arith
 
   -- Nor after selectors at the front.
-  pub quiet-after : (qs : List Presentation) (xs : List ℕ) → total (totalCells p (map asSelector qs ++ xs)) ≡ 0 → total (totalCells p xs) ≡ 0
+  pub quiet-after : (qs : List Presentation) (xs : List ℕ) → total (totalCells p (map asSelector qs ++ xs)) ≡ 0
+      → total (totalCells p xs) ≡ 0
   unfolding totalCells
   quiet-after qs xs z =
       let w = ap (λ (a : P). total (unsanctioned (length (a .0)) ⊕ countCells p (a .1))) (split-selectors qs xs) in

@@ -1,16 +1,15 @@
 -- The parts of a piece one after the other: the completed character, selectors, and the rest.
-use mathlib.Core.Path.{_≡_, refl, ap, ap₂, sym, _∙_, subst}
+use mathlib.Core.Path.{_≡_, refl, ap, sym, _∙_, subst}
 use mathlib.Core.Bool.{Bool, true, false, cond}
 use mathlib.Core.List.{List, [], _∷_, _++_, append-assoc, append-nil, map}
-use Prim.Native.Nat.{ℕ, _+_, _-_, _*_, _/_, _<_, _≤_}
+use Prim.Native.Nat.{ℕ, _+_, _/_, _≤_}
 use native.Mathlib.Omega.{arith}
 use lib.Dec.{eqb}
 use lib.ListN.{drop, length, length-append, length-map}
-use borrow.Author.Tests.{eq-eqb, ne-eqb}
 use Rattle.utf8.specs.Rfc3629.{chars, encodeAll, isScalar, validUpTo}
 use Rattle.utf8.proofs.Texts.{encodeAll-append, length-encodeAll-chars}
 use Rattle.unicode.specs.Presentation.{asSelector}
-use Rattle.unicode.specs.declared.presentation.FromSelector.the-variants.{NoSelector, Selector}
+use Rattle.unicode.specs.declared.presentation.FromSelector.the-variants.{Selector}
 use Rattle.unicode.specs.declared.presentation.Presentation.{Presentation}
 use Rattle.policy.specs.PolicyBytes.{policyOf}
 use Rattle.policy.specs.declared.Policy.{Policy}
@@ -24,8 +23,7 @@ use Rattle.feed.specs.Feed.{Fed, fedAs, takeChars}
 use Rattle.feed.specs.declared.Held.{Held}
 use Rattle.feed.proofs.PieceRoom.{count-le, selectors-bytes}
 use Rattle.feeding.specs.Helpers.{TakenBy}
-use Rattle.feeding.specs.Parts.{FrontTaken, ScanFits, SelectorsTaken, charOf, scannedChars}
-use Rattle.feeding.specs.declared.Front.{Front}
+use Rattle.feeding.specs.Parts.{SelectorsTaken, charOf, scannedChars}
 use Rattle.feeding.specs.declared.Taken.{Taken}
 use Rattle.feeding.specs.declared.scan.PieceScan.{PieceScan}
 use Rattle.feeding.proofs.Cuts.{fed-append, quiet-after}
@@ -124,7 +122,9 @@ module _ {piece : List ℕ} {from at : ℕ} {t r : Taken} (g : SelectorsTaken pi
 
   -- Nothing is left at the end.
   pub selectors-last : {end : ℕ} → end ≡ from + validUpTo (drop from piece) → end ≤ at → chars (drop at piece) ≡ []
-  selectors-last e l = none (chars (drop at piece)) (omega (arith, selectors-end e, length-encodeAll-chars (drop at piece), count-le (chars (drop at piece))))
+  selectors-last e l =
+      let s = drop at piece in
+      none (chars s) (omega (arith, selectors-end e, length-encodeAll-chars s, count-le (chars s)))
     where
       none : (cs : List ℕ) → length cs ≤ 0 → cs ≡ []
       none [] h = refl
@@ -164,7 +164,9 @@ module _ (p : Policy) (piece : List ℕ) (scan : PieceScan) (h : Held) (n : NonC
 
       all-parted : X ≡ F ++ (S ++ L)
       all-parted =
-          parted ∙ ap (λ (l : List Fed). F ++ l) (ap (fedAs p) (g .chars-are) ∙ fed-append p (map asSelector (g .selectors)) (chars (drop at piece)))
+          parted
+          ∙ ap (λ (l : List Fed). F ++ l)
+          (ap (fedAs p) (g .chars-are) ∙ fed-append p (map asSelector (g .selectors)) (chars (drop at piece)))
 
       two : TakenBy p h n (F ++ S) o 0 o₁ r
       two = and-then a (g .taken p o₁)
@@ -172,7 +174,8 @@ module _ (p : Policy) (piece : List ℕ) (scan : PieceScan) (h : Held) (n : NonC
       pub rest-room : length (encodeAll (takeChars (pendingOf p h) X .1 .text)) ≤ length o
           → r .end + length (encodeAll (takeChars (pendingOf p (r .held)) L .1 .text)) ≤ length o₁
       rest-room l =
-          next-room two L [] (all-parted ∙ sym (append-assoc F S L) ∙ ap (λ (l : List Fed). (F ++ S) ++ l) (sym (append-nil L))) (omega arith)
+          next-room two L [] (all-parted ∙ sym (append-assoc F S L) ∙ ap (λ (l : List Fed). (F ++ S) ++ l) (sym (append-nil L)))
+          (omega arith)
 
       pub no-rest : chars (drop at piece) ≡ [] → TakenBy p h n X o 0 o₁ r
       no-rest e =

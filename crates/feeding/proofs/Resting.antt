@@ -1,9 +1,8 @@
 -- The characters of a piece after its first selectors: what is held is settled, the middle is formatted by itself, the tail is held.
 use mathlib.Core.Path.{_≡_, refl, ap, ap₂, sym, _∙_, subst}
-use mathlib.Core.Logic.{⊎-elim}
-use mathlib.Core.Bool.{Bool, true, false, true≢false}
+use mathlib.Core.Bool.{true, false}
 use mathlib.Core.List.{List, [], _∷_, _++_, append-nil, map}
-use Prim.Native.Nat.{ℕ, _+_, _-_, _*_, _/_, _<_, _≤_}
+use Prim.Native.Nat.{ℕ, _+_, _-_, _/_, _<_, _≤_}
 use native.Mathlib.Omega.{arith}
 use lib.ListN.{drop, length, length-append, length-drop, length-map, length-take, take}
 use lib.Seq.{length-sets}
@@ -11,13 +10,18 @@ use Rattle.base.specs.Output.{PutAt}
 use Rattle.base.proofs.Tests.{and-both, both-true}
 use Rattle.base.proofs.Writer.{put-as, put-then}
 use Rattle.utf8.specs.Rfc3629.{allScalar, chars, encode, encodeAll, isScalar, packed, readChar, validUpTo}
-use Rattle.utf8.specs.declared.ReadChar.the-variants.{Char}
 use Rattle.utf8.proofs.Places.{step}
-use Rattle.utf8.proofs.Texts.{chars-allScalar, chars-encodeAll-alone, encodeAll-append, encodeAll-whole, length-encodeAll-chars, validUpTo-le}
-use Rattle.unicode.specs.Presentation.{asSelector, fromSelector, isSelector}
+use Rattle.utf8.proofs.Texts.{
+  chars-allScalar,
+  chars-encodeAll-alone,
+  encodeAll-append,
+  encodeAll-whole,
+  length-encodeAll-chars,
+  validUpTo-le,
+}
+use Rattle.unicode.specs.Presentation.{asSelector, isSelector}
 use Rattle.unicode.specs.Unicode.{hasVariationSequence}
 use Rattle.unicode.specs.declared.presentation.FromSelector.the-variants.{NoSelector}
-use Rattle.unicode.specs.declared.presentation.Presentation.{Presentation}
 use Rattle.policy.specs.declared.Policy.{Policy}
 use Rattle.scanner.specs.Classes.{classOf}
 use Rattle.scanner.specs.SelectorRun.{firstSelector}
@@ -31,13 +35,12 @@ use Rattle.analysis.specs.declared.types.NonCanonicality.{NonCanonicality}
 use Rattle.analysis.proofs.Counts.{plus-assoc}
 use Rattle.analysis.proofs.Sums.{whole-sum}
 use Rattle.feed.specs.Bytes.{pendingOf}
-use Rattle.feed.specs.Feed.{Effect, Fed, Pending, base, fedAs, joinEffects, nothing, settle, takeChars}
+use Rattle.feed.specs.Feed.{Effect, Fed, Pending, base, fedAs, joinEffects, settle, takeChars}
 use Rattle.feed.specs.declared.Held.{Held}
 use Rattle.feed.proofs.Calls.{R}
 use Rattle.feed.proofs.PieceRoom.{count-le}
 use Rattle.feeding.specs.Helpers.{TakenBy}
 use Rattle.feeding.specs.Parts.{BaseFrom, Between, TailFrom, none-held, one-held}
-use Rattle.feeding.specs.declared.Taken.{Taken}
 use Rattle.feeding.specs.declared.tail.HeldTail.{HeldTail}
 use Rattle.feeding.proofs.Cuts.{middle-held, middle-none, quiet-before, wholeEffect}
 use Rattle.feeding.proofs.Settling.{settle-few}
@@ -120,7 +123,8 @@ module _ (p : Policy) (text : List ℕ) (at to : ℕ) (t : HeldTail) where
         let w = step text (t .start) (b .value) (b .width) (b .reads) in
         let qs = b .selectors in
         let ms = b .passed .passed in
-        let tail : chars (drop (t .start) text) ≡ b .value ∷ map asSelector qs = w .chars-on ∙ ap (λ (l : List ℕ). b .value ∷ l) (b .after) in
+        let tail : chars (drop (t .start) text) ≡ b .value ∷ map asSelector qs =
+        w .chars-on ∙ ap (λ (l : List ℕ). b .value ∷ l) (b .after) in
         let whole : C ≡ ms ++ (b .value ∷ map asSelector qs) = b .passed .chars-are ∙ ap (λ (l : List ℕ). ms ++ l) tail in
         let same = part-chars (b .passed) in
         let pending : pendingOf p (t .held) ≡ base p (b .value) (firstAsked qs) (length qs) =
@@ -135,8 +139,10 @@ module _ (p : Policy) (text : List ℕ) (at to : ℕ) (t : HeldTail) where
           inside = omega (arith, b .ends);
           whole = part-whole (b .passed);
           taken = λ s.
-              begins s (middle-held p s (f .first) (f .more) (f .no-selector) ms (b .value) qs (sym (f .chars-are) ∙ whole) (b .no-selector) v
-              ∙ ap₂ (λ (x : Pending) (cs : List ℕ). (x, joinEffects (settle s (classOf (f .first))) (wholeEffect p cs))) (sym pending) (sym same));
+              begins s
+              (middle-held p s (f .first) (f .more) (f .no-selector) ms (b .value) qs (sym (f .chars-are) ∙ whole) (b .no-selector) v
+              ∙ ap₂ (λ (x : Pending) (cs : List ℕ). (x, joinEffects (settle s (classOf (f .first))) (wholeEffect p cs))) (sym pending)
+              (sym same));
           quiet = λ z.
               ap (λ (cs : List ℕ). total (totalCells p cs)) same
               ∙ quiet-before p ms (b .value) qs (b .no-selector) v (ap (λ (cs : List ℕ). total (totalCells p cs)) (sym whole) ∙ z);
@@ -175,7 +181,8 @@ module _ (p : Policy) (text : List ℕ) (at to : ℕ) (t : HeldTail) where
           inside = omega arith;
           whole = ap validUpTo part-is ∙ part-whole all ∙ ap length (sym part-is);
           taken = λ s.
-              begins s (middle-none p s (f .first) (f .more) (f .no-selector) zs (b .value) qs (sym (f .chars-are) ∙ whole) (b .no-selector) v
+              begins s
+              (middle-none p s (f .first) (f .more) (f .no-selector) zs (b .value) qs (sym (f .chars-are) ∙ whole) (b .no-selector) v
               ∙ ap₂ (λ (x : Pending) (cs : List ℕ). (x, joinEffects (settle s (classOf (f .first))) (wholeEffect p cs)))
               (sym (pending-none p (t .held) zero)) (sym (same ∙ f .chars-are)));
           quiet = λ y. ap (λ (cs : List ℕ). total (totalCells p cs)) same ∙ y;
@@ -232,7 +239,8 @@ module _ (p : Policy) (text : List ℕ) (at to : ℕ) (t : HeldTail) where
         ks ∙ ap₂ cappedSum ns by-cells ∙ whole-sum (n ⊕ S .counts) T (omega (arith, u, v, r .few)) ∙ plus-assoc n (S .counts) T in
         by p h n (fedAs p C) o e o₂ (record { held = t .held; end = e₂; counts = k })
         (pendingOf p (t .held), joinEffects S (wholeEffect p (chars M))) (r .taken (pendingOf p h))
-        (put-as (encodeAll (S .text ++ formatCells p (chars M))) (sym (encodeAll-append (S .text) (formatCells p (chars M)))) (put-then x y))
+        (put-as (encodeAll (S .text ++ formatCells p (chars M))) (sym (encodeAll-append (S .text) (formatCells p (chars M))))
+        (put-then x y))
         refl ls (r .scalar)
         (omega (arith, ap total ls, u, v, r .few, length-map C one, ap length (r .chars-are)))
 

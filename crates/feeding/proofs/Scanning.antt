@@ -1,29 +1,26 @@
 -- The tests of a piece: the completed character, and the well-formed bytes after it.
-use mathlib.Core.Path.{_≡_, refl, ap, ap₂, sym, _∙_, subst}
+use mathlib.Core.Path.{_≡_, refl, ap, sym, _∙_}
 use mathlib.Core.Logic.{⊎-elim}
 use mathlib.Core.Bool.{Bool, true, false, cond, not}
 use mathlib.Core.List.{List, [], _∷_, _++_}
-use Prim.Native.Nat.{ℕ, zero, suc, _+_, _-_, _/_, _%_, _<_, _≤_}
+use Prim.Native.Nat.{ℕ, _+_, _/_, _%_, _≤_}
 use native.Mathlib.Nat.{zero-add}
 use native.Mathlib.Omega.{arith}
-use lib.Dec.{eqb}
 use lib.ListN.{drop, length, length-append, take}
 use lib.Seq.{drop-append-add, drop-length, take-append-le, take-at}
 use borrow.Author.Tests.{eq-eqb, ne-eqb}
 use Rattle.base.specs.Words.{littleEndian}
 use Rattle.base.proofs.Tests.{le-or-lt}
-use Rattle.utf8.specs.Rfc3629.{chars, encode, isScalar, readChar, utf8-char, validUpTo}
+use Rattle.utf8.specs.Rfc3629.{chars, encode, isScalar, utf8-char, validUpTo}
 use Rattle.utf8.specs.Subparts.{unfinished}
 use Rattle.utf8.proofs.Decoding.{utf8-char-encode}
-use Rattle.utf8.proofs.Folds.{chars-end, validUpTo-end}
+use Rattle.utf8.proofs.Folds.{chars-end}
 use Rattle.utf8.proofs.Fronts.{readChar-nil}
 use Rattle.utf8.proofs.Packed.{packed-step, packed-stop}
-use Rattle.utf8.proofs.Places.{Step, Stop}
-use Rattle.utf8.proofs.Texts.{validUpTo-le}
+use Rattle.utf8.proofs.Places.{Step}
 use Rattle.utf8.proofs.Unfinished.{unfinished-no-char}
 use Rattle.policy.specs.declared.Policy.{Policy}
-use Rattle.scanner.specs.Spans.{size, width}
-use Rattle.scanner.proofs.Bytes.{size-chars}
+use Rattle.scanner.specs.Spans.{width}
 use Rattle.analysis.specs.Analysis.{countCells}
 use Rattle.analysis.specs.CellView.{totalCells}
 use Rattle.analysis.specs.Cells.{split}
@@ -31,7 +28,6 @@ use Rattle.analysis.specs.Counts.{total}
 use Rattle.text_pass.specs.Changes.{Advances, NextChange}
 use Rattle.text_pass.specs.declared.Change.{Change}
 use Rattle.feeding.specs.Parts.{FirstChar, JoinedValid, PieceFrom, Scanned, charOf}
-use Rattle.feeding.specs.declared.scan.PieceScan.{PieceScan}
 use Rattle.feeding.proofs.Ending.{length-bytes-of}
 
 -- ---- the character that the piece completes
@@ -83,7 +79,9 @@ module _ (n rest : ℕ) (b : List ℕ) where
   pub joint : {first from : ℕ} → unfinished (littleEndian n rest) ≡ true → FirstChar n U first → PieceFrom n first (length b) from
       → Joint first from
   joint {first} {from} e f g =
-      ⊎-elim (λ h. at-front (omega arith)) (λ h. ⊎-elim (λ z. stopped (λ k. omega arith) (omega arith)) (λ z. goes-on (λ k. omega arith) (λ k. omega arith)) (le-or-lt first 0)) (le-or-lt n 0)
+      ⊎-elim (λ h. at-front (omega arith))
+      (λ h. ⊎-elim (λ z. stopped (λ k. omega arith) (omega arith)) (λ z. goes-on (λ k. omega arith) (λ k. omega arith)) (le-or-lt first 0))
+      (le-or-lt n 0)
     where
       at-front : n ≡ 0 → Joint first from
       at-front h =
@@ -94,7 +92,9 @@ module _ (n rest : ℕ) (b : List ℕ) where
             chars-are = ap chars same ∙ ap (λ (l : List ℕ). l ++ chars (drop from b)) (sym (char-none first z));
             is-scalar = λ w. absurd (w z);
             inside = omega arith;
-            valid-is = λ end valid q j. let d = j .no-rest h in d ∙ q ∙ ap (λ (m : ℕ). m + validUpTo (drop from b)) k ∙ zero-add (validUpTo (drop from b)) ∙ ap validUpTo (sym same);
+            valid-is = λ end valid q j.
+                j .no-rest h ∙ q ∙ ap (λ (m : ℕ). m + validUpTo (drop from b)) k ∙ zero-add (validUpTo (drop from b))
+                ∙ ap validUpTo (sym same);
           }
 
       stopped : (n ≡ 0 → ⊥) → first ≡ 0 → Joint first from

@@ -1,16 +1,16 @@
 -- The totals of a text, from finding to finding.
-use mathlib.Core.Path.{_≡_, refl, ap, ap₂, sym, _∙_}
-use mathlib.Core.List.{List, [], _∷_}
-use Prim.Native.Nat.{ℕ, _+_, _<_, _≤_}
+use mathlib.Core.Path.{_≡_, ap, sym, _∙_}
+use mathlib.Core.List.{List, []}
+use Prim.Native.Nat.{ℕ, _+_, _≤_}
 use native.Mathlib.Omega.{arith}
 use lib.ListN.{drop, length}
 use Rattle.base.specs.Refusals.{textLimit}
-use Rattle.utf8.specs.Rfc3629.{chars, encodeAll}
+use Rattle.utf8.specs.Rfc3629.{chars}
 use Rattle.utf8.proofs.Texts.{length-encodeAll-chars, validUpTo-le}
 use Rattle.unicode.specs.declared.presentation.Presentation.{Presentation}
 use Rattle.policy.specs.declared.Policy.{Policy}
 use Rattle.scanner.specs.Spans.{Found}
-use Rattle.analysis.specs.Analysis.{countCells, following, nonCanonicality}
+use Rattle.analysis.specs.Analysis.{countCells, following}
 use Rattle.analysis.specs.Cells.{Cell, cells, leading, split}
 use Rattle.analysis.specs.CellView.{totalCells}
 use Rattle.analysis.specs.Counts.{_⊕_, cappedSum, empty, total}
@@ -32,9 +32,10 @@ use Rattle.formatter.proofs.Steps.{none-found}
 count-few : (p : Policy) (t : List ℕ) → total (countCells p (cells t)) + length (leading t) ≤ length t
 unfolding split countCells
 count-few p =
+    let counted : List Presentation × List Cell → ℕ = λ (a : List Presentation × List Cell). total (countCells p (a .1)) + length (a .0) in
     by-chars (λ t. total (countCells p (cells t)) + length (leading t) ≤ length t) (omega arith)
-    (λ q t h. omega (arith, h, ap (λ (a : List Presentation × List Cell). total (countCells p (a .1)) + length (a .0)) (split-selector q t)))
-    (λ c t e h. omega (arith, h, ap (λ (a : List Presentation × List Cell). total (countCells p (a .1)) + length (a .0)) (split-char c t e), few p c (following (cells t)) (leading t)))
+    (λ q t h. omega (arith, h, ap counted (split-selector q t)))
+    (λ c t e h. omega (arith, h, ap counted (split-char c t e), few p c (following (cells t)) (leading t)))
 
 pub total-few : (p : Policy) (t : List ℕ) → total (totalCells p t) ≤ length t
 unfolding totalCells
@@ -53,7 +54,9 @@ module _ (p : Policy) (text : List ℕ) where
   pub summing-begin : {n : NonCanonicality} → n ≡ empty → Summing 0 n
   summing-begin e = record {
     inside = omega arith;
-    same = sym (totals-by-cells p (chars text)) ∙ sym (empty-plus _) ∙ ap (λ (m : NonCanonicality). m ⊕ foundTotals p (findingsFrom p text 0)) (sym e);
+    same =
+        sym (totals-by-cells p (chars text)) ∙ sym (empty-plus _)
+        ∙ ap (λ (m : NonCanonicality). m ⊕ foundTotals p (findingsFrom p text 0)) (sym e);
   }
 
   module _ {at : ℕ} {sums : NonCanonicality} (g : Summing at sums) {start : ℕ} (a : NoFindingBetween p text at start) where

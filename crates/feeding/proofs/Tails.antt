@@ -3,7 +3,7 @@ use mathlib.Core.Path.{_≡_, refl, ap, sym, _∙_, subst}
 use mathlib.Core.Logic.{⊎-elim}
 use mathlib.Core.Bool.{true, false}
 use mathlib.Core.List.{List, [], _∷_, _++_, append-assoc, append-nil, map}
-use Prim.Native.Nat.{ℕ, zero, suc, _+_, _*_, _/_, _-_, _<_, _≤_}
+use Prim.Native.Nat.{ℕ, _+_, _*_, _/_, _-_, _<_, _≤_}
 use native.Mathlib.Omega.{arith}
 use lib.ListN.{drop, length, length-append}
 use Rattle.base.proofs.Tests.{le-or-lt}
@@ -11,16 +11,16 @@ use Rattle.utf8.specs.Rfc3629.{charLen, chars, encode, encodeAll, packed, readC
 use Rattle.utf8.specs.declared.ReadChar.the-variants.{Char}
 use Rattle.utf8.proofs.Encoding.{char-begins, encode-few}
 use Rattle.utf8.proofs.Folds.{Reading, chars-end, chars-ill-formed, read-end, read-ill-formed, read-more, reading}
-use Rattle.utf8.proofs.Packed.{len-reads, packed-reads}
+use Rattle.utf8.proofs.Packed.{len-reads}
 use Rattle.utf8.proofs.Places.{Step, step}
 use Rattle.utf8.proofs.Texts.{encodeAll-append, length-encodeAll-chars}
-use Rattle.unicode.specs.Presentation.{asSelector, fromSelector, isSelector}
+use Rattle.unicode.specs.Presentation.{asSelector}
 use Rattle.unicode.specs.Unicode.{hasVariationSequence}
 use Rattle.unicode.specs.declared.presentation.FromSelector.{FromSelector}
 use Rattle.unicode.specs.declared.presentation.FromSelector.the-variants.{NoSelector, Selector}
 use Rattle.unicode.specs.declared.presentation.Presentation.{Presentation}
 use Rattle.scanner.specs.SelectorRun.{firstSelector}
-use Rattle.scanner.specs.Spans.{size, width}
+use Rattle.scanner.specs.Spans.{width}
 use Rattle.scanner.proofs.Bytes.{chars-from, chars-inside, size-chars, size-width}
 use Rattle.scanner.proofs.SelectorBytes.{selector-here}
 use Rattle.scanner.proofs.SelectorChars.{from-selector, other-value}

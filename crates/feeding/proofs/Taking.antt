@@ -1,16 +1,15 @@
 -- Characters that are taken one after the other.
 use mathlib.Core.Path.{_≡_, refl, ap, ap₂, sym, _∙_, subst}
 use mathlib.Core.Bool.{Bool, true, false, cond, true≢false}
-use mathlib.Core.List.{List, [], _∷_, _++_, append-assoc, append-nil}
+use mathlib.Core.List.{List, [], _∷_, _++_, append-nil}
 use Prim.Native.Nat.{ℕ, suc, _+_, _*_, _≤_}
 use native.Mathlib.Omega.{arith}
-use lib.ListN.{drop, length, length-append}
+use lib.ListN.{length, length-append}
 use lib.Seq.{length-sets}
 use borrow.Author.Tests.{eq-eqb, ne-eqb}
 use Rattle.base.specs.Output.{PutAt}
 use Rattle.base.proofs.Writer.{put-as, put-then}
-use Rattle.utf8.specs.Rfc3629.{chars, encode, encodeAll, isScalar}
-use Rattle.utf8.proofs.Places.{Step, Stop}
+use Rattle.utf8.specs.Rfc3629.{encode, encodeAll, isScalar}
 use Rattle.utf8.proofs.Texts.{encodeAll-append}
 use Rattle.unicode.specs.Presentation.{asSelector, fromSelector}
 use Rattle.unicode.specs.Tables.{member}

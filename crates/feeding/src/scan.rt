@@ -3,11 +3,11 @@
 ghost use mathlib.Core.Path.{_≡_};
 ghost use mathlib.Core.Bool.{true};
 ghost use mathlib.Core.List.{_++_};
-ghost use Prim.Native.Nat.{_+_, _%_, _≤_, _<_};
+ghost use Prim.Native.Nat.{_+_, _%_, _≤_};
 ghost use lib.ListN.{drop, length};
 ghost use Rattle.base.specs.Refusals.{textLimit};
 ghost use Rattle.base.specs.Words.{littleEndian};
-ghost use Rattle.utf8.specs.Rfc3629.{packed, readChar, validUpTo};
+ghost use Rattle.utf8.specs.Rfc3629.{validUpTo};
 ghost use Rattle.utf8.specs.Subparts.{unfinished};
 ghost use Rattle.policy.specs.PolicyBytes.{policyOf};
 ghost use Rattle.feeding.specs.Parts.{FirstChar, PieceFrom, JoinedValid, Scanned};

@@ -1,7 +1,7 @@
 -- `feeding::piece` meets its contract: a law for each answer.
 use mathlib.Core.Path.{ap, sym, _∙_}
 use mathlib.Core.List.{List, _++_}
-use Prim.Native.Nat.{ℕ, _-_, _≤_}
+use Prim.Native.Nat.{ℕ, _-_}
 use native.Mathlib.Omega.{arith}
 use lib.ListN.{drop, length, take}
 use borrow.Author.Needs.{needs}
@@ -36,7 +36,6 @@ use Rattle.feeding.proofs.Pieces.{
   unfinished-rest,
 }
 use Rattle.feeding.proofs.Taking.{taken-as}
-use Rattle.feeding.specs.Parts.{scannedChars}
 use Rattle.feeding.proofs.piece.Statement.{statement}
 use Rattle.feeding.proofs.piece.Tie as tie
 

@@ -1,12 +1,10 @@
 -- `feeding::take_rest` meets its contract.
 use mathlib.Core.Path.{ap, sym, subst, _∙_}
-use mathlib.Core.List.{List}
-use Prim.Native.Nat.{ℕ, _+_, _-_, _≤_}
+use Prim.Native.Nat.{_+_, _≤_}
 use native.Mathlib.Omega.{arith}
-use lib.ListN.{drop, length, length-drop, take}
+use lib.ListN.{drop, length, length-drop}
 use borrow.Author.Needs.{needs}
-use Rattle.base.specs.Output.{PutAt}
-use Rattle.utf8.specs.Rfc3629.{chars, encodeAll, validUpTo}
+use Rattle.utf8.specs.Rfc3629.{encodeAll}
 use Rattle.utf8.proofs.Texts.{validUpTo-le}
 use Rattle.policy.specs.PolicyBytes.{policyOf}
 use Rattle.scanner.specs.Classes.{classOf}

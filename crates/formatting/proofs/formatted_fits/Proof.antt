@@ -1,10 +1,9 @@
 -- `formatting::formatted_fits` meets its contract: a formatted text has at most four times the bytes of the text.
-use mathlib.Core.Path.{ap, sym, _∙_}
+use mathlib.Core.Path.{ap, sym}
 use Prim.Native.Nat.{ℕ}
 use native.Mathlib.Omega.{arith}
 use lib.Dec.{leb}
 use lib.ListN.{length}
-use borrow.Author.Needs.{needs}
 use borrow.Author.Tests.{le-leb}
 use Rattle.policy.specs.PolicyBytes.{policyOf}
 use Rattle.text_pass.specs.Changes.{formattedFrom}

@@ -1,7 +1,6 @@
 -- `feeding::tail::find_tail` meets its contract. The loop's invariant: from `at` on there are only selectors.
-use mathlib.Core.Path.{ap, sym, _∙_}
+use mathlib.Core.Path.{sym, _∙_}
 use native.Mathlib.Omega.{arith}
-use lib.ListN.{drop}
 use borrow.Author.Needs.{needs}
 use Rattle.feeding.proofs.Tails.{Backing, backing-begin, backing-on, tail-held, tail-none}
 use Rattle.feeding.proofs.tail.find_tail.Statement.{statement}

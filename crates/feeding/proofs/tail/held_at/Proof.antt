@@ -3,7 +3,6 @@ use mathlib.Core.Path.{ap}
 use Prim.Native.Nat.{_-_, _/_}
 use borrow.Author.Needs.{needs}
 use Rattle.unicode.specs.declared.presentation.FromSelector.{FromSelector}
-use Rattle.feeding.specs.declared.tail.HeldTail.{HeldTail}
 use Rattle.feeding.proofs.tail.held_at.Statement.{statement}
 use Rattle.feeding.proofs.tail.held_at.Tie as tie
 
