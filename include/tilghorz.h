@@ -6,7 +6,7 @@
  * bytes during the call.
  *
  * State. A function keeps no pointer and no state after the call. Several threads may call at the same time, if each call has
- * its own output; they may share the text and the policy.
+ * its own output and its own feed; they may share the text and the policy.
  *
  * Answers. Each function returns one word. The top 8 bits of the word are a number, the low 56 bits are a value:
  *
@@ -20,11 +20,13 @@
  *   6          decision byte above 1                  index of the first such byte
  *   7          table too short                        number of rows needed
  *   8          output too short                       number of bytes needed
+ *   9          the feed has ended                     0
+ *   10         the thread ends inside a character     0
  *   255        nothing to do                          0
  *
  * If there are two values, the first has the low 28 bits, and the second has the 28 bits above them. Both are below 2^28.
  *
- * The numbers 1 to 8 are refusals. After a refusal, and after "nothing to do", every buffer is unchanged. After "done" the
+ * The numbers 1 to 10 are refusals. After a refusal, and after "nothing to do", every buffer is unchanged, a feed too. After "done" the
  * result is at the front of the buffer, and the bytes after the result are unchanged.
  *
  * Policies. A policy is 192 bytes: 24 words of 8 bytes, lowest byte first. The words are four sets of 6 words, in this order:
@@ -33,6 +35,13 @@
  * There are 354 entries, those of Unicode 15.0; the other 30 bits of a set are unused and must be 0. The function
  * tilghorz_variation_entry gives the code point of an entry. If 20E3 follows a base, the keycap sets apply to the base; otherwise
  * the ordinary sets apply.
+ *
+ * Feeds. A feed formats a thread as it arrives. It is 312 bytes, which tilghorz_feed_begin writes. The caller hands these bytes on
+ * from call to call and changes none of them. Each call of tilghorz_feed_piece takes the next bytes of the thread, cut at any place, and
+ * writes what can be written; tilghorz_feed_end writes the rest. The joined outputs and the totals are then those of the whole thread
+ * formatted at once by tilghorz_format (whose "nothing to do" means the text itself). The limit of 16,777,216 bytes is on the thread. A
+ * refused call changes nothing, so another piece may follow. If the bytes of a feed are not such bytes, a piece and an end return 9, or
+ * they take the bytes as some feed; the totals are then 0, or those of that feed.
  *
  * The comment at each function lists the numbers that it can return besides 0, in the order of its tests, and says what the
  * value means for 0.
@@ -52,6 +61,8 @@ extern "C" {
 #define TILGHORZ_ENTRIES 354         /* variation entries, those of Unicode 15.0 */
 #define TILGHORZ_FINDING_BYTES 80    /* the length of a row of tilghorz_list */
 #define TILGHORZ_ITEM_BYTES 32       /* the length of a row of tilghorz_scan */
+#define TILGHORZ_FEED_BYTES 312      /* the length of a feed */
+#define TILGHORZ_TOTALS_BYTES 64     /* the length of the totals of tilghorz_feed_totals */
 
 /* The number and the value of an answer. The argument may also have a signed type. */
 #define TILGHORZ_NUMBER(word) ((unsigned)((uint64_t)(word) >> 56))
@@ -71,6 +82,8 @@ extern "C" {
 #define TILGHORZ_BAD_DECISION 6
 #define TILGHORZ_TABLE_TOO_SHORT 7
 #define TILGHORZ_OUTPUT_TOO_SHORT 8
+#define TILGHORZ_FEED_ENDED 9
+#define TILGHORZ_UNFINISHED_CHARACTER 10
 #define TILGHORZ_NOTHING_TO_DO 255
 
 /* Formats a text under a policy. Numbers: 1, 2, 3, 8, and 255 if the text needs no change. Value: the number of bytes written, at
@@ -100,6 +113,24 @@ uint64_t tilghorz_scan(const uint8_t *text, size_t text_len, uint8_t *table, siz
  * chapter 3: the longest beginning of a character there, or one byte. Limit 1 is on the text; the result may be longer than a text that
  * the other functions accept. */
 uint64_t tilghorz_repair(const uint8_t *text, size_t text_len, uint8_t *out, size_t out_len);
+
+/* Begins a feed under a policy: writes it at the front of the buffer. Numbers: 2, 8. Value: the number of bytes of a feed. The other
+ * functions take exactly these bytes. */
+uint64_t tilghorz_feed_begin(const uint8_t *policy, size_t policy_len, uint8_t *feed, size_t feed_len);
+
+/* Takes the next piece of a thread. It writes all but an unfinished character and a last base that has a variation entry, with its
+ * selectors. Numbers: 9 if the feed has ended; 1 if the thread gets too long; 3 if the thread cannot go on to be well-formed, with the
+ * offset from the thread's start, also where that character began in an earlier piece; 8 with 4 times the length of the piece plus 16,
+ * which is always enough and always needed. Value: the number of bytes written, which may be 0. */
+uint64_t tilghorz_feed_piece(uint8_t *feed, size_t feed_len, const uint8_t *piece, size_t piece_len, uint8_t *out, size_t out_len);
+
+/* Ends a feed: writes the base that is still held. Numbers: 9; 10 if the thread ends inside a character; 8 with 16. Value: the number of
+ * bytes written, at most 7. */
+uint64_t tilghorz_feed_end(uint8_t *feed, size_t feed_len, uint8_t *out, size_t out_len);
+
+/* Writes the eight totals of the whole characters fed so far, as if the thread ended there, in the order of the counts of tilghorz_list. It
+ * may be called at any time, also after the end. Number: 8 with 64. Value: 64. A total is 8 bytes, lowest byte first. */
+uint64_t tilghorz_feed_totals(const uint8_t *feed, size_t feed_len, uint8_t *totals, size_t totals_len);
 
 /* Writes the default policy. Number: 8. Value: the number of bytes written. */
 uint64_t tilghorz_default_policy(uint8_t *out, size_t out_len);

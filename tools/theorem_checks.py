@@ -28,6 +28,9 @@ CLAIMED_RECORDS = {
     "RepairedText": "EveryRepairedText",
     "RepairCall": "EveryRepairCall",
     "AfterRepair": "EveryAfterRepair",
+    "FeedInBytes": "EveryFeedInBytes",
+    "NextPiece": "FeedInBytes",
+    "NextEnd": "FeedInBytes",
 }
 # Names of Rust's standard library that docs/AUDIT.md and docs/DECISIONS.md quote from document 01 or from evfmt.
 OF_RUST = {"Clone", "Debug", "Hash", "Option", "PartialEq", "Peekable", "String", "Vec", "VecDeque"}

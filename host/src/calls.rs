@@ -42,7 +42,7 @@ pub trait Calls {
 /// An answer: the number in a word's top 8 bits, and the value in its low 56.
 #[derive(Debug, Clone, Copy, PartialEq, Eq)]
 pub struct Answer {
-    /// 0 done, 1 to 8 a refusal, 255 nothing to do.
+    /// 0 done, 1 to 10 a refusal, 255 nothing to do.
     pub number: u8,
     /// What document 01's table says is returned, or what was written.
     pub value: u64,

@@ -19,7 +19,27 @@ use Rattle.feed.specs.Calls.{Call, Feed, after, answer, next}
 use Rattle.feed.specs.declared.State.{State}
 use Rattle.base.specs.declared.Refusal.the-variants.{FeedEnded}
 use Rattle.feed.specs.declared.FeedAnswer.the-variants.{Refused}
-use Rattle.feed.specs.Bytes.{bytesFor, called, countsOf, endedWord, feedOf, selectorOf, selectorWord, heldFor, heldOf, isFeed, leaves, outOf, pendingOf, refuses, restOf, stateFor, stateOf, stateWords, wordAt}
+use Rattle.feed.specs.Bytes.{
+  bytesFor,
+  called,
+  countsOf,
+  endedWord,
+  feedOf,
+  selectorOf,
+  selectorWord,
+  heldFor,
+  heldOf,
+  isFeed,
+  leaves,
+  outOf,
+  pendingOf,
+  refuses,
+  restOf,
+  stateFor,
+  stateOf,
+  stateWords,
+  wordAt,
+}
 use Rattle.feed.proofs.Writing.{words-many}
 
 -- A feed that bytes can encode: its numbers are words, and the policy that judges the held base is that of the feed.

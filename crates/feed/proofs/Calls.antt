@@ -1,13 +1,11 @@
 -- Lists of calls on a feed: it holds what taking the characters of the thread one after the other leaves.
 use mathlib.Core.Path.{_≡_, refl, ap, ap₂, sym, _∙_, subst}
-use mathlib.Core.Bool.{Bool, true, false, cond, not, true≢false}
+use mathlib.Core.Bool.{true, false, true≢false}
 use mathlib.Core.List.{List, [], _∷_, _++_, append-assoc, append-nil}
-use Prim.Native.Nat.{ℕ, _+_, _-_, _≤_}
+use Prim.Native.Nat.{ℕ, _+_, _≤_}
 use native.Mathlib.Omega.{arith}
-use lib.Dec.{eqb, leb}
 use lib.ListN.{drop, length, length-append, length-drop}
 use lib.Seq.{drop-append-seam, drop-drop}
-use borrow.Author.Tests.{eqb-true, leb-true}
 use Rattle.base.specs.Refusals.{textLimit}
 use Rattle.utf8.specs.Rfc3629.{WellFormed, chars, encodeAll, validUpTo}
 use Rattle.utf8.proofs.Folds.{chars-end, validUpTo-end}
@@ -19,10 +17,20 @@ use Rattle.unicode.specs.Presentation.{fromSelector}
 use Rattle.scanner.specs.declared.char_class.Class.the-variants.{Other as other}
 use Rattle.analysis.specs.Counts.{_⊕_}
 use Rattle.analysis.proofs.Counts.{empty-plus, plus-assoc, plus-empty}
-use Rattle.utf8.specs.Subparts.{unfinished}
-use Rattle.feed.specs.Feed.{Effect, Fed, Pending, charsOf, fedAs, formatFed, joinEffects, nothing, pieceRoom, settle, takeChar, takeChars, totalFed}
-use Rattle.base.specs.declared.Refusal.{Refusal}
-use Rattle.base.specs.declared.Refusal.the-variants.{FeedEnded, NotWellFormed, OutputTooShort, TextTooLong, UnfinishedCharacter}
+use Rattle.feed.specs.Feed.{
+  Effect,
+  Fed,
+  Pending,
+  charsOf,
+  fedAs,
+  formatFed,
+  joinEffects,
+  nothing,
+  settle,
+  takeChar,
+  takeChars,
+  totalFed,
+}
 use Rattle.feed.specs.Calls.{
   Answer,
   Call,
@@ -35,18 +43,26 @@ use Rattle.feed.specs.Calls.{
   bytesTaken,
   bytesWritten,
   charsTaken,
-  end,
   fedBy,
   feedAfter,
   newFeed,
   next,
   outputs,
-  piece,
-  refused,
-  restBy,
   thread,
   totalsNow,
-  wrote,
+}
+use Rattle.feed.proofs.Answered.{
+  Answered,
+  answered,
+  end-10,
+  end-8,
+  end-9,
+  end-taken,
+  piece-1,
+  piece-3,
+  piece-8,
+  piece-9,
+  piece-taken,
 }
 use Rattle.feed.proofs.Feeding.{WholeFormat, none-held, whole-format}
 
@@ -110,39 +126,6 @@ pub record Inv (f : Feed) (T : List ℕ) (X : List Fed) (W : List ℕ) : Type 0 
   pub length-is : f .len ≡ length T
   pub bounded : length T ≤ textLimit
   pub state : Held f X W
-
--- ---- how a call is answered
-
-data Good (f : Feed) : Call → Answer → Type 0 where
-  turned : {c : Call} {r : Refusal} → Good f c (refused r)
-  took : {b n : List ℕ} → f .ended ≡ false → f .len + length b ≤ textLimit
-      → Good f (piece b n) (wrote (encodeAll (takeChars (f .pending) (fedBy f b) .1 .text)))
-  closed : {n : List ℕ} → f .ended ≡ false → length (f .rest) ≡ 0 → Good f (end n) (wrote (encodeAll (settle (f .pending) other .text)))
-
-good : (f : Feed) (c : Call) → Good f c (answer f c)
-unfolding answer
-good f (piece b n) =
-    go (f .ended) refl (leb (f .len + length b) textLimit) refl (unfinished (restBy f b)) (leb (pieceRoom (length b)) (length n))
-  where
-    go : (a : Bool) → f .ended ≡ a → (d : Bool) → leb (f .len + length b) textLimit ≡ d → (e g : Bool)
-        → Good f (piece b n) (cond a (refused FeedEnded) (cond (not d) (refused TextTooLong)
-        (cond (not e) (refused (NotWellFormed (f .len - length (f .rest) + validUpTo (f .rest ++ b))))
-        (cond (not g) (refused (OutputTooShort (pieceRoom (length b))))
-        (wrote (encodeAll (takeChars (f .pending) (fedBy f b) .1 .text)))))))
-    go true h d i e g = turned
-    go false h false i e g = turned
-    go false h true i false g = turned
-    go false h true i true false = turned
-    go false h true i true true = took h (leb-true _ _ i)
-good f (end n) = go (f .ended) refl (eqb (length (f .rest)) 0) refl (leb (pieceRoom 0) (length n))
-  where
-    go : (a : Bool) → f .ended ≡ a → (d : Bool) → eqb (length (f .rest)) 0 ≡ d → (e : Bool)
-        → Good f (end n) (cond a (refused FeedEnded) (cond (not d) (refused UnfinishedCharacter)
-        (cond (not e) (refused (OutputTooShort (pieceRoom 0))) (wrote (encodeAll (settle (f .pending) other .text))))))
-    go true h d i e = turned
-    go false h false i e = turned
-    go false h true i false = turned
-    go false h true i true = closed h (eqb-true _ _ i)
 
 -- ---- one call
 
@@ -211,11 +194,17 @@ module _ {f : Feed} {T : List ℕ} {X : List Fed} {W : List ℕ} (h : Inv f T X 
                 (s .counts);
           }))
 
-  by-answer : (c : Call) (a : Answer) → Good f c a → Inv (after f c a) (T ++ bytesTaken c a) (X ++ charsTaken f c a) (W ++ bytesWritten a)
-  by-answer (piece b n) (refused r) turned = same
-  by-answer (end n) (refused r) turned = same
-  by-answer (piece b n) (wrote o) (took e l) = step-piece b e l
-  by-answer (end n) (wrote o) (closed e l) = step-end e l
+  by-answer : {c : Call} {a : Answer} → Answered f c a
+      → Inv (after f c a) (T ++ bytesTaken c a) (X ++ charsTaken f c a) (W ++ bytesWritten a)
+  by-answer (piece-9 e) = same
+  by-answer (piece-1 e l) = same
+  by-answer (piece-3 e l u) = same
+  by-answer (piece-8 e l u r) = same
+  by-answer (piece-taken {b = b} e l u r) = step-piece b e l
+  by-answer (end-9 e) = same
+  by-answer (end-10 e l) = same
+  by-answer (end-8 e l r) = same
+  by-answer (end-taken e l r) = step-end e l
 
 -- ---- a list of calls
 
@@ -225,7 +214,7 @@ unfolding feedAfter thread allFed outputs
 runs h [] = same h
 runs {f} {T} {X} {W} h (c ∷ cs) =
     let a = answer f c in
-    let k = runs (by-answer h c a (good f c)) cs in
+    let k = runs (by-answer h (answered f c)) cs in
     subst (λ (t : List ℕ). Inv (feedAfter (next f c) cs) t (X ++ (charsTaken f c a ++ allFed (next f c) cs))
     (W ++ (bytesWritten a ++ outputs (next f c) cs))) (append-assoc T (bytesTaken c a) (thread (next f c) cs))
     (subst (λ (x : List Fed). Inv (feedAfter (next f c) cs) ((T ++ bytesTaken c a) ++ thread (next f c) cs) x

@@ -25,7 +25,25 @@ use Rattle.analysis.proofs.Cells.{split-char, split-selector, split-selectors}
 use Rattle.analysis.proofs.Counts.{counts-path, empty-plus, plus-assoc, plus-empty}
 use Rattle.analysis.proofs.NumberRules.{by-numbers}
 use Rattle.analysis.proofs.Rules.{outcome-no-entry}
-use Rattle.feed.specs.Feed.{Fed, Pending, Effect, writtenAlone, base, heldAfter, charsOf, countFed, formatFed, judged, nothing, settle, takeChar, takeChars, takeSelector, totalFed, cellBefore}
+use Rattle.feed.specs.Feed.{
+  Fed,
+  Pending,
+  Effect,
+  writtenAlone,
+  base,
+  heldAfter,
+  charsOf,
+  countFed,
+  formatFed,
+  judged,
+  nothing,
+  settle,
+  takeChar,
+  takeChars,
+  takeSelector,
+  totalFed,
+  cellBefore,
+}
 
 -- ---- the first character
 

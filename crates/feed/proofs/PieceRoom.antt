@@ -2,16 +2,12 @@
 -- characters than the piece has bytes.
 use mathlib.Core.Path.{_≡_, refl, ap, sym, _∙_}
 use mathlib.Core.Logic.{⊎-elim}
-use mathlib.Core.Bool.{Bool, true, false, cond, not}
+use mathlib.Core.Bool.{Bool, true, false}
 use mathlib.Core.List.{List, [], _∷_, _++_, map}
-use Prim.Native.Nat.{ℕ, _+_, _-_, _*_, _≤_}
+use Prim.Native.Nat.{ℕ, _+_, _*_, _≤_}
 use native.Mathlib.Omega.{arith}
-use lib.Dec.{leb}
 use lib.ListN.{drop, length, length-append, length-drop, length-map, take}
 use lib.Seq.{take-append-le, take-at}
-use borrow.Author.Tests.{leb-true}
-use Rattle.base.specs.Refusals.{textLimit}
-use Rattle.base.specs.declared.Refusal.the-variants.{FeedEnded, NotWellFormed, OutputTooShort, TextTooLong}
 use Rattle.base.proofs.Tests.{le-or-lt}
 use Rattle.utf8.specs.Rfc3629.{chars, encode, encodeAll, readChar, utf8-char, validUpTo}
 use Rattle.utf8.specs.declared.ReadChar.{ReadChar}
@@ -35,21 +31,8 @@ use Rattle.analysis.specs.declared.singleton.Slot.{Slot}
 use Rattle.analysis.specs.declared.singleton.Slot.the-variants.{Bare as bare, Decided as decided, Fixed as fixed}
 use Rattle.utf8.specs.Subparts.{unfinished}
 use Rattle.utf8.proofs.Unfinished.{unfinished-few, unfinished-no-char}
-use Rattle.feed.specs.Feed.{
-  Fed,
-  Pending,
-  writtenAlone,
-  base,
-  heldAfter,
-  charsOf,
-  nothing,
-  pieceRoom,
-  settle,
-  takeChar,
-  takeChars,
-  takeSelector,
-}
-use Rattle.feed.specs.Calls.{Answer, Call, Feed, after, answer, end, fedBy, feedAfter, next, piece, refused, restBy, wrote}
+use Rattle.feed.specs.Feed.{Fed, Pending, writtenAlone, base, heldAfter, charsOf, nothing, settle, takeChar, takeChars, takeSelector}
+use Rattle.feed.specs.Calls.{Feed, fedBy}
 use Rattle.feed.proofs.Calls.{chars-tagged}
 
 -- ---- bytes of what is held and written
@@ -173,53 +156,6 @@ piece-bytes f b e =
       k,
       validUpTo-le u,
       length-append (f .rest) b,
-      completed
-          (f .rest) b e,
+      completed (f .rest) b e,
       unfinished-few (f .rest) e,
     )
-
--- ---- how a piece is answered
-
-pub data Pieced (f : Feed) (b out : List ℕ) : Answer → Type 0 where
-  is-9 : Pieced f b out (refused FeedEnded)
-  is-1 : Pieced f b out (refused TextTooLong)
-  is-3 : unfinished (restBy f b) ≡ false → Pieced f b out (refused (NotWellFormed (f .len - length (f .rest) + validUpTo (f .rest ++ b))))
-  is-8 : Pieced f b out (refused (OutputTooShort (pieceRoom (length b))))
-  is-taken : unfinished (restBy f b) ≡ true → pieceRoom (length b) ≤ length out
-      → Pieced f b out (wrote (encodeAll (takeChars (f .pending) (fedBy f b) .1 .text)))
-
-pub pieced : (f : Feed) (b out : List ℕ) → Pieced f b out (answer f (piece b out))
-unfolding answer
-pieced f b out =
-    go (f .ended) (leb (f .len + length b) textLimit) (unfinished (restBy f b)) refl (leb (pieceRoom (length b)) (length out)) refl
-  where
-    go : (a d e : Bool) → unfinished (restBy f b) ≡ e → (g : Bool) → leb (pieceRoom (length b)) (length out) ≡ g
-        → Pieced f b out (cond a (refused FeedEnded) (cond (not d) (refused TextTooLong)
-        (cond (not e) (refused (NotWellFormed (f .len - length (f .rest) + validUpTo (f .rest ++ b))))
-        (cond (not g) (refused (OutputTooShort (pieceRoom (length b))))
-        (wrote (encodeAll (takeChars (f .pending) (fedBy f b) .1 .text)))))))
-    go true d e h g i = is-9
-    go false false e h g i = is-1
-    go false true false h g i = is-3 h
-    go false true true h false i = is-8
-    go false true true h true i = is-taken h (leb-true _ _ i)
-
--- ---- the rest of a feed is unfinished
-
-pub keeps : (f : Feed) → unfinished (f .rest) ≡ true → (c : Call) → unfinished (next f c .rest) ≡ true
-unfolding unfinished
-keeps f e (piece b n) = go (answer f (piece b n)) (pieced f b n)
-  where
-    go : (a : Answer) → Pieced f b n a → unfinished (after f (piece b n) a .rest) ≡ true
-    go (refused r) p = e
-    go (wrote o) (is-taken h l) = h
-keeps f e (end n) = go (answer f (end n))
-  where
-    go : (a : Answer) → unfinished (after f (end n) a .rest) ≡ true
-    go (refused r) = e
-    go (wrote o) = refl
-
-always : (f : Feed) → unfinished (f .rest) ≡ true → (cs : List Call) → unfinished (feedAfter f cs .rest) ≡ true
-unfolding feedAfter
-always f e [] = e
-always f e (c ∷ cs) = always (next f c) (keeps f e c) cs

@@ -1,6 +1,6 @@
 -- What is claimed of a feed. Each statement is proved in proofs/Claims.antt, under the same name in lower case with hyphens.
 use mathlib.Core.Path.{_≡_}
-use mathlib.Core.Bool.{true, false}
+use mathlib.Core.Bool.{Bool, true, false}
 use mathlib.Core.List.{List, [], _∷_, _++_}
 use Prim.Native.Nat.{ℕ, _+_, _*_, _≤_, _<_}
 use lib.ListN.{drop, length}
@@ -36,7 +36,7 @@ pub data OfBytes : List Call → Type 0 where
   and-piece : {b out : List ℕ} {cs : List Call} → allBytes b ≡ true → OfBytes cs → OfBytes (piece b out ∷ cs)
   and-end : {out : List ℕ} {cs : List Call} → OfBytes cs → OfBytes (end out ∷ cs)
 
--- A call is done: it writes w at the front of its output and leaves the bytes after it. A room of the given number of bytes was enough.
+-- A call is done: it writes some bytes, at most the given number, at the front of its output, and leaves the bytes after them.
 pub record Done (r : Called) (out : List ℕ) (most : ℕ) : Type 0 where
   pub bytes : List ℕ
   pub answer : r .answer ≡ Written (length bytes)
@@ -47,70 +47,59 @@ pub record Done (r : Called) (out : List ℕ) (most : ℕ) : Type 0 where
 abbrev pub GoesOn : List ℕ → Type 0
 GoesOn s = (t : List ℕ) × WellFormed (s ++ t)
 
--- The feed begun with a policy, after a list of calls: B are its bytes, T is the thread, W are the joined outputs.
-module _ (policy : List ℕ) (cs : List Call) where
-  abbrev pub B : List ℕ
-  B = feedAfterCalls (newBytes policy) cs
+-- The outcome r of a piece b with the output out, on the feed's bytes B after the thread T. E says whether the feed has ended. The tests
+-- are 9, 1, 3 and 8, in this order. "A refused call changes neither feed nor output."
+pub record NextPiece (B T : List ℕ) (E : Bool) (b out : List ℕ) (r : Called) : Type 0 where
+  -- "9, a piece or an end for a feed already ended, tested before all else"
+  pub ended : E ≡ true → r ≡ refuses (Refused FeedEnded) B out
+  -- "The length limit holds for the whole thread."
+  pub long : E ≡ false → 16777217 ≤ length T + length b → r ≡ refuses (Refused TextTooLong) B out
+  -- Refusal 3 exactly where no thread that goes on is well-formed. "An ill-formed place is reported by its offset from the thread's start."
+  pub ill-formed : E ≡ false → length T + length b ≤ 16777216 → (GoesOn (T ++ b) → ⊥)
+      → r ≡ refuses (Refused (NotWellFormed (validUpTo (T ++ b)))) B out
+  -- "A piece of n bytes that no other test refuses is taken if the output holds 4n + 16 bytes, else refusal 8 gives that figure"
+  pub short : E ≡ false → length T + length b ≤ 16777216 → GoesOn (T ++ b) → length out < 4 * length b + 16
+      → r ≡ refuses (Refused (OutputTooShort (4 * length b + 16))) B out
+  pub taken : E ≡ false → length T + length b ≤ 16777216 → GoesOn (T ++ b) → 4 * length b + 16 ≤ length out
+      → Done r out (4 * length b + 10)
 
-  abbrev pub T : List ℕ
-  T = threadOf (newBytes policy) cs
+-- The outcome r of the end with the output out. The tests are 9, 10 and 8, in this order.
+pub record NextEnd (B T : List ℕ) (E : Bool) (out : List ℕ) (r : Called) : Type 0 where
+  pub ended : E ≡ true → r ≡ refuses (Refused FeedEnded) B out
+  -- "10, an end inside a character, tested after 9"
+  pub unfinished : E ≡ false → (WellFormed T → ⊥) → r ≡ refuses (Refused UnfinishedCharacter) B out
+  -- "the end counts as a piece of 0 bytes"
+  pub short : E ≡ false → WellFormed T → length out < 16 → r ≡ refuses (Refused (OutputTooShort 16)) B out
+  pub taken : E ≡ false → WellFormed T → 16 ≤ length out → Done r out 7
 
-  abbrev pub W : List ℕ
-  W = joinedOutputs (newBytes policy) cs
-
-  -- The next piece b with the output out. Its tests are 9, 1, 3 and 8, in this order; "A refused call changes neither feed nor output."
-  pub record NextPiece (b out : List ℕ) : Type 0 where
-    -- "9, a piece or an end for a feed already ended, tested before all else"
-    pub ended : hasEnded (newBytes policy) cs ≡ true → called B (piece b out) ≡ refuses (Refused FeedEnded) B out
-    -- "The length limit holds for the whole thread."
-    pub long : hasEnded (newBytes policy) cs ≡ false → 16777217 ≤ length T + length b
-        → called B (piece b out) ≡ refuses (Refused TextTooLong) B out
-    -- Refusal 3 exactly where no thread that goes on is well-formed. "An ill-formed place is reported by its offset from the thread's
-    -- start."
-    pub ill-formed : hasEnded (newBytes policy) cs ≡ false → length T + length b ≤ 16777216 → (GoesOn (T ++ b) → ⊥)
-        → called B (piece b out) ≡ refuses (Refused (NotWellFormed (validUpTo (T ++ b)))) B out
-    -- "A piece of n bytes that no other test refuses is taken if the output holds 4n + 16 bytes, else refusal 8 gives that figure"
-    pub short : hasEnded (newBytes policy) cs ≡ false → length T + length b ≤ 16777216 → GoesOn (T ++ b)
-        → length out < 4 * length b + 16 → called B (piece b out) ≡ refuses (Refused (OutputTooShort (4 * length b + 16))) B out
-    pub taken : hasEnded (newBytes policy) cs ≡ false → length T + length b ≤ 16777216 → GoesOn (T ++ b)
-        → 4 * length b + 16 ≤ length out → Done (called B (piece b out)) out (4 * length b + 10)
-
-  -- The end with the output out. Its tests are 9, 10 and 8, in this order.
-  pub record NextEnd (out : List ℕ) : Type 0 where
-    pub ended : hasEnded (newBytes policy) cs ≡ true → called B (end out) ≡ refuses (Refused FeedEnded) B out
-    -- "10, an end inside a character, tested after 9"
-    pub unfinished : hasEnded (newBytes policy) cs ≡ false → (WellFormed T → ⊥)
-        → called B (end out) ≡ refuses (Refused UnfinishedCharacter) B out
-    -- "the end counts as a piece of 0 bytes"
-    pub short : hasEnded (newBytes policy) cs ≡ false → WellFormed T → length out < 16
-        → called B (end out) ≡ refuses (Refused (OutputTooShort 16)) B out
-    pub taken : hasEnded (newBytes policy) cs ≡ false → WellFormed T → 16 ≤ length out → Done (called B (end out)) out 7
-
-  -- What is claimed of a feed after a list of calls.
-  pub record FeedInBytes : Type 0 where
-    -- "At the end, the joined outputs and the totals equal those of the whole thread formatted in one call under the policy the feed began
-    -- with."
-    pub end-whole : hasEnded (newBytes policy) cs ≡ true → WellFormed T
-    pub end-text : hasEnded (newBytes policy) cs ≡ true → W ≡ formatted T policy
-    pub end-totals : hasEnded (newBytes policy) cs ≡ true → totalsOf B ≡ textTotals T policy
-    -- "Its eight totals can be read at any time: they are those of the whole characters fed so far, as if the thread ended there."
-    pub totals : totalsOf B ≡ textTotals (encodeAll (chars T)) policy
-    -- Before the end, the joined outputs and the held base, written as if the thread ended there, are the whole characters formatted.
-    pub open-text : hasEnded (newBytes policy) cs ≡ false
-        → W ++ encodeAll (settle (feedOf B .pending) other .text) ≡ formatted (encodeAll (chars T)) policy
-    -- What every thread has: its length is within the limit, and it can go on.
-    pub within-limit : length T ≤ 16777216
-    pub goes-on : GoesOn T
-    -- The bytes pass the calls' test, and the next call is answered as document 02 says.
-    pub passes : isFeed B ≡ true
-    pub next-piece : (b out : List ℕ) → allBytes b ≡ true → NextPiece b out
-    pub next-end : (out : List ℕ) → NextEnd out
+-- What is claimed of a feed begun with a policy, after a list of calls: B are its bytes, T is the thread, W are the joined outputs, and E
+-- says whether it has ended.
+pub record FeedInBytes (policy B T W : List ℕ) (E : Bool) : Type 0 where
+  -- "At the end, the joined outputs and the totals equal those of the whole thread formatted in one call under the policy the feed began
+  -- with."
+  pub end-whole : E ≡ true → WellFormed T
+  pub end-text : E ≡ true → W ≡ formatted T policy
+  pub end-totals : E ≡ true → totalsOf B ≡ textTotals T policy
+  -- "Its eight totals can be read at any time: they are those of the whole characters fed so far, as if the thread ended there."
+  pub totals : totalsOf B ≡ textTotals (encodeAll (chars T)) policy
+  -- Before the end, the joined outputs and the held base, written as if the thread ended there, are the whole characters formatted.
+  pub open-text : E ≡ false → W ++ encodeAll (settle (feedOf B .pending) other .text) ≡ formatted (encodeAll (chars T)) policy
+  -- The thread is within the length limit, and it can go on to be well-formed.
+  pub within-limit : length T ≤ 16777216
+  pub goes-on : GoesOn T
+  -- The bytes pass the test that every call makes, and the next call is answered as document 02 says.
+  pub passes : isFeed B ≡ true
+  pub next-piece : (b out : List ℕ) → NextPiece B T E b out (called B (piece b out))
+  pub next-end : (out : List ℕ) → NextEnd B T E out (called B (end out))
 
 -- Every list of calls, refused ones included, on a feed begun new with a policy and handed on from call to call.
 unfoldable pub EveryFeedInBytes : Type 0
-EveryFeedInBytes = (policy : List ℕ) → isPolicy policy ≡ true → (cs : List Call) → OfBytes cs → FeedInBytes policy cs
+EveryFeedInBytes =
+    (policy : List ℕ) → isPolicy policy ≡ true → (cs : List Call) → OfBytes cs
+    → FeedInBytes policy (feedAfterCalls (newBytes policy) cs) (threadOf (newBytes policy) cs) (joinedOutputs (newBytes policy) cs)
+    (hasEnded (newBytes policy) cs)
 
--- For any other bytes: "the answer is the program's choice, within the lent buffers, and a refusal still writes nothing."
+-- Any bytes as a feed: "for any other the answer is the program's choice, within the lent buffers, and a refusal still writes nothing."
 unfoldable pub RefusalsWriteNothing : Type 0
 RefusalsWriteNothing =
     (bs : List ℕ) (c : Call) (r : Refusal) → called bs c .answer ≡ Refused r

@@ -4,22 +4,19 @@ use mathlib.Core.Bool.{Bool, true, false, cond}
 use mathlib.Core.List.{List, _++_}
 use Prim.Native.Nat.{ℕ, _+_, _≤_, _<_}
 use native.Mathlib.Omega.{arith}
-use lib.Dec.{eqb, leb}
+use lib.Dec.{leb}
 use lib.ListN.{drop, length, length-append}
 use lib.Seq.{length-sets, sets, sets-eq}
-use borrow.Author.Tests.{eqb-true, le-leb, lt-leb}
+use borrow.Author.Tests.{le-leb, lt-leb}
 use Rattle.base.specs.Output.{PutAt, WritesAt, roomFor}
 use Rattle.base.specs.Refusals.{After, unwritten}
 use Rattle.base.specs.Words.{bytesOf, number}
 use Rattle.base.specs.declared.Refusal.{Refusal}
 use Rattle.base.specs.declared.Refusal.the-variants.{OutputTooShort}
 use Rattle.base.proofs.Output.{bytes-put}
-use Rattle.base.proofs.Tests.{both-true}
 use Rattle.base.proofs.Writer.{sets-append}
-use Rattle.unicode.specs.UnicodeData.{variationEntries}
 use Rattle.unicode.specs.declared.presentation.FromSelector.the-variants.{NoSelector}
-use Rattle.policy_key_set.specs.Sets.{entryCount, wordCount}
-use Rattle.policy.specs.PolicyBytes.{isPolicy, noUnusedBits, policyFault, policyOf, policyRefusal}
+use Rattle.policy.specs.PolicyBytes.{isPolicy, policyFault, policyOf, policyRefusal}
 use Rattle.policy.specs.declared.Policy.{Policy}
 use Rattle.analysis.specs.Counts.{empty}
 use Rattle.analysis.specs.declared.types.NonCanonicality.{NonCanonicality}
@@ -28,6 +25,7 @@ use Rattle.feed.specs.Calls.{newFeed}
 use Rattle.feed.specs.declared.FeedAnswer.{FeedAnswer}
 use Rattle.feed.specs.declared.FeedAnswer.the-variants.{Refused, Written}
 use Rattle.feed.specs.declared.State.{State}
+use Rattle.feed.proofs.Kept.{policy-length}
 use Rattle.feed.proofs.Writing.{words-many}
 
 pub new-state : (p : Policy) {n : NonCanonicality} → n ≡ empty
@@ -53,10 +51,6 @@ state-put s o o′ r h w =
     let n = words-many s in
     let p = bytes-put o o′ 0 (bytesOf (stateWords s)) (omega arith) (w .1) in
     record { ends = omega arith; bytes = p .bytes }
-
-pub policy-length : (bs : List ℕ) → isPolicy bs ≡ true → length bs ≡ 192
-unfolding isPolicy wordCount entryCount variationEntries
-policy-length bs e = eqb-true (length bs) 192 (both-true (eqb (length bs) 192) (noUnusedBits (policyOf bs)) e .0)
 
 module _ (policy feed : List ℕ) where
   pub begin-2 : {r : Refusal} → isPolicy policy ≡ false → r ≡ policyFault policy

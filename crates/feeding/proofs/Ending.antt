@@ -25,7 +25,22 @@ use Rattle.feed.specs.declared.FeedAnswer.{FeedAnswer}
 use Rattle.feed.specs.declared.FeedAnswer.the-variants.{Refused, Written}
 use Rattle.base.specs.declared.Refusal.the-variants.{FeedEnded, OutputTooShort, UnfinishedCharacter}
 use Rattle.base.proofs.Answering.{answers}
-use Rattle.feed.specs.Bytes.{Called, EndsCalled, bytesFor, called, eightWords, feedOf, isFeed, pendingOf, policyPart, refuses, stateFor, stateOf, stateWords, totalsOf}
+use Rattle.feed.specs.Bytes.{
+  Called,
+  EndsCalled,
+  bytesFor,
+  called,
+  eightWords,
+  feedOf,
+  isFeed,
+  pendingOf,
+  policyPart,
+  refuses,
+  stateFor,
+  stateOf,
+  stateWords,
+  totalsOf,
+}
 use Rattle.feeding.specs.Helpers.{endedState}
 use Rattle.feeding.proofs.Settling.{feed-length, sum-now}
 use Rattle.feed.proofs.Writing.{words-many}

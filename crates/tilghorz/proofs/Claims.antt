@@ -3,14 +3,16 @@ use native.Mathlib.Omega.{arith}
 use Rattle.unicode.specs.Unicode.{variationEntry}
 use Rattle.analysis.specs.Decisions.{mendRow}
 use Rattle.base.specs.Answers.{listRow, writeRow}
+use Rattle.feed.specs.Bytes.{feedRow}
 use Rattle.formatter.specs.Format.{formatRow}
 use Rattle.unicode.specs.Rows.{entryRow}
 use Rattle.repair.specs.Repair.{repairRow}
 use Rattle.repair.proofs.Outcomes.{the-call}
 use Rattle.tilghorz.specs.Theorems.{WordsDetermineAnswers, WordsHaveBothValues}
+use Rattle.tilghorz.proofs.SmallFeeds.{begun-small, called-small, totals-small}
 use Rattle.tilghorz.proofs.SmallAnswers.{default-small, entry-small, format-small, items-small, list-small, mend-small}
 use Rattle.base.proofs.Rows.{list-rows, write-rows}
-use Rattle.tilghorz.proofs.Telling.{both-values, entry-rows, format-rows, mend-rows, repair-rows, repair-small, tell}
+use Rattle.tilghorz.proofs.Telling.{both-values, entry-rows, feed-rows, format-rows, mend-rows, repair-rows, repair-small, tell}
 
 pub words-determine-answers : WordsDetermineAnswers
 unfolding WordsDetermineAnswers
@@ -23,6 +25,9 @@ words-determine-answers = (
   tell entryRow variationEntry (λ i. omega (arith, entry-small i)) (λ i j. entry-rows _ _),
   tell repairRow _ (λ c. repair-small _ (the-call (c .0) (c .1) .small) (the-call (c .0) (c .1) .small-refusal))
       (λ i j. repair-rows _ _ (the-call (i .0) (i .1) .small) (the-call (j .0) (j .1) .small)),
+  tell feedRow _ (λ c. omega (arith, begun-small (c .0) (c .1))) (λ i j. feed-rows _ _),
+  tell feedRow _ (λ c. omega (arith, called-small (c .0) (c .1))) (λ i j. feed-rows _ _),
+  tell writeRow _ (λ c. omega (arith, totals-small (c .0) (c .1))) (λ i j. write-rows _ _),
 )
 
 pub words-have-both-values : WordsHaveBothValues

@@ -3,4 +3,5 @@ pub mod Outcomes
 pub mod Telling
 pub mod FewItems
 pub mod SmallAnswers
+pub mod SmallFeeds
 pub mod Claims

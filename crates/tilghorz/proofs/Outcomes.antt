@@ -4,8 +4,15 @@ use mathlib.Core.List.{List}
 use Prim.Native.Nat.{ℕ}
 use Rattle.base.specs.Answers.{EndsAs}
 use Rattle.base.specs.Refusals.{After, RefusalRow}
+use Rattle.feed.specs.Bytes.{Called, EndsCalled, feedRow}
+use Rattle.feed.specs.declared.FeedAnswer.{FeedAnswer}
 use Rattle.tilghorz.specs.AnswerWord.{word}
 
 pub outcome : {R : Type 0} (row : R → RefusalRow) {r : R} {out : List ℕ} {a : After R ℕ} {w : ℕ} → EndsAs row a r out → w ≡ word (row r)
     → (w ≡ word (row (a .answer))) × (out ≡ a .buffer)
 outcome row e f = (f ∙ ap word (e .answer .same-row), e .buffer)
+
+-- The same for a call of a feed, which has two buffers.
+pub feed-outcome : {r : FeedAnswer} {feed out : List ℕ} {a : Called} {w : ℕ} → EndsCalled a r feed out → w ≡ word (feedRow r)
+    → (w ≡ word (feedRow (a .answer))) × ((feed ≡ a .feed) × (out ≡ a .out))
+feed-outcome e f = (f ∙ ap word (e .answer .same-row), (e .feed-bytes, e .out-bytes))

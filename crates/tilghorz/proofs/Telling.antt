@@ -11,6 +11,9 @@ use Rattle.analysis.specs.declared.types.MendAnswer.{MendAnswer}
 use Rattle.analysis.specs.declared.types.MendAnswer.the-variants as Mend
 use Rattle.formatter.specs.declared.FormatAnswer.{FormatAnswer}
 use Rattle.formatter.specs.declared.FormatAnswer.the-variants as Format
+use Rattle.feed.specs.Bytes.{feedRow}
+use Rattle.feed.specs.declared.FeedAnswer.{FeedAnswer}
+use Rattle.feed.specs.declared.FeedAnswer.the-variants as Feed
 use Rattle.analysis.specs.Decisions.{mendRow}
 use Rattle.formatter.specs.Format.{formatRow}
 use Rattle.repair.specs.Repair.{repairRow}
@@ -69,6 +72,13 @@ entry-rows (Char c) (Char d) e = ap Char (val e)
 entry-rows (Char c) NoEntry e = absurd (omega (arith, num e))
 entry-rows NoEntry (Char c) e = absurd (omega (arith, num e))
 entry-rows NoEntry NoEntry e = refl
+
+pub feed-rows : (a b : FeedAnswer) → feedRow a ≡ feedRow b → a ≡ b
+unfolding feedRow
+feed-rows (Feed.Written n) (Feed.Written m) e = ap Feed.Written (val e)
+feed-rows (Feed.Written n) (Feed.Refused r) e = absurd (omega (arith, num e, refusal-numbers r))
+feed-rows (Feed.Refused r) (Feed.Written n) e = absurd (omega (arith, num e, refusal-numbers r))
+feed-rows (Feed.Refused r) (Feed.Refused s) e = ap Feed.Refused (refusals r s e)
 
 -- ---- two values below 2^28 in one
 

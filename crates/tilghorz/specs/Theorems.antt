@@ -3,6 +3,7 @@ use mathlib.Core.Path.{_≡_}
 use mathlib.Core.List.{List}
 use Prim.Native.Nat.{ℕ, _/_, _%_, _^_, _<_}
 use Rattle.base.specs.Output.{answerOf}
+use Rattle.base.specs.Words.{bytesOf}
 use Rattle.base.specs.Refusals.{RefusalRow}
 use Rattle.unicode.specs.Unicode.{variationEntry}
 use Rattle.policy.specs.DefaultPolicy.{defaultPolicy}
@@ -13,6 +14,8 @@ use Rattle.formatter.specs.Mend.{Call, mendCall}
 use Rattle.analysis.specs.Decisions.{mendRow}
 use Rattle.base.specs.Answers.{listRow, writeRow}
 use Rattle.formatter.specs.Format.{formatRow}
+use Rattle.feed.specs.Bytes.{begun, called, eightWords, feedRow, totalsOf}
+use Rattle.feed.specs.Calls as Feed
 use Rattle.repair.specs.Repair.{repair, repairRow}
 use Rattle.repair.specs.declared.RepairAnswer.the-variants.{Repaired}
 use Rattle.tilghorz.specs.AnswerWord.{word}
@@ -26,7 +29,7 @@ pub record Tell {I A : Type 0} (row : A → RefusalRow) (answer : I → A) : Typ
   pub value : (i : I) → word (row (answer i)) % 2 ^ 56 ≡ row (answer i) .value
 
 -- The words of each C function determine its answers: formatting, listing findings, mending, listing items, the default policy, an entry,
--- repairing.
+-- repairing, beginning a feed, a piece or an end of a feed, the totals of a feed.
 unfoldable pub WordsDetermineAnswers : Type 0
 WordsDetermineAnswers =
     Tell formatRow (λ (c : List ℕ × List ℕ × List ℕ). format (c .0) (c .1) (c .2) .answer)
@@ -36,6 +39,9 @@ WordsDetermineAnswers =
     × Tell writeRow (λ (out : List ℕ). answerOf (policyBytes defaultPolicy) out)
     × Tell entryRow variationEntry
     × Tell repairRow (λ (c : List ℕ × List ℕ). repair (c .0) (c .1) .answer)
+    × Tell feedRow (λ (c : List ℕ × List ℕ). begun (c .0) (c .1) .answer)
+    × Tell feedRow (λ (c : List ℕ × Feed.Call). called (c .0) (c .1) .answer)
+    × Tell writeRow (λ (c : List ℕ × List ℕ). answerOf (bytesOf (eightWords (totalsOf (c .0)))) (c .1))
 
 -- A word of two values has both: the low 28 bits are the length of the repaired text, the 28 bits above them the number of replacements.
 unfoldable pub WordsHaveBothValues : Type 0

@@ -4,6 +4,7 @@ ghost use Prim.Native.Nat.{_≤_};
 ghost use Rattle.base.specs.Refusals.{refusalRow};
 ghost use Rattle.analysis.specs.Decisions.{mendRow};
 ghost use Rattle.base.specs.Answers.{listRow, twoValues, writeRow};
+ghost use Rattle.feed.specs.Bytes.{feedRow};
 ghost use Rattle.formatter.specs.Format.{formatRow};
 ghost use Rattle.repair.specs.Repair.{repairRow};
 ghost use Rattle.tilghorz.specs.AnswerWord.{word};
@@ -14,6 +15,7 @@ use base::Refusal;
 use base::WriteAnswer;
 use base::refusals::refusal_number;
 use base::refusals::refusal_value;
+use feed::FeedAnswer;
 use formatter::FormatAnswer;
 use repair::RepairAnswer;
 use unicode::VariationEntry;
@@ -107,5 +109,15 @@ pub fn repair_word(answer: RepairAnswer) -> u64
     match answer {
         RepairAnswer::Repaired { len, replaced } => word_of_two(len, replaced),
         RepairAnswer::Refused(refusal) => refusal_word(refusal),
+    }
+}
+
+// The word of the answer of a feed's call.
+pub fn feed_word(answer: FeedAnswer) -> u64
+    ensures { λ r. ⌜ r ≡ word (feedRow answer) ⌝ }
+{
+    match answer {
+        FeedAnswer::Written { len } => word_of(0, len),
+        FeedAnswer::Refused(refusal) => refusal_word(refusal),
     }
 }

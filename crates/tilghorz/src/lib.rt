@@ -5,6 +5,7 @@ pub mod answer_word;
 
 ghost use mathlib.Core.Path.{_≡_};
 ghost use Rattle.base.specs.Output.{answerOf, bufferOf};
+ghost use Rattle.base.specs.Words.{bytesOf};
 ghost use Rattle.unicode.specs.Unicode.{variationEntry};
 ghost use Rattle.policy.specs.DefaultPolicy.{defaultPolicy};
 ghost use Rattle.policy.specs.PolicyBytes.{policyBytes};
@@ -15,9 +16,12 @@ ghost use Rattle.analysis.specs.Decisions.{mendRow};
 ghost use Rattle.base.specs.Answers.{listRow, writeRow};
 ghost use Rattle.formatter.specs.Format.{formatRow};
 ghost use Rattle.repair.specs.Repair.{repair, repairRow};
+ghost use Rattle.feed.specs.Bytes.{begun, called, eightWords, feedRow, totalsOf};
+ghost use Rattle.feed.specs.Calls as Calls;
 ghost use Rattle.tilghorz.specs.AnswerWord.{word};
 ghost use Rattle.unicode.specs.Rows.{entryRow};
 use answer_word::entry_word;
+use answer_word::feed_word;
 use answer_word::format_word;
 use answer_word::list_word;
 use answer_word::mend_word;
@@ -79,6 +83,46 @@ pub extern "C" fn tilghorz_repair(text: &[u8], out: &mut [u8]) -> u64
     ensures bytes { λ _. ⌜ now (out .exit) ≡ repair (now (text .entry)) (now (out .entry)) .buffer ⌝ }
 {
     repair_word(repair::repair(text, out))
+}
+
+// Begins a feed under a policy in a lent buffer. It may answer the refusals 2 and 8. Its value is the number of bytes of a feed.
+#[no_mangle]
+pub extern "C" fn tilghorz_feed_begin(policy: &[u8], feed: &mut [u8]) -> u64
+    ensures word { λ r. ⌜ r ≡ word (feedRow (begun (now (policy .entry)) (now (feed .entry)) .answer)) ⌝ }
+    ensures bytes { λ _. ⌜ now (feed .exit) ≡ begun (now (policy .entry)) (now (feed .entry)) .buffer ⌝ }
+{
+    feed_word(feeding::begin(policy, feed))
+}
+
+// Takes the next piece of a thread and writes all but an unfinished character and a last base that has a variation entry, with its
+// selectors. It may answer the refusals 9, 1, 3 and 8.
+#[no_mangle]
+pub extern "C" fn tilghorz_feed_piece(feed: &mut [u8], piece: &[u8], out: &mut [u8]) -> u64
+    ensures word { λ r. ⌜ r ≡ word (feedRow
+        (called (now (feed .entry)) (Calls.piece (now (piece .entry)) (now (out .entry))) .answer)) ⌝ }
+    ensures state { λ _. ⌜ now (feed .exit) ≡ called (now (feed .entry)) (Calls.piece (now (piece .entry)) (now (out .entry))) .feed ⌝ }
+    ensures bytes { λ _. ⌜ now (out .exit) ≡ called (now (feed .entry)) (Calls.piece (now (piece .entry)) (now (out .entry))) .out ⌝ }
+{
+    feed_word(feeding::piece(feed, piece, out))
+}
+
+// Ends a feed and writes the held base. It may answer the refusals 9, 10 and 8.
+#[no_mangle]
+pub extern "C" fn tilghorz_feed_end(feed: &mut [u8], out: &mut [u8]) -> u64
+    ensures word { λ r. ⌜ r ≡ word (feedRow (called (now (feed .entry)) (Calls.end (now (out .entry))) .answer)) ⌝ }
+    ensures state { λ _. ⌜ now (feed .exit) ≡ called (now (feed .entry)) (Calls.end (now (out .entry))) .feed ⌝ }
+    ensures bytes { λ _. ⌜ now (out .exit) ≡ called (now (feed .entry)) (Calls.end (now (out .entry))) .out ⌝ }
+{
+    feed_word(feeding::end(feed, out))
+}
+
+// Writes the eight totals of a feed, 8 bytes each. It may answer refusal 8.
+#[no_mangle]
+pub extern "C" fn tilghorz_feed_totals(feed: &[u8], totals: &mut [u8]) -> u64
+    ensures word { λ r. ⌜ r ≡ word (writeRow (answerOf (bytesOf (eightWords (totalsOf (now (feed .entry))))) (now (totals .entry)))) ⌝ }
+    ensures bytes { λ _. ⌜ now (totals .exit) ≡ bufferOf (bytesOf (eightWords (totalsOf (now (feed .entry))))) (now (totals .entry)) ⌝ }
+{
+    write_word(feeding::totals(feed, totals))
 }
 
 // Writes the bytes of the default policy. It may answer refusal 8.

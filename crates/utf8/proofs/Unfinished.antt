@@ -115,7 +115,8 @@ is-unfinished s t w =
 pub unfinished-no-char : (u : List ℕ) → unfinished u ≡ true → (m : ℕ) → utf8-char (take m u) ≡ true → ⊥
 unfinished-no-char u e m c =
     ⊎-elim
-    (λ z. let k = char-some (take m u) c in omega (arith, ap length z, ap length (take-append-drop m u), length-append (take m u) (drop m u)))
+    (λ z. let k = char-some (take m u) c in
+    omega (arith, ap length z, ap length (take-append-drop m u), length-append (take m u) (drop m u)))
     (λ g.
     let x = g .0 ∷ g .1 in
     let p = grammar-read (u ++ x) [] (g .2) in

@@ -7,7 +7,7 @@ use crate::sys::POLICY_BYTES;
 
 /// Why a call was turned back. It then wrote to no buffer.
 ///
-/// The tests come in the order of the numbers, each only in calls that take the thing.
+/// The tests come in the order of the numbers, each only in calls that take the thing. A call of a feed tests 9 and 10 first.
 #[derive(Debug, Clone, Copy, PartialEq, Eq, Hash)]
 pub enum Refusal {
     /// 1: the text is over 16,777,216 bytes.
@@ -41,6 +41,10 @@ pub enum Refusal {
         /// The length that it needs.
         wanted: usize,
     },
+    /// 9: the feed has ended.
+    FeedEnded,
+    /// 10: the thread ends inside a character.
+    UnfinishedCharacter,
 }
 
 impl Refusal {
@@ -55,6 +59,8 @@ impl Refusal {
             6 => Self::BadDecision { index: value },
             7 => Self::TableTooShort { places: value },
             8 => Self::OutputTooShort { wanted: value },
+            9 => Self::FeedEnded,
+            10 => Self::UnfinishedCharacter,
             _ => return None,
         })
     }
@@ -71,6 +77,8 @@ impl Refusal {
             Self::BadDecision { .. } => 6,
             Self::TableTooShort { .. } => 7,
             Self::OutputTooShort { .. } => 8,
+            Self::FeedEnded => 9,
+            Self::UnfinishedCharacter => 10,
         }
     }
 
@@ -78,7 +86,11 @@ impl Refusal {
     #[must_use]
     pub const fn value(self) -> Option<usize> {
         match self {
-            Self::TextTooLong | Self::NotAPolicy | Self::NoFinding => None,
+            Self::TextTooLong
+            | Self::NotAPolicy
+            | Self::NoFinding
+            | Self::FeedEnded
+            | Self::UnfinishedCharacter => None,
             Self::NotWellFormed { valid_up_to } => Some(valid_up_to),
             Self::WrongNumberOfDecisions { wanted } | Self::OutputTooShort { wanted } => {
                 Some(wanted)
@@ -119,6 +131,8 @@ impl Display for Refusal {
             Self::OutputTooShort { wanted } => {
                 write!(out, "the output is too short: {wanted} bytes are needed")
             }
+            Self::FeedEnded => write!(out, "the feed has ended"),
+            Self::UnfinishedCharacter => write!(out, "the thread ends inside a character"),
         }
     }
 }
@@ -133,11 +147,14 @@ mod tests {
     fn number_and_value_tell_the_refusal() {
         for number in 0..=u8::MAX {
             let Some(refusal) = Refusal::of_row(number.into(), 5) else {
-                assert!(!(1..=8).contains(&number));
+                assert!(!(1..=10).contains(&number));
                 continue;
             };
             assert_eq!(refusal.number(), number);
-            assert_eq!(refusal.value().is_some(), ![1, 2, 4].contains(&number));
+            assert_eq!(
+                refusal.value().is_some(),
+                ![1, 2, 4, 9, 10].contains(&number)
+            );
             assert!(refusal.value().is_none_or(|value| value == 5));
         }
     }
