@@ -45,7 +45,8 @@ last-of (v ∷ vs) = go (last-of vs)
 -- ---- the character at an offset
 
 -- If v is the first of the characters from an offset on, it stands there.
-pub first-read : (text : List ℕ) (at v : ℕ) (vs : List ℕ) → chars (drop at text) ≡ v ∷ vs → readChar (drop at text) ≡ Char v (length (encode v))
+pub first-read : (text : List ℕ) (at v : ℕ) (vs : List ℕ) → chars (drop at text) ≡ v ∷ vs → readChar (drop at text) ≡ Char v (length
+    (encode v))
 first-read text at v vs e = go (reading (drop at text))
   where
     empty : chars (drop at text) ≡ [] → readChar (drop at text) ≡ Char v (length (encode v))
@@ -74,7 +75,15 @@ module _ {text : List ℕ} {from to : ℕ} (b : Between text from to) where
       ap (λ (n : ℕ). chars (drop (from + n) text)) (sym (size-width us)) ∙ chars-from text from us (v ∷ a) whole in
       let read = first-read text start v a there in
       let ends : to ≡ start + length (encode v) =
-      omega (arith, b .to-is, ap (λ (l : List ℕ). length (encodeAll l)) e, ap length (encodeAll-append us (v ∷ [])), length-append (encodeAll us) (encodeAll (v ∷ [])), length-append (encode v) []) in
+      omega (
+        arith,
+        b .to-is,
+        ap (λ (l : List ℕ). length (encodeAll l)) e,
+        ap length (encodeAll-append us (v ∷ [])),
+        length-append
+            (encodeAll us) (encodeAll (v ∷ [])),
+        length-append (encode v) [],
+      ) in
       let wide : length (encode v) ≡ to - start = omega arith in (
         start,
         record {
@@ -157,7 +166,8 @@ pub record Backing (text : List ℕ) (from to at : ℕ) : Type 0 where
   pub more : from < at
 
 -- The characters from an offset on end where no character begins.
-pub valid-between : (text : List ℕ) (from to : ℕ) → to ≡ from + validUpTo (drop from text) → Between text from to × (chars (drop to text) ≡ [])
+pub valid-between : (text : List ℕ) (from to : ℕ) → to ≡ from + validUpTo (drop from text) → Between text from to × (chars
+    (drop to text) ≡ [])
 valid-between text from to e =
     let vs = chars (drop from text) in
     let none : chars (drop to text) ≡ [] =
@@ -250,7 +260,8 @@ module _ {text : List ℕ} {from to at start n : ℕ} (g : Backing text from to 
   value-is = packed-value (drop start text) (l .value) (at - start) n (l .reads) d
 
   pub tail-held : {r : HeldTail} → hasVariationSequence (n / 8) ≡ true
-      → r ≡ record { start = start; held = record { base = n / 8; first = frontAt text at; count = (to - at) / 3 } } → TailFrom text from to r
+      → r ≡ record { start = start; held = record { base = n / 8; first = frontAt text at; count = (to - at) / 3 } }
+      → TailFrom text from to r
   unfolding backing-base
   tail-held {r} v q =
       let b = backing-base g l e in

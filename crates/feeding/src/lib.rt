@@ -1,7 +1,8 @@
 // The calls of a feed: document 02, (iii). A feed is lent bytes (crate feed). `begin` equals `begun`, `piece` and `end` equal `called`, and
 // `totals` writes the eight counts of `totalsOf` (crate feed, specs/Bytes.antt), each for any bytes.
-// The characters of a piece are taken one after the other, by `take_all`: a character is read across the end of the unfinished bytes, and
-// it settles the held base or is counted as a selector of it.
+// A piece goes through formatting's own passes, part by part (`take_all`): the character that it completes, its first selectors, the
+// characters that are formatted by themselves, and the last base, which is held. The definition takes the characters one after the other
+// (`takeChars` of crate feed, specs/Feed.antt).
 mod middle;
 mod scan;
 mod tail;
@@ -450,8 +451,8 @@ fn take_first(
 ) -> Taken
     requires { ⌜ (isScalar (held .base) ≡ true) × ((first ≡ 0 → ⊥) → isScalar (first / 8) ≡ true)
         × (total counts + held .count ≤ 200000000)
-        × (0 + length (encodeAll (takeChars (pendingOf (policyOf (now policy)) held) (fedAs (policyOf (now policy)) (charOf first)) .1 .text))
-        ≤ length (now out)) ⌝ }
+        × (0 + length (encodeAll (takeChars (pendingOf (policyOf (now policy)) held)
+        (fedAs (policyOf (now policy)) (charOf first)) .1 .text)) ≤ length (now out)) ⌝ }
     ensures { λ r. ⌜ TakenBy (policyOf (now (policy .entry))) held counts (fedAs (policyOf (now (policy .entry))) (charOf first))
         (now (out .entry)) 0 (now (out .exit)) r ⌝ }
 {
@@ -506,7 +507,8 @@ fn take_rest(
         × (taken .end + length (encodeAll (takeChars (pendingOf (policyOf (now policy)) (taken .held))
         (fedAs (policyOf (now policy)) (chars (drop at (now piece)))) .1 .text)) ≤ length (now out)) ⌝ }
     ensures { λ r. ⌜ TakenBy (policyOf (now (policy .entry))) (taken .held) (taken .counts)
-        (fedAs (policyOf (now (policy .entry))) (chars (drop at (now (piece .entry))))) (now (out .entry)) (taken .end) (now (out .exit)) r ⌝ }
+        (fedAs (policyOf (now (policy .entry))) (chars (drop at (now (piece .entry))))) (now (out .entry)) (taken .end)
+        (now (out .exit)) r ⌝ }
 {
     let tail = find_tail(piece, at, end);
     let start = tail.start;

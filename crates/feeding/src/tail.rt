@@ -36,7 +36,14 @@ fn last_char(text: &[u8], from: usize, to: usize) -> usize
 // Returns the base `ch` at `start` as held. Its selectors begin at `at` and end at `to`.
 fn held_at(text: &[u8], start: usize, ch: u32, at: usize, to: usize) -> HeldTail
     requires { ⌜ at ≤ to ⌝ }
-    ensures { λ r. ⌜ r ≡ record { start = start; held = record { base = ch; first = firstSelector (chars (drop at (now (text .entry)))); count = (to - at) / 3 } } ⌝ }
+    ensures { λ r. ⌜ r ≡ record {
+      start = start;
+      held = record {
+        base = ch;
+        first = firstSelector (chars (drop at (now (text .entry))));
+        count = (to - at) / 3;
+      };
+    } ⌝ }
 {
     let first = selector_at(text, at);
     let held = Held {

@@ -243,7 +243,7 @@ pub fn write_formatted(text: &[u8], policy: &[u8], out: &mut [u8], at: usize) ->
     ensures kept { λ _. ⌜ (length (now (out .entry)) < at + length (formattedFrom (policyOf (now (policy .entry))) (now (text .entry)) 0)
         → now (out .exit) ≡ now (out .entry)) ⌝ }
 {
-    if TEXT_LIMIT < text.len() {
+    if text.len() > TEXT_LIMIT {
         return at;
     }
     if out.len() < at {

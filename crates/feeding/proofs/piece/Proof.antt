@@ -73,7 +73,8 @@ sub-scan-piece c =
     let x = d .args in
     let f = x .feed .now in
     let b = x .piece .now in
-    let i = sym (c .before .before .before .before .before .is-feed .ensures) ∙ not-false _ (c .before .before .before .before .if1 .left) in
+    let i = sym (c .before .before .before .before .before .is-feed .ensures) ∙ not-false _
+    (c .before .before .before .before .if1 .left) in
     omega (arith, feed-length f i)
 
 part-scan-piece-start : tie.Need-part-scan-piece-start
@@ -82,7 +83,8 @@ part-scan-piece-start c =
     let x = d .before .args in
     let f = x .feed .now in
     let b = x .piece .now in
-    let i = sym (c .before .before .before .before .before .before .is-feed .ensures) ∙ not-false _ (c .before .before .before .before .before .if1 .left) in
+    let i = sym (c .before .before .before .before .before .before .is-feed .ensures) ∙ not-false _
+    (c .before .before .before .before .before .if1 .left) in
     omega (arith, feed-length f i)
 
 scan-piece-requires : tie.Need-scan-piece-requires
@@ -91,7 +93,8 @@ scan-piece-requires c κs =
     let x = d .before .before .args in
     let f = x .feed .now in
     let b = x .piece .now in
-    let i = sym (c .before .before .before .before .before .before .before .is-feed .ensures) ∙ not-false _ (c .before .before .before .before .before .before .if1 .left) in
+    let i = sym (c .before .before .before .before .before .before .before .is-feed .ensures) ∙ not-false _
+    (c .before .before .before .before .before .before .if1 .left) in
     let r = c .before .before .before .before .read-state .ensures in
     let s = c .before .before .before .before .read-state .result in
     (few-rest f b i r, omega (arith, c .before .before .if3 .left), unfinished-rest f b i r)
@@ -102,7 +105,8 @@ left-after-requires c κs =
     let x = d .before .before .before .args in
     let f = x .feed .now in
     let b = x .piece .now in
-    let i = sym (c .before .before .before .before .before .before .before .before .is-feed .ensures) ∙ not-false _ (c .before .before .before .before .before .before .before .if1 .left) in
+    let i = sym (c .before .before .before .before .before .before .before .before .is-feed .ensures) ∙ not-false _
+    (c .before .before .before .before .before .before .before .if1 .left) in
     let r = c .before .before .before .before .before .read-state .ensures in
     let s = c .before .before .before .before .before .read-state .result in
     let u = littleEndian (s .«rest_len») (s .rest) ++ b in (
@@ -141,7 +145,9 @@ returns-4 c =
     let i = sym (d .before .before .is-feed .ensures) ∙ not-false _ (d .before .if1 .left) in
     let r = c .before .before .before .before .before .before .before .before .before .read-state .ensures in
     let s = c .before .before .before .before .before .before .before .before .before .read-state .result in
-    ends-called (piece-3 f b (x .out .now) i r (c .before .before .before .before .before .before .before .before .if2 .left) (c .before .before .before .before .before .before .before .if3 .left) (c .before .before .before .before .scan-piece .ensures .valid-is)
+    ends-called (piece-3 f b (x .out .now) i r (c .before .before .before .before .before .before .before .before .if2 .left)
+    (c .before .before .before .before .before .before .before .if3 .left)
+    (c .before .before .before .before .scan-piece .ensures .valid-is)
     (c .before .before .before .left-after .ensures) (not-true _ (c .before .if4 .taken)) (c .minus .ensures))
 
 returns-5 : tie.Need-returns-5
@@ -153,7 +159,9 @@ returns-5 c =
     let i = sym (d .before .before .is-feed .ensures) ∙ not-false _ (d .before .if1 .left) in
     let r = c .before .before .before .before .before .before .before .before .before .read-state .ensures in
     let s = c .before .before .before .before .before .before .before .before .before .read-state .result in
-    ends-called (piece-8 f b (x .out .now) i r (c .before .before .before .before .before .before .before .before .if2 .left) (c .before .before .before .before .before .before .before .if3 .left) (c .before .before .before .before .scan-piece .ensures .valid-is)
+    ends-called (piece-8 f b (x .out .now) i r (c .before .before .before .before .before .before .before .before .if2 .left)
+    (c .before .before .before .before .before .before .before .if3 .left)
+    (c .before .before .before .before .scan-piece .ensures .valid-is)
     (c .before .before .before .left-after .ensures) (not-false _ (c .before .if4 .left)) (c .if5 .taken))
 
 sub-take-all : tie.Need-sub-take-all
@@ -172,7 +180,8 @@ part-take-all-start c =
     let x = e .args in
     let f = x .feed .now in
     let b = x .piece .now in
-    let i = sym (d .before .before .before .before .before .is-feed .ensures) ∙ not-false _ (d .before .before .before .before .if1 .left) in
+    let i = sym (d .before .before .before .before .before .is-feed .ensures) ∙ not-false _
+    (d .before .before .before .before .if1 .left) in
     omega (arith, feed-length f i)
 
 take-all-requires : tie.Need-take-all-requires
@@ -182,7 +191,8 @@ take-all-requires c κs =
     let x = e .before .before .args in
     let f = x .feed .now in
     let b = x .piece .now in
-    let i = sym (d .before .before .before .before .before .before .before .is-feed .ensures) ∙ not-false _ (d .before .before .before .before .before .before .if1 .left) in
+    let i = sym (d .before .before .before .before .before .before .before .is-feed .ensures) ∙ not-false _
+    (d .before .before .before .before .before .before .if1 .left) in
     let r = d .before .before .before .before .read-state .ensures in
     let s = d .before .before .before .before .read-state .result in
     let u = littleEndian (s .«rest_len») (s .rest) ++ b in
@@ -218,7 +228,8 @@ put-state-requires c κs =
     let x = g .args in
     let f = x .feed .now in
     let b = x .piece .now in
-    let i = sym (e .before .before .before .before .before .is-feed .ensures) ∙ not-false _ (e .before .before .before .before .if1 .left) in
+    let i = sym (e .before .before .before .before .before .is-feed .ensures) ∙ not-false _
+    (e .before .before .before .before .if1 .left) in
     omega (arith, feed-length f i)
 
 returns-6 : tie.Need-returns-6
@@ -229,16 +240,20 @@ returns-6 c =
     let x = g .before .before .before .args in
     let f = x .feed .now in
     let b = x .piece .now in
-    let i = sym (e .before .before .before .before .before .before .before .before .is-feed .ensures) ∙ not-false _ (e .before .before .before .before .before .before .before .if1 .left) in
+    let i = sym (e .before .before .before .before .before .before .before .before .is-feed .ensures) ∙ not-false _
+    (e .before .before .before .before .before .before .before .if1 .left) in
     let r = e .before .before .before .before .before .read-state .ensures in
     let s = e .before .before .before .before .before .read-state .result in
     let u = littleEndian (s .«rest_len») (s .rest) ++ b in
     let k = e .scan-piece in
-    ends-called (piece-done f b (x .out .now) i r (e .before .before .before .before .if2 .left) (e .before .before .before .if3 .left) (k .ensures .valid-is) (d .before .before .before .before .before .before .before .before .before .left-after .ensures)
-    (not-false _ (d .before .before .before .before .before .before .before .if4 .left)) (d .before .before .before .before .before .before .if5 .left)
+    ends-called (piece-done f b (x .out .now) i r (e .before .before .before .before .if2 .left) (e .before .before .before .if3 .left)
+    (k .ensures .valid-is) (d .before .before .before .before .before .before .before .before .before .left-after .ensures)
+    (not-false _ (d .before .before .before .before .before .before .before .if4 .left))
+    (d .before .before .before .before .before .before .if5 .left)
     (lent (chars u) (policy-lent f) (taken-as (sym (k .ensures .chars-are)) (d .take-all .ensures)))
     (c .before .before .before .before .before .kept-held .ensures (policyPart f))
-    (put-as _ (ap (λ (y : State). bytesOf (stateWords y)) (c .before .before .before .open-state .ensures)) (c .before .before .put-state .ensures)))
+    (put-as _ (ap (λ (y : State). bytesOf (stateWords y)) (c .before .before .before .open-state .ensures))
+    (c .before .before .put-state .ensures)))
 
 pub piece-spec : {M : Type 1} → statement M
 piece-spec =

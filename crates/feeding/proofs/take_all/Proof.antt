@@ -20,8 +20,13 @@ use Rattle.feeding.proofs.take_all.Tie as tie
 take-first-requires : tie.Need-take-first-requires
 take-first-requires c κs =
     let x = c .before .before .before .before .args in
-    let q = c .before .before .before .before .pre in
-    (q .0, q .3 .is-scalar, q .2, first-room (policyOf (x .policy .now)) (x .piece .now) (x .scan) (x .held) (x .counts) (x .out .now) (q .0) (q .4))
+    let q = c .before .before .before .before .pre in (
+      q .0,
+      q .3 .is-scalar,
+      q .2,
+      first-room (policyOf (x .policy .now)) (x .piece .now) (x .scan) (x .held) (x .counts) (x .out .now)
+          (q .0) (q .4),
+    )
 
 take-selectors-requires : tie.Need-take-selectors-requires
 take-selectors-requires c κs =
@@ -36,7 +41,8 @@ returns c =
     let q = c .before .before .before .before .before .before .before .before .before .before .before .pre in
     let t = c .before .before .before .before .before .before .take-first .ensures in
     let g = c .before .before .before .take-selectors .ensures .so-far in
-    no-rest (policyOf (x .policy .now)) (x .piece .now) (x .scan) (x .held) (x .counts) t g (selectors-last g (q .3 .end-is) (c .if1 .taken))
+    no-rest (policyOf (x .policy .now)) (x .piece .now) (x .scan) (x .held) (x .counts) t g (selectors-last g (q .3 .end-is)
+    (c .if1 .taken))
 
 take-rest-requires : tie.Need-take-rest-requires
 take-rest-requires c κs =
@@ -58,8 +64,9 @@ take-rest-requires c κs =
 
 returns-2 : tie.Need-returns-2
 returns-2 c =
-    let x = c .before .before .before .before .before .before .before .before .before .before .before .before .before .before .before .args in
-    let t = c .before .before .before .before .before .before .before .before .before .before .take-first .ensures in
+    let d = c .before .before .before .before .before .before .before .before .before .before in
+    let x = d .before .before .before .before .before .args in
+    let t = d .take-first .ensures in
     let g = c .before .before .before .before .before .before .before .take-selectors .ensures .so-far in
     with-rest (policyOf (x .policy .now)) (x .piece .now) (x .scan) (x .held) (x .counts) t g (c .before .before .take-rest .ensures)
 

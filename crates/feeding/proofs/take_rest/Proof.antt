@@ -25,10 +25,12 @@ put-held-requires c κs =
     let p = policyOf (x .policy .now) in
     let t = c .before .before .before .before .find-tail .result in
     let r = rest-of p (x .piece .now) (x .at) (x .end) t (q .3) (q .4) (q .5) (c .before .before .before .before .find-tail .ensures) in
-    let f = first-is p (x .piece .now) (x .at) (x .end) t r (x .taken .held) (x .taken .counts) (c .before .before .decode .result) (c .before .before .decode .ensures) in
+    let f = first-is p (x .piece .now) (x .at) (x .end) t r (x .taken .held) (x .taken .counts) (c .before .before .decode .result)
+    (c .before .before .decode .ensures) in
     let k = c .before .class-of .ensures ∙ ap classOf f in (
       q .0,
-      subst (λ (y : Class). x .taken .end + length (encodeAll (settle (pendingOf p (x .taken .held)) y .text)) ≤ length (x .out .now)) (sym k)
+      subst (λ (y : Class). x .taken .end + length (encodeAll (settle (pendingOf p (x .taken .held)) y .text)) ≤ length (x .out .now))
+          (sym k)
           (held-room p (x .piece .now) (x .at) (x .end) t r (x .taken .held) (x .taken .counts) (x .out .now) (x .taken .end) (q .7)),
     )
 
@@ -38,7 +40,8 @@ sub-put-middle c =
     let q = c .before .before .before .before .before .before .before .before .before .before .before .pre in
     let p = policyOf (x .policy .now) in
     let t = c .before .before .before .before .before .before .before .find-tail .result in
-    rest-of p (x .piece .now) (x .at) (x .end) t (q .3) (q .4) (q .5) (c .before .before .before .before .before .before .before .find-tail .ensures) .on
+    rest-of p (x .piece .now) (x .at) (x .end) t (q .3) (q .4) (q .5)
+    (c .before .before .before .before .before .before .before .find-tail .ensures) .on
 
 part-put-middle-start : tie.Need-part-put-middle-start
 part-put-middle-start c =
@@ -46,7 +49,8 @@ part-put-middle-start c =
     let q = c .before .before .before .before .before .before .before .before .before .before .before .pre in
     let p = policyOf (x .policy .now) in
     let t = c .before .before .before .before .before .before .before .find-tail .result in
-    rest-of p (x .piece .now) (x .at) (x .end) t (q .3) (q .4) (q .5) (c .before .before .before .before .before .before .before .find-tail .ensures) .on
+    rest-of p (x .piece .now) (x .at) (x .end) t (q .3) (q .4) (q .5)
+    (c .before .before .before .before .before .before .before .find-tail .ensures) .on
 
 part-put-middle-end : tie.Need-part-put-middle-end
 part-put-middle-end c =
@@ -54,7 +58,8 @@ part-put-middle-end c =
     let q = c .before .before .before .before .before .before .before .before .before .before .before .pre in
     let p = policyOf (x .policy .now) in
     let t = c .before .before .before .before .before .before .before .find-tail .result in
-    let r = rest-of p (x .piece .now) (x .at) (x .end) t (q .3) (q .4) (q .5) (c .before .before .before .before .before .before .before .find-tail .ensures) in
+    let r = rest-of p (x .piece .now) (x .at) (x .end) t (q .3) (q .4) (q .5)
+    (c .before .before .before .before .before .before .before .find-tail .ensures) in
     omega (arith, r .inside, q .3, q .4, validUpTo-le (drop (x .at) (x .piece .now)), length-drop (x .at) (x .piece .now))
 
 put-middle-requires : tie.Need-put-middle-requires
@@ -63,8 +68,11 @@ put-middle-requires c κs =
     let q = c .before .before .before .before .before .before .before .before .before .before .before .before .before .pre in
     let p = policyOf (x .policy .now) in
     let t = c .before .before .before .before .before .before .before .before .before .find-tail .result in
-    let r = rest-of p (x .piece .now) (x .at) (x .end) t (q .3) (q .4) (q .5) (c .before .before .before .before .before .before .before .before .before .find-tail .ensures) in
-    let f = first-is p (x .piece .now) (x .at) (x .end) t r (x .taken .held) (x .taken .counts) (c .before .before .before .before .before .before .before .decode .result) (c .before .before .before .before .before .before .before .decode .ensures) in
+    let r = rest-of p (x .piece .now) (x .at) (x .end) t (q .3) (q .4) (q .5)
+    (c .before .before .before .before .before .before .before .before .before .find-tail .ensures) in
+    let f = first-is p (x .piece .now) (x .at) (x .end) t r (x .taken .held) (x .taken .counts)
+    (c .before .before .before .before .before .before .before .decode .result)
+    (c .before .before .before .before .before .before .before .decode .ensures) in
     let k = c .before .before .before .before .before .before .class-of .ensures ∙ ap classOf f in
     let h = c .before .before .before .before .put-held in
     let w = put-before (pendingOf p (x .taken .held)) k (h .ensures .0) in (
@@ -76,18 +84,24 @@ put-middle-requires c κs =
 
 returns : tie.Need-returns
 returns c =
-    let x = c .before .before .before .before .before .before .before .before .before .before .before .before .before .before .before .before .before .before .before .before .args in
-    let q = c .before .before .before .before .before .before .before .before .before .before .before .before .before .before .before .before .before .before .before .before .pre in
+    let d = c .before .before .before .before .before .before .before .before .before .before in
+    let x = d .before .before .before .before .before .before .before .before .before .before .args in
+    let q = d .before .before .before .before .before .before .before .before .before .before .pre in
     let p = policyOf (x .policy .now) in
-    let t = c .before .before .before .before .before .before .before .before .before .before .before .before .before .before .before .before .find-tail .result in
-    let r = rest-of p (x .piece .now) (x .at) (x .end) t (q .3) (q .4) (q .5) (c .before .before .before .before .before .before .before .before .before .before .before .before .before .before .before .before .find-tail .ensures) in
-    let f = first-is p (x .piece .now) (x .at) (x .end) t r (x .taken .held) (x .taken .counts) (c .before .before .before .before .before .before .before .before .before .before .before .before .before .before .decode .result) (c .before .before .before .before .before .before .before .before .before .before .before .before .before .before .decode .ensures) in
-    let k = c .before .before .before .before .before .before .before .before .before .before .before .before .before .class-of .ensures ∙ ap classOf f in
-    let h = c .before .before .before .before .before .before .before .before .before .before .before .put-held in
+    let t = d .before .before .before .before .before .before .find-tail .result in
+    let r = rest-of p (x .piece .now) (x .at) (x .end) t (q .3) (q .4) (q .5)
+    (d .before .before .before .before .before .before .find-tail .ensures) in
+    let f = first-is p (x .piece .now) (x .at) (x .end) t r (x .taken .held) (x .taken .counts)
+    (d .before .before .before .before .decode .result)
+    (d .before .before .before .before .decode .ensures) in
+    let k = d .before .before .before .class-of .ensures
+    ∙ ap classOf f in
+    let h = d .before .put-held in
     let w = put-before (pendingOf p (x .taken .held)) k (h .ensures .0) in
     let m = c .before .before .before .before .before .before .put-middle in
     rest-taken p (x .piece .now) (x .at) (x .end) t r (x .taken .held) (x .taken .counts) (q .1) (q .2) w
-    (h .ensures .1 ∙ ap (λ (y : Class). settle (pendingOf p (x .taken .held)) y .counts) k) (m .ensures .0) (m .ensures .1) (c .before .before .add .ensures) (c .before .add2 .ensures)
+    (h .ensures .1 ∙ ap (λ (y : Class). settle (pendingOf p (x .taken .held)) y .counts) k) (m .ensures .0) (m .ensures .1)
+    (c .before .before .add .ensures) (c .before .add2 .ensures)
 
 pub take-rest-spec : {M : Type 1} → statement M
 take-rest-spec =

@@ -19,20 +19,34 @@ loop-holds : tie.Need-loop-holds Inv-loop μ-loop
 loop-holds c = let x = c .before .args in selectors-begin (x .piece .now) (x .from) (x .start) (c .before .pre .0) (c .before .pre .3)
 
 take-selector-requires : tie.Need-take-selector-requires Inv-loop μ-loop
-take-selector-requires c κs = let g = c .before .before .before .before .loop .inv in (selectors-scalar g, selectors-few g (c .before .before .before .before .before .before .pre .2) (c .before .before .before .before .before .before .pre .1))
+take-selector-requires c κs = let g = c .before .before .before .before .loop .inv in (
+  selectors-scalar g,
+  selectors-few g
+      (c .before .before .before .before .before .before .pre .2) (c .before .before .before .before .before .before .pre .1),
+)
 
 add-at : tie.Need-add-at Inv-loop μ-loop
 add-at c =
-    omega (arith, c .before .before .before .before .before .loop .inv .inside, c .before .before .before .before .before .before .before .pre .2)
+    omega
+    (arith, c .before .before .before .before .before .loop .inv .inside, c .before .before .before .before .before .before .before .pre .2)
 
 loop-less : tie.Need-loop-less Inv-loop μ-loop
-loop-less c = omega (arith, selectors-room (c .before .before .before .before .before .loop .inv) (sym (c .before .before .before .before .selector-at .ensures) ∙ c .before .before .presentation .given .1))
+loop-less c = omega (
+  arith,
+  selectors-room (c .before .before .before .before .before .loop .inv) (sym
+      (c .before .before .before .before .selector-at .ensures) ∙ c .before .before .presentation .given .1),
+)
 
 loop-again : tie.Need-loop-again Inv-loop μ-loop
-loop-again c = selectors-on (c .before .before .before .before .before .loop .inv) (sym (c .before .before .before .before .selector-at .ensures) ∙ c .before .before .presentation .given .1) (c .take-selector .ensures)
+loop-again c = selectors-on (c .before .before .before .before .before .loop .inv) (sym
+    (c .before .before .before .before .selector-at .ensures) ∙ c .before .before .presentation .given .1) (c .take-selector .ensures)
 
 returns : tie.Need-returns Inv-loop μ-loop
-returns c = record { so-far = c .before .before .before .loop .inv; none-more = sym (c .before .before .selector-at .ensures) ∙ c .enum-told .given .1 }
+returns c = record {
+  so-far = c .before .before .before .loop .inv;
+  none-more = sym (c .before .before .selector-at .ensures)
+      ∙ c .enum-told .given .1;
+}
 
 pub take-selectors-spec : {M : Type 1} → statement M
 take-selectors-spec =

@@ -30,15 +30,20 @@ put-changes-requires : tie.Need-put-changes-requires
 put-changes-requires c κs =
     let x = c .before .before .before .before .before .before .before .before .before .args in
     let F = length (formattedFrom (policyOf (x .policy .now)) (x .text .now) 0) in
-    let n = leb-true F (length (x .out .now) - x .at) (sym (c .before .before .formatted-fits .ensures) ∙ not-false _ (c .before .if3 .left)) in
+    let n = leb-true F (length (x .out .now) - x .at) (sym (c .before .before .formatted-fits .ensures) ∙ not-false _
+    (c .before .if3 .left)) in
     (omega arith, c .before .before .before .next-change .ensures, omega (arith, n, c .before .before .before .before .if2 .left))
 
 returns-4 : tie.Need-returns-4
 returns-4 c =
     let x = c .before .before .before .before .before .before .before .before .before .before .before .before .args in
     let F = length (formattedFrom (policyOf (x .policy .now)) (x .text .now) 0) in
-    let n = leb-true F (length (x .out .now) - x .at) (sym (c .before .before .before .before .before .formatted-fits .ensures) ∙ not-false _ (c .before .before .before .before .if3 .left)) in
-    (λ l f. c .before .before .put-changes .ensures, λ h. absurd (omega (arith, n, c .before .before .before .before .before .before .before .if2 .left)))
+    let n = leb-true F (length (x .out .now) - x .at) (sym (c .before .before .before .before .before .formatted-fits .ensures)
+    ∙ not-false _ (c .before .before .before .before .if3 .left)) in (
+      λ l f. c .before .before .put-changes .ensures,
+      λ h. absurd (omega
+          (arith, n, c .before .before .before .before .before .before .before .if2 .left)),
+    )
 
 pub write-formatted-spec : {M : Type 1} → statement M
 write-formatted-spec =

@@ -22,12 +22,18 @@ returns c =
     let z = q .2 (c .before .before .before .before .before .if1 .taken) in
     let same = sym (encodeAll-chars t (q .1)) ∙ ap encodeAll (sym (quiet-same p (chars t) z)) in (
       put-as (encodeAll (formatCells p (chars t))) same
-          (bytes-put (x .out .now) (c .before .before .before .write-bytes .last .0) (x .at) t (omega (arith, ap length same, q .3)) (c .before .before .before .write-bytes .ensures .1)),
+          (bytes-put (x .out .now) (c .before .before .before .write-bytes .last .0) (x .at) t (omega (arith, ap length same, q .3))
+          (c .before .before .before .write-bytes .ensures .1)),
       c .empty .ensures ∙ sym (quiet-empty p (chars t) z),
     )
 
 returns-2 : tie.Need-returns-2
-returns-2 c = (c .before .before .write-formatted .ensures .0 (c .before .before .before .before .before .before .before .before .before .pre .0) (c .before .before .before .before .before .before .before .before .before .pre .3), c .before .before .before .before .text-totals .ensures)
+returns-2 c = (
+  c .before .before .write-formatted .ensures .0
+      (c .before .before .before .before .before .before .before .before .before .pre .0)
+      (c .before .before .before .before .before .before .before .before .before .pre .3),
+  c .before .before .before .before .text-totals .ensures,
+)
 
 pub put-middle-spec : {M : Type 1} → statement M
 put-middle-spec =

@@ -1,4 +1,5 @@
--- `feeding::middle::text_totals` meets its contract. The loop's invariant: what was added up and the counts of the findings from `at` on are the totals.
+-- `feeding::middle::text_totals` meets its contract. The loop's invariant: what was added up and the counts of the findings from `at` on
+-- are the totals.
 use Prim.Native.Nat.{_-_}
 use native.Mathlib.Omega.{arith}
 use lib.ListN.{length}
@@ -37,7 +38,8 @@ loop-again c =
     let x = c .before .before .before .before .before .before .before .before .args in
     let n = c .before .before .before .next-finding in
     let f = n .ensures .1 (not-false (n .result .present) (c .before .if1 .left)) .1 in
-    summing-on (policyOf (x .policy .now)) (x .text .now) (c .before .before .before .before .loop .inv) (over-none (n .ensures .0)) f (c .add .ensures) (finds-room (f .finds))
+    summing-on (policyOf (x .policy .now)) (x .text .now) (c .before .before .before .before .loop .inv) (over-none (n .ensures .0)) f
+    (c .add .ensures) (finds-room (f .finds))
     (c .before .before .before .before .before .before .before .before .pre)
 
 pub text-totals-spec : {M : Type 1} → statement M

@@ -22,19 +22,26 @@ loop-less : tie.Need-loop-less Inv-loop μ-loop
 loop-less c = c .before .before .before .last-char .ensures .before
 
 loop-again : tie.Need-loop-again Inv-loop μ-loop
-loop-again c = backing-on (c .before .before .before .before .loop .inv) (c .before .before .before .last-char .ensures) (c .before .before .before .before .before .before .pre .2) (sym (c .before .before .selector-at .ensures) ∙ c .enum-told .given .1)
+loop-again c = backing-on (c .before .before .before .before .loop .inv) (c .before .before .before .last-char .ensures)
+    (c .before .before .before .before .before .before .pre .2) (sym (c .before .before .selector-at .ensures) ∙ c .enum-told .given .1)
 
 held-at-requires : tie.Need-held-at-requires Inv-loop μ-loop
 held-at-requires c κs = omega (arith, c .before .before .before .before .before .before .before .loop .inv .ends)
 
 returns : tie.Need-returns Inv-loop μ-loop
 returns c =
-    tail-held (c .before .before .before .before .before .before .before .before .loop .inv) (c .before .before .before .before .before .before .before .last-char .ensures) (sym (c .before .before .before .before .before .before .selector-at .ensures) ∙ c .before .before .before .before .enum-told2 .given .1) (c .before .before .before .decode .ensures)
+    tail-held (c .before .before .before .before .before .before .before .before .loop .inv)
+    (c .before .before .before .before .before .before .before .last-char .ensures) (sym
+    (c .before .before .before .before .before .before .selector-at .ensures) ∙ c .before .before .before .before .enum-told2 .given .1)
+    (c .before .before .before .decode .ensures)
     (sym (c .before .before .has-variation-sequence-by-block .ensures) ∙ c .before .if1 .taken) (c .held-at .ensures)
 
 returns-2 : tie.Need-returns-2 Inv-loop μ-loop
 returns-2 c =
-    tail-none (c .before .before .before .before .before .before .before .before .loop .inv) (c .before .before .before .before .before .before .before .last-char .ensures) (sym (c .before .before .before .before .before .before .selector-at .ensures) ∙ c .before .before .before .before .enum-told2 .given .1) (c .before .before .before .decode .ensures)
+    tail-none (c .before .before .before .before .before .before .before .before .loop .inv)
+    (c .before .before .before .before .before .before .before .last-char .ensures) (sym
+    (c .before .before .before .before .before .before .selector-at .ensures) ∙ c .before .before .before .before .enum-told2 .given .1)
+    (c .before .before .before .decode .ensures)
     (sym (c .before .before .has-variation-sequence-by-block .ensures) ∙ c .before .if1 .left) (c .none-held .ensures)
 
 pub find-tail-spec : {M : Type 1} → statement M
