@@ -244,8 +244,8 @@ module _ (p : Policy) (cs : List Call) where
   abbrev pub X : List Fed
   X = allFed (newFeed p) cs
 
-  -- The characters are those of the thread, the rest is what is unfinished, what is held is what taking them holds, and text and totals are those of the characters formatted as
-  -- a whole: after the end, and before it with the held base.
+  -- The characters are those of the thread, the rest is what is unfinished, and the held base is that of taking these characters. Text and
+  -- totals are those of the characters formatted as a whole: after the end, and before it with the held base.
   pub record FeedClaim : Type 0 where
     pub characters : charsOf X ≡ chars T
     pub left : F .rest ≡ drop (validUpTo T) T

@@ -2,13 +2,12 @@
 use mathlib.Core.Path.{_≡_, refl, ap, ap₂, sym, _∙_, subst}
 use mathlib.Core.Bool.{Bool, true, false}
 use mathlib.Core.List.{List, [], _∷_, _++_, append-assoc, append-nil, map}
-use Prim.Native.Nat.{ℕ, suc, _+_}
+use Prim.Native.Nat.{ℕ, suc}
 use native.Mathlib.Omega.{arith}
 use lib.ListN.{length, length-append}
 use Rattle.unicode.specs.Presentation.{asSelector, fromSelector, isSelector}
 use Rattle.unicode.specs.Unicode.{hasVariationSequence}
 use Rattle.unicode.specs.declared.presentation.FromSelector.{FromSelector}
-use Rattle.unicode.specs.declared.presentation.FromSelector.the-variants.{NoSelector, Selector}
 use Rattle.unicode.specs.declared.presentation.Presentation.{Presentation}
 use Rattle.policy.specs.declared.Policy.{Policy}
 use Rattle.scanner.proofs.SelectorChars.{CharIs, a-selector, char-is, from-other, from-selector, no-selector}

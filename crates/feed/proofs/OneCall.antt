@@ -26,7 +26,20 @@ use Rattle.analysis.proofs.Replacement.{remaining-none, render-cons, renewed}
 use Rattle.formatter.specs.Findings.{textTotals}
 use Rattle.formatter.specs.Format.{formatted}
 use Rattle.formatter.proofs.CellView.{cell-view}
-use Rattle.feed.specs.Feed.{Fed, Pending, cellBefore, charsOf, countFed, fedAs, formatFed, judged, nothing, settle, takeChars, totalFed}
+use Rattle.feed.specs.Feed.{
+  Fed,
+  Pending,
+  cellBefore,
+  charsOf,
+  countFed,
+  fedAs,
+  formatFed,
+  judged,
+  nothing,
+  settle,
+  takeChars,
+  totalFed,
+}
 use Rattle.feed.specs.Calls.{
   Answer,
   Call,
