@@ -90,7 +90,7 @@ impl<'a> Batch<'a> {
     /// attributes. Of a symbolic link it is the file that it leads to.
     pub fn prepare(&mut self, source: &Source, text: &Text, bytes: &[u8]) -> io::Result<()> {
         let (Source::File(path), Some((read, seen))) = (source, &text.file) else {
-            return Err(fault("it is no file"));
+            return Err(fault("it is not a regular file"));
         };
         accept(seen)?;
         let path = if fs::symlink_metadata(path)?.is_symlink() {
@@ -207,7 +207,7 @@ impl Beside {
                 Err(error) => return Err(error),
             }
         }
-        Err(fault("no name for the file beside it is free"))
+        Err(fault("no name for a temporary file in its folder is free"))
     }
 }
 
@@ -384,7 +384,7 @@ fn is_as_seen(path: &Path, seen: &Metadata) -> io::Result<()> {
     let found = fs::symlink_metadata(path)?;
     if (bytes(&found), rights(&found)) != (bytes(seen), rights(seen)) {
         return Err(fault(
-            "it was changed by another meanwhile, and was left as it is",
+            "another program changed it during the run, so it was not written",
         ));
     }
     Ok(())
