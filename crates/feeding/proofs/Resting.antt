@@ -46,7 +46,8 @@ use Rattle.feeding.proofs.Cuts.{middle-held, middle-none, quiet-before,
 use Rattle.feeding.proofs.Settling.{settle-few}
 use Rattle.feeding.proofs.Summing.{total-few}
 use Rattle.feeding.proofs.Tails.{first-read, packed-value, valid-between}
-use Rattle.feeding.proofs.Taking.{by, entry-some, pending-none, pending-some}
+use Rattle.feed.proofs.Kept.{entry-some}
+use Rattle.feeding.proofs.Taking.{by, pending-none, pending-some}
 
 -- ---- a part between two offsets
 

@@ -1,6 +1,6 @@
 -- Characters that are taken one after the other.
 use mathlib.Core.Path.{_≡_, refl, ap, ap₂, sym, _∙_, subst}
-use mathlib.Core.Bool.{Bool, true, false, cond, true≢false}
+use mathlib.Core.Bool.{Bool, true, false, cond}
 use mathlib.Core.List.{List, [], _∷_, _++_, append-nil}
 use Prim.Native.Nat.{ℕ, suc, _+_, _*_, _≤_}
 use native.Mathlib.Omega.{arith}
@@ -12,9 +12,7 @@ use Rattle.base.proofs.Writer.{put-as, put-then}
 use Rattle.utf8.specs.Rfc3629.{encode, encodeAll, isScalar}
 use Rattle.utf8.proofs.Texts.{encodeAll-append}
 use Rattle.unicode.specs.Presentation.{asSelector, fromSelector}
-use Rattle.unicode.specs.Tables.{member}
 use Rattle.unicode.specs.Unicode.{hasVariationSequence}
-use Rattle.unicode.specs.UnicodeData.{variationEntries}
 use Rattle.unicode.specs.declared.presentation.FromSelector.{FromSelector}
 use Rattle.unicode.specs.declared.presentation.FromSelector.the-variants.{NoSelector}
 use Rattle.unicode.specs.declared.presentation.Presentation.{Presentation}
@@ -42,6 +40,7 @@ use Rattle.feed.specs.Feed.{
   takeSelector,
 }
 use Rattle.feed.proofs.Calls.{R, take-append}
+use Rattle.feed.proofs.Kept.{entry-some}
 use Rattle.feed.specs.declared.Held.{Held}
 use Rattle.feeding.specs.declared.Taken.{Taken}
 use Rattle.feed.specs.Bytes.{pendingOf}
@@ -70,13 +69,6 @@ pub one-other : (p : Policy) (s : Pending) (c : ℕ) → fromSelector c ≡ NoSe
     ≡ otherwise p s c (hasVariationSequence c)
 unfolding takeChar
 one-other p s c e = take-one s (record { char = c; policy = p }) ∙ ap (λ (y : FromSelector). takeChar p s c y) e
-
-no-zero : hasVariationSequence 0 ≡ false
-unfolding hasVariationSequence member variationEntries
-no-zero = refl
-
-pub entry-some : (c : ℕ) → hasVariationSequence c ≡ true → c ≡ 0 → ⊥
-entry-some c e z = true≢false (sym e ∙ ap hasVariationSequence z ∙ no-zero)
 
 pub pending-none : (p : Policy) (h : Held) → h .base ≡ 0 → pendingOf p h ≡ nothing
 pending-none p h e = ap (λ (t : Bool). cond t nothing (base p (h .base) (h .first) (h .count))) (eq-eqb (h .base) 0 e)
