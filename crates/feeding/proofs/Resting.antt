@@ -5,7 +5,7 @@ use mathlib.Core.List.{List, [], _∷_, _++_, append-nil, map}
 use Prim.Native.Nat.{ℕ, _+_, _-_, _/_, _<_, _≤_}
 use native.Mathlib.Omega.{arith}
 use lib.ListN.{drop, length, length-append, length-drop, length-map, length-take, take}
-use lib.Seq.{length-sets}
+use lib.Seq.{length-sets, length-take-le}
 use Rattle.base.specs.Output.{PutAt}
 use Rattle.base.proofs.Tests.{and-both, both-true}
 use Rattle.base.proofs.Writer.{put-as, put-then}
@@ -15,6 +15,7 @@ use Rattle.utf8.proofs.Texts.{
   chars-allScalar,
   chars-encodeAll-alone,
   encodeAll-append,
+  encodeAll-chars,
   encodeAll-whole,
   length-encodeAll-chars,
   validUpTo-le,
@@ -29,20 +30,20 @@ use Rattle.scanner.specs.declared.char_class.Class.{Class}
 use Rattle.scanner.proofs.Bytes.{take-chars}
 use Rattle.scanner.proofs.SelectorChars.{other-value}
 use Rattle.analysis.specs.CellView.{formatCells, totalCells}
-use Rattle.analysis.specs.Counts.{_⊕_, cappedSum, total}
+use Rattle.analysis.specs.Counts.{_⊕_, cappedSum, empty, total}
 use Rattle.analysis.specs.Rules.{firstAsked}
 use Rattle.analysis.specs.declared.types.NonCanonicality.{NonCanonicality}
-use Rattle.analysis.proofs.Counts.{plus-assoc}
+use Rattle.analysis.proofs.Counts.{plus-assoc, plus-empty}
 use Rattle.analysis.proofs.Sums.{whole-sum}
 use Rattle.feed.specs.Bytes.{pendingOf}
-use Rattle.feed.specs.Feed.{Effect, Fed, Pending, base, fedAs, joinEffects, settle, takeChars}
+use Rattle.feed.specs.Feed.{Effect, Fed, Pending, base, fedAs, joinEffects, noEffect, nothing, settle, takeChars}
 use Rattle.feed.specs.declared.Held.{Held}
 use Rattle.feed.proofs.Calls.{R}
 use Rattle.feed.proofs.PieceRoom.{count-le}
 use Rattle.feeding.specs.Helpers.{TakenBy}
 use Rattle.feeding.specs.Parts.{BaseFrom, Between, TailFrom, none-held, one-held}
 use Rattle.feeding.specs.declared.tail.HeldTail.{HeldTail}
-use Rattle.feeding.proofs.Cuts.{middle-held, middle-none, quiet-before, wholeEffect}
+use Rattle.feeding.proofs.Cuts.{middle-held, middle-none, quiet-before, quiet-empty, quiet-same, wholeEffect}
 use Rattle.feeding.proofs.Settling.{settle-few}
 use Rattle.feeding.proofs.Summing.{total-few}
 use Rattle.feeding.proofs.Tails.{first-read, packed-value, valid-between}
@@ -244,6 +245,41 @@ module _ (p : Policy) (text : List ℕ) (at to : ℕ) (t : HeldTail) where
         (put-then x y))
         refl ls (r .scalar)
         (omega (arith, ap total ls, u, v, r .few, length-map C one, ap length (r .chars-are)))
+
+    -- Where nothing is held and nothing is counted, the middle is copied.
+    module _ (z : h .base ≡ 0) (quiet : total (totalCells p C) ≡ 0) where
+      abbrev none : pendingOf p h ≡ nothing
+      none = pending-none p h z
+
+      copied : encodeAll (formatCells p (chars M)) ≡ M
+      copied = ap encodeAll (quiet-same p (chars M) (r .quiet quiet)) ∙ encodeAll-chars M (r .whole)
+
+      nothing-settled : S ≡ noEffect
+      unfolding settle
+      nothing-settled = ap (λ (s : Pending). settle s (classOf (r .first))) none
+
+      pub copied-room : (o : List ℕ) (e : ℕ) → e + length (encodeAll (takeChars (pendingOf p h) (fedAs p C) .1 .text)) ≤ length o
+          → to ≤ length text → e + (t .start - at) ≤ length o
+      copied-room o e l i =
+          let a = length-take-le (t .start - at) (drop at text) (omega (arith, length-drop at text, r .inside)) in
+          omega (arith, written-length, ap length copied)
+
+      pub rest-copied : {o o₁ : List ℕ} {e e₁ : ℕ} → PutAt o e M o₁ e₁
+          → TakenBy p h n (fedAs p C) o e o₁ (record { held = t .held; end = e₁; counts = n })
+      unfolding encodeAll
+      rest-copied {o} {o₁} {e} {e₁} w =
+          let one : ℕ → Fed = λ (c : ℕ). record { char = c; policy = p } in
+          let taken : takeChars (pendingOf p h) (fedAs p C) ≡ (pendingOf p (t .held), joinEffects noEffect (wholeEffect p (chars M))) =
+          r .taken (pendingOf p h) ∙ ap (λ (s : Effect). (
+            pendingOf p (t .held),
+            joinEffects s (wholeEffect p
+                (chars M)),
+          )) nothing-settled in
+          by p h n (fedAs p C) o e o₁ (record { held = t .held; end = e₁; counts = n })
+          (pendingOf p (t .held), joinEffects noEffect (wholeEffect p (chars M))) taken
+          (put-as (encodeAll (formatCells p (chars M))) (sym copied) w) refl
+          (sym (ap (λ (m : NonCanonicality). n ⊕ (empty ⊕ m)) (quiet-empty p (chars M) (r .quiet quiet)) ∙ plus-empty n)) (r .scalar)
+          (omega (arith, r .few, length-map C one))
 
   pub part-length : length M ≤ length text
   part-length = omega (arith, length-take (t .start - at) (drop at text), length-drop at text)

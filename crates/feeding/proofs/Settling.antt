@@ -194,3 +194,11 @@ pub sum-now : (bs : List ℕ) (k : Class) → isFeed bs ≡ true
 sum-now bs k h =
     whole-sum (stateOf bs .counts) (settle (pendingOf (policyPart bs) (stateOf bs .held)) k .counts)
     (omega (arith, few-stored bs h, few-held bs h, settle-few (policyPart bs) (stateOf bs .held) k))
+
+-- Bytes of another length are no feed.
+pub other-length : (bs : List ℕ) → (length bs ≡ 312 → ⊥) → isFeed bs ≡ false
+other-length bs n = go (isFeed bs) refl
+  where
+    go : (t : Bool) → isFeed bs ≡ t → isFeed bs ≡ false
+    go true e = absurd (n (feed-length bs e))
+    go false e = e

@@ -11,7 +11,7 @@ ghost use mathlib.Core.Path.{_≡_};
 ghost use mathlib.Core.Bool.{true};
 ghost use mathlib.Core.List.{List, [], _∷_, _++_, map};
 ghost use Prim.Native.Nat.{ℕ, _+_, _*_, _-_, _/_, _≤_, _<_};
-ghost use lib.ListN.{drop, getD, length};
+ghost use lib.ListN.{drop, getD, length, take};
 ghost use Rattle.base.specs.Answers.{EndsAs};
 ghost use Rattle.base.specs.Output.{PutAt, Wrote};
 ghost use Rattle.base.specs.Words.{bytesOf, littleEndian};
@@ -195,8 +195,8 @@ fn put_held(policy: &[u8], held: Held, next: Class, out: &mut [u8], at: usize) -
     Settled { end, counts }
 }
 
-// Returns the totals, as if the thread ended here.
-fn totals_now(feed: &[u8]) -> NonCanonicality
+// Returns the totals, for bytes that have the length of a feed.
+fn feed_totals(feed: &[u8]) -> NonCanonicality
     ensures { λ r. ⌜ r ≡ totalsOf (now (feed .entry)) ⌝ }
 {
     if !is_feed(feed) {
@@ -206,6 +206,16 @@ fn totals_now(feed: &[u8]) -> NonCanonicality
     let held = state.held;
     let counts = state.counts;
     counts.add(held_counts(&feed[STATE_BYTES..], held, Class::Other))
+}
+
+// Returns the totals, as if the thread ended here.
+fn totals_now(feed: &[u8]) -> NonCanonicality
+    ensures { λ r. ⌜ r ≡ totalsOf (now (feed .entry)) ⌝ }
+{
+    if feed.len() != FEED_BYTES {
+        return NonCanonicality::empty();
+    }
+    feed_totals(feed)
 }
 
 // Returns the eight counts in document 01's order.
@@ -256,8 +266,8 @@ fn ended_state(len: usize, counts: NonCanonicality) -> State
     }
 }
 
-// Ends a feed: writes the held base, or refuses.
-pub fn end(feed: &mut [u8], out: &mut [u8]) -> FeedAnswer
+// Ends a feed, for bytes that have the length of a feed.
+fn end_feed(feed: &mut [u8], out: &mut [u8]) -> FeedAnswer
     ensures { λ r. ⌜ EndsCalled (called (now (feed .entry)) (Calls.end (now (out .entry)))) r (now (feed .exit)) (now (out .exit)) ⌝ }
 {
     if !is_feed(feed) {
@@ -279,6 +289,16 @@ pub fn end(feed: &mut [u8], out: &mut [u8]) -> FeedAnswer
     let last = settled.counts;
     put_state(feed, ended_state(state.len, counts.add(last)));
     FeedAnswer::Written { len: settled.end }
+}
+
+// Ends a feed: writes the held base, or refuses.
+pub fn end(feed: &mut [u8], out: &mut [u8]) -> FeedAnswer
+    ensures { λ r. ⌜ EndsCalled (called (now (feed .entry)) (Calls.end (now (out .entry)))) r (now (feed .exit)) (now (out .exit)) ⌝ }
+{
+    if feed.len() != FEED_BYTES {
+        return FeedAnswer::Refused(Refusal::FeedEnded);
+    }
+    end_feed(feed, out)
 }
 
 // Returns byte k of the unfinished bytes and the piece after them, or 0 after their end.
@@ -488,6 +508,25 @@ fn take_selectors(start: Taken, piece: &[u8], from: usize) -> Front
     }
 }
 
+// Tests whether the middle of a piece is copied: nothing is counted in it, and no base is held before it.
+fn is_copied(plain: bool, base: u32) -> bool
+    ensures { λ r. ⌜ (r ≡ true → (plain ≡ true) × (base ≡ 0)) ⌝ }
+{
+    if !plain {
+        return false;
+    }
+    base == 0
+}
+
+// Copies a part of a piece, for which there is room, and returns where it ends in the output.
+fn put_part(piece: &[u8], from: usize, to: usize, out: &mut [u8], at: usize) -> usize
+    requires { ⌜ (from ≤ to) × (to ≤ length (now piece)) × (at + (to - from) ≤ length (now out)) ⌝ }
+    ensures { λ r. ⌜ PutAt (now (out .entry)) at (take (to - from) (drop from (now (piece .entry)))) (now (out .exit)) r ⌝ }
+{
+    base::write_bytes(out, at, &piece[from..to]);
+    at + (to - from)
+}
+
 // Takes the characters of a piece between two offsets. They end the well-formed bytes of the piece, and the first is no selector. It
 // settles the held base. The last base that has a variation entry is held, with its selectors. The characters between are formatted by
 // themselves. `plain` means that nothing is counted in them.
@@ -513,6 +552,17 @@ fn take_rest(
     let tail = find_tail(piece, at, end);
     let start = tail.start;
     let held = taken.held;
+    let base = held.base;
+    if is_copied(plain, base) {
+        let to = put_part(piece, at, start, out, taken.end);
+        let counts = taken.counts;
+        let last = tail.held;
+        return Taken {
+            held: last,
+            end: to,
+            counts,
+        };
+    }
     let class = class_of(utf8::decode(piece, at) / 8);
     let settled = put_held(policy, held, class, out, taken.end);
     let middle = put_middle(policy, &piece[at..start], plain, out, settled.end);
@@ -593,8 +643,8 @@ fn open_state(
     }
 }
 
-// Takes a piece: writes all but an unfinished character and a last base that has a variation entry, with its selectors. Or it refuses.
-pub fn piece(feed: &mut [u8], piece: &[u8], out: &mut [u8]) -> FeedAnswer
+// Takes a piece, for bytes that have the length of a feed.
+fn take_piece(feed: &mut [u8], piece: &[u8], out: &mut [u8]) -> FeedAnswer
     ensures { λ r. ⌜ EndsCalled (called (now (feed .entry)) (Calls.piece (now (piece .entry)) (now (out .entry)))) r (now (feed .exit))
         (now (out .exit)) ⌝ }
 {
@@ -633,4 +683,16 @@ pub fn piece(feed: &mut [u8], piece: &[u8], out: &mut [u8]) -> FeedAnswer
         open_state(kept, left.len, left.bytes, len + piece.len(), sums),
     );
     FeedAnswer::Written { len: taken.end }
+}
+
+// Takes a piece: writes all but an unfinished character and a last base that has a variation entry, with its selectors. Or it refuses.
+// The length is tested here, so that the compiler knows it wherever the words of the feed are read and written.
+pub fn piece(feed: &mut [u8], piece: &[u8], out: &mut [u8]) -> FeedAnswer
+    ensures { λ r. ⌜ EndsCalled (called (now (feed .entry)) (Calls.piece (now (piece .entry)) (now (out .entry)))) r (now (feed .exit))
+        (now (out .exit)) ⌝ }
+{
+    if feed.len() != FEED_BYTES {
+        return FeedAnswer::Refused(Refusal::FeedEnded);
+    }
+    take_piece(feed, piece, out)
 }

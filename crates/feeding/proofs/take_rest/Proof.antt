@@ -11,65 +11,104 @@ use Rattle.scanner.specs.Classes.{classOf}
 use Rattle.scanner.specs.declared.char_class.Class.{Class}
 use Rattle.feed.specs.Bytes.{pendingOf}
 use Rattle.feed.specs.Feed.{settle}
-use Rattle.feeding.proofs.Resting.{first-is, held-room, middle-room, part-length, put-before, rest-of, rest-taken}
+use Rattle.feeding.proofs.Resting.{
+  copied-room,
+  first-is,
+  held-room,
+  middle-room,
+  part-length,
+  put-before,
+  rest-copied,
+  rest-of,
+  rest-taken,
+}
 use Rattle.feeding.proofs.take_rest.Statement.{statement}
 use Rattle.feeding.proofs.take_rest.Tie as tie
 
 find-tail-requires : tie.Need-find-tail-requires
 find-tail-requires c κs = let q = c .before .before .before .pre in (q .3, q .4, q .5)
 
-put-held-requires : tie.Need-put-held-requires
-put-held-requires c κs =
+put-part-requires : tie.Need-put-part-requires
+put-part-requires c κs =
     let x = c .before .before .before .before .before .before .before .before .args in
     let q = c .before .before .before .before .before .before .before .before .pre in
     let p = policyOf (x .policy .now) in
     let t = c .before .before .before .before .find-tail .result in
     let r = rest-of p (x .piece .now) (x .at) (x .end) t (q .3) (q .4) (q .5) (c .before .before .before .before .find-tail .ensures) in
-    let f = first-is p (x .piece .now) (x .at) (x .end) t r (x .taken .held) (x .taken .counts) (c .before .before .decode .result)
-    (c .before .before .decode .ensures) in
-    let k = c .before .class-of .ensures ∙ ap classOf f in (
-      q .0,
-      subst (λ (y : Class). x .taken .end + length (encodeAll (settle (pendingOf p (x .taken .held)) y .text)) ≤ length (x .out .now))
-          (sym k)
-          (held-room p (x .piece .now) (x .at) (x .end) t r (x .taken .held) (x .taken .counts) (x .out .now) (x .taken .end) (q .7)),
+    let y = c .before .before .is-copied .ensures (c .before .if1 .taken) in
+    let l : x .end ≤ length (x .piece .now) =
+    omega (arith, q .3, q .4, validUpTo-le (drop (x .at) (x .piece .now)), length-drop (x .at) (x .piece .now)) in (
+      r .on,
+      omega (arith, l, r .inside),
+      copied-room p (x .piece .now) (x .at) (x .end) t r (x .taken .held) (x .taken .counts) (y .1) (q .6 (y .0)) (x .out .now)
+          (x .taken .end) (q .7) l,
     )
 
-sub-put-middle : tie.Need-sub-put-middle
-sub-put-middle c =
-    let x = c .before .before .before .before .before .before .before .before .before .before .before .args in
-    let q = c .before .before .before .before .before .before .before .before .before .before .before .pre in
-    let p = policyOf (x .policy .now) in
-    let t = c .before .before .before .before .before .before .before .find-tail .result in
-    rest-of p (x .piece .now) (x .at) (x .end) t (q .3) (q .4) (q .5)
-    (c .before .before .before .before .before .before .before .find-tail .ensures) .on
-
-part-put-middle-start : tie.Need-part-put-middle-start
-part-put-middle-start c =
-    let x = c .before .before .before .before .before .before .before .before .before .before .before .args in
-    let q = c .before .before .before .before .before .before .before .before .before .before .before .pre in
-    let p = policyOf (x .policy .now) in
-    let t = c .before .before .before .before .before .before .before .find-tail .result in
-    rest-of p (x .piece .now) (x .at) (x .end) t (q .3) (q .4) (q .5)
-    (c .before .before .before .before .before .before .before .find-tail .ensures) .on
-
-part-put-middle-end : tie.Need-part-put-middle-end
-part-put-middle-end c =
-    let x = c .before .before .before .before .before .before .before .before .before .before .before .args in
-    let q = c .before .before .before .before .before .before .before .before .before .before .before .pre in
-    let p = policyOf (x .policy .now) in
-    let t = c .before .before .before .before .before .before .before .find-tail .result in
-    let r = rest-of p (x .piece .now) (x .at) (x .end) t (q .3) (q .4) (q .5)
-    (c .before .before .before .before .before .before .before .find-tail .ensures) in
-    omega (arith, r .inside, q .3, q .4, validUpTo-le (drop (x .at) (x .piece .now)), length-drop (x .at) (x .piece .now))
-
-put-middle-requires : tie.Need-put-middle-requires
-put-middle-requires c κs =
+returns : tie.Need-returns
+returns c =
     let x = c .before .before .before .before .before .before .before .before .before .before .before .before .before .args in
     let q = c .before .before .before .before .before .before .before .before .before .before .before .before .before .pre in
     let p = policyOf (x .policy .now) in
     let t = c .before .before .before .before .before .before .before .before .before .find-tail .result in
     let r = rest-of p (x .piece .now) (x .at) (x .end) t (q .3) (q .4) (q .5)
     (c .before .before .before .before .before .before .before .before .before .find-tail .ensures) in
+    let y = c .before .before .before .before .before .before .before .is-copied .ensures
+    (c .before .before .before .before .before .before .if1 .taken) in
+    rest-copied p (x .piece .now) (x .at) (x .end) t r (x .taken .held) (x .taken .counts) (y .1) (q .6 (y .0))
+    (c .before .before .before .before .put-part .ensures)
+
+put-held-requires : tie.Need-put-held-requires
+put-held-requires c κs =
+    let x = c .before .before .before .before .before .before .before .before .before .before .args in
+    let q = c .before .before .before .before .before .before .before .before .before .before .pre in
+    let p = policyOf (x .policy .now) in
+    let t = c .before .before .before .before .before .before .find-tail .result in
+    let r = rest-of p (x .piece .now) (x .at) (x .end) t (q .3) (q .4) (q .5)
+    (c .before .before .before .before .before .before .find-tail .ensures) in
+    let f = first-is p (x .piece .now) (x .at) (x .end) t r (x .taken .held) (x .taken .counts) (c .before .before .decode .result)
+    (c .before .before .decode .ensures) in
+    let k = c .before .class-of .ensures ∙ ap classOf f in (
+      q .0,
+      subst (λ (y : Class). x .taken .end + length (encodeAll (settle (pendingOf p (x .taken .held)) y .text)) ≤ length (x .out .now)) (sym k)
+          (held-room p (x .piece .now) (x .at) (x .end) t r (x .taken .held) (x .taken .counts) (x .out .now) (x .taken .end) (q .7)),
+    )
+
+sub-put-middle : tie.Need-sub-put-middle
+sub-put-middle c =
+    let x = c .before .before .before .before .before .before .before .before .before .before .before .before .before .args in
+    let q = c .before .before .before .before .before .before .before .before .before .before .before .before .before .pre in
+    let p = policyOf (x .policy .now) in
+    let t = c .before .before .before .before .before .before .before .before .before .find-tail .result in
+    rest-of p (x .piece .now) (x .at) (x .end) t (q .3) (q .4) (q .5)
+    (c .before .before .before .before .before .before .before .before .before .find-tail .ensures) .on
+
+part-put-middle-start : tie.Need-part-put-middle-start
+part-put-middle-start c =
+    let x = c .before .before .before .before .before .before .before .before .before .before .before .before .before .args in
+    let q = c .before .before .before .before .before .before .before .before .before .before .before .before .before .pre in
+    let p = policyOf (x .policy .now) in
+    let t = c .before .before .before .before .before .before .before .before .before .find-tail .result in
+    rest-of p (x .piece .now) (x .at) (x .end) t (q .3) (q .4) (q .5)
+    (c .before .before .before .before .before .before .before .before .before .find-tail .ensures) .on
+
+part-put-middle-end : tie.Need-part-put-middle-end
+part-put-middle-end c =
+    let x = c .before .before .before .before .before .before .before .before .before .before .before .before .before .args in
+    let q = c .before .before .before .before .before .before .before .before .before .before .before .before .before .pre in
+    let p = policyOf (x .policy .now) in
+    let t = c .before .before .before .before .before .before .before .before .before .find-tail .result in
+    let r = rest-of p (x .piece .now) (x .at) (x .end) t (q .3) (q .4) (q .5)
+    (c .before .before .before .before .before .before .before .before .before .find-tail .ensures) in
+    omega (arith, r .inside, q .3, q .4, validUpTo-le (drop (x .at) (x .piece .now)), length-drop (x .at) (x .piece .now))
+
+put-middle-requires : tie.Need-put-middle-requires
+put-middle-requires c κs =
+    let x = c .before .before .before .before .before .before .before .before .before .before .before .before .before .before .before .args in
+    let q = c .before .before .before .before .before .before .before .before .before .before .before .before .before .before .before .pre in
+    let p = policyOf (x .policy .now) in
+    let t = c .before .before .before .before .before .before .before .before .before .before .before .find-tail .result in
+    let r = rest-of p (x .piece .now) (x .at) (x .end) t (q .3) (q .4) (q .5)
+    (c .before .before .before .before .before .before .before .before .before .before .before .find-tail .ensures) in
     let f = first-is p (x .piece .now) (x .at) (x .end) t r (x .taken .held) (x .taken .counts)
     (c .before .before .before .before .before .before .before .decode .result)
     (c .before .before .before .before .before .before .before .decode .ensures) in
@@ -82,20 +121,18 @@ put-middle-requires c κs =
       middle-room p (x .piece .now) (x .at) (x .end) t r (x .taken .held) (x .taken .counts) (x .out .now) (x .taken .end) (q .7) w,
     )
 
-returns : tie.Need-returns
-returns c =
+returns-2 : tie.Need-returns-2
+returns-2 c =
     let d = c .before .before .before .before .before .before .before .before .before .before in
-    let x = d .before .before .before .before .before .before .before .before .before .before .args in
-    let q = d .before .before .before .before .before .before .before .before .before .before .pre in
+    let x = d .before .before .before .before .before .before .before .before .before .before .before .before .args in
+    let q = d .before .before .before .before .before .before .before .before .before .before .before .before .pre in
     let p = policyOf (x .policy .now) in
-    let t = d .before .before .before .before .before .before .find-tail .result in
+    let t = d .before .before .before .before .before .before .before .before .find-tail .result in
     let r = rest-of p (x .piece .now) (x .at) (x .end) t (q .3) (q .4) (q .5)
-    (d .before .before .before .before .before .before .find-tail .ensures) in
+    (d .before .before .before .before .before .before .before .before .find-tail .ensures) in
     let f = first-is p (x .piece .now) (x .at) (x .end) t r (x .taken .held) (x .taken .counts)
-    (d .before .before .before .before .decode .result)
-    (d .before .before .before .before .decode .ensures) in
-    let k = d .before .before .before .class-of .ensures
-    ∙ ap classOf f in
+    (d .before .before .before .before .decode .result) (d .before .before .before .before .decode .ensures) in
+    let k = d .before .before .before .class-of .ensures ∙ ap classOf f in
     let h = d .before .put-held in
     let w = put-before (pendingOf p (x .taken .held)) k (h .ensures .0) in
     let m = c .before .before .before .before .before .before .put-middle in
@@ -109,6 +146,10 @@ take-rest-spec =
     (tie.spec
     find-tail-requires
     (λ c κs. search needs)
+    put-part-requires
+    (λ c. search needs)
+    returns
+    (λ c κs. search needs)
     (λ c κs. search needs)
     put-held-requires
     sub-put-middle
@@ -118,4 +159,4 @@ take-rest-spec =
     (λ c κs. search needs)
     (λ c κs. search needs)
     (λ c. search needs)
-    returns)
+    returns-2)
