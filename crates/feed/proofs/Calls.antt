@@ -244,13 +244,14 @@ module _ (p : Policy) (cs : List Call) where
   abbrev pub X : List Fed
   X = allFed (newFeed p) cs
 
-  -- The characters are those of the thread, the rest is what is unfinished, and text and totals are those of the characters formatted as
-  -- a whole: after the end, and before it with the held base.
+  -- The characters are those of the thread, the rest is what is unfinished, and the held base is that of taking these characters. Text and
+  -- totals are those of the characters formatted as a whole: after the end, and before it with the held base.
   pub record FeedClaim : Type 0 where
     pub characters : charsOf X ≡ chars T
     pub left : F .rest ≡ drop (validUpTo T) T
     pub length-is : F .len ≡ length T
     pub bounded : length T ≤ textLimit
+    pub pending-is : F .ended ≡ false → takeChars nothing X .0 ≡ F .pending
     pub totals : totalsNow F ≡ totalFed X
     pub ended-whole : F .ended ≡ true → WellFormed T
     pub ended-text : F .ended ≡ true → outputs (newFeed p) cs ≡ encodeAll (formatFed X)
@@ -287,6 +288,7 @@ claimed p cs = go (k .state)
           left = k .left;
           length-is = k .length-is;
           bounded = k .bounded;
+          pending-is = λ _. ap (λ (q : R). q .0) t;
           totals = sym (s .counts);
           ended-whole = λ e′. absurd (true≢false (sym e′ ∙ e));
           ended-text = λ e′. absurd (true≢false (sym e′ ∙ e));
@@ -299,6 +301,7 @@ claimed p cs = go (k .state)
       left = k .left;
       length-is = k .length-is;
       bounded = k .bounded;
+      pending-is = λ e′. absurd (true≢false (sym e ∙ e′));
       totals = ap (λ (q : Pending). f .totals ⊕ settle q other .counts) n ∙ plus-empty (f .totals) ∙ sym b;
       ended-whole =
           λ _. whole-well-formed thr (omega (arith, validUpTo-le thr, ap length (sym (k .left) ∙ r), length-drop (validUpTo thr) thr));

@@ -8,7 +8,7 @@ use lib.ListN.{drop, length, length-drop}
 use lib.Seq.{take-append-seam}
 use Rattle.base.specs.declared.Refusal.{Refusal}
 use Rattle.base.specs.declared.Refusal.the-variants.{FeedEnded, NotWellFormed}
-use Rattle.utf8.specs.Rfc3629.{WellFormed, encodeAll, validUpTo}
+use Rattle.utf8.specs.Rfc3629.{WellFormed, chars, encodeAll, validUpTo}
 use Rattle.utf8.specs.Subparts.{unfinished}
 use Rattle.utf8.proofs.Grammar.{well-formed-whole, whole-well-formed}
 use Rattle.utf8.proofs.Texts.{length-encodeAll-chars, validUpTo-le}
@@ -57,7 +57,7 @@ use Rattle.feed.specs.Bytes.{
   threadOf,
   totalsOf,
 }
-use Rattle.feed.specs.Theorems.{FeedInBytes, GoesOn, NextEnd, NextPiece, OfBytes, and-end, and-piece, no-call}
+use Rattle.feed.specs.Theorems.{FeedInBytes, GoesOn, HeldLast, NextEnd, NextPiece, OfBytes, and-end, and-piece, no-call}
 use Rattle.feed.specs.declared.FeedAnswer.the-variants.{Refused}
 use Rattle.feed.proofs.Answered.{
   Answered,
@@ -340,6 +340,8 @@ module _ (policy : List ℕ) (cs : List Call) (g : Good policy (F (policyOf poli
               λ e. ap (λ (x : Feed). outputs (newFeed (policyOf policy)) cs ++ encodeAll (settle (x .pending) other .text))
               (feed-is policy ok f g)
               ∙ w .open-text e ∙ whole-formatted t policy;
+          held = λ e. subst (λ (x : Feed). HeldLast (policyOf policy) (chars t) (x .pending)) (sym (feed-is policy ok f g)) (w .held e);
+          rest = λ e. ap (λ (x : Feed). x .rest) (feed-is policy ok f g) ∙ k .left;
           within-limit = k .bounded;
           goes-on = can-go-on t z;
           passes = passes policy ok f g;

@@ -2,6 +2,7 @@
 pub mod Feeding
 pub mod Answered
 pub mod Calls
+pub mod LastBase
 pub mod OneCall
 pub mod PieceRoom
 pub mod Reading

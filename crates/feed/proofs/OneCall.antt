@@ -1,5 +1,5 @@
 -- Under one policy a feed does what formatting the whole thread in one call does.
-use mathlib.Core.Path.{_≡_, refl, ap, ap₂, sym, _∙_}
+use mathlib.Core.Path.{_≡_, refl, ap, ap₂, sym, _∙_, subst}
 use mathlib.Core.Bool.{Bool, true, false, cond}
 use mathlib.Core.List.{List, [], _∷_, _++_, append-nil, map}
 use Prim.Native.Nat.{ℕ}
@@ -26,7 +26,20 @@ use Rattle.analysis.proofs.Replacement.{remaining-none, render-cons, renewed}
 use Rattle.formatter.specs.Findings.{textTotals}
 use Rattle.formatter.specs.Format.{formatted}
 use Rattle.formatter.proofs.CellView.{cell-view}
-use Rattle.feed.specs.Feed.{Fed, cellBefore, charsOf, countFed, fedAs, formatFed, judged, settle, totalFed}
+use Rattle.feed.specs.Feed.{
+  Fed,
+  Pending,
+  cellBefore,
+  charsOf,
+  countFed,
+  fedAs,
+  formatFed,
+  judged,
+  nothing,
+  settle,
+  takeChars,
+  totalFed,
+}
 use Rattle.feed.specs.Calls.{
   Answer,
   Call,
@@ -44,7 +57,9 @@ use Rattle.feed.specs.Calls.{
   totalsNow,
   wrote,
 }
+use Rattle.feed.specs.Theorems.{HeldLast}
 use Rattle.feed.proofs.Calls.{F, T, chars-of-append, chars-tagged, claimed}
+use Rattle.feed.proofs.LastBase.{all-last}
 
 abbrev P : Type 0
 P = List Presentation × List Cell
@@ -124,6 +139,8 @@ pub record WholeThread (policy : List ℕ) (cs : List Call) : Type 0 where
       → outputs (newFeed (policyOf policy)) cs ++ encodeAll (settle (F (policyOf policy) cs .pending) other .text)
       ≡ formatted (T (policyOf policy) cs) policy
   pub totals : totalsNow (F (policyOf policy) cs) ≡ textTotals (T (policyOf policy) cs) policy
+  pub held : F (policyOf policy) cs .ended ≡ false
+      → HeldLast (policyOf policy) (chars (T (policyOf policy) cs)) (F (policyOf policy) cs .pending)
 
 pub whole-thread : (policy : List ℕ) (cs : List Call) → WholeThread policy cs
 whole-thread policy cs =
@@ -137,6 +154,8 @@ whole-thread policy cs =
       ended-text = λ e. k .ended-text e ∙ w;
       open-text = λ e. k .open-text e ∙ w;
       totals = k .totals ∙ ap totalFed x ∙ total-tag p (chars t) ∙ sym (cell-view t policy .1);
+      held = λ e. subst (λ (s : Pending). HeldLast p (chars t) s)
+          (ap (λ (l : List Fed). takeChars nothing l .0) (sym x) ∙ k .pending-is e) (all-last p (chars t));
     }
 
 -- Only the whole characters count.

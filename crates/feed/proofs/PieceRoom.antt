@@ -37,7 +37,7 @@ use Rattle.feed.proofs.Calls.{chars-tagged}
 
 -- ---- bytes of what is held and written
 
-selectors-bytes : (s : List Presentation) → length (encodeAll (map asSelector s)) ≡ 3 * length s
+pub selectors-bytes : (s : List Presentation) → length (encodeAll (map asSelector s)) ≡ 3 * length s
 unfolding encodeAll encode asSelector
 selectors-bytes [] = omega arith
 selectors-bytes (Text ∷ s) = omega (arith, selectors-bytes s)

@@ -1,18 +1,23 @@
 -- What is claimed of a feed. Each statement is proved in proofs/Claims.antt, under the same name in lower case with hyphens.
 use mathlib.Core.Path.{_≡_}
 use mathlib.Core.Bool.{Bool, true, false}
-use mathlib.Core.List.{List, [], _∷_, _++_}
+use mathlib.Core.List.{List, [], _∷_, _++_, map}
 use Prim.Native.Nat.{ℕ, _+_, _*_, _≤_, _<_}
 use lib.ListN.{drop, length}
 use Rattle.base.specs.Words.{allBytes}
 use Rattle.base.specs.declared.Refusal.{Refusal}
 use Rattle.base.specs.declared.Refusal.the-variants.{FeedEnded, NotWellFormed, OutputTooShort, TextTooLong, UnfinishedCharacter}
 use Rattle.utf8.specs.Rfc3629.{WellFormed, chars, encodeAll, validUpTo}
-use Rattle.policy.specs.PolicyBytes.{isPolicy}
+use Rattle.unicode.specs.Presentation.{asSelector, isSelector}
+use Rattle.unicode.specs.Unicode.{hasVariationSequence}
+use Rattle.unicode.specs.declared.presentation.Presentation.{Presentation}
+use Rattle.policy.specs.PolicyBytes.{isPolicy, policyOf}
+use Rattle.policy.specs.declared.Policy.{Policy}
 use Rattle.scanner.specs.declared.char_class.Class.the-variants.{Other as other}
 use Rattle.formatter.specs.Findings.{textTotals}
 use Rattle.formatter.specs.Format.{formatted}
-use Rattle.feed.specs.Feed.{settle}
+use Rattle.analysis.specs.Rules.{firstAsked}
+use Rattle.feed.specs.Feed.{Pending, base, nothing, settle}
 use Rattle.feed.specs.Calls.{Call, end, piece}
 use Rattle.feed.specs.Bytes.{
   Called,
@@ -72,6 +77,15 @@ pub record NextEnd (B T : List ℕ) (E : Bool) (out : List ℕ) (r : Called) : T
   pub short : E ≡ false → WellFormed T → length out < 16 → r ≡ refuses (Refused (OutputTooShort 16)) B out
   pub taken : E ≡ false → WellFormed T → 16 ≤ length out → Done r out 7
 
+-- What a feed holds after these characters: "a last base that has a variation entry, with its selectors". It is the last character that is
+-- no selector, if it has a variation entry; only selectors follow it. The base is held also where the policy would leave it alone.
+pub data HeldLast (p : Policy) (cs : List ℕ) : Pending → Type 0 where
+  only-selectors : (s : List Presentation) → cs ≡ map asSelector s → HeldLast p cs nothing
+  last-without-entry : (before : List ℕ) (c : ℕ) (s : List Presentation) → cs ≡ before ++ (c ∷ map asSelector s)
+      → isSelector c ≡ false → hasVariationSequence c ≡ false → HeldLast p cs nothing
+  last-with-entry : (before : List ℕ) (c : ℕ) (s : List Presentation) → cs ≡ before ++ (c ∷ map asSelector s)
+      → hasVariationSequence c ≡ true → HeldLast p cs (base p c (firstAsked s) (length s))
+
 -- What is claimed of a feed begun with a policy, after a list of calls: B are its bytes, T is the thread, W are the joined outputs, and E
 -- says whether it has ended.
 pub record FeedInBytes (policy B T W : List ℕ) (E : Bool) : Type 0 where
@@ -84,6 +98,9 @@ pub record FeedInBytes (policy B T W : List ℕ) (E : Bool) : Type 0 where
   pub totals : totalsOf B ≡ textTotals (encodeAll (chars T)) policy
   -- Before the end, the joined outputs and the held base, written as if the thread ended there, are the whole characters formatted.
   pub open-text : E ≡ false → W ++ encodeAll (settle (feedOf B .pending) other .text) ≡ formatted (encodeAll (chars T)) policy
+  -- "A feed .. writes all but an unfinished character and a last base that has a variation entry, with its selectors."
+  pub held : E ≡ false → HeldLast (policyOf policy) (chars T) (feedOf B .pending)
+  pub rest : E ≡ false → feedOf B .rest ≡ drop (validUpTo T) T
   -- The thread is within the length limit, and it can go on to be well-formed.
   pub within-limit : length T ≤ 16777216
   pub goes-on : GoesOn T

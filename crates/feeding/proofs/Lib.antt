@@ -4,4 +4,10 @@ pub mod Settling
 pub mod Ending
 pub mod Joining
 pub mod Taking
+pub mod Tails
+pub mod Summing
+pub mod Cuts
+pub mod Scanning
+pub mod Resting
+pub mod Fronting
 pub mod Pieces

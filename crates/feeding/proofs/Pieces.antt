@@ -76,6 +76,9 @@ module _ (bs b : List ℕ) where
             (feed-unfinished bs e),
       )
 
+  pub unfinished-rest : {s : State} → isFeed bs ≡ true → s ≡ stateOf bs → unfinished (restOf s) ≡ true
+  unfinished-rest e p = ap (λ (y : State). unfinished (restOf y)) p ∙ feed-unfinished bs e
+
   pub len-fits : {s : State} → isFeed bs ≡ true → s ≡ stateOf bs → s .len ≤ 16777216
   len-fits e p = omega (arith, ap (λ (y : State). y .len) p, short-len bs e)
 

@@ -1,16 +1,15 @@
 -- Characters that are taken one after the other.
 use mathlib.Core.Path.{_≡_, refl, ap, ap₂, sym, _∙_, subst}
 use mathlib.Core.Bool.{Bool, true, false, cond, true≢false}
-use mathlib.Core.List.{List, [], _∷_, _++_, append-assoc, append-nil}
+use mathlib.Core.List.{List, [], _∷_, _++_, append-nil}
 use Prim.Native.Nat.{ℕ, suc, _+_, _*_, _≤_}
 use native.Mathlib.Omega.{arith}
-use lib.ListN.{drop, length, length-append}
+use lib.ListN.{length, length-append}
 use lib.Seq.{length-sets}
 use borrow.Author.Tests.{eq-eqb, ne-eqb}
 use Rattle.base.specs.Output.{PutAt}
 use Rattle.base.proofs.Writer.{put-as, put-then}
-use Rattle.utf8.specs.Rfc3629.{chars, encode, encodeAll, isScalar}
-use Rattle.utf8.proofs.Places.{Step, Stop}
+use Rattle.utf8.specs.Rfc3629.{encode, encodeAll, isScalar}
 use Rattle.utf8.proofs.Texts.{encodeAll-append}
 use Rattle.unicode.specs.Presentation.{asSelector, fromSelector}
 use Rattle.unicode.specs.Tables.{member}
@@ -52,13 +51,13 @@ use Rattle.feeding.proofs.Settling.{settle-few}
 
 -- ---- one character
 
-take-one : (s : Pending) (x : Fed) → takeChars s (x ∷ []) ≡ takeChar (x .policy) s (x .char) (fromSelector (x .char))
+pub take-one : (s : Pending) (x : Fed) → takeChars s (x ∷ []) ≡ takeChar (x .policy) s (x .char) (fromSelector (x .char))
 unfolding takeChars
 take-one s x =
     let r = takeChar (x .policy) s (x .char) (fromSelector (x .char)) in
     λ i. (r .0, record { text = append-nil (r .1 .text) i; counts = plus-empty (r .1 .counts) i })
 
-one-selector : (p : Policy) (s : Pending) (q : Presentation) → takeChars s (fedAs p (asSelector q ∷ [])) ≡ takeSelector s q
+pub one-selector : (p : Policy) (s : Pending) (q : Presentation) → takeChars s (fedAs p (asSelector q ∷ [])) ≡ takeSelector s q
 unfolding takeChar
 one-selector p s q =
     take-one s (record { char = asSelector q; policy = p }) ∙ ap (λ (y : FromSelector). takeChar p s (asSelector q) y) (from-selector q)
@@ -67,7 +66,7 @@ abbrev otherwise : Policy → Pending → ℕ → Bool → R
 otherwise p s c b =
     (heldAfter p c b, record { text = settle s (classOf c) .text ++ writtenAlone c b; counts = settle s (classOf c) .counts })
 
-one-other : (p : Policy) (s : Pending) (c : ℕ) → fromSelector c ≡ NoSelector → takeChars s (fedAs p (c ∷ []))
+pub one-other : (p : Policy) (s : Pending) (c : ℕ) → fromSelector c ≡ NoSelector → takeChars s (fedAs p (c ∷ []))
     ≡ otherwise p s c (hasVariationSequence c)
 unfolding takeChar
 one-other p s c e = take-one s (record { char = c; policy = p }) ∙ ap (λ (y : FromSelector). takeChar p s c y) e
@@ -79,18 +78,18 @@ no-zero = refl
 pub entry-some : (c : ℕ) → hasVariationSequence c ≡ true → c ≡ 0 → ⊥
 entry-some c e z = true≢false (sym e ∙ ap hasVariationSequence z ∙ no-zero)
 
-pending-none : (p : Policy) (h : Held) → h .base ≡ 0 → pendingOf p h ≡ nothing
+pub pending-none : (p : Policy) (h : Held) → h .base ≡ 0 → pendingOf p h ≡ nothing
 pending-none p h e = ap (λ (t : Bool). cond t nothing (base p (h .base) (h .first) (h .count))) (eq-eqb (h .base) 0 e)
 
-pending-some : (p : Policy) (h : Held) → (h .base ≡ 0 → ⊥) → pendingOf p h ≡ base p (h .base) (h .first) (h .count)
+pub pending-some : (p : Policy) (h : Held) → (h .base ≡ 0 → ⊥) → pendingOf p h ≡ base p (h .base) (h .first) (h .count)
 pending-some p h e = ap (λ (t : Bool). cond t nothing (base p (h .base) (h .first) (h .count))) (ne-eqb (h .base) 0 e)
 
 -- ---- how a function's proof builds `TakenBy`
 
-by : (p : Policy) (h : Held) (n : NonCanonicality) (xs : List Fed) (o : List ℕ) (at : ℕ) (o′ : List ℕ) (r : Taken) (q : R)
+pub by : (p : Policy) (h : Held) (n : NonCanonicality) (xs : List Fed) (o : List ℕ) (at : ℕ) (o′ : List ℕ) (r : Taken) (q : R)
     → takeChars (pendingOf p h) xs ≡ q → PutAt o at (encodeAll (q .1 .text)) o′ (r .end) → pendingOf p (r .held) ≡ q .0 → r .counts ≡ n
     ⊕ q .1 .counts
-    → isScalar (r .held .base) ≡ true → total (r .counts) + r .held .count ≤ total n + h .count + 2 * length xs → TakenBy p h n xs o at o′ r
+    → isScalar (r .held .base) ≡ true → total (r .counts) + r .held .count ≤ total n + h .count + 3 * length xs → TakenBy p h n xs o at o′ r
 by p h n xs o at o′ r q e t s c i f = record {
   text = put-as (encodeAll (takeChars (pendingOf p h) xs .1 .text)) (ap (λ (y : R). encodeAll (y .1 .text)) (sym e)) t;
   held = s ∙ ap (λ (y : R). y .0) (sym e);
@@ -99,7 +98,7 @@ by p h n xs o at o′ r q e t s c i f = record {
   few = f;
 }
 
-nothing-put : (o : List ℕ) (at : ℕ) → PutAt o at [] o at
+pub nothing-put : (o : List ℕ) (at : ℕ) → PutAt o at [] o at
 nothing-put o at = record { ends = omega arith; bytes = refl }
 
 module _ (t : Taken) (q : Presentation) (i : isScalar (t .held .base) ≡ true) (b : total (t .counts) + t .held .count ≤ 1000000000000) where
@@ -230,51 +229,15 @@ module _ {p : Policy} {h : Held} {n : NonCanonicality} {xs : List Fed} {o o₁ :
         length-sets o at (encodeAll (A .1 .text)),
       )
 
--- ---- the loop
-
-pub record Going (p : Policy) (h : Held) (n : NonCanonicality) (u o₀ : List ℕ) (at : ℕ) (o : List ℕ) (t : Taken) : Type 0 where
-  pub passed : List Fed
-  pub whole : fedAs p (chars u) ≡ passed ++ fedAs p (chars (drop at u))
-  pub short : length passed ≤ at
-  pub taken : TakenBy p h n passed o₀ 0 o t
-
-pub starts : (p : Policy) (h : Held) (n : NonCanonicality) (u o : List ℕ) → isScalar (h .base) ≡ true
-    → Going p h n u o 0 o (record { held = h; end = 0; counts = n })
+-- Nothing is taken of no characters.
+pub taken-none : (p : Policy) (h : Held) (n : NonCanonicality) (o : List ℕ) (at : ℕ) → isScalar (h .base) ≡ true
+    → TakenBy p h n [] o at o (record { held = h; end = at; counts = n })
 unfolding takeChars encodeAll
-starts p h n u o i = record {
-  passed = [];
-  whole = refl;
-  short = omega arith;
-  taken =
-      by p h n [] o 0 o (record { held = h; end = 0; counts = n }) (pendingOf p h, noEffect) refl (nothing-put o 0) refl
-      (sym (plus-empty n)) i (omega arith);
-}
+taken-none p h n o at i =
+    by p h n [] o at o (record { held = h; end = at; counts = n }) (pendingOf p h, noEffect) refl (nothing-put o at) refl
+    (sym (plus-empty n)) i (omega arith)
 
-module _ {p : Policy} {h : Held} {n : NonCanonicality} {u o₀ : List ℕ} {at : ℕ} {o : List ℕ} {t : Taken} (g : Going p h n u o₀ at o t) where
-  pub same-room : length o ≡ length o₀
-  same-room = ap length (g .taken .text .bytes) ∙ length-sets o₀ 0 (encodeAll (takeChars (pendingOf p h) (g .passed) .1 .text))
-
-  pub next-fits : {v w : ℕ} → Step u at v w → length (encodeAll (takeChars (pendingOf p h) (fedAs p (chars u)) .1 .text)) ≤ length o₀
-      → t .end + length (encodeAll (takeChars (pendingOf p (t .held)) (fedAs p (v ∷ [])) .1 .text)) ≤ length o
-  next-fits {v} {w} k l =
-      next-room (g .taken) (fedAs p (v ∷ [])) (fedAs p (chars (drop (at + w) u)))
-      (g .whole ∙ ap (λ (y : List ℕ). g .passed ++ fedAs p y) (k .chars-on)) (omega arith)
-
-  pub goes-on : {v w : ℕ} → Step u at v w → {o′ : List ℕ} {r : Taken} → TakenBy p (t .held) (t .counts) (fedAs p (v ∷ [])) o (t .end) o′ r
-      → Going p h n u o₀ (at + w) o′ r
-  goes-on {v} {w} k b = record {
-    passed = g .passed ++ fedAs p (v ∷ []);
-    whole =
-        g .whole ∙ ap (λ (y : List ℕ). g .passed ++ fedAs p y) (k .chars-on) ∙ sym
-        (append-assoc (g .passed) (fedAs p (v ∷ [])) (fedAs p (chars (drop (at + w) u))));
-    short = omega (arith, length-append (g .passed) (fedAs p (v ∷ [])), g .short, k .some);
-    taken = and-then (g .taken) b;
-  }
-
-  pub ends : Stop u at → TakenBy p h n (fedAs p (chars u)) o₀ 0 o t
-  ends k =
-      subst (λ (xs : List Fed). TakenBy p h n xs o₀ 0 o t)
-      (sym (g .whole ∙ ap (λ (y : List ℕ). g .passed ++ fedAs p y) (k .chars-none) ∙ append-nil (g .passed))) (g .taken)
-
-  pub few-now : at ≤ 16777219 → total n + h .count ≤ 200000000 → total (t .counts) + t .held .count ≤ 1000000000000
-  few-now l m = omega (arith, g .taken .few, g .short)
+-- Equal characters are taken in the same way.
+pub taken-as : {p : Policy} {h : Held} {n : NonCanonicality} {cs ds o o′ : List ℕ} {at : ℕ} {r : Taken} → cs ≡ ds
+    → TakenBy p h n (fedAs p cs) o at o′ r → TakenBy p h n (fedAs p ds) o at o′ r
+taken-as {p} {h} {n} {cs} {ds} {o} {o′} {at} {r} e t = subst (λ (l : List ℕ). TakenBy p h n (fedAs p l) o at o′ r) e t

@@ -41,4 +41,4 @@ pub record TakenBy (p : Policy) (h : Held) (n : NonCanonicality) (xs : List Fed)
   pub held : pendingOf p (r .held) ≡ takeChars (pendingOf p h) xs .0
   pub counts : r .counts ≡ n ⊕ takeChars (pendingOf p h) xs .1 .counts
   pub scalar : isScalar (r .held .base) ≡ true
-  pub few : total (r .counts) + r .held .count ≤ total n + h .count + 2 * length xs
+  pub few : total (r .counts) + r .held .count ≤ total n + h .count + 3 * length xs

@@ -1,2 +1,3 @@
 -- Contracts of the helper functions of a feed's calls.
 pub mod Helpers
+pub mod Parts

@@ -1,11 +1,16 @@
 // The calls of a feed: document 02, (iii). A feed is lent bytes (crate feed). `begin` equals `begun`, `piece` and `end` equal `called`, and
 // `totals` writes the eight counts of `totalsOf` (crate feed, specs/Bytes.antt), each for any bytes.
-// The characters of a piece are taken one after the other, by `take_all`: a character is read across the end of the unfinished bytes, and
-// it settles the held base or is counted as a selector of it.
+// A piece goes through formatting's own passes, part by part (`take_all`): the character that it completes, its first selectors, the
+// characters that are formatted by themselves, and the last base, which is held. The definition takes the characters one after the other
+// (`takeChars` of crate feed, specs/Feed.antt).
+mod middle;
+mod scan;
+mod tail;
+
 ghost use mathlib.Core.Path.{_≡_};
 ghost use mathlib.Core.Bool.{true};
 ghost use mathlib.Core.List.{List, [], _∷_, _++_, map};
-ghost use Prim.Native.Nat.{ℕ, _+_, _*_, _-_, _≤_};
+ghost use Prim.Native.Nat.{ℕ, _+_, _*_, _-_, _/_, _≤_, _<_};
 ghost use lib.ListN.{drop, getD, length};
 ghost use Rattle.base.specs.Answers.{EndsAs};
 ghost use Rattle.base.specs.Output.{PutAt, Wrote};
@@ -22,6 +27,10 @@ ghost use Rattle.feed.specs.Calls as Calls;
 ghost use Rattle.feed.specs.Feed.{fedAs, settle, takeChars};
 ghost use Rattle.feed.specs.Feed as Feed;
 ghost use Rattle.feeding.specs.Helpers.{LeftAt, TakenBy, endedState, openState};
+ghost use Rattle.feeding.specs.Parts.{FrontTaken, ScanFits, charOf, scannedChars};
+ghost use Rattle.scanner.specs.SelectorRun.{firstSelector};
+ghost use Rattle.base.specs.Refusals.{textLimit};
+ghost use Rattle.analysis.specs.CellView.{totalCells};
 use analysis::singleton::Slot;
 use analysis::singleton::analyze_by_policy_bytes;
 use analysis::types::NonCanonicality;
@@ -38,9 +47,16 @@ use feed::is_unfinished;
 use feed::low_byte;
 use feed::read_state;
 use feed::write_state;
+use middle::put_middle;
 use policy::policy_bytes::is_policy;
 use policy::policy_bytes::policy_refusal;
+use scan::PieceScan;
+use scan::scan_piece;
 use scanner::char_class::Class;
+use scanner::char_class::class_of;
+use scanner::selectors::SELECTOR_BYTES;
+use scanner::selectors::selector_at;
+use tail::find_tail;
 use unicode::presentation::FromSelector;
 use unicode::presentation::Presentation;
 use utf8::WriteChar;
@@ -139,9 +155,9 @@ fn selector_of(slot: Slot) -> FromSelector
 }
 
 // Where the held base ends in the output, and its counts.
-struct Settled {
-    end: usize,
-    counts: NonCanonicality,
+pub(crate) struct Settled {
+    pub(crate) end: usize,
+    pub(crate) counts: NonCanonicality,
 }
 
 // Returns the counts of the held base before a character of the class.
@@ -283,7 +299,7 @@ fn joined_byte(n: usize, rest: usize, piece: &[u8], k: usize) -> u8
 }
 
 // Returns the packed number of the character there, or 0 if none begins there.
-fn joined_char(n: usize, rest: usize, piece: &[u8], k: usize) -> u32
+pub(crate) fn joined_char(n: usize, rest: usize, piece: &[u8], k: usize) -> u32
     requires { ⌜ (n ≤ 3) × (length (now piece) ≤ 16777216) ⌝ }
     ensures { λ r. ⌜ r ≡ packed (readChar (drop k (littleEndian n rest ++ now (piece .entry)))) ⌝ }
 {
@@ -297,21 +313,6 @@ fn joined_char(n: usize, rest: usize, piece: &[u8], k: usize) -> u32
         joined_byte(n, rest, piece, k + 3),
     ];
     utf8::decode(&four, 0)
-}
-
-// Returns where the well-formed bytes end.
-fn joined_end(n: usize, rest: usize, piece: &[u8]) -> usize
-    requires { ⌜ (n ≤ 3) × (length (now piece) ≤ 16777216) ⌝ }
-    ensures { λ r. ⌜ r ≡ validUpTo (littleEndian n rest ++ now (piece .entry)) ⌝ }
-{
-    let mut at: usize = 0;
-    loop {
-        let packed = joined_char(n, rest, piece, at);
-        if packed == 0 {
-            return at;
-        }
-        at += (packed % 8) as usize;
-    }
 }
 
 // The bytes after the well-formed ones: whether they are unfinished, how many they are, and the number that they encode.
@@ -406,13 +407,7 @@ fn take_other(policy: &[u8], taken: Taken, ch: u32, out: &mut [u8]) -> Taken
 {
     let held = taken.held;
     let counts = taken.counts;
-    let settled = put_held(
-        policy,
-        held,
-        scanner::char_class::class_of(ch),
-        out,
-        taken.end,
-    );
+    let settled = put_held(policy, held, class_of(ch), out, taken.end);
     let last = settled.counts;
     let counts = counts.add(last);
     let end = settled.end;
@@ -440,38 +435,122 @@ fn take_char(policy: &[u8], taken: Taken, ch: u32, out: &mut [u8]) -> Taken
     }
 }
 
-// Takes every character of the unfinished bytes and the piece after them.
-fn take_all(
+// Selectors at the front of a piece that were taken, and the offset after them.
+struct Front {
+    taken: Taken,
+    at: usize,
+}
+
+// Takes the completed character, given as one number, if it is not 0.
+fn take_first(
     policy: &[u8],
     held: Held,
     counts: NonCanonicality,
-    n: usize,
-    rest: usize,
-    piece: &[u8],
+    first: u32,
     out: &mut [u8],
 ) -> Taken
-    requires { ⌜ (isScalar (held .base) ≡ true) × (n ≤ 3) × (length (now piece) ≤ 16777216)
+    requires { ⌜ (isScalar (held .base) ≡ true) × ((first ≡ 0 → ⊥) → isScalar (first / 8) ≡ true)
         × (total counts + held .count ≤ 200000000)
-        × (length (encodeAll (takeChars (pendingOf (policyOf (now policy)) held)
-        (fedAs (policyOf (now policy)) (chars (littleEndian n rest ++ now piece))) .1 .text)) ≤ length (now out)) ⌝ }
-    ensures { λ r. ⌜ TakenBy (policyOf (now (policy .entry))) held counts
-        (fedAs (policyOf (now (policy .entry))) (chars (littleEndian n rest ++ now (piece .entry))))
+        × (0 + length (encodeAll (takeChars (pendingOf (policyOf (now policy)) held)
+        (fedAs (policyOf (now policy)) (charOf first)) .1 .text)) ≤ length (now out)) ⌝ }
+    ensures { λ r. ⌜ TakenBy (policyOf (now (policy .entry))) held counts (fedAs (policyOf (now (policy .entry))) (charOf first))
         (now (out .entry)) 0 (now (out .exit)) r ⌝ }
 {
-    let mut taken = Taken {
+    let taken = Taken {
         held,
         end: 0,
         counts,
     };
-    let mut at: usize = 0;
-    loop {
-        let packed = joined_char(n, rest, piece, at);
-        if packed == 0 {
-            return taken;
-        }
-        taken = take_char(policy, taken, packed / 8, out);
-        at += (packed % 8) as usize;
+    if first == 0 {
+        return taken;
     }
+    take_char(policy, taken, first / 8, out)
+}
+
+// Takes the selectors that begin at an offset of a piece.
+fn take_selectors(start: Taken, piece: &[u8], from: usize) -> Front
+    requires { ⌜ (isScalar (start .held .base) ≡ true) × (total (start .counts) + start .held .count ≤ 300000000)
+        × (length (now piece) ≤ textLimit) × (from ≤ length (now piece)) ⌝ }
+    ensures { λ r. ⌜ FrontTaken (now (piece .entry)) from start r ⌝ }
+{
+    let mut taken = start;
+    let mut at = from;
+    loop {
+        match selector_at(piece, at) {
+            FromSelector::Selector(presentation) => {
+                taken = take_selector(taken, presentation);
+                at += SELECTOR_BYTES;
+            }
+            FromSelector::NoSelector => {
+                return Front { taken, at };
+            }
+        }
+    }
+}
+
+// Takes the characters of a piece between two offsets. They end the well-formed bytes of the piece, and the first is no selector. It
+// settles the held base. The last base that has a variation entry is held, with its selectors. The characters between are formatted by
+// themselves. `plain` means that nothing is counted in them.
+fn take_rest(
+    policy: &[u8],
+    taken: Taken,
+    piece: &[u8],
+    at: usize,
+    end: usize,
+    plain: bool,
+    out: &mut [u8],
+) -> Taken
+    requires { ⌜ (isScalar (taken .held .base) ≡ true) × (total (taken .counts) + taken .held .count ≤ 1000000000000)
+        × (length (now piece) ≤ textLimit) × (at < end) × (end ≡ at + validUpTo (drop at (now piece)))
+        × (firstSelector (chars (drop at (now piece))) ≡ FromSelector.NoSelector)
+        × (plain ≡ true → total (totalCells (policyOf (now policy)) (chars (drop at (now piece)))) ≡ 0)
+        × (taken .end + length (encodeAll (takeChars (pendingOf (policyOf (now policy)) (taken .held))
+        (fedAs (policyOf (now policy)) (chars (drop at (now piece)))) .1 .text)) ≤ length (now out)) ⌝ }
+    ensures { λ r. ⌜ TakenBy (policyOf (now (policy .entry))) (taken .held) (taken .counts)
+        (fedAs (policyOf (now (policy .entry))) (chars (drop at (now (piece .entry))))) (now (out .entry)) (taken .end)
+        (now (out .exit)) r ⌝ }
+{
+    let tail = find_tail(piece, at, end);
+    let start = tail.start;
+    let held = taken.held;
+    let class = class_of(utf8::decode(piece, at) / 8);
+    let settled = put_held(policy, held, class, out, taken.end);
+    let middle = put_middle(policy, &piece[at..start], plain, out, settled.end);
+    let before = taken.counts;
+    let counts = before.add(settled.counts);
+    let counts = counts.add(middle.counts);
+    let last = tail.held;
+    Taken {
+        held: last,
+        end: middle.end,
+        counts,
+    }
+}
+
+// Takes every character of a piece, by what its tests found.
+fn take_all(
+    policy: &[u8],
+    held: Held,
+    counts: NonCanonicality,
+    scan: PieceScan,
+    piece: &[u8],
+    out: &mut [u8],
+) -> Taken
+    requires { ⌜ (isScalar (held .base) ≡ true) × (length (now piece) ≤ textLimit) × (total counts + held .count ≤ 200000000)
+        × ScanFits (policyOf (now policy)) (now piece) scan
+        × (length (encodeAll (takeChars (pendingOf (policyOf (now policy)) held)
+        (fedAs (policyOf (now policy)) (scannedChars (now piece) scan)) .1 .text)) ≤ length (now out)) ⌝ }
+    ensures { λ r. ⌜ TakenBy (policyOf (now (policy .entry))) held counts
+        (fedAs (policyOf (now (policy .entry))) (scannedChars (now (piece .entry)) scan)) (now (out .entry)) 0 (now (out .exit)) r ⌝ }
+{
+    let first = take_first(policy, held, counts, scan.first, out);
+    let front = take_selectors(first, piece, scan.from);
+    let at = front.at;
+    let taken = front.taken;
+    if scan.end <= at {
+        return taken;
+    }
+    take_rest(policy, taken, piece, at, scan.end, scan.plain, out)
 }
 
 // Returns the difference, or 0 if it is negative.
@@ -532,7 +611,8 @@ pub fn piece(feed: &mut [u8], piece: &[u8], out: &mut [u8]) -> FeedAnswer
     }
     let n = state.rest_len;
     let rest = state.rest;
-    let valid = joined_end(n, rest, piece);
+    let scan = scan_piece(&feed[STATE_BYTES..], n, rest, piece);
+    let valid = scan.valid;
     let left = left_after(n, rest, piece, valid);
     if !left.good {
         let valid_up_to = minus(len, n) + valid;
@@ -544,7 +624,7 @@ pub fn piece(feed: &mut [u8], piece: &[u8], out: &mut [u8]) -> FeedAnswer
     }
     let held = state.held;
     let counts = state.counts;
-    let taken = take_all(&feed[STATE_BYTES..], held, counts, n, rest, piece, out);
+    let taken = take_all(&feed[STATE_BYTES..], held, counts, scan, piece, out);
     let last = taken.held;
     let sums = taken.counts;
     let kept = kept_held(last);

@@ -4,7 +4,8 @@
 ghost use mathlib.Core.Path.{_≡_};
 ghost use mathlib.Core.Bool.{true, false};
 ghost use mathlib.Core.List.{[], _∷_, _++_};
-ghost use Prim.Native.Nat.{_+_, _*_, _-_, _≤_};
+ghost use Prim.Native.Nat.{_+_, _*_, _-_, _≤_, _<_};
+ghost use lib.Dec.{leb};
 ghost use lib.ListN.{drop, length, take};
 ghost use Rattle.base.specs.Answers.{EndsAs};
 ghost use Rattle.base.specs.Output.{PutAt};
@@ -212,4 +213,41 @@ pub fn format_text(text: &[u8], policy: &[u8], out: &mut [u8]) -> FormatAnswer
         return format_measured(text, policy, first, out);
     }
     format_at_once(text, policy, first, out)
+}
+
+// Whether the formatted text fits into a room. The caller knows the first change.
+fn formatted_fits(text: &[u8], policy: &[u8], first: Change, room: usize) -> bool
+    requires { ⌜ (length (now text) ≤ textLimit) × NextChange (policyOf (now policy)) (now text) 0 first ⌝ }
+    ensures { λ r. ⌜ r ≡ leb (length (formattedFrom (policyOf (now (policy .entry))) (now (text .entry)) 0)) room ⌝ }
+{
+    if text.len() <= room / MOST_TIMES {
+        return true;
+    }
+    let Survey {
+        valid_up_to: _,
+        len,
+    } = survey_text(text, policy, first);
+    len <= room
+}
+
+// Writes what formatting makes of a text's longest well-formed beginning at an offset of the output, and returns where it ends there. The
+// function writes nothing if the output has no room for it, or if the text is longer than the limit.
+pub fn write_formatted(text: &[u8], policy: &[u8], out: &mut [u8], at: usize) -> usize
+    ensures put { λ r. ⌜ (length (now (text .entry)) ≤ textLimit
+        → at + length (formattedFrom (policyOf (now (policy .entry))) (now (text .entry)) 0) ≤ length (now (out .entry))
+        → PutAt (now (out .entry)) at (formattedFrom (policyOf (now (policy .entry))) (now (text .entry)) 0) (now (out .exit)) r) ⌝ }
+    ensures kept { λ _. ⌜ (length (now (out .entry)) < at + length (formattedFrom (policyOf (now (policy .entry))) (now (text .entry)) 0)
+        → now (out .exit) ≡ now (out .entry)) ⌝ }
+{
+    if text.len() > TEXT_LIMIT {
+        return at;
+    }
+    if out.len() < at {
+        return at;
+    }
+    let first = next_change(text, policy, 0);
+    if !formatted_fits(text, policy, first, out.len() - at) {
+        return at;
+    }
+    put_changes(text, policy, 0, first, out, at)
 }

@@ -37,7 +37,7 @@ fn short_fits(first: u8, last: u8) -> bool
     last <= 0xBF
 }
 
-// Skips characters of one and of two bytes, and returns the offset after them. It stops after four of one byte in sequence, because
+// Skips characters of one and of two bytes, and returns the offset after them. It stops after three of one byte in sequence, because
 // `ascii_end` skips those faster.
 fn short_end(s: &[u8], from: usize) -> usize
     requires { ⌜ from ≤ length (now s) ⌝ }
@@ -45,7 +45,7 @@ fn short_end(s: &[u8], from: usize) -> usize
 {
     let mut at = from;
     let mut ascii: usize = 0;
-    while ascii < 4 {
+    while ascii < 3 {
         if s.len() - at < 2 {
             return at;
         }
@@ -166,6 +166,9 @@ pub fn width_end(s: &[u8], from: usize, width: usize) -> usize
         return crate::ascii::ascii_end(s, from);
     }
     if width == 2 {
+        if s[from] < 0x80 {
+            return from;
+        }
         return short_end(s, from);
     }
     if width == 3 {

@@ -78,7 +78,7 @@ pub fn parse(words: impl IntoIterator<Item = OsString>) -> Result<Command, Wrong
         ("help" | "--help" | "-h", _) => help(&words).map_err(wrong),
         ("version" | "--version" | "-V", _) if words.is_empty() => Ok(Command::Version),
         ("version", _) if asks_for_help => Ok(Command::Help(Topic::All)),
-        ("version" | "--version" | "-V", _) => Err(wrong("version: takes nothing".to_owned())),
+        ("version" | "--version" | "-V", _) => Err(wrong("version takes no argument".to_owned())),
         (_, Some(topic)) if asks_for_help => Ok(Command::Help(topic)),
         (_, Some(topic)) => command(topic, Words::new(words)).map_err(|message| Wrong {
             topic: Some(name),
@@ -93,7 +93,7 @@ fn help(words: &[OsString]) -> Result<Command, String> {
     let name = match words {
         [] => return Ok(Command::Help(Topic::All)),
         [name] => name.to_string_lossy(),
-        _ => return Err("help: one command at a time".to_owned()),
+        _ => return Err("help takes at most one command".to_owned()),
     };
     let topic = match name.as_ref() {
         "help" | "version" => Some(Topic::All),
@@ -365,7 +365,7 @@ fn fix(words: Words) -> Result<Fix, String> {
     })?;
     let in_place = changing.of(&names)?;
     if names.len() > 1 {
-        return Err("one text at a time".to_owned());
+        return Err("it takes one text only".to_owned());
     }
     Ok(Fix {
         at: at.ok_or("--at OFFSET is missing")?,
@@ -438,7 +438,7 @@ fn policy(mut words: Words) -> Result<Policy, String> {
     match action.as_str() {
         "print" => Ok(Policy::Print(first.unwrap_or_default())),
         "compare" => {
-            let first = first.ok_or("compare: no file")?;
+            let first = first.ok_or("compare: a file is missing")?;
             Ok(Policy::Compare(first, files.next().unwrap_or_default()))
         }
         "write" => Ok(Policy::Write(first.unwrap_or_default(), edits)),

@@ -91,7 +91,9 @@ impl Fix {
                     "try: tilghorz-host report{option}, which lists where findings start"
                 ));
             }
-            Refusal::WrongNumberOfDecisions { wanted: 0 } => console.say(&"try: without --decide"),
+            Refusal::WrongNumberOfDecisions { wanted: 0 } => {
+                console.say(&"use fix without --decide: the finding has no decision")
+            }
             Refusal::WrongNumberOfDecisions { wanted } => {
                 let decisions = vec!["text"; wanted.min(3)].join(" ");
                 let more = if wanted > 3 { " .." } else { "" };

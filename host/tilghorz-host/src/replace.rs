@@ -90,7 +90,7 @@ impl<'a> Batch<'a> {
     /// attributes. Of a symbolic link it is the file that it leads to.
     pub fn prepare(&mut self, source: &Source, text: &Text, bytes: &[u8]) -> io::Result<()> {
         let (Source::File(path), Some((read, seen))) = (source, &text.file) else {
-            return Err(fault("it is no file"));
+            return Err(fault("it is not a regular file"));
         };
         accept(seen)?;
         let path = if fs::symlink_metadata(path)?.is_symlink() {
@@ -165,6 +165,7 @@ impl Prepared {
         if !is_synced {
             File::open(&beside.path)?.sync_all()?;
         }
+        let _old = held(&self.path);
         let _turn = interrupt::turn();
         is_as_seen(&self.path, &self.seen)?;
         fs::rename(&beside.path, &self.path)?;
@@ -172,6 +173,17 @@ impl Prepared {
         interrupt::count_changed();
         Ok(())
     }
+}
+
+/// What a path names, kept and not opened. Without it the renaming over a file frees its blocks, and the file system may wait
+/// for the disk then, while nothing else can be made or renamed in the folder. With it they are freed after the renaming, and
+/// the other threads go on. Where it cannot be kept, the renaming frees them.
+fn held(path: &Path) -> Option<File> {
+    /// O_PATH of Linux. Such an open needs no permission to read, and waits for no pipe.
+    const PATH_ONLY: i32 = 0o10_000_000;
+    let mut options = OpenOptions::new();
+    options.read(true).custom_flags(PATH_ONLY);
+    options.open(path).ok()
 }
 
 impl Beside {
@@ -195,7 +207,7 @@ impl Beside {
                 Err(error) => return Err(error),
             }
         }
-        Err(fault("no name for the file beside it is free"))
+        Err(fault("no name for a temporary file in its folder is free"))
     }
 }
 
@@ -372,7 +384,7 @@ fn is_as_seen(path: &Path, seen: &Metadata) -> io::Result<()> {
     let found = fs::symlink_metadata(path)?;
     if (bytes(&found), rights(&found)) != (bytes(seen), rights(seen)) {
         return Err(fault(
-            "it was changed by another meanwhile, and was left as it is",
+            "another program changed it during the run, so it was not written",
         ));
     }
     Ok(())

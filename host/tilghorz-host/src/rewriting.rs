@@ -49,7 +49,7 @@ impl Rewriting {
         let is_folder = |name: &Source| matches!(name, Source::File(path) if path.is_dir());
         if self.mode == Mode::Write && (self.names.len() > 1 || self.names.iter().any(is_folder)) {
             console.complain(&format_args!(
-                "{name}: several texts go with --in-place or --check; standard output takes one"
+                "{name}: several texts can only be given with --in-place or --check: standard output takes one text"
             ));
             return Ok(Status::Fault);
         }

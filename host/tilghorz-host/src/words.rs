@@ -91,5 +91,5 @@ impl Words {
 
 /// An option that a command does not have.
 pub fn unknown<T>(option: &str) -> Result<T, String> {
-    Err(format!("{option}: not an option"))
+    Err(format!("{option}: unknown option"))
 }

@@ -319,7 +319,7 @@ impl<W: Work> Go<'_, W> {
                 return Ok(Outcome::Unread);
             }
             Entry::LeftOver(path) => {
-                told(path, &"removed: a command that has ended left it");
+                told(path, &"removed: an earlier run of this command left it");
                 return Ok(Outcome::LeftOver);
             }
         };

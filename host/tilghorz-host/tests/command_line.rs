@@ -44,9 +44,9 @@ fn wrong_command_lines_are_told_on_standard_error() {
         (&[][..], "no command"),
         (&["fromat"], "fromat: not a command"),
         (&["help", "fromat"], "fromat: not a command"),
-        (&["help", "format", "fix"], "help: one command at a time"),
-        (&["version", "format"], "version: takes nothing"),
-        (&["format", "--chek"], "format: --chek: not an option"),
+        (&["help", "format", "fix"], "help takes at most one command"),
+        (&["version", "format"], "version takes no argument"),
+        (&["format", "--chek"], "format: --chek: unknown option"),
         (
             &["format", "--check=yes"],
             "format: --check: takes no value",
@@ -70,7 +70,7 @@ fn wrong_command_lines_are_told_on_standard_error() {
         ),
         (
             &["format", "a", "b"],
-            "format: several texts go with --in-place or --check",
+            "format: several texts can only be given with --in-place or --check",
         ),
         (
             &["format", "--quiet", "--verbose", "a"],
@@ -92,19 +92,19 @@ fn wrong_command_lines_are_told_on_standard_error() {
             &["show", "--exclude", "[a", "a"],
             "show: --exclude [a: not a pattern: a bracket is not closed",
         ),
-        (&["fix", "--jobs", "1"], "fix: --jobs: not an option"),
+        (&["fix", "--jobs", "1"], "fix: --jobs: unknown option"),
         (
             &["report", "--repair=yes"],
             "report: --repair: takes no value",
         ),
-        (&["repair", "--repair"], "repair: --repair: not an option"),
+        (&["repair", "--repair"], "repair: --repair: unknown option"),
         (
             &["repair", "--policy", "a"],
-            "repair: --policy: not an option",
+            "repair: --policy: unknown option",
         ),
         (
             &["repair", "a", "b"],
-            "repair: several texts go with --in-place or --check",
+            "repair: several texts can only be given with --in-place or --check",
         ),
         (
             &["repair", "--in-place"],
@@ -115,7 +115,7 @@ fn wrong_command_lines_are_told_on_standard_error() {
             "policy: unknown policy command --repair",
         ),
         (&["folders"], "folders: not a command"),
-        (&["report", "--at", "1"], "report: --at: not an option"),
+        (&["report", "--at", "1"], "report: --at: unknown option"),
         (&["fix"], "fix: --at OFFSET is missing"),
         (&["fix", "--at", "x"], "fix: --at x: not an offset in bytes"),
         (
@@ -126,17 +126,20 @@ fn wrong_command_lines_are_told_on_standard_error() {
             &["fix", "--at", "1", "--decide", "blue"],
             "fix: --decide blue: neither text nor emoji",
         ),
-        (&["fix", "--at", "1", "a", "b"], "fix: one text at a time"),
+        (
+            &["fix", "--at", "1", "a", "b"],
+            "fix: it takes one text only",
+        ),
         (&["policy"], "policy: the policy command is missing"),
         (&["policy", "show"], "policy: unknown policy command show"),
         (
             &["policy", "print", "a", "b"],
             "policy: print: too many files",
         ),
-        (&["policy", "compare"], "policy: compare: no file"),
+        (&["policy", "compare"], "policy: compare: a file is missing"),
         (
             &["policy", "print", "--add", "prefer_bare", "ordinary", "31"],
-            "policy: --add: not an option",
+            "policy: --add: unknown option",
         ),
         (
             &["policy", "write", "--add", "all", "ordinary", "31"],

@@ -342,7 +342,7 @@ fn what_a_killed_command_has_left_is_removed() {
     assert_eq!(ran.status, 0);
     assert_eq!(folder.paths(), kept);
     let removed = format!(
-        "tilghorz-host: t/u/.tilghorz-{ended}-17.tmp: removed: a command that has ended left it\n"
+        "tilghorz-host: t/u/.tilghorz-{ended}-17.tmp: removed: an earlier run of this command left it\n"
     );
     assert!(ran.err.contains(&removed), "{}", ran.err);
     assert!(

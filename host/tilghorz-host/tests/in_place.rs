@@ -122,6 +122,25 @@ fn another_owner_is_accepted_only_if_it_is_asked_for() {
     assert_eq!(folder.paths(), ["t/a"]);
 }
 
+/// No file stays open until its batch is renamed, and none after that: 600 files, of which 512 are a batch.
+#[test]
+fn few_open_files_are_enough_for_many_files() {
+    let folder = Folder::new("few_open");
+    for number in 0..600 {
+        folder.write(&format!("t/{number:03}"), MESSAGE);
+    }
+    let mut shell = Command::new("sh");
+    let line = "ulimit -n 24; exec \"$0\" format --in-place --jobs 2 t";
+    shell.args(["-c", line, COMMAND]);
+    let ran = folder.run_command(shell, b"");
+    let expected = "tilghorz-host: 600 files: 600 changed, 0 unchanged\n";
+    assert_eq!((ran.status, ran.err.as_str()), (0, expected));
+    for number in 0..600 {
+        assert_eq!(folder.read(&format!("t/{number:03}")), FORMATTED.as_bytes());
+    }
+    assert_eq!(folder.paths().len(), 600);
+}
+
 /// Starts the command on many files, and sends it a signal once a file stands beside another. What it said, and the
 /// number of the signal that ended it; none if it was done before.
 fn interrupted(folder: &Folder, signal: &str, before: &str) -> (String, Option<i32>) {

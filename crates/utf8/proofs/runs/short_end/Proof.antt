@@ -10,7 +10,7 @@ use Rattle.utf8.proofs.runs.short_end.Statement.{statement}
 use Rattle.utf8.proofs.runs.short_end.Tie as tie
 
 abbrev Inv-loop : tie.InvT-loop
-Inv-loop s from at₀ ascii₀ at ascii = CharsBetween s from at × (ascii ≤ 4)
+Inv-loop s from at₀ ascii₀ at ascii = CharsBetween s from at × (ascii ≤ 3)
 
 abbrev μ-loop : tie.MeasureT-loop
 μ-loop s from at₀ ascii₀ at ascii = length s - at

@@ -11,13 +11,16 @@ returns-2 : tie.Need-returns-2
 returns-2 c = ascii-more (c .ascii-end .ensures)
 
 returns-3 : tie.Need-returns-3
-returns-3 c h = c .short-end .ensures
+returns-3 c = let x = c .before .before .before .before .before .before .args in none-passed (x .s .now) (x .from)
 
 returns-4 : tie.Need-returns-4
-returns-4 c h = c .three-end .ensures
+returns-4 c h = c .short-end .ensures
 
 returns-5 : tie.Need-returns-5
-returns-5 c h = c .long-end .ensures
+returns-5 c h = c .three-end .ensures
+
+returns-6 : tie.Need-returns-6
+returns-6 c h = c .long-end .ensures
 
 pub width-end-spec : {M : Type 1} → statement M
 width-end-spec =
@@ -26,9 +29,11 @@ width-end-spec =
     returns
     (λ c κs. search needs)
     returns-2
-    (λ c κs. search needs)
+    (λ c. search needs)
     returns-3
     (λ c κs. search needs)
     returns-4
     (λ c κs. search needs)
-    returns-5)
+    returns-5
+    (λ c κs. search needs)
+    returns-6)
