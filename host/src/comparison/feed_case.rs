@@ -9,6 +9,7 @@ use crate::calls::{Answer, Calls, FINDING_BYTES};
 use crate::reference::calls::Draft;
 use crate::reference::feed::{self, Feed, TOTALS_BYTES, room, totals_bytes};
 use crate::reference::policy::default_policy;
+use crate::reference::rules::Counts;
 
 /// The most bytes of a feed.
 const MOST_BYTES: u64 = 512;
@@ -126,6 +127,7 @@ pub fn check(calls: &dyn Calls, policy: &Policy, list: &[Step]) -> Result<(), Di
         calls,
         policy,
         feed: begin_in(calls, policy, begun, bytes)?,
+        totals: reading.totals(),
         reading,
         joined: Vec::new(),
     };
@@ -136,12 +138,13 @@ pub fn check(calls: &dyn Calls, policy: &Policy, list: &[Step]) -> Result<(), Di
     Ok(())
 }
 
-/// A feed, the reading of it, and what it has written.
+/// A feed, the reading of it with its totals, and what it has written.
 struct Thread<'a> {
     calls: &'a dyn Calls,
     policy: &'a Policy,
     feed: Vec<u8>,
     reading: Feed,
+    totals: Counts,
     joined: Vec<u8>,
 }
 
@@ -169,17 +172,18 @@ impl Thread<'_> {
         if let (Ok(taken), Answer::DONE) = (taken, answer.number) {
             self.joined.extend(written);
             self.reading = taken.feed;
+            self.totals = self.reading.totals();
+            self.beside_the_crate(number)?;
         }
         match step {
-            Step::Piece { .. } => self.totals(number, &[TOTALS_BYTES])?,
-            Step::End { .. } => self.totals(number, &[0, TOTALS_BYTES - 1, TOTALS_BYTES, 77])?,
+            Step::Piece { .. } => self.totals(number, &[TOTALS_BYTES]),
+            Step::End { .. } => self.totals(number, &[0, TOTALS_BYTES - 1, TOTALS_BYTES, 77]),
         }
-        self.beside_the_crate(number)
     }
 
     /// Compares the totals, read into outputs of these lengths.
     fn totals(&self, number: usize, rooms: &[usize]) -> Result<(), Difference> {
-        let draft = Draft::bytes(totals_bytes(&self.reading.totals()));
+        let draft = Draft::bytes(totals_bytes(&self.totals));
         let name = || format!("totals after call {number}");
         rooms.iter().try_for_each(|&room| {
             lend(name, &draft, room, |out| {
@@ -200,8 +204,8 @@ impl Thread<'_> {
         }
         let totals = crate_totals(text, policy);
         let name = |what: &str| format!("the crate's {what} (expected) after call {number}");
-        let show = |totals: &[u64; 8]| format!("{totals:?}");
-        same(|| name("totals"), &totals, &self.reading.totals(), show)?;
+        let show = |totals: &Counts| format!("{totals:?}");
+        same(|| name("totals"), &totals, &self.totals, show)?;
         let formatted = beside::formatted(text, policy).unwrap_or_else(|| whole.to_vec());
         let show = |bytes: &Vec<u8>| hexadecimal(bytes);
         let name = || name("formatted text");
@@ -214,8 +218,8 @@ impl Thread<'_> {
 }
 
 /// The sums of the crate's counts.
-fn crate_totals(text: &str, policy: &evfmt::Policy) -> [u64; 8] {
-    let mut totals = [0; 8];
+fn crate_totals(text: &str, policy: &evfmt::Policy) -> Counts {
+    let mut totals = Counts::default();
     for row in beside::findings(text, policy).chunks(FINDING_BYTES) {
         for (total, bytes) in totals.iter_mut().zip(row[16..].chunks(8)) {
             let number = bytes.iter().rev();
