@@ -36,75 +36,11 @@ fn wide(b: u8) -> u32
     b as u32
 }
 
-// Returns the packed number of three bytes. It is 0 if their value is a surrogate or has a shorter encoding.
-fn pack_3(a: u32, b: u32, c: u32) -> u32
-    requires { ⌜ (0xE0 ≤ a) × (a ≤ 0xEF) × (0x80 ≤ b) × (b ≤ 0xBF) × (0x80 ≤ c) × (c ≤ 0xBF) ⌝ }
-    ensures { λ r. ⌜ ((d : ℕ) → r ≡ packed (readFour a b c d)) ⌝ }
-{
-    let value = ((a - 0xE0) * 64 + (b - 0x80)) * 64 + (c - 0x80);
-    if value < 0x800 {
-        return 0;
-    }
-    if value < 0xD800 {
-        return 8 * value + 3;
-    }
-    if value < 0xE000 {
-        return 0;
-    }
-    8 * value + 3
-}
-
-// Returns the packed number of four bytes. It is 0 if the last byte is no UTF8-tail, or if their value is above 10FFFF
-// or has a shorter encoding.
-fn pack_4(a: u32, b: u32, c: u32, d: u32) -> u32
-    requires { ⌜ (0xF0 ≤ a) × (a ≤ 0xF4) × (0x80 ≤ b) × (b ≤ 0xBF) × (0x80 ≤ c) × (c ≤ 0xBF) ⌝ }
-    ensures { λ r. ⌜ r ≡ packed (readFour a b c d) ⌝ }
-{
-    if d < 0x80 {
-        return 0;
-    }
-    if 0xBF < d {
-        return 0;
-    }
-    let value = (((a - 0xF0) * 64 + (b - 0x80)) * 64 + (c - 0x80)) * 64 + (d - 0x80);
-    if value < 0x10000 {
-        return 0;
-    }
-    if 0x10FFFF < value {
-        return 0;
-    }
-    8 * value + 4
-}
-
-// Decodes at an offset whose first two bytes begin a character of three or four bytes.
-fn decode_long(s: &[u8], at: usize, a: u32, b: u32) -> u32
-    requires bytes { ⌜ (at + 2 ≤ length (now s)) × (a ≡ getD (now s) at 0) × (b ≡ getD (now s) (at + 1) 0) ⌝ }
-    requires ranges { ⌜ (0xE0 ≤ a) × (a ≤ 0xF4) × (0x80 ≤ b) × (b ≤ 0xBF) ⌝ }
-    ensures { λ r. ⌜ r ≡ packed (readChar (drop at (now (s .entry)))) ⌝ }
-{
-    if s.len() - at < 3 {
-        return 0;
-    }
-    let c = wide(s[at + 2]);
-    if c < 0x80 {
-        return 0;
-    }
-    if 0xBF < c {
-        return 0;
-    }
-    if a < 0xF0 {
-        return pack_3(a, b, c);
-    }
-    if s.len() - at < 4 {
-        return 0;
-    }
-    pack_4(a, b, c, wide(s[at + 3]))
-}
-
 // Decodes the character at an offset. The result is the packed number, 8 times the value plus the width, or 0 if no
-// character begins there. A number is returned in a register, and an enum through memory. The function finds overlong
-// forms, surrogates and values above 10FFFF by comparing the value, which takes fewer steps than comparing the second
-// byte.
+// character begins there. A number is returned in a register, and an enum through memory. The tests of this function
+// and of the next three stand in the row order of the Unicode Standard's Table 3-7, and each row has a comment. In
+// every row each byte after the first is a UTF8-tail, 80..BF, so this is tested once for all rows when the byte is
+// read. The rows E0, ED, F0 and F4 then test their narrower range of the second byte.
 pub fn decode(s: &[u8], at: usize) -> u32
     ensures { λ r. ⌜ r ≡ packed (readChar (drop at (now (s .entry)))) ⌝ }
 {
@@ -112,13 +48,12 @@ pub fn decode(s: &[u8], at: usize) -> u32
         return 0;
     }
     let a = wide(s[at]);
-    if a < 0x80 {
+    // 00..7F
+    if a <= 0x7F {
         return 8 * a + 1;
     }
+    // No row begins with 80..C1.
     if a < 0xC2 {
-        return 0;
-    }
-    if 0xF4 < a {
         return 0;
     }
     if s.len() - at < 2 {
@@ -131,10 +66,104 @@ pub fn decode(s: &[u8], at: usize) -> u32
     if 0xBF < b {
         return 0;
     }
-    if a < 0xE0 {
+    // C2..DF, 80..BF
+    if a <= 0xDF {
         return 8 * ((a - 0xC0) * 64 + (b - 0x80)) + 2;
     }
+    // E0; E1..EC; ED; EE..EF; F0; F1..F3; F4
     decode_long(s, at, a, b)
+}
+
+// Decodes at an offset by the rows from E0 on. The second byte there is a UTF8-tail.
+fn decode_long(s: &[u8], at: usize, a: u32, b: u32) -> u32
+    requires bytes { ⌜ (at + 2 ≤ length (now s)) × (a ≡ getD (now s) at 0) × (b ≡ getD (now s) (at + 1) 0) ⌝ }
+    requires ranges { ⌜ (0xE0 ≤ a) × (a ≤ 0xFF) × (0x80 ≤ b) × (b ≤ 0xBF) ⌝ }
+    ensures { λ r. ⌜ r ≡ packed (readChar (drop at (now (s .entry)))) ⌝ }
+{
+    if s.len() - at < 3 {
+        return 0;
+    }
+    let c = wide(s[at + 2]);
+    if c < 0x80 {
+        return 0;
+    }
+    if 0xBF < c {
+        return 0;
+    }
+    // E0; E1..EC; ED; EE..EF
+    if a <= 0xEF {
+        return pack_3(a, b, c);
+    }
+    if s.len() - at < 4 {
+        return 0;
+    }
+    // F0; F1..F3; F4
+    pack_4(a, b, c, wide(s[at + 3]))
+}
+
+// Returns the packed number of three bytes, by the rows of three bytes in Table 3-7. The second and third bytes are
+// UTF8-tails. The result is 0 if the second byte is not in its row's range.
+fn pack_3(a: u32, b: u32, c: u32) -> u32
+    requires { ⌜ (0xE0 ≤ a) × (a ≤ 0xEF) × (0x80 ≤ b) × (b ≤ 0xBF) × (0x80 ≤ c) × (c ≤ 0xBF) ⌝ }
+    ensures { λ r. ⌜ ((d : ℕ) → r ≡ packed (readFour a b c d)) ⌝ }
+{
+    let value = ((a - 0xE0) * 64 + (b - 0x80)) * 64 + (c - 0x80);
+    // E0, A0..BF, 80..BF
+    if a == 0xE0 {
+        if b < 0xA0 {
+            return 0;
+        }
+        return 8 * value + 3;
+    }
+    // E1..EC, 80..BF, 80..BF
+    if a <= 0xEC {
+        return 8 * value + 3;
+    }
+    // ED, 80..9F, 80..BF
+    if a == 0xED {
+        if 0x9F < b {
+            return 0;
+        }
+        return 8 * value + 3;
+    }
+    // EE..EF, 80..BF, 80..BF
+    8 * value + 3
+}
+
+// Returns the packed number of four bytes, by the rows of four bytes in Table 3-7. The second and third bytes are
+// UTF8-tails. The result is 0 if the last byte is no UTF8-tail, if the second byte is not in its row's range, or if no
+// row begins with the first byte.
+fn pack_4(a: u32, b: u32, c: u32, d: u32) -> u32
+    requires { ⌜ (0xF0 ≤ a) × (a ≤ 0xFF) × (0x80 ≤ b) × (b ≤ 0xBF) × (0x80 ≤ c) × (c ≤ 0xBF) ⌝ }
+    ensures { λ r. ⌜ r ≡ packed (readFour a b c d) ⌝ }
+{
+    if d < 0x80 {
+        return 0;
+    }
+    if 0xBF < d {
+        return 0;
+    }
+    let value = (((a - 0xF0) * 64 + (b - 0x80)) * 64 + (c - 0x80)) * 64 + (d - 0x80);
+    // F0, 90..BF, 80..BF, 80..BF
+    if a == 0xF0 {
+        if b < 0x90 {
+            return 0;
+        }
+        return 8 * value + 4;
+    }
+    // F1..F3, 80..BF, 80..BF, 80..BF
+    if a <= 0xF3 {
+        return 8 * value + 4;
+    }
+    // F4, 80..8F, 80..BF, 80..BF
+    if a == 0xF4 {
+        if 0x8F < b {
+            return 0;
+        }
+        return 8 * value + 4;
+    }
+    // No row begins with F5..FF.
+    0
 }
 
 // Returns the number of bytes of the character at an offset, or 0 if no character begins there.

@@ -26,13 +26,13 @@ returns-3 c =
 returns-4 : tie.Need-returns-4
 returns-4 c =
     let x = c .before .before .before .before .before .before .before .args in
+    let z = List·getD-eq-default (x .s .now) 0 {n = x .at + 1} (omega arith) in
     refused-at (x .s .now) (x .at) (omega arith)
     (λ p. omega arith) (λ p q. omega arith) (λ p q r l n. omega arith) (λ p q r t v. omega arith)
 
 returns-5 : tie.Need-returns-5
 returns-5 c =
-    let x = c .before .before .before .before .before .before .before .before .args in
-    let z = List·getD-eq-default (x .s .now) 0 {n = x .at + 1} (omega arith) in
+    let x = c .before .before .before .before .before .before .before .before .before .before .args in
     refused-at (x .s .now) (x .at) (omega arith)
     (λ p. omega arith) (λ p q. omega arith) (λ p q r l n. omega arith) (λ p q r t v. omega arith)
 
@@ -45,13 +45,13 @@ returns-6 c =
 returns-7 : tie.Need-returns-7
 returns-7 c =
     let x = c .before .before .before .before .before .before .before .before .before .before .before .before .args in
-    refused-at (x .s .now) (x .at) (omega arith)
-    (λ p. omega arith) (λ p q. omega arith) (λ p q r l n. omega arith) (λ p q r t v. omega arith)
-
-returns-8 : tie.Need-returns-8
-returns-8 c =
-    let x = c .before .before .before .before .before .before .before .before .before .before .before .before .before .args in
     omega (arith, reads-2-at (x .s .now) (x .at) (omega arith) (omega arith) (omega arith))
+
+decode-long-requires : tie.Need-decode-long-requires
+decode-long-requires c κs =
+    let b = c .before .before .before .before .before .before .before .before .before .before .before in
+    let k = b .shared-slice-known .given (b .before .args .at) .fits in
+    ((omega arith, omega arith, omega arith), (omega arith, omega (arith, k), omega arith, omega arith))
 
 pub decode-spec : {M : Type 1} → statement M
 decode-spec =
@@ -64,19 +64,18 @@ decode-spec =
     (λ c. search needs)
     returns-2
     returns-3
+    (λ c. search needs)
     returns-4
     (λ c. search needs)
+    (λ c. search needs)
+    (λ c κs. search needs)
     returns-5
-    (λ c. search needs)
-    (λ c. search needs)
-    (λ c κs. search needs)
     returns-6
+    (λ c. search needs)
+    (λ c. search needs)
+    (λ c. search needs)
+    (λ c. search needs)
+    (λ c. search needs)
     returns-7
-    (λ c. search needs)
-    (λ c. search needs)
-    (λ c. search needs)
-    (λ c. search needs)
-    (λ c. search needs)
-    returns-8
-    (λ c κs. search needs)
+    decode-long-requires
     (λ c. search needs))
