@@ -1,5 +1,5 @@
--- Laws for the proof of `decode`. `decode` tests the value of three and four bytes, where the table of RFC 3629, section 4, tests the
--- range of the second byte.
+-- Laws for the proof of `decode`. They have bounds of the value of three and four bytes, where the table of RFC 3629, section 4, has
+-- ranges of the second byte.
 use mathlib.Core.Path.{_≡_, refl, sym, ap, _∙_, subst}
 use mathlib.Core.Bool.{true}
 use mathlib.Core.List.{List, [], _∷_, _++_}
