@@ -1,14 +1,15 @@
 // A feed in lent bytes: a thread that is formatted as it arrives (document 02, iii). The Rust crate formats whole texts and has no such
 // type. This crate has the types of the state and the functions that test, read and write it: `is_feed` equals `isFeed`, `read_state`
 // equals `stateOf`, and `write_state` writes the bytes of `stateWords` (specs/Bytes.antt). The calls are in crate feeding.
+ghost use mathlib.Core.Bool.{true};
 ghost use mathlib.Core.Path.{_≡_};
-ghost use Prim.Native.Nat.{_%_, _<_};
-ghost use lib.ListN.{};
+ghost use Prim.Native.Nat.{_%_, _<_, _≤_};
+ghost use lib.ListN.{length};
 ghost use Rattle.base.specs.Output.{WritesAt};
 ghost use Rattle.base.specs.Words.{bytesOf, littleEndian};
 ghost use Rattle.utf8.specs.Subparts.{unfinished};
 ghost use Rattle.feed.specs.Bytes.{countsOf, endedWord, heldOf, isFeed, selectorOf, selectorWord, smallTo};
-ghost use Rattle.feed.specs.Bytes.{stateOf, stateWords, wordAt};
+ghost use Rattle.feed.specs.Bytes.{stateBytes, stateOf, stateWords, wordAt};
 use analysis::types::NonCanonicality;
 use base::Refusal;
 use base::TEXT_LIMIT;
@@ -99,10 +100,34 @@ fn read_counts(feed: &[u8]) -> NonCanonicality
     }
 }
 
-// Reads the words of a feed. A word after the end of the bytes counts as 0.
-pub fn read_state(feed: &[u8]) -> State
-    ensures { λ r. ⌜ r ≡ stateOf (now (feed .entry)) ⌝ }
+// Returns the state of a feed that has ended, with nothing in it.
+fn no_state() -> State
+    ensures { λ r. ⌜ r .ended ≡ true ⌝ }
 {
+    let held = Held {
+        base: 0,
+        first: FromSelector::NoSelector,
+        count: 0,
+    };
+    let counts = NonCanonicality::empty();
+    State {
+        ended: true,
+        held,
+        rest_len: 0,
+        rest: 0,
+        len: 0,
+        counts,
+    }
+}
+
+// Returns the state that the words of a feed have. For bytes that are too short, this is the state of a feed that has ended. The length is
+// tested here, so that the compiler knows it wherever a word is read.
+pub fn read_state(feed: &[u8]) -> State
+    ensures { λ r. ⌜ (stateBytes ≤ length (now (feed .entry)) → r ≡ stateOf (now (feed .entry))) ⌝ }
+{
+    if feed.len() < STATE_BYTES {
+        return no_state();
+    }
     let ended = word(feed, 0) != 0;
     let held = read_held(feed);
     let rest_len = word(feed, 4);

@@ -30,26 +30,32 @@ returns-2 c =
     let x = c .before .before .before .before .before .before .before .before .args in
     ends-called (end-9 (x .feed .now) (x .out .now)
     (sym (c .before .before .before .before .is-feed .ensures) ∙ not-false _ (c .before .before .before .if1 .left))
-    (ap (λ (s : State). s .ended) (sym (c .before .read-state .ensures)) ∙ c .if2 .taken))
+    (ap (λ (s : State). s .ended) (sym (c .before .read-state .ensures (omega
+    (arith, c .before .before .before .before .before .before .before .before .pre)))) ∙ c .if2 .taken))
 
 returns-3 : tie.Need-returns-3
 returns-3 c =
     let x = c .before .before .before .before .before .before .before .before .before .before .args in
-    let e = ap (λ (s : State). s .«rest_len») (c .before .before .before .read-state .ensures) in
+    let e = ap (λ (s : State). s .«rest_len») (c .before .before .before .read-state .ensures (omega
+    (arith, c .before .before .before .before .before .before .before .before .before .before .pre))) in
     ends-called (end-10 (x .feed .now) (x .out .now)
     (sym (c .before .before .before .before .before .before .is-feed .ensures) ∙ not-false _
     (c .before .before .before .before .before .if1 .left))
-    (ap (λ (s : State). s .ended) (sym (c .before .before .before .read-state .ensures)) ∙ c .before .before .if2 .left)
+    (ap (λ (s : State). s .ended) (sym (c .before .before .before .read-state .ensures (omega
+    (arith, c .before .before .before .before .before .before .before .before .before .before .pre)))) ∙ c .before .before .if2 .left)
     (λ z. c .if3 .taken (e ∙ z)))
 
 returns-4 : tie.Need-returns-4
 returns-4 c =
     let x = c .before .before .before .before .before .before .before .before .before .before .before .args in
-    let e = ap (λ (s : State). s .«rest_len») (c .before .before .before .before .read-state .ensures) in
+    let e = ap (λ (s : State). s .«rest_len») (c .before .before .before .before .read-state .ensures (omega
+    (arith, c .before .before .before .before .before .before .before .before .before .before .before .pre))) in
     ends-called (end-8 (x .feed .now) (x .out .now)
     (sym (c .before .before .before .before .before .before .before .is-feed .ensures) ∙ not-false _
     (c .before .before .before .before .before .before .if1 .left))
-    (ap (λ (s : State). s .ended) (sym (c .before .before .before .before .read-state .ensures)) ∙ c .before .before .before .if2 .left)
+    (ap (λ (s : State). s .ended) (sym (c .before .before .before .before .read-state .ensures (omega
+    (arith, c .before .before .before .before .before .before .before .before .before .before .before .pre))))
+    ∙ c .before .before .before .if2 .left)
     (sym e ∙ c .before .if3 .left) (c .if4 .taken))
 
 sub-put-held : tie.Need-sub-put-held
@@ -77,7 +83,8 @@ put-held-requires c κs =
     let d = c .before .before .before .before .before .before .before .before .before .before in
     let x = d .before .before .before .before .before .args in (
       ap (λ (s : State). isScalar (s .held .base))
-          (c .before .before .before .before .before .before .before .before .read-state .ensures) ∙ feed-scalar (x .feed .now)
+          (c .before .before .before .before .before .before .before .before .read-state .ensures (omega
+          (arith, d .before .before .before .before .before .pre))) ∙ feed-scalar (x .feed .now)
           (sym (d .before .is-feed .ensures) ∙ not-false _
           (d .if1 .left)),
       let l = ap (λ (t : List ℕ). length
@@ -85,7 +92,8 @@ put-held-requires c κs =
           (c .before .before .before .before .before .before .before .before .read-state .result .held)) other .text)))
           (policy-lent (x .feed .now)) in
           let m = ap (λ (s : State). length (encodeAll (settle (pendingOf (policyPart (x .feed .now)) (s .held)) other .text)))
-          (c .before .before .before .before .before .before .before .before .read-state .ensures) in
+          (c .before .before .before .before .before .before .before .before .read-state .ensures (omega
+          (arith, d .before .before .before .before .before .pre))) in
           omega (arith, c .before .before .before .before .if4 .left, l, m, last-few (x .feed .now) (x .out .now)),
     )
 
@@ -109,7 +117,8 @@ returns-5 c =
     let b = policy-lent (x .feed .now) in
     ends-called (end-done (x .feed .now) (x .out .now)
     (sym (e .before .before .is-feed .ensures) ∙ not-false _ (e .before .if1 .left))
-    (d .before .before .before .before .before .before .before .before .before .read-state .ensures)
+    (d .before .before .before .before .before .before .before .before .before .read-state .ensures (omega
+    (arith, e .before .before .before .before .before .before .pre)))
     (d .before .before .before .before .before .before .before .before .if2 .left)
     (d .before .before .before .before .before .before .if3 .left) (d .before .before .before .before .before .if4 .left)
     (put-as _ (ap (λ (l : List ℕ). encodeAll (settle (pendingOf (policyOf l) h) other .text)) b)

@@ -69,8 +69,8 @@ put-held-requires c κs =
     (c .before .before .decode .ensures) in
     let k = c .before .class-of .ensures ∙ ap classOf f in (
       q .0,
-      subst
-          (λ (y : Class). x .taken .end + length (encodeAll (settle (pendingOf p (x .taken .held)) y .text)) ≤ length (x .out .now)) (sym k)
+      subst (λ (y : Class). x .taken .end + length (encodeAll (settle (pendingOf p (x .taken .held)) y .text)) ≤ length (x .out .now))
+          (sym k)
           (held-room p (x .piece .now) (x .at) (x .end) t r (x .taken .held) (x .taken .counts) (x .out .now) (x .taken .end) (q .7)),
     )
 
@@ -104,13 +104,13 @@ part-put-middle-end c =
 
 put-middle-requires : tie.Need-put-middle-requires
 put-middle-requires c κs =
-    let start = c .before .before .before .before .before .before .before .before .before .before .before .before .before .before .before in
-    let x = start .args in
-    let q = start .pre in
+    let d = c .before .before .before .before .before .before .before .before .before .before in
+    let x = d .before .before .before .before .before .args in
+    let q = d .before .before .before .before .before .pre in
     let p = policyOf (x .policy .now) in
-    let t = c .before .before .before .before .before .before .before .before .before .before .before .find-tail .result in
+    let t = d .before .find-tail .result in
     let r = rest-of p (x .piece .now) (x .at) (x .end) t (q .3) (q .4) (q .5)
-    (c .before .before .before .before .before .before .before .before .before .before .before .find-tail .ensures) in
+    (d .before .find-tail .ensures) in
     let f = first-is p (x .piece .now) (x .at) (x .end) t r (x .taken .held) (x .taken .counts)
     (c .before .before .before .before .before .before .before .decode .result)
     (c .before .before .before .before .before .before .before .decode .ensures) in

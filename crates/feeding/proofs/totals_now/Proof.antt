@@ -1,4 +1,5 @@
 -- `feeding::totals_now` meets its contract.
+use native.Mathlib.Omega.{arith}
 use borrow.Author.Needs.{needs}
 use Rattle.feeding.proofs.Ending.{totals-none}
 use Rattle.feeding.proofs.Settling.{other-length}
@@ -10,5 +11,8 @@ returns c =
     let x = c .before .before .before .args in totals-none (x .feed .now) (other-length (x .feed .now) (c .before .if1 .taken))
     (c .empty .ensures)
 
+feed-totals-requires : tie.Need-feed-totals-requires
+feed-totals-requires c κs = omega (arith, c .if1 .left)
+
 pub totals-now-spec : {M : Type 1} → statement M
-totals-now-spec = tie.close (tie.spec (λ c κs. search needs) returns (λ c κs. search needs) (λ c. search needs))
+totals-now-spec = tie.close (tie.spec (λ c κs. search needs) returns feed-totals-requires (λ c. search needs))
