@@ -18,6 +18,7 @@ ghost use Rattle.formatter.specs.Format.{format, formatRow};
 ghost use Rattle.formatting.specs.FirstChange.{FirstChange};
 use base::Check;
 use base::Refusal;
+use base::TEXT_LIMIT;
 use formatter::FormatAnswer;
 use formatter::intake::first_tests;
 use scanner::selectors::SELECTOR_BYTES;
