@@ -25,7 +25,7 @@ use Rattle.analysis.specs.Rules.{byKeycap, byModifier, byTags, firstAsked, runW
 use Rattle.analysis.specs.declared.singleton.Outcome.{Outcome}
 use Rattle.analysis.proofs.Cells.{split-selectors, split-whole}
 use Rattle.analysis.proofs.Counts.{empty-plus, plus-empty, total-empty}
-use Rattle.analysis.proofs.Replacement.{renew-quiet}
+use Rattle.analysis.proofs.Replacement.{renew-uncounted}
 use Rattle.analysis.proofs.Rules.{outcome-unmodified}
 use Rattle.feed.specs.Feed.{
   Effect,
@@ -145,10 +145,10 @@ module _ (p : Policy) where
       ∙ ap (λ (r : R). r .0) (selectors-alone qs)
 
   -- A base that is settled before a base with an entry is settled as at the end.
-  settle-quiet : (s : Pending) (c : ℕ) → hasVariationSequence c ≡ true → settle s (classOf c) ≡ settle s other
+  settle-as-other : (s : Pending) (c : ℕ) → hasVariationSequence c ≡ true → settle s (classOf c) ≡ settle s other
   unfolding settle byModifier byTags byKeycap
-  settle-quiet nothing c v = refl
-  settle-quiet (base q d f n) c v =
+  settle-as-other nothing c v = refl
+  settle-as-other (base q d f n) c v =
       ap (λ (k : Class). settle (base q d f n) k) (entry-class c v)
       ∙ ap (λ (o : Outcome). record { text = d ∷ map asSelector (chosen (o .slot) []); counts = o .counts })
       (outcome-unmodified q d emoji (runWith f n) refl refl refl)
@@ -171,10 +171,10 @@ module _ (p : Policy) where
       let none : A .0 ≡ nothing =
       ap (λ (l : List Fed). takeChars nothing l .0) (ap (fedAs p) m ∙ fed-append p zs (c ∷ map asSelector qs))
       ∙ ap (λ (r : R). r .0) (take-append nothing (fedAs p zs) (fedAs p (c ∷ map asSelector qs))) ∙ none-after (Z .0) c qs e v in
-      let quiet : settle (A .0) other ≡ noEffect = ap (λ (s : Pending). settle s other) none in
+      let unsettled : settle (A .0) other ≡ noEffect = ap (λ (s : Pending). settle s other) none in
       let same : A .1 ≡ wholeEffect p ms =
       effect-path (sym (append-nil (A .1 .text))) (sym (plus-empty (A .1 .counts)))
-      ∙ ap (joinEffects (A .1)) (sym quiet) ∙ taken-whole ms in
+      ∙ ap (joinEffects (A .1)) (sym unsettled) ∙ taken-whole ms in
       λ i. (none i, same i)
 
   -- Up to a base with an entry, which is held with its selectors.
@@ -185,7 +185,7 @@ module _ (p : Policy) where
       let T = takeChars nothing (fedAs p (c ∷ map asSelector qs)) in
       let S = settle (A .0) (classOf c) in
       let same : joinEffects (A .1) (joinEffects S noEffect) ≡ wholeEffect p ms =
-      ap (joinEffects (A .1)) (effect-path (append-nil (S .text)) (plus-empty (S .counts)) ∙ settle-quiet (A .0) c v) ∙ taken-whole ms in
+      ap (joinEffects (A .1)) (effect-path (append-nil (S .text)) (plus-empty (S .counts)) ∙ settle-as-other (A .0) c v) ∙ taken-whole ms in
       ap (takeChars nothing) (fed-append p ms (c ∷ map asSelector qs))
       ∙ take-append nothing (fedAs p ms) (fedAs p (c ∷ map asSelector qs))
       ∙ ap (λ (r : R). (r .0, joinEffects (A .1) (r .1))) (settle-first (A .0) c (map asSelector qs) e)
@@ -214,24 +214,24 @@ module _ (p : Policy) where
   -- ---- characters in which nothing is counted
 
   -- They stay as they are.
-  pub quiet-same : (ms : List ℕ) → total (totalCells p ms) ≡ 0 → formatCells p ms ≡ ms
+  pub uncounted-same : (ms : List ℕ) → total (totalCells p ms) ≡ 0 → formatCells p ms ≡ ms
   unfolding formatCells totalCells render
-  quiet-same ms e =
+  uncounted-same ms e =
       let none : leading ms ≡ [] = empty-list (leading ms) (omega arith) in
-      ap unsplit (renew-quiet p (cells ms) (omega arith))
+      ap unsplit (renew-uncounted p (cells ms) (omega arith))
       ∙ ap (λ (l : List Presentation). map asSelector l ++ unsplit (cells ms)) (sym none) ∙ split-whole ms
     where
       empty-list : (l : List Presentation) → length l ≡ 0 → l ≡ []
       empty-list [] h = refl
       empty-list (q ∷ l) h = absurd (omega arith)
 
-  pub quiet-empty : (ms : List ℕ) → total (totalCells p ms) ≡ 0 → totalCells p ms ≡ empty
-  quiet-empty ms e = total-empty (totalCells p ms) e
+  pub uncounted-empty : (ms : List ℕ) → total (totalCells p ms) ≡ 0 → totalCells p ms ≡ empty
+  uncounted-empty ms e = total-empty (totalCells p ms) e
 
   -- Where nothing is counted in all characters, nothing is counted up to a base that is held.
-  pub quiet-before : (ms : List ℕ) (c : ℕ) (qs : List Presentation) → isSelector c ≡ false → hasVariationSequence c ≡ true
+  pub uncounted-before : (ms : List ℕ) (c : ℕ) (qs : List Presentation) → isSelector c ≡ false → hasVariationSequence c ≡ true
       → total (totalCells p (ms ++ (c ∷ map asSelector qs))) ≡ 0 → total (totalCells p ms) ≡ 0
-  quiet-before ms c qs e v z =
+  uncounted-before ms c qs e v z =
       let xs = ms ++ (c ∷ map asSelector qs) in
       let A = takeChars nothing (fedAs p xs) in
       let w = ap (λ (k : Effect). total (k .counts)) (taken-whole xs) in
@@ -240,9 +240,9 @@ module _ (p : Policy) where
       omega arith
 
   -- Nor after selectors at the front.
-  pub quiet-after : (qs : List Presentation) (xs : List ℕ) → total (totalCells p (map asSelector qs ++ xs)) ≡ 0
+  pub uncounted-after : (qs : List Presentation) (xs : List ℕ) → total (totalCells p (map asSelector qs ++ xs)) ≡ 0
       → total (totalCells p xs) ≡ 0
   unfolding totalCells
-  quiet-after qs xs z =
+  uncounted-after qs xs z =
       let w = ap (λ (a : P). total (unsanctioned (length (a .0)) ⊕ countCells p (a .1))) (split-selectors qs xs) in
       omega (arith, length-append qs (leading xs))

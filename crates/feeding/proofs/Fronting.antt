@@ -26,7 +26,7 @@ use Rattle.feeding.specs.Helpers.{TakenBy}
 use Rattle.feeding.specs.Parts.{SelectorsTaken, charOf, scannedChars}
 use Rattle.feeding.specs.declared.Taken.{Taken}
 use Rattle.feeding.specs.declared.scan.PieceScan.{PieceScan}
-use Rattle.feeding.proofs.Cuts.{fed-append, quiet-after}
+use Rattle.feeding.proofs.Cuts.{fed-append, uncounted-after}
 use Rattle.feeding.proofs.Taking.{and-then, next-room, taken-none}
 
 -- ---- the completed character
@@ -130,9 +130,9 @@ module _ {piece : List ℕ} {from at : ℕ} {t r : Taken} (g : SelectorsTaken pi
       none [] h = refl
       none (c ∷ cs) h = absurd (omega arith)
 
-  pub selectors-quiet : (p : Policy) → total (totalCells p (chars (drop from piece))) ≡ 0 → total (totalCells p (chars (drop at piece))) ≡ 0
-  selectors-quiet p z =
-      quiet-after p (g .selectors) (chars (drop at piece)) (ap (λ (cs : List ℕ). total (totalCells p cs)) (sym (g .chars-are)) ∙ z)
+  pub selectors-uncounted : (p : Policy) → total (totalCells p (chars (drop from piece))) ≡ 0 → total (totalCells p (chars (drop at piece))) ≡ 0
+  selectors-uncounted p z =
+      uncounted-after p (g .selectors) (chars (drop at piece)) (ap (λ (cs : List ℕ). total (totalCells p cs)) (sym (g .chars-are)) ∙ z)
 
 -- ---- all parts
 

@@ -43,7 +43,7 @@ use Rattle.feed.proofs.PieceRoom.{count-le}
 use Rattle.feeding.specs.Helpers.{TakenBy}
 use Rattle.feeding.specs.Parts.{BaseFrom, Between, TailFrom, none-held, one-held}
 use Rattle.feeding.specs.declared.tail.HeldTail.{HeldTail}
-use Rattle.feeding.proofs.Cuts.{middle-held, middle-none, quiet-before, quiet-empty, quiet-same, wholeEffect}
+use Rattle.feeding.proofs.Cuts.{middle-held, middle-none, uncounted-before, uncounted-empty, uncounted-same, wholeEffect}
 use Rattle.feeding.proofs.Settling.{settle-few}
 use Rattle.feeding.proofs.Summing.{total-few}
 use Rattle.feeding.proofs.Tails.{first-read, packed-value, valid-between}
@@ -96,7 +96,7 @@ module _ (p : Policy) (text : List ℕ) (at to : ℕ) (t : HeldTail) where
     pub whole : validUpTo M ≡ length M
     pub taken : (s : Pending)
         → takeChars s (fedAs p C) ≡ (pendingOf p (t .held), joinEffects (settle s (classOf first)) (wholeEffect p (chars M)))
-    pub quiet : total (totalCells p C) ≡ 0 → total (totalCells p (chars M)) ≡ 0
+    pub uncounted : total (totalCells p C) ≡ 0 → total (totalCells p (chars M)) ≡ 0
     pub scalar : isScalar (t .held .base) ≡ true
     pub few : length (chars M) + t .held .count ≤ length C
 
@@ -145,9 +145,9 @@ module _ (p : Policy) (text : List ℕ) (at to : ℕ) (t : HeldTail) where
               (middle-held p s (f .first) (f .more) (f .no-selector) ms (b .value) qs (sym (f .chars-are) ∙ whole) (b .no-selector) v
               ∙ ap₂ (λ (x : Pending) (cs : List ℕ). (x, joinEffects (settle s (classOf (f .first))) (wholeEffect p cs))) (sym pending)
               (sym same));
-          quiet = λ z.
+          uncounted = λ z.
               ap (λ (cs : List ℕ). total (totalCells p cs)) same
-              ∙ quiet-before p ms (b .value) qs (b .no-selector) v (ap (λ (cs : List ℕ). total (totalCells p cs)) (sym whole) ∙ z);
+              ∙ uncounted-before p ms (b .value) qs (b .no-selector) v (ap (λ (cs : List ℕ). total (totalCells p cs)) (sym whole) ∙ z);
           scalar = ap (λ (h : Held). isScalar (h .base)) q ∙ w .is-scalar;
           few = omega (
             arith,
@@ -187,7 +187,7 @@ module _ (p : Policy) (text : List ℕ) (at to : ℕ) (t : HeldTail) where
               (middle-none p s (f .first) (f .more) (f .no-selector) zs (b .value) qs (sym (f .chars-are) ∙ whole) (b .no-selector) v
               ∙ ap₂ (λ (x : Pending) (cs : List ℕ). (x, joinEffects (settle s (classOf (f .first))) (wholeEffect p cs)))
               (sym (pending-none p (t .held) zero)) (sym (same ∙ f .chars-are)));
-          quiet = λ y. ap (λ (cs : List ℕ). total (totalCells p cs)) same ∙ y;
+          uncounted = λ y. ap (λ (cs : List ℕ). total (totalCells p cs)) same ∙ y;
           scalar = ap isScalar zero;
           few = omega (arith, ap length same, ap (λ (h : Held). h .count) q);
         }
@@ -247,12 +247,12 @@ module _ (p : Policy) (text : List ℕ) (at to : ℕ) (t : HeldTail) where
         (omega (arith, ap total ls, u, v, r .few, length-map C one, ap length (r .chars-are)))
 
     -- Where nothing is held and nothing is counted, the middle is copied.
-    module _ (z : h .base ≡ 0) (quiet : total (totalCells p C) ≡ 0) where
+    module _ (z : h .base ≡ 0) (none : total (totalCells p C) ≡ 0) where
       abbrev none : pendingOf p h ≡ nothing
       none = pending-none p h z
 
       copied : encodeAll (formatCells p (chars M)) ≡ M
-      copied = ap encodeAll (quiet-same p (chars M) (r .quiet quiet)) ∙ encodeAll-chars M (r .whole)
+      copied = ap encodeAll (uncounted-same p (chars M) (r .uncounted none)) ∙ encodeAll-chars M (r .whole)
 
       nothing-settled : S ≡ noEffect
       unfolding settle
@@ -278,7 +278,7 @@ module _ (p : Policy) (text : List ℕ) (at to : ℕ) (t : HeldTail) where
           by p h n (fedAs p C) o e o₁ (record { held = t .held; end = e₁; counts = n })
           (pendingOf p (t .held), joinEffects noEffect (wholeEffect p (chars M))) taken
           (put-as (encodeAll (formatCells p (chars M))) (sym copied) w) refl
-          (sym (ap (λ (m : NonCanonicality). n ⊕ (empty ⊕ m)) (quiet-empty p (chars M) (r .quiet quiet)) ∙ plus-empty n)) (r .scalar)
+          (sym (ap (λ (m : NonCanonicality). n ⊕ (empty ⊕ m)) (uncounted-empty p (chars M) (r .uncounted none)) ∙ plus-empty n)) (r .scalar)
           (omega (arith, r .few, length-map C one))
 
   pub part-length : length M ≤ length text

@@ -10,7 +10,7 @@ use Rattle.feeding.proofs.Fronting.{
   selectors-end,
   selectors-few,
   selectors-last,
-  selectors-quiet,
+  selectors-uncounted,
   selectors-scalar,
   with-rest,
 }
@@ -58,7 +58,7 @@ take-rest-requires c κs =
       omega (arith, c .before .if1 .left),
       selectors-end g (q .3 .end-is),
       k .none-more,
-      λ z. selectors-quiet g p (q .3 .plain-is z),
+      λ z. selectors-uncounted g p (q .3 .plain-is z),
       rest-room p (x .piece .now) (x .scan) (x .held) (x .counts) t g (q .4),
     )
 

@@ -119,7 +119,7 @@ put-middle-requires c κs =
     let w = put-before (pendingOf p (x .taken .held)) k (h .ensures .0) in (
       omega (arith, part-length p (x .piece .now) (x .at) (x .end) t, q .2),
       r .whole,
-      λ z. r .quiet (q .6 z),
+      λ z. r .uncounted (q .6 z),
       middle-room p (x .piece .now) (x .at) (x .end) t r (x .taken .held) (x .taken .counts) (x .out .now) (x .taken .end) (q .7) w,
     )
 

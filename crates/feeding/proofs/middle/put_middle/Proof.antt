@@ -9,7 +9,7 @@ use Rattle.utf8.specs.Rfc3629.{chars, encodeAll}
 use Rattle.utf8.proofs.Texts.{encodeAll-chars}
 use Rattle.policy.specs.PolicyBytes.{policyOf}
 use Rattle.analysis.specs.CellView.{formatCells}
-use Rattle.feeding.proofs.Cuts.{quiet-empty, quiet-same}
+use Rattle.feeding.proofs.Cuts.{uncounted-empty, uncounted-same}
 use Rattle.feeding.proofs.middle.put_middle.Statement.{statement}
 use Rattle.feeding.proofs.middle.put_middle.Tie as tie
 
@@ -20,11 +20,11 @@ returns c =
     let p = policyOf (x .policy .now) in
     let t = x .text .now in
     let z = q .2 (c .before .before .before .before .before .if1 .taken) in
-    let same = sym (encodeAll-chars t (q .1)) ∙ ap encodeAll (sym (quiet-same p (chars t) z)) in (
+    let same = sym (encodeAll-chars t (q .1)) ∙ ap encodeAll (sym (uncounted-same p (chars t) z)) in (
       put-as (encodeAll (formatCells p (chars t))) same
           (bytes-put (x .out .now) (c .before .before .before .write-bytes .last .0) (x .at) t (omega (arith, ap length same, q .3))
           (c .before .before .before .write-bytes .ensures .1)),
-      c .empty .ensures ∙ sym (quiet-empty p (chars t) z),
+      c .empty .ensures ∙ sym (uncounted-empty p (chars t) z),
     )
 
 returns-2 : tie.Need-returns-2
