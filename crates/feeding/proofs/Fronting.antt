@@ -130,7 +130,8 @@ module _ {piece : List ℕ} {from at : ℕ} {t r : Taken} (g : SelectorsTaken pi
       none [] h = refl
       none (c ∷ cs) h = absurd (omega arith)
 
-  pub selectors-uncounted : (p : Policy) → total (totalCells p (chars (drop from piece))) ≡ 0 → total (totalCells p (chars (drop at piece))) ≡ 0
+  pub selectors-uncounted : (p : Policy) → total (totalCells p (chars (drop from piece))) ≡ 0
+      → total (totalCells p (chars (drop at piece))) ≡ 0
   selectors-uncounted p z =
       uncounted-after p (g .selectors) (chars (drop at piece)) (ap (λ (cs : List ℕ). total (totalCells p cs)) (sym (g .chars-are)) ∙ z)
 

@@ -247,12 +247,12 @@ module _ (p : Policy) (text : List ℕ) (at to : ℕ) (t : HeldTail) where
         (omega (arith, ap total ls, u, v, r .few, length-map C one, ap length (r .chars-are)))
 
     -- Where nothing is held and nothing is counted, the middle is copied.
-    module _ (z : h .base ≡ 0) (none : total (totalCells p C) ≡ 0) where
+    module _ (z : h .base ≡ 0) (uncounted-all : total (totalCells p C) ≡ 0) where
       abbrev none : pendingOf p h ≡ nothing
       none = pending-none p h z
 
       copied : encodeAll (formatCells p (chars M)) ≡ M
-      copied = ap encodeAll (uncounted-same p (chars M) (r .uncounted none)) ∙ encodeAll-chars M (r .whole)
+      copied = ap encodeAll (uncounted-same p (chars M) (r .uncounted uncounted-all)) ∙ encodeAll-chars M (r .whole)
 
       nothing-settled : S ≡ noEffect
       unfolding settle
@@ -278,7 +278,7 @@ module _ (p : Policy) (text : List ℕ) (at to : ℕ) (t : HeldTail) where
           by p h n (fedAs p C) o e o₁ (record { held = t .held; end = e₁; counts = n })
           (pendingOf p (t .held), joinEffects noEffect (wholeEffect p (chars M))) taken
           (put-as (encodeAll (formatCells p (chars M))) (sym copied) w) refl
-          (sym (ap (λ (m : NonCanonicality). n ⊕ (empty ⊕ m)) (uncounted-empty p (chars M) (r .uncounted none)) ∙ plus-empty n)) (r .scalar)
+          (sym (ap (λ (m : NonCanonicality). n ⊕ (empty ⊕ m)) (uncounted-empty p (chars M) (r .uncounted uncounted-all)) ∙ plus-empty n)) (r .scalar)
           (omega (arith, r .few, length-map C one))
 
   pub part-length : length M ≤ length text
