@@ -96,6 +96,17 @@ module _ (n x : ℕ) (b : List ℕ) (at : ℕ) (fits : at ≤ n + length b) wher
   left-length : length (drop at U) ≡ (n + length b) - at
   left-length = omega (arith, length-drop at U, joined-length n x b)
 
+  -- No bytes are left.
+  pub left-none : (n + length b) - at ≡ 0 → LeftAt U at (record { good = true; len = 0; bytes = 0 })
+  unfolding unfinished number
+  left-none h =
+      let e = empty-of (drop at U) (left-length ∙ h) in
+      record { good = ap unfinished (sym e); many = λ t. ap length (sym e); bytes = λ t. ap number (sym e) }
+    where
+      empty-of : (l : List ℕ) → length l ≡ 0 → l ≡ []
+      empty-of [] z = refl
+      empty-of (a ∷ l) z = absurd (omega arith)
+
   pub left-many : 3 < (n + length b) - at → LeftAt U at (record { good = false; len = 0; bytes = 0 })
   left-many h = record {
     good = sym (unfinished-short (drop at U) (omega (arith, left-length)));

@@ -357,6 +357,13 @@ fn left_after(n: usize, rest: usize, piece: &[u8], at: usize) -> Left
     ensures { λ r. ⌜ LeftAt (littleEndian n rest ++ now (piece .entry)) at r ⌝ }
 {
     let len = n + piece.len() - at;
+    if len == 0 {
+        return Left {
+            good: true,
+            len: 0,
+            bytes: 0,
+        };
+    }
     if 3 < len {
         return Left {
             good: false,
