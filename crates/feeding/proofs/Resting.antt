@@ -278,7 +278,8 @@ module _ (p : Policy) (text : List ℕ) (at to : ℕ) (t : HeldTail) where
           by p h n (fedAs p C) o e o₁ (record { held = t .held; end = e₁; counts = n })
           (pendingOf p (t .held), joinEffects noEffect (wholeEffect p (chars M))) taken
           (put-as (encodeAll (formatCells p (chars M))) (sym copied) w) refl
-          (sym (ap (λ (m : NonCanonicality). n ⊕ (empty ⊕ m)) (uncounted-empty p (chars M) (r .uncounted uncounted-all)) ∙ plus-empty n)) (r .scalar)
+          (sym (ap (λ (m : NonCanonicality). n ⊕ (empty ⊕ m)) (uncounted-empty p (chars M) (r .uncounted uncounted-all)) ∙ plus-empty n))
+          (r .scalar)
           (omega (arith, r .few, length-map C one))
 
   pub part-length : length M ≤ length text
