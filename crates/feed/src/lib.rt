@@ -120,10 +120,11 @@ fn no_state() -> State
     }
 }
 
-// Returns the state that the words of a feed have. For bytes that are too short, this is the state of a feed that has ended. The length is
-// tested here, so that the compiler knows it wherever a word is read.
+// Returns the state that the words of a feed have. For bytes that are too short, it returns a state that has ended; its
+// other fields are then the program's choice. The length is tested here, so that the compiler knows it wherever a word is read.
 pub fn read_state(feed: &[u8]) -> State
-    ensures { λ r. ⌜ (stateBytes ≤ length (now (feed .entry)) → r ≡ stateOf (now (feed .entry))) ⌝ }
+    ensures words { λ r. ⌜ (stateBytes ≤ length (now (feed .entry)) → r ≡ stateOf (now (feed .entry))) ⌝ }
+    ensures short { λ r. ⌜ (length (now (feed .entry)) < stateBytes → r .ended ≡ true) ⌝ }
 {
     if feed.len() < STATE_BYTES {
         return no_state();

@@ -237,8 +237,9 @@ pub fn write_formatted(text: &[u8], policy: &[u8], out: &mut [u8], at: usize) ->
     ensures put { λ r. ⌜ (length (now (text .entry)) ≤ textLimit
         → at + length (formattedFrom (policyOf (now (policy .entry))) (now (text .entry)) 0) ≤ length (now (out .entry))
         → PutAt (now (out .entry)) at (formattedFrom (policyOf (now (policy .entry))) (now (text .entry)) 0) (now (out .exit)) r) ⌝ }
-    ensures kept { λ _. ⌜ (length (now (out .entry)) < at + length (formattedFrom (policyOf (now (policy .entry))) (now (text .entry)) 0)
-        → now (out .exit) ≡ now (out .entry)) ⌝ }
+    ensures kept { λ r. ⌜ (length (now (out .entry)) < at + length (formattedFrom (policyOf (now (policy .entry))) (now (text .entry)) 0)
+        → (now (out .exit) ≡ now (out .entry)) × (r ≡ at)) ⌝ }
+    ensures long { λ r. ⌜ (textLimit < length (now (text .entry)) → (now (out .exit) ≡ now (out .entry)) × (r ≡ at)) ⌝ }
 {
     if text.len() > TEXT_LIMIT {
         return at;

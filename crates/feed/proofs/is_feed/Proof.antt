@@ -26,7 +26,7 @@ returns-3 c =
     let x = c .before .before .before .before .before .before .before .before .args in
     feed-3 (x .feed .now) (c .before .before .before .before .before .before .if1 .left)
     (sym (c .before .before .before .before .before .is-small .ensures) ∙ not-false _ (c .before .before .before .before .if2 .left))
-    (ap (λ (s : State). isScalar (s .held .base)) (sym (c .before .before .before .read-state .ensures (omega
+    (ap (λ (s : State). isScalar (s .held .base)) (sym (c .before .before .before .read-state .ensures .0 (omega
     (arith, c .before .before .before .before .before .before .if1 .left)))) ∙ sym
     (c .before .is-scalar .ensures) ∙ not-true _ (c .if3 .taken))
 
@@ -36,10 +36,10 @@ returns-4 c =
     feed-4 (x .feed .now) (c .before .before .before .before .before .before .before .before .if1 .left)
     (sym (c .before .before .before .before .before .before .before .is-small .ensures)
     ∙ not-false _ (c .before .before .before .before .before .before .if2 .left))
-    (ap (λ (s : State). isScalar (s .held .base)) (sym (c .before .before .before .before .before .read-state .ensures (omega
+    (ap (λ (s : State). isScalar (s .held .base)) (sym (c .before .before .before .before .before .read-state .ensures .0 (omega
     (arith, c .before .before .before .before .before .before .before .before .if1 .left))))
     ∙ sym (c .before .before .before .is-scalar .ensures) ∙ not-false _ (c .before .before .if3 .left))
-    (ap (λ (s : State). unfinished (restOf s)) (sym (c .before .before .before .before .before .read-state .ensures (omega
+    (ap (λ (s : State). unfinished (restOf s)) (sym (c .before .before .before .before .before .read-state .ensures .0 (omega
     (arith, c .before .before .before .before .before .before .before .before .if1 .left))))
     ∙ sym (c .before .is-unfinished .ensures) ∙ not-true _ (c .if4 .taken))
 
@@ -55,10 +55,10 @@ returns-5 c =
     feed-5 (x .feed .now) (c .before .before .before .before .before .before .before .before .before .before .if1 .left)
     (sym (c .before .before .before .before .before .before .before .before .before .is-small .ensures)
     ∙ not-false _ (c .before .before .before .before .before .before .before .before .if2 .left))
-    (ap (λ (s : State). isScalar (s .held .base)) (sym (c .before .before .before .before .before .before .before .read-state .ensures
+    (ap (λ (s : State). isScalar (s .held .base)) (sym (c .before .before .before .before .before .before .before .read-state .ensures .0
     (omega (arith, c .before .before .before .before .before .before .before .before .before .before .if1 .left))))
     ∙ sym (c .before .before .before .before .before .is-scalar .ensures) ∙ not-false _ (c .before .before .before .before .if3 .left))
-    (ap (λ (s : State). unfinished (restOf s)) (sym (c .before .before .before .before .before .before .before .read-state .ensures
+    (ap (λ (s : State). unfinished (restOf s)) (sym (c .before .before .before .before .before .before .before .read-state .ensures .0
     (omega (arith, c .before .before .before .before .before .before .before .before .before .before .if1 .left))))
     ∙ sym (c .before .before .before .is-unfinished .ensures) ∙ not-false _ (c .before .before .if4 .left))
     (c .is-policy .ensures ∙ ap isPolicy (policy-lent (x .feed .now)))

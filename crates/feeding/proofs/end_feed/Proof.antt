@@ -30,30 +30,30 @@ returns-2 c =
     let x = c .before .before .before .before .before .before .before .before .args in
     ends-called (end-9 (x .feed .now) (x .out .now)
     (sym (c .before .before .before .before .is-feed .ensures) ∙ not-false _ (c .before .before .before .if1 .left))
-    (ap (λ (s : State). s .ended) (sym (c .before .read-state .ensures (omega
+    (ap (λ (s : State). s .ended) (sym (c .before .read-state .ensures .0 (omega
     (arith, c .before .before .before .before .before .before .before .before .pre)))) ∙ c .if2 .taken))
 
 returns-3 : tie.Need-returns-3
 returns-3 c =
     let x = c .before .before .before .before .before .before .before .before .before .before .args in
-    let e = ap (λ (s : State). s .«rest_len») (c .before .before .before .read-state .ensures (omega
+    let e = ap (λ (s : State). s .«rest_len») (c .before .before .before .read-state .ensures .0 (omega
     (arith, c .before .before .before .before .before .before .before .before .before .before .pre))) in
     ends-called (end-10 (x .feed .now) (x .out .now)
     (sym (c .before .before .before .before .before .before .is-feed .ensures) ∙ not-false _
     (c .before .before .before .before .before .if1 .left))
-    (ap (λ (s : State). s .ended) (sym (c .before .before .before .read-state .ensures (omega
+    (ap (λ (s : State). s .ended) (sym (c .before .before .before .read-state .ensures .0 (omega
     (arith, c .before .before .before .before .before .before .before .before .before .before .pre)))) ∙ c .before .before .if2 .left)
     (λ z. c .if3 .taken (e ∙ z)))
 
 returns-4 : tie.Need-returns-4
 returns-4 c =
     let x = c .before .before .before .before .before .before .before .before .before .before .before .args in
-    let e = ap (λ (s : State). s .«rest_len») (c .before .before .before .before .read-state .ensures (omega
+    let e = ap (λ (s : State). s .«rest_len») (c .before .before .before .before .read-state .ensures .0 (omega
     (arith, c .before .before .before .before .before .before .before .before .before .before .before .pre))) in
     ends-called (end-8 (x .feed .now) (x .out .now)
     (sym (c .before .before .before .before .before .before .before .is-feed .ensures) ∙ not-false _
     (c .before .before .before .before .before .before .if1 .left))
-    (ap (λ (s : State). s .ended) (sym (c .before .before .before .before .read-state .ensures (omega
+    (ap (λ (s : State). s .ended) (sym (c .before .before .before .before .read-state .ensures .0 (omega
     (arith, c .before .before .before .before .before .before .before .before .before .before .before .pre))))
     ∙ c .before .before .before .if2 .left)
     (sym e ∙ c .before .if3 .left) (c .if4 .taken))
@@ -83,7 +83,7 @@ put-held-requires c κs =
     let d = c .before .before .before .before .before .before .before .before .before .before in
     let x = d .before .before .before .before .before .args in (
       ap (λ (s : State). isScalar (s .held .base))
-          (c .before .before .before .before .before .before .before .before .read-state .ensures (omega
+          (c .before .before .before .before .before .before .before .before .read-state .ensures .0 (omega
           (arith, d .before .before .before .before .before .pre))) ∙ feed-scalar (x .feed .now)
           (sym (d .before .is-feed .ensures) ∙ not-false _
           (d .if1 .left)),
@@ -92,7 +92,7 @@ put-held-requires c κs =
           (c .before .before .before .before .before .before .before .before .read-state .result .held)) other .text)))
           (policy-lent (x .feed .now)) in
           let m = ap (λ (s : State). length (encodeAll (settle (pendingOf (policyPart (x .feed .now)) (s .held)) other .text)))
-          (c .before .before .before .before .before .before .before .before .read-state .ensures (omega
+          (c .before .before .before .before .before .before .before .before .read-state .ensures .0 (omega
           (arith, d .before .before .before .before .before .pre))) in
           omega (arith, c .before .before .before .before .if4 .left, l, m, last-few (x .feed .now) (x .out .now)),
     )
@@ -117,7 +117,7 @@ returns-5 c =
     let b = policy-lent (x .feed .now) in
     ends-called (end-done (x .feed .now) (x .out .now)
     (sym (e .before .before .is-feed .ensures) ∙ not-false _ (e .before .if1 .left))
-    (d .before .before .before .before .before .before .before .before .before .read-state .ensures (omega
+    (d .before .before .before .before .before .before .before .before .before .read-state .ensures .0 (omega
     (arith, e .before .before .before .before .before .before .pre)))
     (d .before .before .before .before .before .before .before .before .if2 .left)
     (d .before .before .before .before .before .before .if3 .left) (d .before .before .before .before .before .if4 .left)

@@ -40,7 +40,7 @@ returns-2 : tie.Need-returns-2
 returns-2 c =
     let x = c .before .before .before .before .before .before .before .before .before .args in
     totals-some (x .feed .now) (sym (c .before .before .before .before .before .before .before .is-feed .ensures) ∙ not-false _
-    (c .before .before .before .before .before .before .if1 .left)) (c .before .before .before .before .before .read-state .ensures
+    (c .before .before .before .before .before .before .if1 .left)) (c .before .before .before .before .before .read-state .ensures .0
     (omega (arith, c .before .before .before .before .before .before .before .before .before .pre)))
     (c .before .held-counts .ensures ∙ ap
     (λ (l : List ℕ). settle (pendingOf (policyOf l) (c .before .before .before .before .before .read-state .result .held)) other .counts)

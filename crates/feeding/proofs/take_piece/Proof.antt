@@ -49,7 +49,7 @@ returns-2 c =
     let x = c .before .before .before .before .before .before .before .before .before .args in
     ends-called (piece-9 (x .feed .now) (x .piece .now) (x .out .now)
     (sym (c .before .before .before .before .is-feed .ensures) ∙ not-false _ (c .before .before .before .if1 .left))
-    (ap (λ (s : State). s .ended) (sym (c .before .read-state .ensures (omega
+    (ap (λ (s : State). s .ended) (sym (c .before .read-state .ensures .0 (omega
     (arith, c .before .before .before .before .before .before .before .before .before .pre)))) ∙ c .if2 .taken))
 
 sub-if3 : tie.Need-sub-if3
@@ -58,7 +58,8 @@ sub-if3 c =
       arith,
       len-fits (x .feed .now) (x .piece .now)
           (sym (c .before .before .before .before .is-feed .ensures) ∙ not-false _ (c .before .before .before .if1 .left))
-          (c .before .read-state .ensures (omega (arith, c .before .before .before .before .before .before .before .before .before .pre))),
+          (c .before .read-state .ensures .0
+          (omega (arith, c .before .before .before .before .before .before .before .before .before .pre))),
     )
 
 returns-3 : tie.Need-returns-3
@@ -66,7 +67,7 @@ returns-3 c =
     let x = c .before .before .before .before .before .before .before .before .before .before .args in
     ends-called (piece-1 (x .feed .now) (x .piece .now) (x .out .now)
     (sym (c .before .before .before .before .before .is-feed .ensures) ∙ not-false _ (c .before .before .before .before .if1 .left))
-    (c .before .before .read-state .ensures (omega
+    (c .before .before .read-state .ensures .0 (omega
     (arith, c .before .before .before .before .before .before .before .before .before .before .pre))) (c .before .if2 .left)
     (c .if3 .taken))
 
@@ -98,7 +99,7 @@ scan-piece-requires c κs =
     let b = x .piece .now in
     let i = sym (c .before .before .before .before .before .before .before .is-feed .ensures) ∙ not-false _
     (c .before .before .before .before .before .before .if1 .left) in
-    let r = c .before .before .before .before .read-state .ensures (omega (arith, d .before .before .pre)) in
+    let r = c .before .before .before .before .read-state .ensures .0 (omega (arith, d .before .before .pre)) in
     let s = c .before .before .before .before .read-state .result in
     (few-rest f b i r, omega (arith, c .before .before .if3 .left), unfinished-rest f b i r)
 
@@ -110,7 +111,7 @@ left-after-requires c κs =
     let b = x .piece .now in
     let i = sym (c .before .before .before .before .before .before .before .before .is-feed .ensures) ∙ not-false _
     (c .before .before .before .before .before .before .before .if1 .left) in
-    let r = c .before .before .before .before .before .read-state .ensures (omega (arith, d .before .before .before .pre)) in
+    let r = c .before .before .before .before .before .read-state .ensures .0 (omega (arith, d .before .before .before .pre)) in
     let s = c .before .before .before .before .before .read-state .result in
     let u = littleEndian (s .«rest_len») (s .rest) ++ b in (
       few-rest f b i r,
@@ -125,7 +126,7 @@ add-valid-up-to c =
     let f = x .feed .now in
     let b = x .piece .now in
     let i = sym (d .before .before .is-feed .ensures) ∙ not-false _ (d .before .if1 .left) in
-    let r = c .before .before .before .before .before .before .before .before .before .read-state .ensures (omega
+    let r = c .before .before .before .before .before .before .before .before .before .read-state .ensures .0 (omega
     (arith, d .before .before .before .before .before .before .before .pre)) in
     let s = c .before .before .before .before .before .before .before .before .before .read-state .result in
     let u = littleEndian (s .«rest_len») (s .rest) ++ b in
@@ -147,7 +148,7 @@ returns-4 c =
     let f = x .feed .now in
     let b = x .piece .now in
     let i = sym (d .before .before .is-feed .ensures) ∙ not-false _ (d .before .if1 .left) in
-    let r = c .before .before .before .before .before .before .before .before .before .read-state .ensures (omega
+    let r = c .before .before .before .before .before .before .before .before .before .read-state .ensures .0 (omega
     (arith, d .before .before .before .before .before .before .before .pre)) in
     let s = c .before .before .before .before .before .before .before .before .before .read-state .result in
     ends-called (piece-3 f b (x .out .now) i r (c .before .before .before .before .before .before .before .before .if2 .left)
@@ -162,7 +163,7 @@ returns-5 c =
     let f = x .feed .now in
     let b = x .piece .now in
     let i = sym (d .before .before .is-feed .ensures) ∙ not-false _ (d .before .if1 .left) in
-    let r = c .before .before .before .before .before .before .before .before .before .read-state .ensures (omega
+    let r = c .before .before .before .before .before .before .before .before .before .read-state .ensures .0 (omega
     (arith, d .before .before .before .before .before .before .before .pre)) in
     let s = c .before .before .before .before .before .before .before .before .before .read-state .result in
     ends-called (piece-8 f b (x .out .now) i r (c .before .before .before .before .before .before .before .before .if2 .left)
@@ -199,7 +200,7 @@ take-all-requires c κs =
     let b = x .piece .now in
     let i = sym (d .before .before .before .before .before .before .before .is-feed .ensures) ∙ not-false _
     (d .before .before .before .before .before .before .if1 .left) in
-    let r = d .before .before .before .before .read-state .ensures (omega (arith, e .before .before .pre)) in
+    let r = d .before .before .before .before .read-state .ensures .0 (omega (arith, e .before .before .pre)) in
     let s = d .before .before .before .before .read-state .result in
     let u = littleEndian (s .«rest_len») (s .rest) ++ b in
     let k = c .before .before .before .before .before .before .before .before .before .scan-piece in
@@ -222,7 +223,7 @@ add-open-state c =
     let f = x .feed .now in
     let b = x .piece .now in
     let i = sym (e .before .before .before .before .is-feed .ensures) ∙ not-false _ (e .before .before .before .if1 .left) in
-    let r = e .before .read-state .ensures (omega
+    let r = e .before .read-state .ensures .0 (omega
     (arith, e .before .before .before .before .before .before .before .before .before .pre)) in
     let s = e .before .read-state .result in
     omega (arith, d .before .before .before .before .before .before .before .before .before .if3 .left, len-fits f b i r)
@@ -249,7 +250,7 @@ returns-6 c =
     let b = x .piece .now in
     let i = sym (e .before .before .before .before .before .before .before .before .is-feed .ensures) ∙ not-false _
     (e .before .before .before .before .before .before .before .if1 .left) in
-    let r = e .before .before .before .before .before .read-state .ensures (omega (arith, g .before .before .before .pre)) in
+    let r = e .before .before .before .before .before .read-state .ensures .0 (omega (arith, g .before .before .before .pre)) in
     let s = e .before .before .before .before .before .read-state .result in
     let u = littleEndian (s .«rest_len») (s .rest) ++ b in
     let k = e .scan-piece in

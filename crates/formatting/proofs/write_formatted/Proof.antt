@@ -11,10 +11,10 @@ use Rattle.formatting.proofs.write_formatted.Statement.{statement}
 use Rattle.formatting.proofs.write_formatted.Tie as tie
 
 returns : tie.Need-returns
-returns c = (λ l f. absurd (omega (arith, c .if1 .taken)), λ h. refl)
+returns c = (λ l f. absurd (omega (arith, c .if1 .taken)), (λ h. (refl, refl), λ h. (refl, refl)))
 
 returns-2 : tie.Need-returns-2
-returns-2 c = (λ l f. absurd (omega (arith, c .if2 .taken)), λ h. refl)
+returns-2 c = (λ l f. absurd (omega (arith, c .if2 .taken)), (λ h. (refl, refl), λ h. (refl, refl)))
 
 formatted-fits-requires : tie.Need-formatted-fits-requires
 formatted-fits-requires c κs = (omega (arith, c .before .before .if1 .left), c .next-change .ensures)
@@ -24,7 +24,7 @@ returns-3 c =
     let x = c .before .before .before .before .before .before .before .before .args in
     let F = length (formattedFrom (policyOf (x .policy .now)) (x .text .now) 0) in
     let n = leb-false F (length (x .out .now) - x .at) (sym (c .before .formatted-fits .ensures) ∙ not-true _ (c .if3 .taken)) in
-    (λ l f. absurd (omega (arith, n, c .before .before .before .if2 .left)), λ h. refl)
+    (λ l f. absurd (omega (arith, n, c .before .before .before .if2 .left)), (λ h. (refl, refl), λ h. (refl, refl)))
 
 put-changes-requires : tie.Need-put-changes-requires
 put-changes-requires c κs =
@@ -41,8 +41,10 @@ returns-4 c =
     let n = leb-true F (length (x .out .now) - x .at) (sym (c .before .before .before .before .before .formatted-fits .ensures)
     ∙ not-false _ (c .before .before .before .before .if3 .left)) in (
       λ l f. c .before .before .put-changes .ensures,
-      λ h. absurd (omega
-          (arith, n, c .before .before .before .before .before .before .before .if2 .left)),
+      (
+        λ h. absurd (omega (arith, n, c .before .before .before .before .before .before .before .if2 .left)),
+        λ h. absurd (omega (arith, c .before .before .before .before .before .before .before .before .if1 .left)),
+      ),
     )
 
 pub write-formatted-spec : {M : Type 1} → statement M
