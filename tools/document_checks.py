@@ -32,6 +32,7 @@ CITED = re.compile(r"\b(?:decided:|[Dd]ecisions?) (\d+[a-z]?(?:(?:, | and )\d+[a
 PARTS = ("Context", "Decision", "Reason")
 # Words that a reader must guess: the plain ones are "after", a number with a name, and "unused".
 UNCLEAR = re.compile(r"\bbehind\b|\bso many\b|\bin vain\b", re.I)
+# What is not looked at: names between backquotes, and a quotation of document 01.
 NAME_OR_QUOTED = re.compile(r"`[^`]*`|places behind it unchanged")
 # The texts of the repository, by their suffixes; the gate and the command have none.
 TEXTS = (".antt", ".c", ".edit", ".h", ".md", ".py", ".rs", ".rt", ".toml")
