@@ -3,7 +3,7 @@
 // not say that it skips all of the run.
 ghost use mathlib.Core.Path.{_≡_};
 ghost use mathlib.Core.Bool.{true};
-ghost use Prim.Native.Nat.{_-_, _/_, _≤_};
+ghost use Prim.Native.Nat.{_-_, _/_, _<_, _≤_};
 ghost use lib.ListN.{length};
 ghost use Rattle.utf8.specs.Runs.{CharsBetween};
 
@@ -157,7 +157,8 @@ fn long_end(s: &[u8], from: usize) -> usize
 // Skips characters from an offset on, and returns the offset after them. `width` is that of the character before the offset: the function
 // mostly skips characters of the same width. It skips none if the offset is not before the end of the text.
 pub fn width_end(s: &[u8], from: usize, width: usize) -> usize
-    ensures { λ r. ⌜ (from ≤ length (now (s .entry)) → CharsBetween (now (s .entry)) from r) ⌝ }
+    ensures inside { λ r. ⌜ (from ≤ length (now (s .entry)) → CharsBetween (now (s .entry)) from r) ⌝ }
+    ensures past { λ r. ⌜ (length (now (s .entry)) < from → r ≡ from) ⌝ }
 {
     if s.len() <= from {
         return from;

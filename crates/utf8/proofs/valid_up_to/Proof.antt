@@ -38,7 +38,7 @@ loop-less c =
     let w = c .before .before .decode in
     let k = step-len (x .before .before .args .s .now) (x .loop .at) (w .result % 8) (packed-len _ (w .result) (w .ensures))
     (omega arith) .on in
-    let r = c .width-end .ensures (k .room) in
+    let r = c .width-end .ensures .0 (k .room) in
     omega (arith, r .forward)
 
 loop-again : tie.Need-loop-again Inv-loop μ-loop
@@ -47,7 +47,7 @@ loop-again c =
     let w = c .before .before .decode in
     let k = step-len (x .before .before .args .s .now) (x .loop .at) (w .result % 8) (packed-len _ (w .result) (w .ensures))
     (omega arith) .on in
-    let r = c .width-end .ensures (k .room) in
+    let r = c .width-end .ensures .0 (k .room) in
     omega (arith, r .inside, r .same-end)
 
 pub valid-up-to-spec : {M : Type 1} → statement M
