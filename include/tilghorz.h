@@ -59,8 +59,8 @@ extern "C" {
 #define TILGHORZ_TEXT_LIMIT 16777216 /* the longest text, in bytes */
 #define TILGHORZ_POLICY_BYTES 192    /* the length of a policy */
 #define TILGHORZ_ENTRIES 354         /* variation entries, those of Unicode 15.0 */
-#define TILGHORZ_FINDING_BYTES 80    /* the length of a row of tilghorz_list */
-#define TILGHORZ_ITEM_BYTES 32       /* the length of a row of tilghorz_scan */
+#define TILGHORZ_FINDING_BYTES 112   /* the length of a row of tilghorz_list */
+#define TILGHORZ_ITEM_BYTES 64       /* the length of a row of tilghorz_scan */
 #define TILGHORZ_FEED_BYTES 312      /* the length of a feed */
 #define TILGHORZ_TOTALS_BYTES 64     /* the length of the totals of tilghorz_feed_totals */
 
@@ -90,9 +90,10 @@ extern "C" {
  * most 4 times the length of the text. */
 uint64_t tilghorz_format(const uint8_t *text, size_t text_len, const uint8_t *policy, size_t policy_len, uint8_t *out, size_t out_len);
 
-/* Lists the findings of a text in text order. Numbers: 1, 2, 3, 7. Value: the number of rows written. A row is ten numbers of 8 bytes,
- * lowest byte first: start, end, and the counts unsanctioned, modifier-defective, additional-defective, tag-conflicting, tag-forced,
- * tag-redundant, policy-redundant, decisions. The table has room for as many rows as fit into it whole. */
+/* Lists the findings of a text in text order. Numbers: 1, 2, 3, 7. Value: the number of rows written. A row is fourteen numbers of 8
+ * bytes, lowest byte first: start, end, the counts unsanctioned, modifier-defective, additional-defective, tag-conflicting, tag-forced,
+ * tag-redundant, policy-redundant, decisions, then start and end in characters, and start and end in UTF-16 units. A character up to
+ * FFFF is one unit, one above is two. The table has room for as many rows as fit into it whole. */
 uint64_t tilghorz_list(const uint8_t *text, size_t text_len, const uint8_t *policy, size_t policy_len, uint8_t *table, size_t table_len);
 
 /* Mends the finding that starts at the offset: writes the whole text, with this finding replaced. Numbers: 1, 2, 3, 4, 5, 6, 8.
@@ -101,10 +102,11 @@ uint64_t tilghorz_list(const uint8_t *text, size_t text_len, const uint8_t *poli
 uint64_t tilghorz_mend(const uint8_t *text, size_t text_len, const uint8_t *policy, size_t policy_len, uint64_t offset,
                        const uint8_t *decisions, size_t decisions_len, uint8_t *out, size_t out_len);
 
-/* Lists the items of a text in text order. Numbers: 1, 3, 7. Value: the number of rows written. A row is four numbers of 8 bytes,
- * lowest byte first: start, end, kind (0 passthrough, 1 unsanctioned selectors, 2 links only, 3 emoji-headed), and whether the tags
- * are complete (0 or 1). Tags are complete if the tags of every tag modification of the item, selectors skipped, are one or more of
- * E0020 to E007E and then one E007F. An item without a tag modification has 1; tags in a passthrough belong to none. */
+/* Lists the items of a text in text order. Numbers: 1, 3, 7. Value: the number of rows written. A row is eight numbers of 8 bytes,
+ * lowest byte first: start, end, kind (0 passthrough, 1 unsanctioned selectors, 2 links only, 3 emoji-headed), whether the tags are
+ * complete (0 or 1), then start and end in characters, and start and end in UTF-16 units. Tags are complete if the tags of every tag
+ * modification of the item, selectors skipped, are one or more of E0020 to E007E and then one E007F. An item without a tag modification
+ * has 1; tags in a passthrough belong to none. */
 uint64_t tilghorz_scan(const uint8_t *text, size_t text_len, uint8_t *table, size_t table_len);
 
 /* Writes the text with FFFD in place of each bad place. Numbers: 1, 8. The text need not be well-formed; the result always is. Two

@@ -10,9 +10,9 @@ use crate::reference::{characters, kept, policy};
 /// The bytes of a policy.
 pub const POLICY_BYTES: usize = 192;
 /// The bytes of a finding in a table.
-pub const FINDING_BYTES: usize = 80;
+pub const FINDING_BYTES: usize = 112;
 /// The bytes of an item in a table.
-pub const ITEM_BYTES: usize = 32;
+pub const ITEM_BYTES: usize = 64;
 
 /// The functions of `include/tilghorz.h`, each with its slices.
 pub trait Calls {

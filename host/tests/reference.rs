@@ -106,7 +106,12 @@ fn the_worked_texts_come_out_as_said() {
 
 #[test]
 fn items_have_the_spans_kinds_and_tag_reports_said() {
-    let rows = |text: &str| numbers(&scan(text.as_bytes()));
+    let numbers = |text: &str| numbers(&scan(text.as_bytes()));
+    let rows = |text: &str| -> Vec<u64> {
+        let numbers = numbers(text);
+        let rows = numbers.chunks(8);
+        rows.flat_map(|row| &row[..4]).copied().collect()
+    };
     assert_eq!(rows(""), []);
     let twelve = rows("\u{231A}\u{200D}\u{200D}\u{231A}");
     assert_eq!(twelve, [0, 9, 3, 1, 9, 12, 3, 1]);
@@ -123,6 +128,9 @@ fn items_have_the_spans_kinds_and_tag_reports_said() {
     // Tags after a link are passthrough.
     assert_eq!(rows("\u{200D}\u{E0061}"), [0, 3, 2, 1, 3, 7, 0, 1]);
     assert_eq!(rows("\u{200D}\u{E007F}"), [0, 3, 2, 1, 3, 7, 0, 1]);
+    // Characters first, and two units for a character above FFFF.
+    let twice = [0, 3, 2, 1, 0, 1, 0, 1, 3, 7, 0, 1, 1, 2, 1, 3];
+    assert_eq!(numbers("\u{200D}\u{E0061}"), twice);
 }
 
 #[test]
@@ -130,7 +138,7 @@ fn tags_are_complete_as_document_02_says() {
     let report = |text: &str| {
         let row = numbers(&scan(text.as_bytes()));
         assert_eq!(row[..3], [0, text.len() as u64, 3], "{text:?}");
-        row[3..].to_vec()
+        row[3..4].to_vec()
     };
     let complete = [
         "\u{1F3F4}",
@@ -192,7 +200,7 @@ fn refusals_come_in_their_order() {
     assert_eq!(mend(finding, policy, 0, &[]), refused(5, 1));
     assert_eq!(mend(finding, policy, 0, &[2]), refused(6, 0));
     assert_eq!(
-        list(finding, policy).with_room(79),
+        list(finding, policy).with_room(111),
         (Answer::new(7, 1), &[][..])
     );
     let mended = mend(finding, policy, 0, &[1]);

@@ -18,7 +18,7 @@ use Rattle.unicode.specs.Presentation.{asSelector}
 use Rattle.unicode.specs.declared.presentation.Presentation.{Presentation}
 use Rattle.policy.specs.declared.Policy.{Policy}
 use Rattle.scanner.specs.Spans.{size, width}
-use Rattle.scanner.proofs.Bytes.{size-chars, size-width, take-chars}
+use Rattle.scanner.proofs.Bytes.{scalar-front, size-chars, size-width, take-chars}
 use Rattle.scanner.proofs.Rescan.{size-append}
 use Rattle.analysis.specs.Analysis.{render, renew, upToLink}
 use Rattle.analysis.specs.Cells.{Cell, cells, leading, split, unsplit}
@@ -28,7 +28,6 @@ use Rattle.analysis.specs.declared.types.MendAnswer.{MendAnswer}
 use Rattle.analysis.specs.declared.types.MendAnswer.the-variants.{Mended, Refused}
 use Rattle.analysis.proofs.Cells.{SelectorFree, cell-and, selectorFree-cells, no-cell, split-selectors, split-unsplit, split-whole}
 use Rattle.analysis.proofs.ChoicesAt.{selectors-bytes}
-use Rattle.analysis.proofs.ItemsAt.{scalar-front}
 
 -- ---- the unit is a beginning of the cells
 

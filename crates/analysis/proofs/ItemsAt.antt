@@ -2,7 +2,7 @@
 -- its counts.
 use mathlib.Core.Path.{_≡_, refl, ap, sym, _∙_, subst}
 use mathlib.Core.Logic.{_≢_, inl, inr}
-use mathlib.Core.Bool.{Bool, true, false, cond, not, _&&_, true≢false}
+use mathlib.Core.Bool.{Bool, true, false, cond, not, true≢false}
 use mathlib.Core.List.{List, [], _∷_, _++_, List·Memᴰ, List·Memᴰ·head}
 use Prim.Native.Nat.{ℕ, _+_, _-_, _≤_}
 use native.Mathlib.Omega.{arith}
@@ -10,20 +10,20 @@ use lib.Dec.{eqb}
 use lib.ListN.{drop, length, length-drop, take}
 use types.Run.{OneOf, miss}
 use denote.Enum.Declared.{tagOf}
-use Rattle.base.proofs.Tests.{both-true}
-use Rattle.utf8.specs.Rfc3629.{allScalar, chars, encodeAll, isScalar}
+use Rattle.utf8.specs.Rfc3629.{allScalar, chars, encodeAll}
 use Rattle.utf8.proofs.Texts.{chars-allScalar, chars-encodeAll-alone, validUpTo-le}
 use Rattle.policy.specs.declared.Policy.{Policy}
 use Rattle.scanner.specs.Grammar.{Derives, emoji-headed, links-only, passthrough, selector-and, selector-run}
 use Rattle.scanner.specs.Items.{Item, items, join}
-use Rattle.scanner.specs.Spans.{firstOf, scanAt, scanFrom, size, spans, width}
+use Rattle.positions.specs.declared.TextCount.{TextCount}
+use Rattle.scanner.specs.Spans.{countAfter, endCount, firstOf, scanAt, scanFrom, size, spanOf, spans, width}
 use Rattle.scanner.specs.Theorems.{Structured}
 use Rattle.scanner.specs.declared.ScanItem.{ScanItem}
 use Rattle.scanner.specs.declared.ScanKind.{ScanKind}
 use Rattle.scanner.specs.declared.ScanKind.the-variants.{Passthrough}
 use Rattle.scanner.specs.declared.ScanStep.the-variants as Step
 use Rattle.scanner.proofs.ScanKind.{the-type as the-kind}
-use Rattle.scanner.proofs.Bytes.{size-chars, size-width, take-chars}
+use Rattle.scanner.proofs.Bytes.{scalar-front, size-chars, size-width, take-chars}
 use Rattle.scanner.proofs.Reading.{item-derives}
 use Rattle.scanner.proofs.Rescan.{size-append}
 use Rattle.scanner.proofs.Tiling.{never-empty, tiling}
@@ -34,6 +34,7 @@ use Rattle.analysis.specs.Counts.{_⊕_, total, unsanctioned}
 use Rattle.analysis.specs.ItemAt.{analysisAt, analysisOf}
 use Rattle.analysis.specs.declared.ItemAnalysis.{ItemAnalysis}
 use Rattle.analysis.specs.declared.ItemAnalysis.the-variants.{Canonical, End, NonCanonical}
+use Rattle.analysis.specs.declared.types.Finding.{Finding}
 use Rattle.analysis.specs.declared.types.NonCanonicality.{NonCanonicality}
 use Rattle.analysis.proofs.Counts.{empty-plus, plus-empty}
 use Rattle.analysis.proofs.Items.{no-leading, passthrough-no-finding}
@@ -41,13 +42,6 @@ use Rattle.analysis.proofs.Lengths.{bytes-some}
 use Rattle.analysis.proofs.Units.{split-S}
 
 -- ---- the bytes of the first item from an offset on
-
-pub scalar-front : (vs us : List ℕ) → allScalar (vs ++ us) ≡ true → allScalar vs ≡ true
-unfolding allScalar
-scalar-front [] us e = refl
-scalar-front (v ∷ vs) us e =
-    let h = both-true (isScalar v) (allScalar (vs ++ us)) e in
-    ap (λ (b : Bool). b && allScalar vs) (h .0) ∙ scalar-front vs us (h .1)
 
 module _ (text : List ℕ) (at : ℕ) (x : Item) (xs : List Item) (e : items (chars (drop at text)) ≡ x ∷ xs) where
   first-and-rest : chars (drop at text) ≡ x .chars ++ join xs
@@ -107,46 +101,60 @@ item-totals p text at {x} {xs} e o f =
 
 -- ---- the answer of the cursor at an offset
 
-pub record ItemAt (text : List ℕ) (at : ℕ) (i : ScanItem) : Type 0 where
+pub record ItemAt (text : List ℕ) (at : ℕ) (before : TextCount) (i : ScanItem) : Type 0 where
   pub item : Item
   pub after : List Item
   pub items-are : items (chars (drop at text)) ≡ item ∷ after
   pub end-is : i .end ≡ at + size width (item .chars)
   pub kind-is : i .kind ≡ item .kind
+  pub count-is : endCount i ≡ countAfter before item
 
-pub item-at : (text : List ℕ) (at : ℕ) (i : ScanItem) → scanAt text at ≡ Step.Item i → ItemAt text at i
+pub item-at : (text : List ℕ) (at : ℕ) (before : TextCount) (i : ScanItem) → scanAt text at before ≡ Step.Item i → ItemAt text at before i
 unfolding scanAt scanFrom firstOf spans
-item-at text at i e = go (items (chars (drop at text))) refl e
+item-at text at before i e = go (items (chars (drop at text))) refl e
   where
-    go : (l : List Item) → items (chars (drop at text)) ≡ l → firstOf (spans at l) ≡ Step.Item i → ItemAt text at i
+    go : (l : List Item) → items (chars (drop at text)) ≡ l → firstOf (spans at before l) ≡ Step.Item i → ItemAt text at before i
     go [] f g = absurd (true≢false cc)
-    go (x ∷ xs) f g = record { item = x; after = xs; items-are = f; end-is = cc; kind-is = cc }
+    go (x ∷ xs) f g =
+        let e : spanOf at before x ≡ i = cc in
+        record { item = x; after = xs; items-are = f; end-is = cc; kind-is = cc; count-is = ap endCount (sym e) }
 
 -- An arm for the kinds other than passthrough.
 pub not-passthrough : (k : ScanKind) → OneOf (1 ∷ 2 ∷ 3 ∷ []) (tagOf the-kind k) → k ≢ Passthrough
 not-passthrough k o e = miss (1 ∷ 2 ∷ 3 ∷ []) 0 tt (subst (λ (k : ScanKind). OneOf (1 ∷ 2 ∷ 3 ∷ []) (tagOf the-kind k)) e o)
 
-module _ (p : Policy) (text : List ℕ) (at : ℕ) where
-  pub analysis-end : scanAt text at ≡ Step.End → End ≡ analysisAt p text at
+module _ (p : Policy) (text : List ℕ) (at : ℕ) (before : TextCount) where
+  pub analysis-end : scanAt text at before ≡ Step.End → End ≡ analysisAt p text at before
   unfolding scanAt scanFrom firstOf spans analysisAt analysisOf
   analysis-end e = go (items (chars (drop at text))) e
     where
-      go : (l : List Item) → firstOf (spans at l) ≡ Step.End → End ≡ analysisOf p at l
+      go : (l : List Item) → firstOf (spans at before l) ≡ Step.End → End ≡ analysisOf p at before l
       go [] g = refl
       go (x ∷ xs) g = cc
 
-  module _ {i : ScanItem} (h : ItemAt text at i) where
-    -- The answer for the item, by whether it is a finding.
-    answer : Bool → ℕ → NonCanonicality → ItemAnalysis
-    answer b end n = cond b (NonCanonical (record { start = at; end = end; counts = n })) (Canonical end)
+  module _ {i : ScanItem} (h : ItemAt text at before i) where
+    abbrev finding : ℕ → NonCanonicality → TextCount → Finding
+    finding end n after = record {
+      start = at;
+      end = end;
+      counts = n;
+      «char_start» = before .chars;
+      «char_end» = after .chars;
+      «unit_start» = before .units;
+      «unit_end» = after .units;
+    }
 
-    answer-is : (b : Bool) (n : NonCanonicality) → b ≡ isFinding p (h .item) → n ≡ nonCanonicality p (h .item) → answer b (i .end) n
-        ≡ analysisAt p text at
+    -- The answer for the item, by whether it is a finding.
+    answer : Bool → ℕ → NonCanonicality → TextCount → ItemAnalysis
+    answer b end n after = cond b (NonCanonical (finding end n after)) (Canonical end (after .chars) (after .units))
+
+    answer-is : (b : Bool) (n : NonCanonicality) → b ≡ isFinding p (h .item) → n ≡ nonCanonicality p (h .item)
+        → answer b (i .end) n (endCount i) ≡ analysisAt p text at before
     unfolding analysisAt analysisOf answer
-    answer-is b n f g = (λ j. answer (f j) (h .end-is j) (g j)) ∙ ap (analysisOf p at) (sym (h .items-are))
+    answer-is b n f g = (λ j. answer (f j) (h .end-is j) (g j) (h .count-is j)) ∙ ap (analysisOf p at before) (sym (h .items-are))
 
     -- Passthrough is canonical.
-    pub analysis-passthrough : i .kind ≡ Passthrough → Canonical (i .end) ≡ analysisAt p text at
+    pub analysis-passthrough : i .kind ≡ Passthrough → Canonical (i .end) (i .«char_end») (i .«unit_end») ≡ analysisAt p text at before
     unfolding answer
     analysis-passthrough e = answer-is false (nonCanonicality p (h .item)) (sym (passthrough-no-finding p (h .item) (sym (h .kind-is) ∙ e)))
         refl
@@ -156,10 +164,10 @@ module _ (p : Policy) (text : List ℕ) (at : ℕ) where
       counts-are : n ≡ nonCanonicality p (h .item)
       counts-are = e ∙ item-totals p text at (h .items-are) (λ f. o (h .kind-is ∙ f)) (h .end-is)
 
-      pub analysis-canonical : eqb (total n) 0 ≡ true → Canonical (i .end) ≡ analysisAt p text at
+      pub analysis-canonical : eqb (total n) 0 ≡ true → Canonical (i .end) (i .«char_end») (i .«unit_end») ≡ analysisAt p text at before
       unfolding answer
       analysis-canonical f = answer-is false n (sym (ap not f) ∙ ap (λ (m : NonCanonicality). not (eqb (total m) 0)) counts-are) counts-are
 
-      pub analysis-finding : eqb (total n) 0 ≡ false → NonCanonical (record { start = at; end = i .end; counts = n }) ≡ analysisAt p text at
+      pub analysis-finding : eqb (total n) 0 ≡ false → NonCanonical (finding (i .end) n (endCount i)) ≡ analysisAt p text at before
       unfolding answer
       analysis-finding f = answer-is true n (sym (ap not f) ∙ ap (λ (m : NonCanonicality). not (eqb (total m) 0)) counts-are) counts-are

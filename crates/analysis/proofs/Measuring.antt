@@ -7,6 +7,8 @@ use Prim.Native.Nat.{ℕ, suc, _+_, _*_, _-_, _/_, _≤_}
 use native.Mathlib.Nat.{add-zero}
 use native.Mathlib.Omega.{arith}
 use lib.ListN.{drop, length}
+use Rattle.base.specs.Sums.{capped, most}
+use Rattle.base.proofs.Sums.{capped-held, capped-more}
 use Rattle.base.proofs.Tests.{le-or-lt}
 use Rattle.utf8.specs.Rfc3629.{chars}
 use Rattle.utf8.proofs.Places.{Step, Stop}
@@ -27,7 +29,7 @@ use Rattle.analysis.specs.Analysis.{chosen, countCells, following, remai
 use Rattle.analysis.specs.Helpers.{slotLength}
 use Rattle.analysis.specs.CellView.{formatCells, totalCells}
 use Rattle.analysis.specs.Cells.{Cell, cells, leading, split}
-use Rattle.analysis.specs.Counts.{_⊕_, capped, cappedSum, most, total, unsanctioned}
+use Rattle.analysis.specs.Counts.{_⊕_, cappedSum, total, unsanctioned}
 use Rattle.analysis.specs.Rules.{
   Outcome,
   Slot,
@@ -52,7 +54,7 @@ use Rattle.analysis.proofs.CellsAt.{read-count, read-end, selectors-roo
 use Rattle.analysis.proofs.Counts.{empty-plus, plus-assoc, plus-empty}
 use Rattle.analysis.proofs.Replacement.{remaining-none, render-cons, renewed}
 use Rattle.analysis.proofs.Rules.{by-rules, outcome-no-entry, rule23}
-use Rattle.analysis.proofs.Sums.{capped-held, capped-more, whole-sum}
+use Rattle.analysis.proofs.Sums.{whole-sum}
 
 -- ---- the counts of a cell add up to at most one more than its selectors
 

@@ -10,6 +10,8 @@ use lib.ListN.{drop, drop-of-length-le, getD, length}
 use lib.Seq.{drop-cons, drop-drop}
 use Rattle.base.specs.Output.{PutAt}
 use Rattle.base.specs.Refusals.{textLimit}
+use Rattle.base.specs.Sums.{capped}
+use Rattle.base.proofs.Sums.{capped-held}
 use Rattle.utf8.specs.Rfc3629.{chars, encode, encodeAll, isScalar}
 use Rattle.utf8.specs.Write.{afterWriteChar, writeChar}
 use Rattle.utf8.specs.declared.WriteChar.{WriteChar}
@@ -28,7 +30,6 @@ use Rattle.scanner.proofs.Bytes.{size-chars, size-width}
 use Rattle.analysis.specs.Analysis.{chosen, decide, following, laterDecisions, remaining, render, renew}
 use Rattle.analysis.specs.CellView.{formatCells}
 use Rattle.analysis.specs.Cells.{Cell, cells, leading, split}
-use Rattle.analysis.specs.Counts.{capped}
 use Rattle.analysis.specs.Helpers.{cellBytes, decisionsUsed}
 use Rattle.analysis.specs.Decisions.{meaning}
 use Rattle.analysis.specs.Rules.{Outcome, Slot, bare, decided, fixed, outcome, runWith}
@@ -36,7 +37,6 @@ use Rattle.analysis.proofs.Cells.{selectorFree-cells, count-unsplit, fr
 use Rattle.analysis.proofs.CellsAt.{split-at}
 use Rattle.analysis.proofs.Lengths.{bytes-parts, render-bytes}
 use Rattle.analysis.proofs.Replacement.{selectorFree-renew, render-cons, renew-balances, renewed, strip-render}
-use Rattle.analysis.proofs.Sums.{capped-held}
 
 -- ---- one character
 

@@ -24,6 +24,7 @@ use Rattle.unicode.specs.declared.presentation.Presentation.{Presentation}
 use Rattle.policy.specs.declared.Policy.{Policy}
 use Rattle.scanner.specs.Grammar.{Derives, emoji-headed, links-only, passthrough, selector-and, selector-run}
 use Rattle.scanner.specs.Items.{Item, items}
+use Rattle.positions.specs.Positions.{noCount}
 use Rattle.scanner.specs.Spans.{scan, size, width}
 use Rattle.scanner.specs.TextCheck.{textRefusal}
 use Rattle.scanner.specs.declared.ScanKind.{ScanKind}
@@ -34,9 +35,19 @@ use Rattle.analysis.specs.Analysis.{isFinding, nonCanonicality, render, 
 use Rattle.analysis.specs.Cells.{Cell, cells}
 use Rattle.analysis.specs.Decisions.{decisionsRefusal, judge, meaning, withinLimit, writeOut}
 use Rattle.analysis.specs.Helpers.{startingAnalysis, startsAt}
-use Rattle.analysis.specs.ItemAt.{analysisAt, analysisOf, findingStarting, replaceAt, replaceByDefault, replacementBytes, writeFound}
+use Rattle.analysis.specs.ItemAt.{
+  analysisAt,
+  analysisOf,
+  canonicalOf,
+  findingOf,
+  findingStarting,
+  replaceAt,
+  replaceByDefault,
+  replacementBytes,
+  writeFound,
+}
 use Rattle.analysis.specs.declared.ItemAnalysis.{ItemAnalysis}
-use Rattle.analysis.specs.declared.ItemAnalysis.the-variants.{Canonical, End, NonCanonical}
+use Rattle.analysis.specs.declared.ItemAnalysis.the-variants.{End, NonCanonical}
 use Rattle.analysis.specs.declared.types.Finding.{Finding}
 use Rattle.analysis.specs.declared.types.NonCanonicality.{NonCanonicality}
 use Rattle.analysis.specs.declared.types.MendAnswer.{MendAnswer}
@@ -119,14 +130,13 @@ module _ (p : Policy) (text : List ℕ) (at : ℕ) where
   unfolding analysisAt analysisOf
   found-at f e = starts (startsAt at (scan text)) refl e
     where
-      go : startsAt at (scan text) ≡ true → (l : List Item) → items (chars (drop at text)) ≡ l → analysisOf p at l ≡ NonCanonical f
+      go : startsAt at (scan text) ≡ true → (l : List Item) → items (chars (drop at text)) ≡ l → analysisOf p at noCount l ≡ NonCanonical f
           → FoundAt p text at f
       go s [] i g = absurd (true≢false cc)
       go s (x ∷ xs) i g = by (isFinding p x) refl g
         where
           by : (b : Bool) → isFinding p x ≡ b
-              → cond b (NonCanonical (record { start = at; end = at + size width (x .chars); counts = nonCanonicality p x }))
-              (Canonical (at + size width (x .chars))) ≡ NonCanonical f
+              → cond b (NonCanonical (findingOf p at noCount x)) (canonicalOf p at noCount x) ≡ NonCanonical f
               → FoundAt p text at f
           by true h k = record {
             item = x;
@@ -139,7 +149,7 @@ module _ (p : Policy) (text : List ℕ) (at : ℕ) where
           }
           by false h k = absurd (true≢false cc)
 
-      starts : (b : Bool) → startsAt at (scan text) ≡ b → cond b (analysisAt p text at) End ≡ NonCanonical f → FoundAt p text at f
+      starts : (b : Bool) → startsAt at (scan text) ≡ b → cond b (analysisAt p text at noCount) End ≡ NonCanonical f → FoundAt p text at f
       starts true s g = go s (items (chars (drop at text))) refl g
       starts false s g = absurd (true≢false cc)
 
@@ -152,18 +162,17 @@ module _ (p : Policy) (text : List ℕ) (at : ℕ) where
       no : (f : Finding) → a ≡ NonCanonical f → ⊥
       no f g = miss (0 ∷ 1 ∷ []) 2 tt (subst (λ (y : ItemAnalysis). OneOf (0 ∷ 1 ∷ []) (tagOf the-analysis y)) g o)
 
-      go : (l : List Item) → a ≡ analysisOf p at l → headFinding p l ≡ none
+      go : (l : List Item) → a ≡ analysisOf p at noCount l → headFinding p l ≡ none
       go [] g = refl
       go (x ∷ xs) g = by (isFinding p x) refl g
         where
           by : (b : Bool) → isFinding p x ≡ b
-              → a ≡ cond b (NonCanonical (record { start = at; end = at + size width (x .chars); counts = nonCanonicality p x }))
-              (Canonical (at + size width (x .chars)))
+              → a ≡ cond b (NonCanonical (findingOf p at noCount x)) (canonicalOf p at noCount x)
               → cond b (some x) none ≡ none
           by true h k = absurd (no _ k)
           by false h k = refl
 
-      starts : (b : Bool) → startsAt at (scan text) ≡ b → a ≡ cond b (analysisAt p text at) End → findingStarting p text at ≡ none
+      starts : (b : Bool) → startsAt at (scan text) ≡ b → a ≡ cond b (analysisAt p text at noCount) End → findingStarting p text at ≡ none
       starts true s g = starting-by s refl ∙ go (items (chars (drop at text))) g
       starts false s g = starting-by s refl
 

@@ -12,7 +12,9 @@ use borrow.Author.Tests.{eqb-true, ne-eqb}
 use Rattle.utf8.specs.Rfc3629.{chars}
 use Rattle.policy.specs.declared.Policy.{Policy}
 use Rattle.scanner.specs.Items.{Item, items}
-use Rattle.scanner.specs.Spans.{Found, firstOf, found, scan, scanAt, scanFrom, size, spans, width}
+use Rattle.positions.specs.Positions.{noCount}
+use Rattle.positions.specs.declared.TextCount.{TextCount}
+use Rattle.scanner.specs.Spans.{Found, countAfter, firstOf, found, scan, scanAt, scanFrom, size, spans, width}
 use Rattle.scanner.specs.declared.ScanStep.{ScanStep}
 use Rattle.scanner.specs.declared.ScanStep.the-variants as Step
 use Rattle.scanner.proofs.ItemAt.{ItemAt, item-at}
@@ -37,12 +39,20 @@ no-finding-past p o n (x ∷ xs) h = go (isFinding p x) (no-finding-past p o (n 
     go false i = i
 
 -- No item after an offset starts at this offset.
-no-item-past : (o n : ℕ) (xs : List Item) → o < n → startsAt o (spans n xs) ≡ false
+no-item-past : (o n : ℕ) (before : TextCount) (xs : List Item) → o < n → startsAt o (spans n before xs) ≡ false
 unfolding startsAt spans
-no-item-past o n [] h = refl
-no-item-past o n (x ∷ xs) h =
-    ap (λ (b : Bool). b || startsAt o (spans (n + size width (x .chars)) xs)) (ne-eqb n o (λ e. omega arith))
-    ∙ no-item-past o (n + size width (x .chars)) xs (omega arith)
+no-item-past o n before [] h = refl
+no-item-past o n before (x ∷ xs) h =
+    let on = countAfter before x in
+    ap (λ (b : Bool). b || startsAt o (spans (n + size width (x .chars)) on xs)) (ne-eqb n o (λ e. omega arith))
+    ∙ no-item-past o (n + size width (x .chars)) on xs (omega arith)
+
+-- Whether an item starts at an offset does not depend on the characters and units before the items.
+any-count : (o n : ℕ) (before other : TextCount) (xs : List Item) → startsAt o (spans n before xs) ≡ startsAt o (spans n other xs)
+unfolding startsAt spans
+any-count o n before other [] = refl
+any-count o n before other (x ∷ xs) =
+    ap (λ (b : Bool). eqb n o || b) (any-count o (n + size width (x .chars)) (countAfter before x) (countAfter other x) xs)
 
 -- ---- from item to item
 
@@ -50,30 +60,32 @@ or-none : (b : Bool) → (b || false) ≡ b
 or-none true = refl
 or-none false = refl
 
-module _ (text : List ℕ) (o at : ℕ) where
+module _ (text : List ℕ) (o at : ℕ) (before : TextCount) where
   -- Whether one of the items from the offset `at` on starts at the offset o, by the cursor's answer at `at`.
   abbrev pub Starting : ScanStep → Type 0
-  Starting Step.End = startsAt o (scanFrom text at) ≡ false
+  Starting Step.End = startsAt o (scanFrom text at before) ≡ false
   Starting (Step.Item x) =
-      (at < x .end) × (x .end ≤ length text) × (at < o → startsAt o (scanFrom text at) ≡ startsAt o (scanFrom text (x .end)))
-      × (o ≤ at → startsAt o (scanFrom text at) ≡ eqb at o)
+      (at < x .end) × (x .end ≤ length text) × (at < o → startsAt o (scanFrom text at before) ≡ startsAt o (scanFrom text (x .end) before))
+      × (o ≤ at → startsAt o (scanFrom text at before) ≡ eqb at o)
 
-  starting-of : (xs : List Item) → items (chars (drop at text)) ≡ xs → Starting (firstOf (spans at xs))
+  starting-of : (xs : List Item) → items (chars (drop at text)) ≡ xs → Starting (firstOf (spans at before xs))
   unfolding scanFrom spans firstOf startsAt
-  starting-of [] e = ap (λ (l : List Item). startsAt o (spans at l)) e
+  starting-of [] e = ap (λ (l : List Item). startsAt o (spans at before l)) e
   starting-of (x ∷ xs) e =
       let h = item-at text at e in
       let end = at + size width (x .chars) in
-      let S = startsAt o (spans end xs) in
-      let here : startsAt o (scanFrom text at) ≡ (eqb at o || S) = ap (λ (l : List Item). startsAt o (spans at l)) e in
-      let on = ap (λ (l : List Item). startsAt o (spans end l)) (sym (h .after)) in (
+      let S = startsAt o (spans end (countAfter before x) xs) in
+      let here : startsAt o (scanFrom text at before) ≡ (eqb at o || S) = ap (λ (l : List Item). startsAt o (spans at before l)) e in
+      let on = any-count o end (countAfter before x) before xs
+      ∙ ap (λ (l : List Item). startsAt o (spans end before l)) (sym (h .after)) in (
         h .some,
         h .room,
         λ l. here ∙ ap (λ (b : Bool). b || S) (ne-eqb at o (λ e. omega arith)) ∙ on,
-        λ l. here ∙ ap (λ (b : Bool). eqb at o || b) (no-item-past o end xs (omega (arith, h .some))) ∙ or-none (eqb at o),
+        λ l. here ∙ ap (λ (b : Bool). eqb at o || b) (no-item-past o end (countAfter before x) xs (omega (arith, h .some)))
+            ∙ or-none (eqb at o),
       )
 
-  pub cursor-starting : {s : ScanStep} → s ≡ scanAt text at → Starting s
+  pub cursor-starting : {s : ScanStep} → s ≡ scanAt text at before → Starting s
   unfolding scanAt scanFrom
   cursor-starting e = subst Starting (sym e) (starting-of (items (chars (drop at text))) refl)
 
@@ -86,11 +98,12 @@ module _ (p : Policy) where
   headFinding (x ∷ xs) = cond (isFinding p x) (some x) none
 
   module _ (text : List ℕ) (o : ℕ) where
-    starting-from : (at : ℕ) (xs : List Item) → items (chars (drop at text)) ≡ xs
-        → findingAt o (found (isFinding p) width at xs) ≡ cond (startsAt o (spans at xs)) (headFinding (items (chars (drop o text)))) none
+    starting-from : (at : ℕ) (before : TextCount) (xs : List Item) → items (chars (drop at text)) ≡ xs
+        → findingAt o (found (isFinding p) width at xs)
+        ≡ cond (startsAt o (spans at before xs)) (headFinding (items (chars (drop o text)))) none
     unfolding findingAt found startsAt spans
-    starting-from at [] e = refl
-    starting-from at (x ∷ xs) e = go (eqb at o) (isFinding p x) refl refl (starting-from end xs (h .after))
+    starting-from at before [] e = refl
+    starting-from at before (x ∷ xs) e = go (eqb at o) (isFinding p x) refl refl (starting-from end (countAfter before x) xs (h .after))
       where
         h : ItemAt text at x xs
         h = item-at text at e
@@ -102,7 +115,7 @@ module _ (p : Policy) where
         F = found (isFinding p) width end xs
 
         S : Bool
-        S = startsAt o (spans end xs)
+        S = startsAt o (spans end (countAfter before x) xs)
 
         R : Option Item
         R = headFinding (items (chars (drop o text)))
@@ -125,4 +138,4 @@ module _ (p : Policy) where
 
     pub finding-starting : findingStarting p text o ≡ cond (startsAt o (scan text)) (headFinding (items (chars (drop o text)))) none
     unfolding scan scanFrom
-    finding-starting = starting-from 0 (items (chars (drop 0 text))) refl
+    finding-starting = starting-from 0 noCount (items (chars (drop 0 text))) refl

@@ -1,20 +1,12 @@
--- Counts as the code holds them: a number up to the largest count is unchanged, and so is the sum of two records whose totals add
--- up to at most that.
+-- The sum of two records of counts as the code holds it is the true sum if their totals add up to at most the largest number.
 use mathlib.Core.Path.{_≡_}
-use Prim.Native.Nat.{ℕ, _+_, _<_, _≤_}
+use Prim.Native.Nat.{_+_, _≤_}
 use native.Mathlib.Omega.{arith}
-use borrow.Author.Tests.{le-leb, lt-leb}
-use Rattle.analysis.specs.Counts.{_⊕_, capped, cappedSum, most, total}
+use Rattle.base.specs.Sums.{most}
+use Rattle.base.proofs.Sums.{capped-held}
+use Rattle.analysis.specs.Counts.{_⊕_, cappedSum, total}
 use Rattle.analysis.specs.declared.types.NonCanonicality.{NonCanonicality}
 use Rattle.analysis.proofs.Counts.{counts-path}
-
-pub capped-held : (n : ℕ) → n ≤ most → capped n ≡ n
-unfolding capped
-capped-held n l = simp (le-leb n most l)
-
-pub capped-more : (n : ℕ) → most < n → capped n ≡ most
-unfolding capped
-capped-more n l = simp (lt-leb n most l)
 
 pub whole-sum : (m n : NonCanonicality) → total m + total n ≤ most → cappedSum m n ≡ m ⊕ n
 unfolding cappedSum

@@ -1,7 +1,6 @@
 -- The eight counts: all 0, one of each kind, the sum of two, and totals (document 01, "Counts and finding").
-use mathlib.Core.Bool.{cond}
 use Prim.Native.Nat.{ℕ, _+_}
-use lib.Dec.{leb}
+use Rattle.base.specs.Sums.{capped}
 use Rattle.analysis.specs.declared.types.NonCanonicality.{NonCanonicality}
 
 -- "Counts, in order: unsanctioned, modifier-defective, additional-defective, tag-conflicting, tag-forced, tag-redundant,
@@ -81,14 +80,6 @@ adding n = n .«tag_forced_presentations» + n .«presentation_decisions»
 -- The sum of all eight counts.
 abbrev pub total : NonCanonicality → ℕ
 total n = removing n + adding n
-
--- The largest count that the code can hold.
-abbrev pub most : ℕ
-most = 18446744073709551615
-
--- A count as the code holds it: a number above the largest count becomes the largest count.
-unfoldable pub capped : ℕ → ℕ
-capped n = cond (leb n most) n most
 
 -- The sum of two records of counts as the code holds it. For the counts of a text it is the true sum: specs/Theorems.antt,
 -- SumsAreWhole.

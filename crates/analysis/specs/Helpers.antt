@@ -8,6 +8,7 @@ use Rattle.utf8.specs.Rfc3629.{chars, encode, encodeAll}
 use Rattle.unicode.specs.Presentation.{asSelector}
 use Rattle.unicode.specs.declared.presentation.Presentation.{Presentation}
 use Rattle.policy.specs.declared.Policy.{Policy}
+use Rattle.positions.specs.Positions.{noCount}
 use Rattle.scanner.specs.Spans.{scan}
 use Rattle.scanner.specs.declared.ScanItem.{ScanItem}
 use Rattle.analysis.specs.Analysis.{chosen, render}
@@ -42,9 +43,9 @@ startsAt offset (x ∷ xs) = eqb (x .start) offset || startsAt offset xs
 
 module _ (p : Policy) where
   -- The analysis of the item that starts at an offset, among the items of the text scanned from its beginning. An item that only
-  -- contains the offset does not count.
+  -- contains the offset does not count. Its characters and units are counted from the offset on.
   abbrev pub startingAnalysis : List ℕ → ℕ → ItemAnalysis
-  startingAnalysis text offset = cond (startsAt offset (scan text)) (analysisAt p text offset) End
+  startingAnalysis text offset = cond (startsAt offset (scan text)) (analysisAt p text offset noCount) End
 
   -- The call that writes the cells of a slice under decisions: refusals 1 and 8, in this order.
   abbrev pub writeCells : List ℕ → List ℕ → List ℕ → After MendAnswer ℕ

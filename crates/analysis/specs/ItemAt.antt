@@ -13,29 +13,45 @@ use Rattle.utf8.specs.Rfc3629.{chars, encodeAll}
 use Rattle.unicode.specs.declared.presentation.Presentation.{Presentation}
 use Rattle.policy.specs.declared.Policy.{Policy}
 use Rattle.scanner.specs.Items.{Item, items}
-use Rattle.scanner.specs.Spans.{size, width}
+use Rattle.positions.specs.declared.TextCount.{TextCount}
+use Rattle.scanner.specs.Spans.{countAfter, size, width}
 use Rattle.scanner.specs.TextCheck.{textRefusal}
 use Rattle.analysis.specs.Analysis.{isFinding, nonCanonicality, replacement}
 use Rattle.analysis.specs.Decisions.{judge, meaning, writeOut}
 use Rattle.analysis.specs.Findings.{findingAt, findingsFrom}
 use Rattle.analysis.specs.declared.ItemAnalysis.{ItemAnalysis}
 use Rattle.analysis.specs.declared.ItemAnalysis.the-variants.{Canonical, End, NonCanonical}
+use Rattle.analysis.specs.declared.types.Finding.{Finding}
 use Rattle.analysis.specs.declared.types.MendAnswer.{MendAnswer}
 use Rattle.analysis.specs.declared.types.MendAnswer.the-variants.{Refused}
 
 module _ (p : Policy) where
-  -- The analysis of the first item of a list, which starts at the offset: canonical, or a finding with its bytes and its counts; or
-  -- the end if the list is empty.
-  unfoldable pub analysisOf : ℕ → List Item → ItemAnalysis
-  analysisOf at [] = End
-  analysisOf at (x ∷ xs) =
-      let end = at + size width (x .chars) in
-      cond (isFinding p x) (NonCanonical (record { start = at; end = end; counts = nonCanonicality p x })) (Canonical end)
+  -- An item that starts at a byte offset, as a finding: its bytes, its counts, and its characters and UTF-16 units, counted on from those
+  -- before the offset.
+  abbrev pub findingOf : ℕ → TextCount → Item → Finding
+  findingOf at before x = record {
+    start = at;
+    end = at + size width (x .chars);
+    counts = nonCanonicality p x;
+    «char_start» = before .chars;
+    «char_end» = countAfter before x .chars;
+    «unit_start» = before .units;
+    «unit_end» = countAfter before x .units;
+  }
 
-  -- The analysis of the item of a text at a byte offset. The text ends at the first offset, from there on, where no well-formed
-  -- character begins.
-  unfoldable pub analysisAt : List ℕ → ℕ → ItemAnalysis
-  analysisAt text at = analysisOf at (items (chars (drop at text)))
+  -- An item that is not a finding, by its end.
+  abbrev pub canonicalOf : ℕ → TextCount → Item → ItemAnalysis
+  canonicalOf at before x = Canonical (at + size width (x .chars)) (countAfter before x .chars) (countAfter before x .units)
+
+  -- The analysis of the first item of a list, which starts at the offset: canonical, or a finding; or the end if the list is empty.
+  unfoldable pub analysisOf : ℕ → TextCount → List Item → ItemAnalysis
+  analysisOf at before [] = End
+  analysisOf at before (x ∷ xs) = cond (isFinding p x) (NonCanonical (findingOf at before x)) (canonicalOf at before x)
+
+  -- The analysis of the item of a text at a byte offset. The count says how many characters and UTF-16 units are before the offset. The
+  -- text ends at the first offset, from there on, where no well-formed character begins.
+  unfoldable pub analysisAt : List ℕ → ℕ → TextCount → ItemAnalysis
+  analysisAt text at before = analysisOf at before (items (chars (drop at text)))
 
   -- "no finding starts at the offset": the finding that starts at an offset, among the items of the text scanned from its
   -- beginning, if there is one.

@@ -5,6 +5,7 @@ use mathlib.Core.Bool.{true, false}
 use mathlib.Core.List.{List, [], _∷_, map, List·Memᴰ}
 use Prim.Native.Nat.{ℕ, _+_, _*_, _≤_}
 use lib.ListN.{length}
+use Rattle.base.specs.Sums.{most}
 use Rattle.utf8.specs.Rfc3629.{chars}
 use Rattle.unicode.specs.Unicode.{hasVariationSequence, isEmojiDefault, isEmojiModifierBase}
 use Rattle.unicode.specs.declared.presentation.Presentation.{Presentation}
@@ -42,7 +43,6 @@ use Rattle.analysis.specs.Counts.{
   decision,
   empty,
   modifierDefective,
-  most,
   policyRedundant,
   removing,
   tagConflicting,

@@ -6,9 +6,14 @@ pub mod types;
 
 use types::Finding;
 
-// The analysis of an item under a policy: it is canonical, or a finding; or the text has ended.
+// The analysis of an item under a policy. The item is canonical, with its end in bytes, characters and UTF-16 units; or it is a finding;
+// or the text has ended.
 pub enum ItemAnalysis {
     End,
-    Canonical { end: usize },
+    Canonical {
+        end: usize,
+        char_end: usize,
+        unit_end: usize,
+    },
     NonCanonical(Finding),
 }

@@ -1,12 +1,12 @@
 // The eight counts of an item, a finding and a choice: types.rs of the crate evfmt; document 01, "Counts and finding".
-// `add_count`, `empty`, `unsanctioned`, `is_empty` and `add` equal the definitions of specs/Counts.antt.
+// `empty`, `unsanctioned`, `is_empty` and `add` equal the definitions of specs/Counts.antt.
 ghost use mathlib.Core.Path.{_≡_};
 ghost use mathlib.Core.Logic.{_↔_};
 ghost use mathlib.Core.Bool.{true};
-ghost use Prim.Native.Nat.{_+_};
 ghost use lib.Dec.{eqb};
-ghost use Rattle.analysis.specs.Counts.{capped, cappedSum, empty, total, unsanctioned};
+ghost use Rattle.analysis.specs.Counts.{cappedSum, empty, total, unsanctioned};
 use base::Refusal;
+use base::add_count;
 use unicode::presentation::Presentation;
 
 // The eight counts of an item, in document 01's order.
@@ -21,11 +21,15 @@ pub struct NonCanonicality {
     pub presentation_decisions: usize,
 }
 
-// A listed finding: its bytes, from start up to end, and the eight counts.
+// A listed finding: its bytes, from start up to end, the eight counts, and its start and end in characters and in UTF-16 units.
 pub struct Finding {
     pub start: usize,
     pub end: usize,
     pub counts: NonCanonicality,
+    pub char_start: usize,
+    pub char_end: usize,
+    pub unit_start: usize,
+    pub unit_end: usize,
 }
 
 // A choice: the bytes of its unit, from start up to end, the offset at which the search for the next choice starts, and its
@@ -47,19 +51,6 @@ pub enum ChoiceStep {
 pub enum MendAnswer {
     Mended { len: usize },
     Refused(Refusal),
-}
-
-// The largest count that can be held.
-const MOST: usize = 18_446_744_073_709_551_615;
-
-// The sum of two counts, or the largest count if the sum is greater.
-pub fn add_count(a: usize, b: usize) -> usize
-    ensures { λ r. ⌜ r ≡ capped (a + b) ⌝ }
-{
-    if MOST - a < b {
-        return MOST;
-    }
-    a + b
 }
 
 impl NonCanonicality {
@@ -191,6 +182,18 @@ impl Finding {
             return false;
         }
         if self.end != rhs.end {
+            return false;
+        }
+        if self.char_start != rhs.char_start {
+            return false;
+        }
+        if self.char_end != rhs.char_end {
+            return false;
+        }
+        if self.unit_start != rhs.unit_start {
+            return false;
+        }
+        if self.unit_end != rhs.unit_end {
             return false;
         }
         NonCanonicality::eq(self.counts, rhs.counts)

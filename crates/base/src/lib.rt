@@ -1,5 +1,5 @@
-// The types and functions that every crate uses: the refusals of document 01's table, tests of one bit, reads of one
-// byte, and numbers of eight bytes (document 01: "There a policy word, a start, an end or a count is 8 bytes, lowest
+// The types and functions that every crate uses: the refusals of document 01's table, capped sums, tests of one bit,
+// reads of one byte, and numbers of eight bytes (document 01: "There a policy word, a start, an end or a count is 8 bytes, lowest
 // first"). `read_word` returns `number` of eight bytes. `write_word` writes `wordBytes`, `write_numbers` writes
 // `bytesOf`, and `write_bytes` writes its argument.
 pub mod refusals;
@@ -11,6 +11,7 @@ ghost use lib.ListN.{drop, getD, length, take};
 ghost use lib.Seq.{sets};
 ghost use Rattle.base.specs.Bits.{one};
 ghost use Rattle.base.specs.Output.{WritesAt};
+ghost use Rattle.base.specs.Sums.{capped};
 ghost use Rattle.base.specs.Words.{bytesOf, hasRoom, littleEndian, number, wordBytes};
 
 pub const WORD_BYTES: usize = 8;
@@ -49,6 +50,19 @@ pub enum ListAnswer {
 pub enum Check {
     Passed,
     Refused(Refusal),
+}
+
+// The largest number that can be held.
+const MOST: usize = 18_446_744_073_709_551_615;
+
+// The sum of two numbers, or the largest number if the sum is greater.
+pub fn add_count(a: usize, b: usize) -> usize
+    ensures { λ r. ⌜ r ≡ capped (a + b) ⌝ }
+{
+    if MOST - a < b {
+        return MOST;
+    }
+    a + b
 }
 
 // Tests whether bit i mod 64 of a word is 1.

@@ -9,6 +9,7 @@ use Rattle.formatter.specs.Theorems.{
   EveryFormattedText,
   EveryList,
   FiledIsFormatted,
+  FindingsPositioned,
   IntakeComesFirst,
   IntakeInOrder,
   ListedAsBytes,
@@ -23,6 +24,7 @@ use Rattle.formatter.proofs.FormattedClaim.{formatted-claim}
 use Rattle.formatter.proofs.ListClaim.{list-claim}
 use Rattle.formatter.proofs.Outcomes.{comes-first, filed, in-order}
 use Rattle.formatter.proofs.RowBytes.{listed-as}
+use Rattle.formatter.proofs.RowPositions.{rows-listed}
 use Rattle.formatter.proofs.Worked.{calls, claimed, texts}
 
 pub intake-in-order : IntakeInOrder
@@ -40,6 +42,10 @@ mends-test-alike = test-alike
 pub columns-in-order : ColumnsInOrder
 unfolding ColumnsInOrder rowNumbers countNumbers bytesOf wordBytes littleEndian
 columns-in-order = (refl, refl)
+
+pub findings-positioned : FindingsPositioned
+unfolding FindingsPositioned
+findings-positioned = rows-listed
 
 pub listed-as-bytes : ListedAsBytes
 listed-as-bytes = listed-as

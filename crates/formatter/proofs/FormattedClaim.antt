@@ -158,11 +158,11 @@ module _ (policy : List ℕ) where
       well-formed = formed-all;
       none-left = none-all;
       none-listed = λ table h.
-          list-is policy F table (short-all h) ∙ ap (λ (l : List Found). listRows (map (findingRow P) l) table) none-all
+          list-is policy F table (short-all h) ∙ ap (λ (l : List Found). listRows (map (findingRow P F) l) table) none-all
           ∙ room-rows [] table 0 refl (omega arith);
       none-listed-bytes = λ table h.
           list-bytes-is policy F table (short-all h)
-          ∙ ap (λ (l : List Found). fillTable rowNumbers rowBytes (map (findingRow P) l) table) none-all
+          ∙ ap (λ (l : List Found). fillTable rowNumbers rowBytes (map (findingRow P F) l) table) none-all
           ∙ sym (no-rows rowNumbers rowBytes length-row (omega arith) [] table refl refl);
       again = again-all;
       again-unchanged = λ out h. kept-none F out (short-all h) none-all;

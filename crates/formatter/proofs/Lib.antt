@@ -22,5 +22,6 @@ pub mod ListClaim
 pub mod FormattedClaim
 pub mod Steps
 pub mod RowBytes
+pub mod RowPositions
 pub mod AfterRepair
 pub mod Claims

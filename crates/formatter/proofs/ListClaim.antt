@@ -38,7 +38,7 @@ use Rattle.formatter.specs.Demand3.{
 use Rattle.analysis.specs.Findings.{totals}
 use Rattle.formatter.specs.Findings.{findings, textTotals}
 use Rattle.formatter.specs.Format.{formatItems}
-use Rattle.formatter.specs.List.{list, listBytes, rowBytes, rowNumbers}
+use Rattle.formatter.specs.List.{rowBytes, rowNumbers}
 use Rattle.formatter.specs.Mend.{Call, mendCall, outcomes, textAfter}
 use Rattle.base.specs.Refusals.{After}
 use Rattle.analysis.specs.declared.types.MendAnswer.{MendAnswer}
@@ -157,16 +157,18 @@ module _ (policy : List ℕ) where
           only-findings = S .right;
           as-given = log-is cs;
           places = places-add P 0 0 0 E (omega arith);
-          listed = λ table r. ap (λ (t : List ℕ). list t policy table) (text-is cs) ∙ list-book policy ok E table S
-              ∙ room-rows (map (openRow P) O) table (length O) (length-map O (openRow P)) r;
-          unlisted = λ table r. ap (λ (t : List ℕ). list t policy table) (text-is cs) ∙ list-book policy ok E table S
-              ∙ short-rows (map (openRow P) O) table (length O) (length-map O (openRow P)) r;
+          listed = λ table r. list-book policy ok E table S (text-is cs)
+              ∙ room-rows (map (openRow P (text policy b cs)) O) table (length O) (length-map O (openRow P (text policy b cs))) r;
+          unlisted = λ table r. list-book policy ok E table S (text-is cs)
+              ∙ short-rows (map (openRow P (text policy b cs)) O) table (length O) (length-map O (openRow P (text policy b cs))) r;
           listed-bytes = λ table r.
-              ap (λ (t : List ℕ). listBytes t policy table) (text-is cs) ∙ list-book-bytes policy ok E table S
-              ∙ filled rowNumbers rowBytes length-row (omega arith) (map (openRow P) O) table (sym (length-map O (openRow P))) r;
+              list-book-bytes policy ok E table S (text-is cs)
+              ∙ filled rowNumbers rowBytes length-row (omega arith) (map (openRow P (text policy b cs)) O) table
+              (sym (length-map O (openRow P (text policy b cs)))) r;
           unlisted-bytes = λ table r.
-              ap (λ (t : List ℕ). listBytes t policy table) (text-is cs) ∙ list-book-bytes policy ok E table S
-              ∙ not-filled rowNumbers rowBytes length-row (omega arith) (map (openRow P) O) table (sym (length-map O (openRow P))) r;
+              list-book-bytes policy ok E table S (text-is cs)
+              ∙ not-filled rowNumbers rowBytes length-row (omega arith) (map (openRow P (text policy b cs)) O) table
+              (sym (length-map O (openRow P (text policy b cs)))) r;
           were-findings = λ o i. subst (List·Memᴰ (atFirst o))
               (ap (found (isFinding P) width 0) (items-are cs) ∙ sym (first-found policy b)) (first-finding P 0 0 0 E o i);
           unaltered =

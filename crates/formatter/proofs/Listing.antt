@@ -1,5 +1,5 @@
 -- Listing a book's text gives the open findings, and each has the same bytes, counts and choices as in the first text.
-use mathlib.Core.Path.{_≡_, refl, ap, sym, _∙_}
+use mathlib.Core.Path.{_≡_, refl, ap, sym, _∙_, subst}
 use mathlib.Core.Logic.{_⊎_, inl, inr}
 use mathlib.Core.Bool.{Bool, true, false, cond, _&&_}
 use mathlib.Core.Option.{Option}
@@ -51,7 +51,7 @@ use Rattle.formatter.specs.Book.{
   untouched,
 }
 use Rattle.formatter.specs.Demand3.{Accepted, Seen, openRow, seen}
-use Rattle.formatter.specs.Findings.{findingRow, findings}
+use Rattle.formatter.specs.Findings.{findingRow, findings, rowIn}
 use Rattle.formatter.specs.List.{list, listBytes, rowBytes, rowNumbers}
 use Rattle.base.specs.Refusals.{After, unwritten, orElse, written}
 use Rattle.analysis.specs.declared.types.Finding.{Finding}
@@ -87,23 +87,23 @@ short-rows rows table n e h =
     ∙ ap (λ (n : ℕ). record { answer = Refused (TableTooShort n); buffer = table }) e
 
 pub list-is : (policy b : List ℕ) (table : List Finding) → Accepted policy b → list b policy table
-    ≡ listRows (map (findingRow (policyOf policy)) (findings b policy)) table
+    ≡ listRows (map (findingRow (policyOf policy) b) (findings b policy)) table
 unfolding list
 list-is policy b table a =
     ap (λ (o : Option Refusal). orElse o (λ (r : Refusal). unwritten (Refused r) table)
-    (listRows (map (findingRow (policyOf policy)) (findings b policy)) table)) (pass-intake policy b a)
+    (listRows (map (findingRow (policyOf policy) b) (findings b policy)) table)) (pass-intake policy b a)
 
 pub list-bytes-is : (policy b table : List ℕ) → Accepted policy b → listBytes b policy table
-    ≡ fillTable rowNumbers rowBytes (map (findingRow (policyOf policy)) (findings b policy)) table
+    ≡ fillTable rowNumbers rowBytes (map (findingRow (policyOf policy) b) (findings b policy)) table
 list-bytes-is policy b table a = sym (list-passed b policy table (pass-intake policy b a))
 
-row-open : (p : Policy) (os : List OpenFinding) → map (findingRow p) (map atPlace os) ≡ map (openRow p) os
+row-open : (p : Policy) (text : List ℕ) (os : List OpenFinding) → map (findingRow p text) (map atPlace os) ≡ map (openRow p text) os
 unfolding findingRow
-row-open p [] = refl
-row-open p (o ∷ os) =
-    ap (λ (n : ℕ). record { start = place o; end = place o + n; counts = nonCanonicality p (o .item) } ∷ map (findingRow p)
-    (map atPlace os)) (size-width (o .item .chars))
-    ∙ ap (λ (l : List Finding). openRow p o ∷ l) (row-open p os)
+row-open p text [] = refl
+row-open p text (o ∷ os) =
+    ap (λ (n : ℕ). rowIn text (place o) (place o + n) (nonCanonicality p (o .item)) ∷ map (findingRow p text) (map atPlace os))
+    (size-width (o .item .chars))
+    ∙ ap (λ (l : List Finding). openRow p text o ∷ l) (row-open p text os)
 
 -- ---- the bytes, counts and choices of a finding
 
@@ -233,23 +233,28 @@ module _ (p : Policy) where
       go (mended ds) f ih h = skip f (ih h)
 
 module _ (policy : List ℕ) (ok : isPolicy policy ≡ true) where
+  abbrev openRows : List ℕ → List Entry → List Finding
+  openRows text es = map (openRow (policyOf policy) text) (openFindings policy es)
+
   rows-book : (es : List Entry) → Sound policy es
-      → map (findingRow (policyOf policy)) (findings (bookText policy es) policy) ≡ map (openRow (policyOf policy)) (openFindings policy es)
-  rows-book es h = ap (map (findingRow (policyOf policy))) (findings-open policy ok es (h .base))
-      ∙ row-open (policyOf policy) (openFindings policy es)
+      → map (findingRow (policyOf policy) (bookText policy es)) (findings (bookText policy es) policy) ≡ openRows (bookText policy es) es
+  rows-book es h = ap (map (findingRow (policyOf policy) (bookText policy es))) (findings-open policy ok es (h .base))
+      ∙ row-open (policyOf policy) (bookText policy es) (openFindings policy es)
 
-  pub list-book : (es : List Entry) (table : List Finding) → Sound policy es → list (bookText policy es) policy table
-      ≡ listRows (map (openRow (policyOf policy)) (openFindings policy es)) table
-  list-book es table h =
-      list-is policy (bookText policy es) table (accepted-book policy ok es h)
-      ∙ ap (λ (rows : List Finding). listRows rows table) (rows-book es h)
+  -- Listing the book's text.
+  pub list-book : (es : List Entry) (table : List Finding) → Sound policy es → {text : List ℕ} → text ≡ bookText policy es
+      → list text policy table ≡ listRows (openRows text es) table
+  list-book es table h e =
+      subst (λ (t : List ℕ). list t policy table ≡ listRows (openRows t es) table) (sym e)
+      (list-is policy (bookText policy es) table (accepted-book policy ok es h)
+      ∙ ap (λ (rows : List Finding). listRows rows table) (rows-book es h))
 
-  pub list-book-bytes : (es : List Entry) (table : List ℕ) → Sound policy es
-      → listBytes (bookText policy es) policy table
-      ≡ fillTable rowNumbers rowBytes (map (openRow (policyOf policy)) (openFindings policy es)) table
-  list-book-bytes es table h =
-      list-bytes-is policy (bookText policy es) table (accepted-book policy ok es h)
-      ∙ ap (λ (rows : List Finding). fillTable rowNumbers rowBytes rows table) (rows-book es h)
+  pub list-book-bytes : (es : List Entry) (table : List ℕ) → Sound policy es → {text : List ℕ} → text ≡ bookText policy es
+      → listBytes text policy table ≡ fillTable rowNumbers rowBytes (openRows text es) table
+  list-book-bytes es table h e =
+      subst (λ (t : List ℕ). listBytes t policy table ≡ fillTable rowNumbers rowBytes (openRows t es) table) (sym e)
+      (list-bytes-is policy (bookText policy es) table (accepted-book policy ok es h)
+      ∙ ap (λ (rows : List Finding). fillTable rowNumbers rowBytes rows table) (rows-book es h))
 
   pub seen-same : (es : List Entry) → InRow policy es
       → map (seen (policyOf policy) (bookText policy es)) (findings (bookText policy es) policy)

@@ -54,9 +54,9 @@ comes-first text policy r e =
       (λ out. ap (λ (o : Option Refusal). orElse o (λ (f : Refusal). unwritten (Format.Refused f) out)
           (formatTests (sameBytes F text) (leb (length F) (length out)) F out)) e),
       (λ table. ap (λ (o : Option Refusal). orElse o (λ (f : Refusal). unwritten (Listing.Refused f) table)
-          (listRows (map (findingRow p) (findings text policy)) table)) e),
+          (listRows (map (findingRow p text) (findings text policy)) table)) e),
       (λ table. ap (λ (o : Option Refusal). orElse o (λ (f : Refusal). unwritten (Listing.Refused f) table)
-          (fillTable rowNumbers rowBytes (map (findingRow p) (findings text policy)) table)) e),
+          (fillTable rowNumbers rowBytes (map (findingRow p text) (findings text policy)) table)) e),
       (λ offset ds out.
           let x = findingAt offset (findings text policy) in
           ap (λ (o : Option Refusal). orElse o (λ (f : Refusal). unwritten (Mend.Refused f) out)

@@ -41,11 +41,11 @@ length-item x = length-bytesOf (itemNumbers x)
 -- ---- the call on a table of bytes, after the intake
 
 pub list-passed : (text policy table : List ℕ) → intakeRefusal text policy ≡ none
-    → fillTable rowNumbers rowBytes (map (findingRow (policyOf policy)) (findings text policy)) table ≡ listBytes text policy table
+    → fillTable rowNumbers rowBytes (map (findingRow (policyOf policy) text) (findings text policy)) table ≡ listBytes text policy table
 unfolding listBytes
 list-passed text policy table e =
     sym (ap (λ (o : Option Refusal). orElse o (λ (r : Refusal). unwritten (Refused r) table)
-    (fillTable rowNumbers rowBytes (map (findingRow (policyOf policy)) (findings text policy)) table)) e)
+    (fillTable rowNumbers rowBytes (map (findingRow (policyOf policy) text) (findings text policy)) table)) e)
 
 -- The outcome of listing items, by the refusal of the text.
 pub items-by : (text table : List ℕ) {o : Option Refusal} → textRefusal text ≡ o
@@ -85,7 +85,7 @@ unfolding ListedAsBytes listBytes fillTable list
 listed-as text policy table rest few = go (intakeRefusal text policy)
   where
     R : List Finding
-    R = map (findingRow (policyOf policy)) (findings text policy)
+    R = map (findingRow (policyOf policy) text) (findings text policy)
 
     B : List ℕ
     B = rowsBytes rowNumbers table ++ rest

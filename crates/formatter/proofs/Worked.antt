@@ -33,6 +33,7 @@ use Rattle.policy.specs.PolicyBytes.{
   policyWords,
   wordsFrom,
 }
+use Rattle.positions.specs.Positions.{positionAt, textCount, units, utf16Units}
 use Rattle.scanner.specs.Classes.{classOf}
 use Rattle.scanner.specs.Items.{startState, splitFrom, items, kindOf, transition}
 use Rattle.scanner.specs.Spans.{found, scan, scanFrom, spans, width}
@@ -80,11 +81,13 @@ use Rattle.formatter.specs.Worked.{
 use Rattle.formatter.proofs.ListClaim.{list-claim}
 
 pub texts : WorkedTexts × ExampleCalls
-unfolding WorkedTexts ExampleCalls workedTable workedText scan scanFrom spans tagsComplete tagModifications tagRuns withTags allComplete
+unfolding WorkedTexts ExampleCalls workedTable workedText positionAt textCount units utf16Units scan scanFrom spans tagsComplete
+    tagModifications tagRuns withTags allComplete
     badDecision decisionsRefusal findingAt judge mend theDefault format formatItems formatted sameBytes list firstTests intakeRefusal
-    policyRefusal findingRow findings textTotals totals littleEndian number wordBytes chars encode encodeAll foldChars foldStep readChar
-    readFour utf8-1 utf8-2 utf8-3 utf8-4 validUpTo asSelector fromSelector isSelector inRanges indexOf member next hasVariationSequence
-    isEmoji isEmojiDefault isEmojiModifier isEmojiModifierBase isEmojiPresentation isRi isTag variationSequenceIndex emojiModifierBases
+    policyRefusal
+    findingRow findings textTotals totals littleEndian number wordBytes chars encode encodeAll foldChars foldStep readChar readFour utf8-1
+    utf8-2 utf8-3 utf8-4 validUpTo asSelector fromSelector isSelector inRanges indexOf member next hasVariationSequence isEmoji
+    isEmojiDefault isEmojiModifier isEmojiModifierBase isEmojiPresentation isRi isTag variationSequenceIndex emojiModifierBases
     emojiModifiers emojiPresentationRanges emojiRanges riRanges variationEntries allBelow contains entryCount Sets·member memberAt one
     bareAsText bareAsTextKeycap defaultPolicy preferBare preferBareKeycap holdsBase ruleOf singletonRule bytesOf isPolicy keyWords
     noUnusedBit noUnusedBits policyBytes policyOf policyWords wordCount wordsFrom classOf startState splitFrom items kindOf transition

@@ -41,7 +41,7 @@ use Rattle.formatter.specs.Book.{
   untouched,
 }
 use Rattle.analysis.specs.Findings.{totals}
-use Rattle.formatter.specs.Findings.{findings, textTotals}
+use Rattle.formatter.specs.Findings.{findings, rowIn, textTotals}
 use Rattle.formatter.specs.Format.{format, formatted}
 use Rattle.formatter.specs.List.{list, listBytes, rowBytes, rowNumbers}
 use Rattle.analysis.specs.Decisions.{meaning}
@@ -131,9 +131,9 @@ module _ (p : Policy) where
     choices = choices p (f .item);
   }
 
-  -- The row of an open finding, "with starts and ends counted in that text".
-  abbrev pub openRow : OpenFinding → Finding
-  openRow o = record { start = place o; end = place o + length (encodeAll (o .item .chars)); counts = nonCanonicality p (o .item) }
+  -- The row of an open finding in a text, "with starts and ends counted in that text".
+  abbrev pub openRow : List ℕ → OpenFinding → Finding
+  openRow text o = rowIn text (place o) (place o + length (encodeAll (o .item .chars))) (nonCanonicality p (o .item))
 
 module _ (policy : List ℕ) where
   -- The text and the policy pass the tests 1, 2 and 3.
@@ -232,7 +232,7 @@ module _ (policy : List ℕ) where
       pub listed : (table : List Finding) → length (open-after cs) ≤ length table
           → list (text cs) policy table ≡ record {
             answer = Listing.Listed (length (open-after cs));
-            buffer = map (openRow (policyOf policy)) (open-after cs) ++ drop (length (open-after cs)) table;
+            buffer = map (openRow (policyOf policy) (text cs)) (open-after cs) ++ drop (length (open-after cs)) table;
           }
       pub unlisted : (table : List Finding) → length table < length (open-after cs)
           → list (text cs) policy table ≡ record { answer = Listing.Refused (TableTooShort (length (open-after cs))); buffer = table }
@@ -240,7 +240,7 @@ module _ (policy : List ℕ) where
       pub listed-bytes : (table : List ℕ) → length (open-after cs) * rowBytes ≤ length table
           → listBytes (text cs) policy table ≡ record {
             answer = Listing.Listed (length (open-after cs));
-            buffer = rowsBytes rowNumbers (map (openRow (policyOf policy)) (open-after cs))
+            buffer = rowsBytes rowNumbers (map (openRow (policyOf policy) (text cs)) (open-after cs))
                 ++ drop (length (open-after cs) * rowBytes) table;
           }
       pub unlisted-bytes : (table : List ℕ) → length table < length (open-after cs) * rowBytes

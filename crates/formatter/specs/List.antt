@@ -1,7 +1,7 @@
 -- Listing: the whole outcome of each call, `list` and `listBytes` for findings and `listItems` for items (document 01, "Counts and
 -- finding", "Turned back").
 use mathlib.Core.Bool.{cond}
-use mathlib.Core.List.{List, [], _∷_, map}
+use mathlib.Core.List.{List, [], _∷_, _++_, map}
 use Prim.Native.Nat.{ℕ}
 use lib.Dec.{leb}
 use lib.ListN.{length}
@@ -23,7 +23,7 @@ use Rattle.base.specs.declared.Refusal.the-variants.{TableTooShort}
 -- "The findings are listed in text order into a table lent by the caller", with refusals 1, 2, 3 and 7 in this order.
 unfoldable pub list : List ℕ → List ℕ → List Finding → After ListAnswer Finding
 list text policy table =
-    let rows = map (findingRow (policyOf policy)) (findings text policy) in
+    let rows = map (findingRow (policyOf policy) text) (findings text policy) in
     orElse (intakeRefusal text policy) (λ (r : Refusal). unwritten (Refused r) table)
     (cond (leb (length rows) (length table)) (written (Listed (length rows)) rows table)
     (unwritten (Refused (TableTooShort (length rows))) table))
@@ -43,30 +43,36 @@ countNumbers n =
     ∷ n .«presentation_decisions»
     ∷ []
 
--- "A listed finding is its start, its end and the eight counts": a row of ten numbers.
+-- "A listed finding is its start, its end and the eight counts"; "In a listed finding the four new numbers follow the counts, characters
+-- first": a row of fourteen numbers.
 unfoldable pub rowNumbers : Finding → List ℕ
-rowNumbers f = f .start ∷ f .end ∷ countNumbers (f .counts)
+rowNumbers f =
+    f .start ∷ f .end
+    ∷ (countNumbers (f .counts) ++ f .«char_start» ∷ f .«char_end» ∷ f .«unit_start» ∷ f .«unit_end» ∷ [])
 
--- The number of bytes of a row: eight for each of its ten numbers.
+-- The number of bytes of a row: eight for each of its fourteen numbers.
 abbrev pub rowBytes : ℕ
-rowBytes = 80
+rowBytes = 112
 
 -- The call on a table of bytes: the rows of `list` as bytes, and its refusals in their order. The theorem `ListedAsBytes` of
 -- specs/Theorems.antt says that `list` and `listBytes` agree.
 unfoldable pub listBytes : List ℕ → List ℕ → List ℕ → After ListAnswer ℕ
 listBytes text policy table =
     orElse (intakeRefusal text policy) (λ (r : Refusal). unwritten (Refused r) table)
-    (fillTable rowNumbers rowBytes (map (findingRow (policyOf policy)) (findings text policy)) table)
+    (fillTable rowNumbers rowBytes (map (findingRow (policyOf policy) text) (findings text policy)) table)
 
 -- ---- items
 
--- A listed item is its start, its end, its kind and whether its tags are complete: a row of four numbers.
+-- A listed item is its start, its end, its kind, whether its tags are complete, and its start and end in characters and in UTF-16 units: a
+-- row of eight numbers.
 unfoldable pub itemNumbers : ScanItem → List ℕ
-itemNumbers x = x .start ∷ x .end ∷ kindNumber (x .kind) ∷ cond (x .«tags_complete») 1 0 ∷ []
+itemNumbers x =
+    x .start ∷ x .end ∷ kindNumber (x .kind) ∷ cond (x .«tags_complete») 1 0
+    ∷ x .«char_start» ∷ x .«char_end» ∷ x .«unit_start» ∷ x .«unit_end» ∷ []
 
--- The number of bytes of an item's row: eight for each of its four numbers.
+-- The number of bytes of an item's row: eight for each of its eight numbers.
 abbrev pub itemBytes : ℕ
-itemBytes = 32
+itemBytes = 64
 
 -- Listing the items of a text into a table of bytes, with refusals 1, 3 and 7 in this order. The crate evfmt has no such call.
 unfoldable pub listItems : List ℕ → List ℕ → After ListAnswer ℕ

@@ -3,21 +3,22 @@ use mathlib.Core.Path.{_≡_}
 use mathlib.Core.Logic.{_↔_}
 use mathlib.Core.Bool.{true, false}
 use mathlib.Core.Option.{some, none}
-use mathlib.Core.List.{List, [], _∷_, _++_}
+use mathlib.Core.List.{List, [], _∷_, _++_, map}
 use Prim.Native.Nat.{ℕ, _+_, _≤_, _<_}
 use lib.ListN.{drop, length, take}
 use Rattle.base.specs.Refusals.{refusalTable}
 use Rattle.base.specs.Tables.{rowsBytes}
 use Rattle.utf8.specs.Rfc3629.{WellFormed, chars, encodeAll, validUpTo}
 use Rattle.policy.specs.PolicyBytes.{isPolicy, policyOf, policyRefusal}
+use Rattle.positions.specs.Positions.{Boundary}
 use Rattle.scanner.specs.Items.{Item}
 use Rattle.analysis.specs.CellView.{formatCells, totalCells}
 use Rattle.analysis.specs.Findings.{findingAt}
 use Rattle.analysis.specs.ItemAt.{replaceAt}
 use Rattle.base.specs.Words.{bytesOf}
-use Rattle.formatter.specs.Demand3.{Accepted, FormattedClaim, ListClaim}
+use Rattle.formatter.specs.Demand3.{Accepted, Each, FormattedClaim, ListClaim}
 use Rattle.formatter.specs.Filed.{filedText}
-use Rattle.formatter.specs.Findings.{findings, textTotals}
+use Rattle.formatter.specs.Findings.{findingRow, findings, rowIn, textTotals}
 use Rattle.formatter.specs.Format.{format, formatted}
 use Rattle.formatter.specs.List.{list, listBytes, rowBytes, rowNumbers}
 use Rattle.formatter.specs.Mend.{Call, mend}
@@ -88,6 +89,10 @@ numberedFinding = record {
     «policy_redundant_selectors» = 7;
     «presentation_decisions» = 8;
   };
+  «char_start» = 11;
+  «char_end» = 12;
+  «unit_start» = 13;
+  «unit_end» = 14;
 }
 
 -- A number below 256 as eight bytes, lowest first.
@@ -95,13 +100,24 @@ abbrev pub lowByte : ℕ → List ℕ
 lowByte n = n ∷ 0 ∷ 0 ∷ 0 ∷ 0 ∷ 0 ∷ 0 ∷ 0 ∷ []
 
 -- "A listed finding is its start, its end and the eight counts", in the order "unsanctioned, modifier-defective, additional-defective,
--- tag-conflicting, tag-forced, tag-redundant, policy-redundant, decisions". The statement gives the numbers of `numberedFinding`'s row, and
--- its bytes.
+-- tag-conflicting, tag-forced, tag-redundant, policy-redundant, decisions". "In a listed finding the four new numbers follow the counts,
+-- characters first". The statement gives the numbers of `numberedFinding`'s row, and its bytes.
 unfoldable pub ColumnsInOrder : Type 0
 ColumnsInOrder =
-    (rowNumbers numberedFinding ≡ 9 ∷ 10 ∷ 1 ∷ 2 ∷ 3 ∷ 4 ∷ 5 ∷ 6 ∷ 7 ∷ 8 ∷ [])
+    (rowNumbers numberedFinding ≡ 9 ∷ 10 ∷ 1 ∷ 2 ∷ 3 ∷ 4 ∷ 5 ∷ 6 ∷ 7 ∷ 8 ∷ 11 ∷ 12 ∷ 13 ∷ 14 ∷ [])
     × (bytesOf (rowNumbers numberedFinding)
-    ≡ lowByte 9 ++ lowByte 10 ++ lowByte 1 ++ lowByte 2 ++ lowByte 3 ++ lowByte 4 ++ lowByte 5 ++ lowByte 6 ++ lowByte 7 ++ lowByte 8)
+    ≡ lowByte 9 ++ lowByte 10 ++ lowByte 1 ++ lowByte 2 ++ lowByte 3 ++ lowByte 4 ++ lowByte 5 ++ lowByte 6 ++ lowByte 7 ++ lowByte 8
+    ++ lowByte 11 ++ lowByte 12 ++ lowByte 13 ++ lowByte 14)
+
+-- A listed finding starts and ends at character boundaries, and its four new numbers are the positions of its start and its end.
+pub record ListedAt (text : List ℕ) (f : Finding) : Type 0 where
+  pub starts : Boundary text (f .start)
+  pub ends : Boundary text (f .end)
+  pub positions : f ≡ rowIn text (f .start) (f .end) (f .counts)
+
+-- "Every item and finding now carries start and end three times: bytes, characters, and UTF-16 units", for all findings of a text.
+unfoldable pub FindingsPositioned : Type 0
+FindingsPositioned = (text policy : List ℕ) → Each (ListedAt text) (map (findingRow (policyOf policy) text) (findings text policy))
 
 -- Listing into a table of bytes does the same as listing into a table of rows: if the table has the bytes of some rows, and fewer bytes
 -- after them than a row has, it then has the bytes of the rows that `list` leaves, and the bytes after them are the same.

@@ -6,6 +6,7 @@ use lib.ListN.{drop, length}
 use Rattle.utf8.specs.Rfc3629.{encodeAll}
 use Rattle.policy.specs.DefaultPolicy.{defaultPolicy}
 use Rattle.policy.specs.PolicyBytes.{policyBytes}
+use Rattle.positions.specs.Positions.{units}
 use Rattle.scanner.specs.Spans.{scan}
 use Rattle.scanner.specs.declared.ScanItem.{ScanItem}
 use Rattle.analysis.specs.Counts.{eight, empty}
@@ -45,13 +46,21 @@ theDefault = policyBytes defaultPolicy
 abbrev pub room : List ℕ
 room = 7 ∷ 7 ∷ 7 ∷ 7 ∷ 7 ∷ 7 ∷ 7 ∷ 7 ∷ 7 ∷ 7 ∷ 7 ∷ 7 ∷ []
 
--- A row of a table, by its start, its end and its counts.
-abbrev pub finding : ℕ → ℕ → NonCanonicality → Finding
-finding start end n = record { start = start; end = end; counts = n }
+-- A row of a table, by its start, its end, its counts, and its start and end in characters and in UTF-16 units.
+abbrev pub finding : ℕ → ℕ → NonCanonicality → ℕ → ℕ → ℕ → ℕ → Finding
+finding start end n a b c d = record {
+  start = start;
+  end = end;
+  counts = n;
+  «char_start» = a;
+  «char_end» = b;
+  «unit_start» = c;
+  «unit_end» = d;
+}
 
 -- A row of the tables before a call.
 abbrev pub blank : Finding
-blank = finding 0 0 empty
+blank = finding 0 0 empty 0 0 0 0
 
 -- A worked text: its characters, the starts and ends of its items, the outcomes of formatting it and of listing its findings, and its eight
 -- totals.
@@ -78,7 +87,7 @@ becomes t end r n = record {
   text = t;
   items = (0, end) ∷ [];
   formatting = record { answer = Format.Changed (length (encodeAll r)); buffer = encodeAll r ++ drop (length (encodeAll r)) room };
-  listing = record { answer = Listed 1; buffer = finding 0 end n ∷ blank ∷ [] };
+  listing = record { answer = Listed 1; buffer = finding 0 end n 0 (length t) 0 (units t) ∷ blank ∷ [] };
   totals = n;
 }
 
@@ -134,7 +143,7 @@ exampleBytes = 0x31 ∷ 0xEF ∷ 0xB8 ∷ 0x8E ∷ 0x20 ∷ 0xE2 ∷ 0x9D ∷ 0x
 
 -- The two rows of the example.
 abbrev pub exampleRows : List Finding
-exampleRows = finding 0 4 (eight 0 0 0 0 0 0 1 0) ∷ finding 5 8 (eight 0 0 0 0 0 0 0 1) ∷ []
+exampleRows = finding 0 4 (eight 0 0 0 0 0 0 1 0) 0 2 0 2 ∷ finding 5 8 (eight 0 0 0 0 0 0 0 1) 3 4 3 4 ∷ []
 
 -- Listing, formatting and mending the example give its two rows, its totals and its formatted and mended texts. The calls that write a
 -- replacement alone: one at 0; one at 1, inside the first item, where no finding starts; one at 5, with a decision and by default. The

@@ -2,7 +2,7 @@
 -- outcome `list`.
 use mathlib.Core.Path.{_≡_, refl, ap, sym, _∙_, subst}
 use mathlib.Core.Bool.{Bool, true, false, cond}
-use mathlib.Core.List.{List, [], _∷_, _++_, map}
+use mathlib.Core.List.{List, [], _∷_, _++_, map, cons-ne-nil, head-eq-of-cons-eq, tail-eq-of-cons-eq}
 use mathlib.Core.Option.{Option, none, some}
 use Prim.Native.Nat.{ℕ, zero, suc, _+_, _≤_, _<_, zero-le}
 use native.Mathlib.Nat.{not-suc-le-zero}
@@ -16,10 +16,12 @@ use Rattle.utf8.specs.Rfc3629.{chars}
 use Rattle.policy.specs.declared.Policy.{Policy}
 use Rattle.policy.specs.PolicyBytes.{policyOf}
 use Rattle.scanner.specs.Items.{Item, items}
-use Rattle.scanner.specs.Spans.{size, width}
-use Rattle.analysis.specs.Analysis.{isFinding, nonCanonicality}
-use Rattle.analysis.specs.ItemAt.{analysisAt, analysisOf}
-use Rattle.analysis.specs.declared.ItemAnalysis.the-variants.{Canonical, NonCanonical}
+use Rattle.positions.specs.Positions.{AtPosition}
+use Rattle.positions.specs.declared.TextCount.{TextCount}
+use Rattle.scanner.specs.Spans.{countAfter, size, width}
+use Rattle.analysis.specs.Analysis.{isFinding}
+use Rattle.analysis.specs.ItemAt.{analysisAt, analysisOf, canonicalOf, findingOf}
+use Rattle.analysis.specs.declared.ItemAnalysis.the-variants.{NonCanonical}
 use Rattle.analysis.specs.declared.types.Finding.{Finding}
 use Rattle.base.specs.Refusals.{After, unwritten, orElse, written}
 use Rattle.base.specs.declared.Refusal.{Refusal}
@@ -32,9 +34,13 @@ use Rattle.base.specs.declared.ListAnswer.{ListAnswer}
 use Rattle.base.specs.declared.ListAnswer.the-variants.{Listed, Refused}
 use Rattle.listing.specs.declared.table.ListingPlan.{ListingPlan}
 use Rattle.scanner.proofs.ItemAt.{item-at}
-use Rattle.formatter.proofs.Steps.{Says, analysis-says, rowsFrom}
+use Rattle.formatter.proofs.Steps.{FoundAt, Says, analysis-says, rowsFrom}
 
 -- ---- the first finding from an offset on
+
+-- The end of a finding in characters and units.
+abbrev pub endOf : Finding → TextCount
+endOf f = record { chars = f .«char_end»; units = f .«unit_end» }
 
 module _ (p : Policy) (text : List ℕ) where
   pub first-none : (start : ℕ) → rowsFrom p text start ≡ [] → noFinding start ≡ firstFinding p text start
@@ -45,22 +51,39 @@ module _ (p : Policy) (text : List ℕ) where
   unfolding firstFinding
   first-some start e = sym (ap (firstOr (noFinding start)) e)
 
-  -- The findings after the first are those from its end on.
-  after : (xs : List Item) (at : ℕ) → items (chars (drop at text)) ≡ xs → (f : Finding) (fs : List Finding) → rowsFrom p text at ≡ f ∷ fs
-      → rowsFrom p text (f .end) ≡ fs
+  -- A finding at a position is the first row from there on.
+  pub row-here : {at : ℕ} {before : TextCount} {f : Finding} → FoundAt p text at before f → AtPosition text at before
+      → rowsFrom p text at ≡ f ∷ rowsFrom p text (f .end)
+  row-here {at} {before} {f} h a =
+      ap (map (findingRow p text)) (h .here) ∙ ap (λ (g : Finding). g ∷ rowsFrom p text (f .end)) (sym (h .row a))
+
+  -- The findings after the first are those from its end on, and its characters and units end at the position there.
+  after : (xs : List Item) (at : ℕ) (before : TextCount) → AtPosition text at before → items (chars (drop at text)) ≡ xs
+      → (f : Finding) (fs : List Finding) → rowsFrom p text at ≡ f ∷ fs
+      → (rowsFrom p text (f .end) ≡ fs) × AtPosition text (f .end) (endOf f)
   unfolding analysisAt analysisOf
-  after [] at e f fs q = cc (ap (map (findingRow p)) (analysis-says p text at (ap (analysisOf p at) (sym e))))
-  after (x ∷ xs) at e f fs q = go (isFinding p x) (analysis-says p text at (ap (analysisOf p at) (sym e)))
-      (after xs end (item-at text at e .after) f fs)
+  after [] at before a e f fs q =
+      let none = ap (map (findingRow p text)) (analysis-says p text at before (ap (analysisOf p at before) (sym e))) in
+      absurd (cons-ne-nil f fs (sym q ∙ none))
+  after (x ∷ xs) at before a e f fs q = go (isFinding p x) (analysis-says p text at before (ap (analysisOf p at before) (sym e)))
+      (λ on. after xs (at + size width (x .chars)) (countAfter before x) on (item-at text at e .after) f fs)
     where
       end : ℕ
       end = at + size width (x .chars)
 
-      go : (b : Bool) → Says p text at
-          (cond b (NonCanonical (record { start = at; end = end; counts = nonCanonicality p x })) (Canonical end))
-          → (rowsFrom p text end ≡ f ∷ fs → rowsFrom p text (f .end) ≡ fs) → rowsFrom p text (f .end) ≡ fs
-      go true s ih = cc (sym (s .1) ∙ q)
-      go false s ih = ih (sym (ap (map (findingRow p)) (s .1)) ∙ q)
+      Ends : Type 0
+      Ends = (rowsFrom p text (f .end) ≡ fs) × AtPosition text (f .end) (endOf f)
+
+      go : (b : Bool) → Says p text at before (cond b (NonCanonical (findingOf p at before x)) (canonicalOf p at before x))
+          → (AtPosition text end (countAfter before x) → rowsFrom p text end ≡ f ∷ fs → Ends) → Ends
+      go true s ih =
+          let g = findingOf p at before x in
+          let r = sym (row-here (s .1) a) ∙ q in
+          let i : g ≡ f = head-eq-of-cons-eq r in (
+            ap (λ (h : Finding). rowsFrom p text (h .end)) (sym i) ∙ tail-eq-of-cons-eq r,
+            subst (λ (h : Finding). AtPosition text (h .end) (endOf h)) i (s .1 .on a),
+          )
+      go false s ih = ih (s .2 a) (sym (ap (map (findingRow p text)) (s .1)) ∙ q)
 
 -- ---- the table
 
@@ -79,24 +102,24 @@ stored-more (x ∷ xs) (y ∷ ys) zero d held room = refl
 stored-more (x ∷ xs) (y ∷ ys) (suc k) d held room = ap (λ (l : List Finding). x ∷ l) (stored-more xs ys k d (omega arith) (omega arith))
 
 -- A turn stores the next finding, and the next turn starts at its end.
-pub turn : (p : Policy) (text : List ℕ) (rows table : List Finding) (k at : ℕ) (r : Finding) → rowsFrom p text at ≡ drop k rows
-    → k < length rows → k < length table
-    → r ≡ firstFinding p text at → (set (stored rows table k) k r ≡ stored rows table (k + 1))
-    × (rowsFrom p text (r .end) ≡ drop (k + 1) rows)
-turn p text rows table k at r here held room e =
+pub turn : (p : Policy) (text : List ℕ) (rows table : List Finding) (k at : ℕ) (before : TextCount) (r : Finding)
+    → AtPosition text at before → rowsFrom p text at ≡ drop k rows → k < length rows → k < length table → r ≡ firstFinding p text at
+    → (set (stored rows table k) k r ≡ stored rows table (k + 1)) × (rowsFrom p text (r .end) ≡ drop (k + 1) rows)
+    × AtPosition text (r .end) (endOf r)
+turn p text rows table k at before r a here held room e =
     let next : rowsFrom p text at ≡ getD rows k r ∷ drop (suc k) rows = here ∙ drop-cons rows k r held in
-    let same : r ≡ getD rows k r = e ∙ sym (first-some p text at next) in (
+    let same : r ≡ getD rows k r = e ∙ sym (first-some p text at next) in
+    let on = after p text (items (chars (drop at text))) at before a refl (getD rows k r) (drop (suc k) rows) next in (
       ap (set (stored rows table k) k) same ∙ stored-more rows table k r held room ∙ ap (stored rows table) (sym (add-one k)),
-      ap (λ (f : Finding). rowsFrom p text (f .end)) same ∙ after p text (items (chars (drop at text))) at refl (getD rows k r)
-          (drop (suc k) rows) next
-          ∙ ap (λ (n : ℕ). drop n rows) (sym (add-one k)),
+      ap (λ (f : Finding). rowsFrom p text (f .end)) same ∙ on .0 ∙ ap (λ (n : ℕ). drop n rows) (sym (add-one k)),
+      subst (λ (f : Finding). AtPosition text (f .end) (endOf f)) (sym same) (on .1),
     )
 
 -- ---- the plan
 
 -- The rows of a text's findings.
 abbrev pub rowsOf : List ℕ → List ℕ → List Finding
-rowsOf text policy = map (findingRow (policyOf policy)) (findings text policy)
+rowsOf text policy = map (findingRow (policyOf policy) text) (findings text policy)
 
 -- The plan, by the answers of the tests.
 abbrev planBy : Option Refusal → Bool → ℕ → Policy → ListingPlan

@@ -24,11 +24,19 @@ use Rattle.listing.specs.declared.table.ListingPlan.{ListingPlan}
 
 -- The rows of all findings of a text, by its bytes and the policy's.
 abbrev pub findingRows : List ℕ → List ℕ → List Finding
-findingRows text policy = map (findingRow (policyOf policy)) (findingsFrom (policyOf policy) text 0)
+findingRows text policy = map (findingRow (policyOf policy) text) (findingsFrom (policyOf policy) text 0)
 
--- An empty finding at an offset: it stands for "no finding".
+-- An empty finding at an offset: it stands for "no finding", and its characters and units are 0.
 abbrev pub noFinding : ℕ → Finding
-noFinding at = record { start = at; end = at; counts = empty }
+noFinding at = record {
+  start = at;
+  end = at;
+  counts = empty;
+  «char_start» = 0;
+  «char_end» = 0;
+  «unit_start» = 0;
+  «unit_end» = 0;
+}
 
 -- The first finding of a list, or the finding `none` if the list is empty.
 abbrev pub firstOr : Finding → List Finding → Finding
@@ -37,12 +45,12 @@ firstOr none (f ∷ fs) = f
 
 -- "in text order": the first finding from an offset on, or an empty one at the offset if there is none.
 unfoldable pub firstFinding : Policy → List ℕ → ℕ → Finding
-firstFinding p text at = firstOr (noFinding at) (map (findingRow p) (findingsFrom p text at))
+firstFinding p text at = firstOr (noFinding at) (map (findingRow p text) (findingsFrom p text at))
 
 -- What is stored in a table of `room` places: nothing if there is a refusal, which are 1, 2, 3 and 7 in this order; else every finding.
 unfoldable pub listingPlan : List ℕ → List ℕ → ℕ → ListingPlan
 listingPlan text policy room =
-    let n = length (map (findingRow (policyOf policy)) (findings text policy)) in
+    let n = length (map (findingRow (policyOf policy) text) (findings text policy)) in
     let plan : ℕ → ListAnswer → ListingPlan = λ places answer. record { places = places; policy = policyOf policy; answer = answer } in
     orElse (intakeRefusal text policy) (λ (r : Refusal). plan 0 (Refused r))
     (cond (leb n room) (plan n (Listed n)) (plan 0 (Refused (TableTooShort n))))

@@ -1,5 +1,6 @@
-// Listing the items of a text into a table lent by the caller, as lib.rt lists findings. A row is four numbers of 8 bytes each, lowest
-// byte first: start, end, kind, and whether the tags are complete. A `Scanner` gives the items.
+// Listing the items of a text into a table lent by the caller, as lib.rt lists findings. A row is eight numbers of 8 bytes each, lowest
+// byte first: start, end, kind, whether the tags are complete, start and end in characters, start and end in UTF-16 units. A `Scanner`
+// gives the items.
 // `list_items` equals `listItems` of crates/formatter/specs/List.antt.
 ghost use mathlib.Core.Path.{_≡_};
 ghost use mathlib.Core.Bool.{cond};
@@ -16,6 +17,7 @@ use base::Check;
 use base::ListAnswer;
 use base::Refusal;
 use base::WORD_BYTES;
+use positions::TextCount;
 use scanner::ScanItem;
 use scanner::ScanStep;
 use scanner::text_check::check_text;
@@ -23,7 +25,7 @@ use text_scanner::Scanner;
 use text_scanner::next;
 
 // How many numbers a row has.
-const ROW_NUMBERS: usize = 4;
+const ROW_NUMBERS: usize = 8;
 
 // How many bytes a row has.
 const ROW_BYTES: usize = ROW_NUMBERS * WORD_BYTES;
@@ -34,7 +36,11 @@ fn count_items(text: &[u8]) -> usize
 {
     let mut at = 0;
     let mut items = 0;
-    while let ScanStep::Item(item) = scanner::next_item(text, at) {
+    while let ScanStep::Item(item) = scanner::next_item(
+        text,
+        at,
+        TextCount { chars: 0, units: 0 },
+    ) {
         items += 1;
         at = item.end;
     }
@@ -59,7 +65,16 @@ fn put_item(table: &mut [u8], start: usize, item: ScanItem) -> usize
     let kind = item.kind;
     let number = scanner::kind_number(kind);
     let complete = flag_number(item.tags_complete);
-    let numbers = [item.start, item.end, number, complete];
+    let numbers = [
+        item.start,
+        item.end,
+        number,
+        complete,
+        item.char_start,
+        item.char_end,
+        item.unit_start,
+        item.unit_end,
+    ];
     base::write_numbers(table, start, &numbers);
     start + ROW_BYTES
 }
@@ -92,7 +107,12 @@ fn put_items(text: &[u8], table: &mut [u8]) -> usize
     requires { ⌜ length (rowsBytes itemNumbers (scan (now text))) ≤ length (now table) ⌝ }
     ensures { λ r. ⌜ PutAt (now (table .entry)) 0 (rowsBytes itemNumbers (scan (now (text .entry)))) (now (table .exit)) r ⌝ }
 {
-    let mut scanner = Scanner { text, offset: 0 };
+    let mut scanner = Scanner {
+        text,
+        offset: 0,
+        chars: 0,
+        units: 0,
+    };
     let mut rows = PutRows { to: 0, more: true };
     while rows.more {
         let step = next(&mut scanner);

@@ -1,7 +1,8 @@
-// Listing the findings of a text into a table lent by the caller (document 01, "Counts and finding", "Turned back"). A row is ten numbers
-// of 8 bytes each, lowest byte first: start, end and the eight counts. `list_findings` goes through the text from finding to finding
-// (crate text_pass): once to count the findings, and once more to write their rows, if there are any and all fit. `list_findings` equals
-// `listBytes` of crates/formatter/specs/List.antt.
+// Listing the findings of a text into a table lent by the caller (document 01, "Counts and finding", "Turned back"). A row is fourteen
+// numbers of 8 bytes each, lowest byte first: start, end, the eight counts, start and end in characters, start and end in UTF-16 units
+// (document 02, v). `list_findings` goes through the text from finding to finding (crate text_pass): once to count the findings, and once
+// more to write their rows, if there are any and all fit. Characters and units are counted from finding to finding, each byte once.
+// `list_findings` equals `listBytes` of crates/formatter/specs/List.antt.
 pub mod items;
 pub mod table;
 
@@ -23,11 +24,14 @@ use base::ListAnswer;
 use base::Refusal;
 use base::WORD_BYTES;
 use formatter::intake::first_tests;
+use positions::TextCount;
+use positions::add_counts;
+use positions::count_between;
 use text_pass::findings::FindingSpan;
 use text_pass::findings::next_finding;
 
 // How many numbers a row has.
-pub const ROW_NUMBERS: usize = 10;
+pub const ROW_NUMBERS: usize = 14;
 
 // How many bytes a row has.
 pub const ROW_BYTES: usize = ROW_NUMBERS * WORD_BYTES;
@@ -72,6 +76,10 @@ pub fn row_numbers(finding: Finding) -> [usize; ROW_NUMBERS]
         counts.tag_redundant_selectors,
         counts.policy_redundant_selectors,
         counts.presentation_decisions,
+        finding.char_start,
+        finding.char_end,
+        finding.unit_start,
+        finding.unit_end,
     ]
 }
 
@@ -92,6 +100,7 @@ fn put_findings(text: &[u8], policy: &[u8], table: &mut [u8]) -> usize
         (now (table .exit)) r ⌝ }
 {
     let mut at = 0;
+    let mut before = TextCount { chars: 0, units: 0 };
     let mut to = 0;
     loop {
         let FindingSpan {
@@ -104,8 +113,23 @@ fn put_findings(text: &[u8], policy: &[u8], table: &mut [u8]) -> usize
         if !present {
             return to;
         }
+        let first = add_counts(before, count_between(text, at, start));
+        let last = add_counts(first, count_between(text, start, end));
         at = end;
-        to = put_row(table, to, Finding { start, end, counts });
+        before = last;
+        to = put_row(
+            table,
+            to,
+            Finding {
+                start,
+                end,
+                counts,
+                char_start: first.chars,
+                char_end: last.chars,
+                unit_start: first.units,
+                unit_end: last.units,
+            },
+        );
     }
 }
 

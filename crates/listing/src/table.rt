@@ -5,6 +5,7 @@
 // says that the table of bytes of lib.rt agrees with it.
 ghost use mathlib.Core.Path.{_≡_};
 ghost use Rattle.base.specs.Answers.{EndsAs, listRow};
+ghost use Rattle.positions.specs.Positions.{AtPosition};
 ghost use Rattle.formatter.specs.List.{list};
 ghost use Rattle.listing.specs.Table.{fewFindings, firstFinding, listingPlan, noFinding};
 use crate::FindingCount;
@@ -18,6 +19,7 @@ use base::Refusal;
 use formatter::intake::intake;
 use policy::Policy;
 use policy::ReadPolicy;
+use positions::TextCount;
 use replacing::analyze_scan_item;
 
 // The number of places in the table of `list_few`.
@@ -36,7 +38,7 @@ pub struct FewFindings {
     pub findings: [Finding; FEW],
 }
 
-// An empty finding at an offset: it stands for "no finding".
+// An empty finding at an offset: it stands for "no finding", and its characters and units are 0.
 fn no_finding(at: usize) -> Finding
     ensures { λ r. ⌜ r ≡ noFinding at ⌝ }
 {
@@ -45,21 +47,36 @@ fn no_finding(at: usize) -> Finding
         start: at,
         end: at,
         counts,
+        char_start: 0,
+        char_end: 0,
+        unit_start: 0,
+        unit_end: 0,
     }
 }
 
-// The first finding from an offset on, or an empty one at the offset if there is none.
-fn first_finding(text: &[u8], start: usize, policy: Policy) -> Finding
-    ensures { λ r. ⌜ r ≡ firstFinding policy (now (text .entry)) start ⌝ }
+// The first finding from an offset on, or an empty one at the offset if there is none. Characters and units are counted on from those
+// before the offset, which the caller gives.
+fn first_finding(text: &[u8], start: usize, chars: usize, units: usize, policy: Policy) -> Finding
+    ensures { λ r. ⌜ (AtPosition (now (text .entry)) start (record { chars = chars; units = units })
+        → r ≡ firstFinding policy (now (text .entry)) start) ⌝ }
 {
     let mut at = start;
+    let mut before = TextCount { chars, units };
     loop {
-        match analyze_scan_item(text, at, policy) {
+        match analyze_scan_item(text, at, before, policy) {
             ItemAnalysis::End => {
                 return no_finding(start);
             }
-            ItemAnalysis::Canonical { end } => {
+            ItemAnalysis::Canonical {
+                end,
+                char_end,
+                unit_end,
+            } => {
                 at = end;
+                before = TextCount {
+                    chars: char_end,
+                    units: unit_end,
+                };
             }
             ItemAnalysis::NonCanonical(finding) => {
                 return finding;
@@ -109,12 +126,16 @@ pub fn list_into_table(text: &[u8], policy: &[u8], table: &mut [Finding]) -> Lis
     ensures { λ r. ⌜ EndsAs listRow (list (now (text .entry)) (now (policy .entry)) (now (table .entry))) r (now (table .exit)) ⌝ }
 {
     let plan = plan_listing(text, policy, table.len());
+    let mut chars = 0;
+    let mut units = 0;
     let mut at = 0;
     let mut k = 0;
     while k < plan.places {
-        let finding = first_finding(text, at, plan.policy);
+        let finding = first_finding(text, at, chars, units, plan.policy);
         table[k] = finding;
         at = finding.end;
+        chars = finding.char_end;
+        units = finding.unit_end;
         k += 1;
     }
     plan.answer

@@ -15,28 +15,43 @@ use analysis::types::Finding;
 use measure::Measure;
 use measure::measure_cells;
 use policy::Policy;
+use positions::TextCount;
 use scanner::ScanKind;
 use scanner::ScanStep;
 
-// The analysis of the item of a text at an offset under a policy.
-pub fn analyze_scan_item(text: &[u8], at: usize, policy: Policy) -> ItemAnalysis
-    ensures { λ r. ⌜ r ≡ analysisAt policy (now (text .entry)) at ⌝ }
+// The analysis of the item of a text at an offset under a policy. `before` is the count of the text before the offset.
+pub fn analyze_scan_item(text: &[u8], at: usize, before: TextCount, policy: Policy) -> ItemAnalysis
+    ensures { λ r. ⌜ r ≡ analysisAt policy (now (text .entry)) at before ⌝ }
 {
-    let ScanStep::Item(item) = scanner::next_item(text, at) else {
+    let ScanStep::Item(item) = scanner::next_item(text, at, before) else {
         return ItemAnalysis::End;
     };
     let end = item.end;
     let kind = item.kind;
+    let char_end = item.char_end;
+    let unit_end = item.unit_end;
     if let ScanKind::Passthrough = kind {
-        return ItemAnalysis::Canonical { end };
+        return ItemAnalysis::Canonical {
+            end,
+            char_end,
+            unit_end,
+        };
     }
     let Measure { counts, len: _ } = measure_cells(&text[at..end], policy);
     if counts.is_empty() {
-        return ItemAnalysis::Canonical { end };
+        return ItemAnalysis::Canonical {
+            end,
+            char_end,
+            unit_end,
+        };
     }
     ItemAnalysis::NonCanonical(Finding {
         start: at,
         end,
         counts,
+        char_start: before.chars,
+        char_end,
+        unit_start: before.units,
+        unit_end,
     })
 }

@@ -28,12 +28,12 @@ use crate::measure::cell_outcome;
 use crate::measure::measure_cells;
 use analysis::ItemAnalysis;
 use analysis::singleton::Slot;
-use analysis::types::Finding;
 use analysis::types::MendAnswer;
 use base::Check;
 use base::Refusal;
 use base::TEXT_LIMIT;
 use policy::Policy;
+use positions::TextCount;
 use scanner::ScanStep;
 use scanner::next_item;
 use scanner::selectors::PresentationSelectors;
@@ -164,7 +164,7 @@ fn item_starts_at(text: &[u8], offset: usize) -> bool
     ensures { λ r. ⌜ r ≡ startsAt offset (scan (now (text .entry))) ⌝ }
 {
     let mut at = 0;
-    while let ScanStep::Item(item) = next_item(text, at) {
+    while let ScanStep::Item(item) = next_item(text, at, TextCount { chars: 0, units: 0 }) {
         if offset <= at {
             return at == offset;
         }
@@ -173,14 +173,15 @@ fn item_starts_at(text: &[u8], offset: usize) -> bool
     false
 }
 
-// The analysis of the item of the text that starts at an offset, or the end if none does.
+// The analysis of the item of the text that starts at an offset, or the end if none does. Its characters and units are counted from the
+// offset on.
 fn analyze_starting_item(text: &[u8], offset: usize, policy: Policy) -> ItemAnalysis
     ensures { λ r. ⌜ r ≡ startingAnalysis policy (now (text .entry)) offset ⌝ }
 {
     if !item_starts_at(text, offset) {
         return ItemAnalysis::End;
     }
-    analyze_scan_item(text, offset, policy)
+    analyze_scan_item(text, offset, TextCount { chars: 0, units: 0 }, policy)
 }
 
 // Writes the replacement of the finding that starts at an offset, under decisions.
@@ -200,11 +201,8 @@ pub fn canonical_replacement_with_decisions(
     let ItemAnalysis::NonCanonical(finding) = analyze_starting_item(text, at, policy) else {
         return MendAnswer::Refused(Refusal::NoFinding);
     };
-    let Finding {
-        start: _,
-        end,
-        counts,
-    } = finding;
+    let end = finding.end;
+    let counts = finding.counts;
     match check_decisions(decisions, counts.presentation_decisions) {
         Check::Refused(refusal) => MendAnswer::Refused(refusal),
         Check::Passed => write_cells(&text[at..end], policy, decisions, out),

@@ -4,6 +4,7 @@ use mathlib.Core.List.{List, [], _++_, map}
 use Prim.Native.Nat.{ℕ}
 use Rattle.utf8.specs.Rfc3629.{chars}
 use Rattle.policy.specs.declared.Policy.{Policy}
+use Rattle.positions.specs.declared.TextCount.{TextCount}
 use Rattle.analysis.specs.CellView.{totalCells}
 use Rattle.analysis.specs.ItemAt.{analysisAt}
 use Rattle.analysis.specs.declared.ItemAnalysis.the-variants.{Canonical, End, NonCanonical}
@@ -18,23 +19,28 @@ use Rattle.report.specs.Report.{linesFrom, reportNumbers, findingLines, 
 
 -- ---- the item at an offset
 
-module _ (p : Policy) (text : List ℕ) (at : ℕ) where
-  pub at-end : End ≡ analysisAt p text at → linesFrom p text at ≡ []
+module _ (p : Policy) (text : List ℕ) (at : ℕ) (before : TextCount) where
+  pub at-end : End ≡ analysisAt p text at before → linesFrom p text at ≡ []
   unfolding linesFrom findingLines
-  at-end e = ap (λ fs. findingLines (map (findingRow p) fs)) (analysis-says p text at e)
+  at-end e = ap (λ fs. findingLines (map (findingRow p text) fs)) (analysis-says p text at before e)
 
-  pub no-finding : {end : ℕ} → Canonical end ≡ analysisAt p text at → Ahead text at end × (linesFrom p text at ≡ linesFrom p text end)
+  pub no-finding : {end m n : ℕ} → Canonical end m n ≡ analysisAt p text at before
+      → Ahead text at end × (linesFrom p text at ≡ linesFrom p text end)
   unfolding linesFrom
   no-finding e =
-      let s = analysis-says p text at e in
-      (s .0, ap (λ fs. findingLines (map (findingRow p) fs)) (s .1))
+      let s = analysis-says p text at before e in
+      (s .0, ap (λ fs. findingLines (map (findingRow p text) fs)) (s .1))
 
-  pub a-finding : {f : Finding} → NonCanonical f ≡ analysisAt p text at
+  pub a-finding : {f : Finding} → NonCanonical f ≡ analysisAt p text at before
       → Ahead text at (f .end) × (linesFrom p text at ≡ findingLine (reportNumbers f) ++ linesFrom p text (f .end))
-  unfolding linesFrom findingLines
-  a-finding e =
-      let s = analysis-says p text at e in
-      (s .0, ap findingLines (s .1))
+  unfolding linesFrom findingLines findingRow reportNumbers
+  a-finding {f} e =
+      let s = analysis-says p text at before e in
+      let h = s .1 in (
+        s .0,
+        ap (λ fs. findingLines (map (findingRow p text) fs)) (h .here)
+            ∙ ap (λ (g : Finding). findingLine (reportNumbers g) ++ linesFrom p text (f .end)) (sym (h .is)),
+      )
 
 -- ---- the totals
 

@@ -24,7 +24,7 @@ use Rattle.analysis.specs.declared.types.NonCanonicality.{NonCanonicality}
 use Rattle.analysis.proofs.Cells.{split-whole}
 use Rattle.analysis.proofs.Lengths.{bytes-some}
 use Rattle.analysis.proofs.Measuring.{few}
-use Rattle.formatter.specs.Findings.{findingRow}
+use Rattle.formatter.specs.Findings.{findingRow, rowIn}
 use Rattle.formatter.specs.List.{countNumbers}
 use Rattle.formatter.proofs.CellView.{totals-by-cells}
 use Rattle.formatter.proofs.Marks.{foundTotals}
@@ -63,25 +63,26 @@ module _ (p : Policy) where
   totals-length n t = total-length (countNumbers n) (omega arith)
 
   -- The lines of items have at most 60 bytes for each character: an item has at least one character.
-  lines-few : (n : ℕ) {xs : List Item} → Filled xs → n + size width (join xs) ≤ messageLimit
+  lines-few : (text : List ℕ) (n : ℕ) {xs : List Item} → Filled xs → n + size width (join xs) ≤ messageLimit
       → total (foundTotals p (found (isFinding p) width n xs)) ≤ messageLimit
-      → length (findingLines (map (findingRow p) (found (isFinding p) width n xs))) ≤ 60 * length (join xs)
+      → length (findingLines (map (findingRow p text) (found (isFinding p) width n xs))) ≤ 60 * length (join xs)
   unfolding found findingLines totals findingRow
-  lines-few n no-item h k = omega arith
-  lines-few n (and-item {x = x} {xs = xs} c s l f) h k =
-      go (isFinding p x) (lines-few (n + size width (x .chars)) f (omega (arith, size-append width (x .chars) (join xs)))) k
+  lines-few text n no-item h k = omega arith
+  lines-few text n (and-item {x = x} {xs = xs} c s l f) h k =
+      go (isFinding p x) (lines-few text (n + size width (x .chars)) f (omega (arith, size-append width (x .chars) (join xs)))) k
     where
       F : List Found
       F = found (isFinding p) width (n + size width (x .chars)) xs
 
       row : Finding
-      row = record { start = n; end = n + size width (x .chars); counts = nonCanonicality p x }
+      row = rowIn text n (n + size width (x .chars)) (nonCanonicality p x)
 
-      go : (b : Bool) → (total (foundTotals p F) ≤ messageLimit → length (findingLines (map (findingRow p) F)) ≤ 60 * length (join xs))
+      go : (b : Bool) → (total (foundTotals p F) ≤ messageLimit → length (findingLines (map (findingRow p text) F)) ≤ 60 * length (join xs))
           → total (foundTotals p (cond b (record { start = n; item = x } ∷ F) F)) ≤ messageLimit
-          → length (findingLines (map (findingRow p) (cond b (record { start = n; item = x } ∷ F) F))) ≤ 60 * length (x .chars ++ join xs)
+          → length (findingLines (map (findingRow p text) (cond b (record { start = n; item = x } ∷ F) F)))
+          ≤ 60 * length (x .chars ++ join xs)
       go true i k =
-          let l′ = length-append (findingLine (reportNumbers row)) (findingLines (map (findingRow p) F)) in
+          let l′ = length-append (findingLine (reportNumbers row)) (findingLines (map (findingRow p text) F)) in
           let w = size-append width (x .chars) (join xs) in
           let r = row-length row (omega arith) (omega (arith, w)) (omega arith) in
           omega (arith, i (omega arith), l′, r, length-append (x .chars) (join xs), ap length l)
@@ -98,6 +99,6 @@ report-fits p text h =
     let v = validUpTo-le text in
     let s = size-chars text in
     let k : total (foundTotals p fs) ≤ messageLimit = omega (arith, n, chars-few p t, b, s, v) in
-    let f = lines-few p 0 (filled t) (omega (arith, ap (size width) (tiling t), s, v)) k in
-    let l = length-append (findingLines (map (findingRow p) fs)) (totalLine (countNumbers (foundTotals p fs))) in
+    let f = lines-few p text 0 (filled t) (omega (arith, ap (size width) (tiling t), s, v)) k in
+    let l = length-append (findingLines (map (findingRow p text) fs)) (totalLine (countNumbers (foundTotals p fs))) in
     omega (arith, l, f, totals-length p (foundTotals p fs) k, ap length (tiling t), b, s, v)

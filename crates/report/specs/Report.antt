@@ -17,7 +17,8 @@ use Rattle.message_io.specs.Lines.{findingLine, programOutput, totalLine}
 abbrev pub messageLimit : ℕ
 messageLimit = 12288
 
--- The ten numbers of a finding's line: "The report writes, per finding, start, end and eight counts".
+-- The ten numbers of a finding's line: "The report writes, per finding, start, end and eight counts". Document 02, (v): "The report keeps
+-- its byte columns".
 unfoldable pub reportNumbers : Finding → List ℕ
 reportNumbers f = f .start ∷ f .end ∷ countNumbers (f .counts)
 
@@ -28,7 +29,7 @@ findingLines (f ∷ fs) = findingLine (reportNumbers f) ++ findingLines fs
 
 -- The lines of the findings from an offset of the text on.
 unfoldable pub linesFrom : Policy → List ℕ → ℕ → List ℕ
-linesFrom p text at = findingLines (map (findingRow p) (findingsFrom p text at))
+linesFrom p text at = findingLines (map (findingRow p text) (findingsFrom p text at))
 
 -- The eight totals of a text.
 unfoldable pub totalsAt : Policy → List ℕ → NonCanonicality

@@ -22,6 +22,7 @@ use formatter::intake::intake;
 use message_io::line::LINE_ROOM;
 use policy::POLICY_BYTES;
 use policy::Policy;
+use positions::TextCount;
 use replacing::analyze_scan_item;
 use replacing::measure::Measure;
 use replacing::measure::measure_cells;
@@ -91,7 +92,8 @@ fn put_refusal(out: &mut [u8], refusal: Refusal) -> usize
     put_line(out, 0, &line[..len])
 }
 
-// Writes the line of each finding.
+// Writes the line of each finding. "The report keeps its byte columns" (document 02, v): it has no column for characters or units, so
+// they need not be counted from the start of the message.
 fn put_findings(message: &[u8], policy: Policy, out: &mut [u8]) -> usize
     requires { ⌜ length (linesFrom policy (now message) 0) ≤ length (now out) ⌝ }
     ensures { λ r. ⌜ PutAt (now (out .entry)) 0 (linesFrom policy (now (message .entry)) 0) (now (out .exit)) r ⌝ }
@@ -99,11 +101,15 @@ fn put_findings(message: &[u8], policy: Policy, out: &mut [u8]) -> usize
     let mut at = 0;
     let mut to = 0;
     loop {
-        match analyze_scan_item(message, at, policy) {
+        match analyze_scan_item(message, at, TextCount { chars: 0, units: 0 }, policy) {
             ItemAnalysis::End => {
                 return to;
             }
-            ItemAnalysis::Canonical { end } => {
+            ItemAnalysis::Canonical {
+                end,
+                char_end: _,
+                unit_end: _,
+            } => {
                 at = end;
             }
             ItemAnalysis::NonCanonical(finding) => {

@@ -1,7 +1,7 @@
 -- The bytes of the first characters of a text, the characters after them, and that no character begins inside a character.
 use mathlib.Core.Path.{_≡_, refl, ap, sym, _∙_, subst}
 use mathlib.Core.Logic.{⊎-elim}
-use mathlib.Core.Bool.{true}
+use mathlib.Core.Bool.{Bool, true, _&&_}
 use mathlib.Core.List.{List, [], _∷_, _++_, append-assoc, append-nil, append-cancel-left}
 use Prim.Native.Nat.{ℕ, zero, suc, _+_, _/_, _%_, _≤_, _<_}
 use native.Mathlib.Omega.{arith}
@@ -34,6 +34,13 @@ scalar-after : (vs us : List ℕ) → allScalar (vs ++ us) ≡ true → allScala
 unfolding allScalar
 scalar-after [] us e = e
 scalar-after (v ∷ vs) us e = scalar-after vs us (both-true (isScalar v) (allScalar (vs ++ us)) e .1)
+
+pub scalar-front : (vs us : List ℕ) → allScalar (vs ++ us) ≡ true → allScalar vs ≡ true
+unfolding allScalar
+scalar-front [] us e = refl
+scalar-front (v ∷ vs) us e =
+    let h = both-true (isScalar v) (allScalar (vs ++ us)) e in
+    ap (λ (b : Bool). b && allScalar vs) (h .0) ∙ scalar-front vs us (h .1)
 
 -- No character begins at the end of the longest well-formed beginning.
 rest-empty : (s : List ℕ) → chars (drop (validUpTo s) s) ≡ []

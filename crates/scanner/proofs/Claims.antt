@@ -4,9 +4,9 @@ use mathlib.Core.Logic.{_↔_, inr, ⊎-elim}
 use mathlib.Core.Bool.{true, true≢false}
 use mathlib.Core.List.{List, [], _∷_, _++_, head-eq-of-cons-eq, List·Memᴰ, List·Memᴰ·head}
 use Prim.Native.Nat.{ℕ, _+_, _-_}
-use native.Mathlib.Nat.{zero-add}
 use lib.ListN.{drop, drop-of-length-le, take}
-use Rattle.utf8.specs.Rfc3629.{encode, encodeAll, readChar, readFour, foldChars, foldStep, chars, utf8-1, utf8-2, utf8-3, utf8-4, validUpTo}
+use Rattle.utf8.specs.Rfc3629.{encode, encodeAll, readChar, readFour, foldChars, foldStep, chars, utf8-1, utf8-2, utf8-3, utf8-4}
+use Rattle.base.specs.Sums.{capped}
 use Rattle.utf8.proofs.Folds.{chars-end}
 use Rattle.utf8.proofs.Fronts.{readChar-nil}
 use Rattle.utf8.proofs.Grammar.{well-formed-whole}
@@ -32,7 +32,8 @@ use Rattle.scanner.specs.Structure.{
   tagToRuns,
   toModifications,
 }
-use Rattle.scanner.specs.Spans.{firstOf, scan, scanAt, scanFrom, size, spans, width}
+use Rattle.positions.specs.Positions.{cappedPlus, noCount, textCount, units, utf16Units}
+use Rattle.scanner.specs.Spans.{firstOf, scan, scanAt, scanFrom, spanOf, spans, width}
 use Rattle.scanner.specs.Tags.{allComplete, complete, endsInCancel, tagModifications, tagRuns, tagsComplete, withTags}
 use Rattle.scanner.specs.Theorems.{
   CursorAtItemEnd,
@@ -47,6 +48,8 @@ use Rattle.scanner.specs.Theorems.{
   ItemsTile,
   NoItemIsEmpty,
   OnlyReading,
+  PositionsAreCounts,
+  PositionsFrom,
   RestByRuns,
   RunsAreDerived,
   RunsAreLongest,
@@ -58,7 +61,6 @@ use Rattle.scanner.specs.Theorems.{
   SpansTile,
   SpansTileFrom,
   SpansOfItems,
-  span,
   StructureFlattens,
   StructureIsDerived,
   Structured,
@@ -66,6 +68,7 @@ use Rattle.scanner.specs.Theorems.{
   TagSequence,
   TagsCompleteMeans,
   Tiles,
+  TilesInAll,
   ItemExamples,
   StructureExample,
   TagExamples,
@@ -105,7 +108,8 @@ use Rattle.scanner.proofs.RunLaws.{
   unit-derived,
 }
 use Rattle.scanner.proofs.Runs.{Stops, at-char, at-end}
-use Rattle.scanner.proofs.Spans.{scan-after, scan-spans-of-items, scan-tiles, spans-first}
+use Rattle.scanner.proofs.Positions.{positioned, positioned-from, tiles-thrice}
+use Rattle.scanner.proofs.Spans.{scan-after, scan-spans-of-items, scan-tiles, scan-tiles-all, spans-first}
 use Rattle.scanner.proofs.Tiling.{afresh, never-empty, tiling}
 use Rattle.scanner.proofs.Reading.{derive-inner, derives-alike, item-alone, item-derives, only-reading, reading}
 use Rattle.scanner.proofs.Structure.{StructureRead, emoji-headed-read, links-only-read}
@@ -188,7 +192,7 @@ spans-tile-from = scan-tiles
 
 pub spans-tile : SpansTile
 unfolding SpansTile scan
-spans-tile text = subst (Tiles 0 (scanFrom text 0)) (zero-add (validUpTo text)) (scan-tiles text 0)
+spans-tile = scan-tiles-all
 
 pub spans-cover : SpansCover
 unfolding SpansCover SpansTile
@@ -196,11 +200,11 @@ spans-cover text w = subst (Tiles 0 (scan text)) (well-formed-whole w) (spans-ti
 
 pub spans-are-items : SpansAreItems
 unfolding SpansAreItems scan
-spans-are-items text = scan-spans-of-items text 0
+spans-are-items text = scan-spans-of-items text 0 noCount
 
 pub spans-afresh : SpansAfresh
 unfolding SpansAfresh scan
-spans-afresh text before after x e = scan-after text 0 before x after e
+spans-afresh text before after x e = scan-after text 0 noCount before x after e
 
 pub cursor-at-start : CursorAtStart
 unfolding CursorAtStart scanAt scan
@@ -208,23 +212,35 @@ cursor-at-start text = refl
 
 pub cursor-at-item-end : CursorAtItemEnd
 unfolding CursorAtItemEnd scanAt scan
-cursor-at-item-end text before after x e = ap firstOf (scan-after text 0 before x after e)
+cursor-at-item-end text before after x e = ap firstOf (scan-after text 0 noCount before x after e)
 
 pub cursor-ends : CursorEnds
 unfolding CursorEnds scanAt scanFrom spans items firstOf
-cursor-ends text at = (go (chars (drop at text)), λ e. ap (λ (t : List ℕ). firstOf (spans at (items t))) e)
+cursor-ends text at before = (go (chars (drop at text)), λ e. ap (λ (t : List ℕ). firstOf (spans at before (items t))) e)
   where
-    go : (t : List ℕ) → firstOf (spans at (items t)) ≡ End → t ≡ []
+    go : (t : List ℕ) → firstOf (spans at before (items t)) ≡ End → t ≡ []
     go [] e = refl
     go (c ∷ t) e = cc
 
 pub cursor-past-end : CursorPastEnd
 unfolding CursorPastEnd CursorEnds
-cursor-past-end text at h = cursor-ends text at .1 (ap chars (drop-of-length-le text h) ∙ chars-end [] readChar-nil)
+cursor-past-end text at before h = cursor-ends text at before .1 (ap chars (drop-of-length-le text h) ∙ chars-end [] readChar-nil)
 
 pub cursor-inside-character : CursorInsideCharacter
 unfolding CursorInsideCharacter CursorEnds
-cursor-inside-character text at v w k e p q = cursor-ends text (at + k) .1 (chars-inside text at v w k e p q)
+cursor-inside-character text at v w k before e p q = cursor-ends text (at + k) before .1 (chars-inside text at v w k e p q)
+
+pub positions-are-counts : PositionsAreCounts
+unfolding PositionsAreCounts
+positions-are-counts = positioned
+
+pub positions-from : PositionsFrom
+unfolding PositionsFrom
+positions-from = positioned-from
+
+pub tiles-in-all : TilesInAll
+unfolding TilesInAll
+tiles-in-all = tiles-thrice
 
 -- The structure of a links-only or emoji-headed item.
 item-structure : (t : List ℕ) (x : Item) → List·Memᴰ x (items t) → Structured (x .kind) → StructureRead (x .chars)
@@ -262,7 +278,8 @@ item-examples = (refl, refl, refl, refl, refl)
 pub tag-examples : TagExamples
 unfolding TagExamples classOf isSelector isTag isRi isEmojiModifier isEmoji inRanges member emojiModifiers emojiRanges riRanges transition
     startState kindOf splitFrom items utf8-1 utf8-2 utf8-3 utf8-4 readFour readChar foldStep foldChars chars encode encodeAll width spans
-    scanFrom scan tagsComplete tagModifications tagRuns withTags allComplete complete endsInCancel
+    scanFrom scan cappedPlus capped textCount units utf16Units tagsComplete tagModifications tagRuns withTags allComplete complete
+    endsInCancel
 tag-examples = (refl, refl, refl, refl, refl, refl, refl, refl, refl, refl, refl, refl, refl, refl, refl)
 
 pub structure-example : StructureExample
@@ -277,17 +294,18 @@ runs-by-class t = (run-selectors t, run-links t, run-modifications t, run-tags t
 
 pub structure-is-walked : StructureIsWalked
 unfolding StructureIsWalked scanAt scanFrom spans firstOf
-structure-is-walked text at x e k = go (items (chars (drop at text))) refl (scan-spans-of-items text at) e
+structure-is-walked text at before x e k = go (items (chars (drop at text))) refl (scan-spans-of-items text at before) e
   where
     Walked : ScanItem → Type 0
     Walked y = (t : List ℕ) × (take (y .end - y .start) (drop (y .start) text) ≡ encodeAll t)
         × SequenceWalk text (y .start) (y .end) (structure t)
 
-    go : (xs : List Item) → items (chars (drop at text)) ≡ xs → SpansOfItems text (spans at xs) xs → firstOf (spans at xs) ≡ Step.Item x
+    go : (xs : List Item) → items (chars (drop at text)) ≡ xs → SpansOfItems text (spans at before xs) xs
+        → firstOf (spans at before xs) ≡ Step.Item x
         → Walked x
     go [] p s q = absurd (true≢false (cc))
     go (y ∷ ys) p s q =
-        let f : span at (at + size width (y .chars)) (y .kind) (tagsComplete (y .kind) (y .chars)) ≡ x = cc in
+        let f : spanOf at before y ≡ x = cc in
         let m = subst (λ (z : ScanItem). Structured (z .kind)) (sym f) k in
         subst Walked f (
           y .chars,

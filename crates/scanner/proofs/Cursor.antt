@@ -10,27 +10,31 @@ use native.Mathlib.Omega.{arith}
 use lib.ListN.{drop}
 use Rattle.base.proofs.Tests.{either-true}
 use Rattle.utf8.specs.Rfc3629.{chars}
+use Rattle.positions.specs.Positions.{cappedPlus, countBetween}
+use Rattle.positions.specs.declared.TextCount.{TextCount}
 use Rattle.unicode.specs.Presentation.{isSelector}
 use Rattle.unicode.specs.Unicode.{isTag}
 use Rattle.scanner.specs.Classes.{Class, classOf, tag}
-use Rattle.scanner.specs.Items.{Item, State, unit, startState, beginsTags, splitFrom, items, kindOf, nextOf, transition}
+use Rattle.scanner.specs.Items.{Item, State, unit, startState, beginsTags, join, splitFrom, items, kindOf, nextOf, transition}
 use Rattle.scanner.specs.Runs.{afterRun, inTags, run, tagModificationAt}
-use Rattle.scanner.specs.Spans.{firstOf, restAt, scanAt, scanFrom, size, spans, width}
+use Rattle.scanner.specs.Spans.{countAfter, firstOf, restAt, scanAt, scanFrom, size, spans, width}
 use Rattle.scanner.specs.Tags.{allComplete, tagModifications, tagsComplete}
 use Rattle.scanner.specs.declared.ScanKind.{ScanKind}
 use Rattle.scanner.specs.declared.ScanStep.the-variants as Answer
 use Rattle.scanner.specs.declared.state.Next.the-variants as Next
+use Rattle.scanner.specs.declared.ScanItem.{ScanItem}
 use Rattle.scanner.proofs.Bytes.{chars-from}
 use Rattle.scanner.proofs.Classes.{class-is, is-selector, is-tag}
 use Rattle.scanner.proofs.ClassTests.{isTagOrSelectorClass, tags-test}
 use Rattle.scanner.proofs.ItemRuns.{walk-passes}
 use Rattle.scanner.proofs.Peek.{Seen, Unseen}
+use Rattle.scanner.proofs.Positions.{count-chars}
 use Rattle.scanner.proofs.States.{headed-transition, tag-begins}
 use Rattle.scanner.proofs.Rescan.{size-append}
 use Rattle.scanner.proofs.Runs.{Stops, at-char, at-end, after-stops, run-after, run-passes}
 use Rattle.scanner.proofs.RunsAt.{run-on}
 use Rattle.scanner.proofs.Walk.{splitFrom-walk}
-use Rattle.scanner.proofs.Tiling.{splitFrom-none, splitFrom-some}
+use Rattle.scanner.proofs.Tiling.{splitFrom-none, splitFrom-some, splitFrom-tiles}
 use Rattle.scanner.proofs.TagsRead.{first-tags, tags-headed, tags-nil, tags-on, tags-then}
 
 -- ---- the code's answer for a transition
@@ -170,24 +174,42 @@ module _ {text : List ℕ} {from at : ℕ} {first p : State} {b : Bool} (l : Rea
 
 -- ---- the item at an offset
 
-pub cursor-end : {text : List ℕ} {at : ℕ} → Unseen text at → scanAt text at ≡ Answer.End
-unfolding scanAt scanFrom firstOf spans items
-cursor-end {text} {at} h = ap (λ (l : List ℕ). firstOf (spans at (items l))) (h .chars-none)
+-- An item by its fields.
+abbrev spanAt : ℕ → ℕ → ScanKind → Bool → TextCount → TextCount → ScanItem
+spanAt at e k b before after = record {
+  start = at;
+  end = e;
+  kind = k;
+  «tags_complete» = b;
+  «char_start» = before .chars;
+  «char_end» = after .chars;
+  «unit_start» = before .units;
+  «unit_end» = after .units;
+}
 
--- The item as the cursor makes it: from the state of the first character, the end and the tag report of the rest, and the kind.
-pub cursor-item : {text : List ℕ} {at v : ℕ} {c : Class} {next : ℕ} → Seen text at v c next → (p : State) (e : ℕ) (b : Bool) (k : ScanKind)
-    → p ≡ startState c → e ≡ next + size width (restAt text next p) → b ≡ tagsComplete (kindOf p) (restAt text next p) → k ≡ kindOf p
-    → Answer.Item (record { start = at; end = e; kind = k; «tags_complete» = b }) ≡ scanAt text at
+pub cursor-end : {text : List ℕ} {at : ℕ} (before : TextCount) → Unseen text at → scanAt text at before ≡ Answer.End
 unfolding scanAt scanFrom firstOf spans items
-cursor-item {text} {at} {v} {c} {next} h p e b k hp he hb hk =
+cursor-end {text} {at} before h = ap (λ (l : List ℕ). firstOf (spans at before (items l))) (h .chars-none)
+
+-- The item as the cursor makes it: from the state of the first character, the end and the tag report of the rest, the kind, and the
+-- counts of its bytes and up to its end.
+pub cursor-item : {text : List ℕ} {at v : ℕ} {c : Class} {next : ℕ} → Seen text at v c next → (p : State) (e : ℕ) (b : Bool) (k : ScanKind)
+    (before m n : TextCount) → p ≡ startState c → e ≡ next + size width (restAt text next p)
+    → b ≡ tagsComplete (kindOf p) (restAt text next p) → k ≡ kindOf p → m ≡ countBetween text at e → n ≡ cappedPlus before m
+    → Answer.Item (spanAt at e k b before n) ≡ scanAt text at before
+unfolding scanAt scanFrom firstOf spans items
+cursor-item {text} {at} {v} {c} {next} h p e b k before m n hp he hb hk hm hn =
     let q = startState (classOf v) in
     let s = restAt text next q in
     let f : p ≡ q = hp ∙ ap startState (h .class) in
-    let n : e ≡ at + size width (v ∷ s) = omega (arith, h .after, he ∙ ap (λ (x : State). next + size width (restAt text next x)) f) in
-    let m : k ≡ kindOf q = hk ∙ ap kindOf f in
+    let x : Item = record { kind = kindOf q; chars = v ∷ s } in
+    let i : e ≡ at + size width (v ∷ s) = omega (arith, h .after, he ∙ ap (λ (x : State). next + size width (restAt text next x)) f) in
+    let j : k ≡ kindOf q = hk ∙ ap kindOf f in
     let t : b ≡ tagsComplete (kindOf q) (v ∷ s) = hb ∙ ap (λ (x : State). tagsComplete (kindOf x) (restAt text next x)) f
     ∙ sym (first-tags v s) in
-    ap₂ (λ (x : ℕ) (y : Bool). Answer.Item (record { start = at; end = x; kind = k; «tags_complete» = y })) n t
-    ∙ ap (λ (x : ScanKind). Answer.Item
-    (record { start = at; end = at + size width (v ∷ s); kind = x; «tags_complete» = tagsComplete (kindOf q) (v ∷ s) })) m
-    ∙ ap (λ (l : List ℕ). firstOf (spans at (items l))) (sym (h .chars-on))
+    let tile : chars (drop at text) ≡ (v ∷ s) ++ join ((splitFrom q (chars (drop next text))) .1) =
+    h .chars-on ∙ ap (λ (l : List ℕ). v ∷ l) (sym (splitFrom-tiles q (chars (drop next text)))) in
+    let o : n ≡ countAfter before x =
+    hn ∙ ap (cappedPlus before) (hm ∙ ap (countBetween text at) i ∙ count-chars text at (v ∷ s) _ tile) in
+    (λ r. Answer.Item (spanAt at (i r) (j r) (t r) before (o r)))
+    ∙ ap (λ (l : List ℕ). firstOf (spans at before (items l))) (sym (h .chars-on))

@@ -1,6 +1,5 @@
 -- Two items are equal if their fields are, and two kinds are equal if their numbers are.
 use mathlib.Core.Path.{_≡_, refl, sym, ap, _∙_}
-use mathlib.Core.Bool.{Bool}
 use Prim.Native.Nat.{ℕ, zero, suc}
 use Rattle.scanner.specs.Spans.{kindNumber}
 use Rattle.scanner.specs.declared.ScanItem.{ScanItem}
@@ -23,11 +22,16 @@ number-back EmojiHeaded = refl
 pub kinds-equal : (k l : ScanKind) → kindNumber k ≡ kindNumber l → k ≡ l
 kinds-equal k l e = sym (number-back k) ∙ ap numbered e ∙ number-back l
 
-pub items-equal : (x y : ScanItem) → x .start ≡ y .start → x .end ≡ y .end → x .kind ≡ y .kind
+pub items-equal : (x y : ScanItem) → x .start ≡ y .start → x .end ≡ y .end → x .«char_start» ≡ y .«char_start»
+    → x .«char_end» ≡ y .«char_end» → x .«unit_start» ≡ y .«unit_start» → x .«unit_end» ≡ y .«unit_end» → x .kind ≡ y .kind
     → x .«tags_complete» ≡ y .«tags_complete» → x ≡ y
-items-equal x y e f g h = made e f g h
-  where
-    made : {a b d u : ℕ} {k l : ScanKind} {s t : Bool} → a ≡ b → d ≡ u → k ≡ l → s ≡ t
-        → _≡_ {A = ScanItem} (record { start = a; end = d; kind = k; «tags_complete» = s })
-        (record { start = b; end = u; kind = l; «tags_complete» = t })
-    made e f g h = cc
+items-equal x y a b c d e f g h = λ i. record {
+  start = a i;
+  end = b i;
+  kind = g i;
+  «tags_complete» = h i;
+  «char_start» = c i;
+  «char_end» = d i;
+  «unit_start» = e i;
+  «unit_end» = f i;
+}

@@ -12,6 +12,7 @@ pub mod Rescan
 pub mod Bytes
 pub mod ItemAt
 pub mod Spans
+pub mod Positions
 pub mod Equal
 pub mod Runs
 pub mod Modifications

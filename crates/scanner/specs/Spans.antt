@@ -5,6 +5,8 @@ use mathlib.Core.List.{List, [], _∷_}
 use Prim.Native.Nat.{ℕ, _+_}
 use lib.ListN.{length, drop}
 use Rattle.utf8.specs.Rfc3629.{chars, encode}
+use Rattle.positions.specs.Positions.{cappedPlus, noCount, textCount}
+use Rattle.positions.specs.declared.TextCount.{TextCount}
 use Rattle.scanner.specs.Items.{Item, State, splitFrom, items}
 use Rattle.scanner.specs.Tags.{tagsComplete}
 use Rattle.scanner.specs.declared.ScanItem.{ScanItem}
@@ -30,20 +32,46 @@ kindNumber UnsanctionedPresentationSelectors = 1
 kindNumber LinksOnly = 2
 kindNumber EmojiHeaded = 3
 
--- "Spans tile the text": the items as spans, one after the other, the first from the byte offset on.
-unfoldable pub spans : ℕ → List Item → List ScanItem
-spans at [] = []
-spans at (x ∷ xs) =
-    let end = at + size width (x .chars) in
-    record { start = at; end = end; kind = x .kind; «tags_complete» = tagsComplete (x .kind) (x .chars) } ∷ spans end xs
+-- Characters and UTF-16 units up to an item's end, by those before the item, as the code holds them. For the items of a text that is in
+-- memory they are the true numbers: specs/Theorems.antt, PositionsAreCounts.
+abbrev pub countAfter : TextCount → Item → TextCount
+countAfter before x = cappedPlus before (textCount (x .chars))
 
--- The items of a text from a byte offset on. They end at the first offset, from there on, where no well-formed character begins.
-unfoldable pub scanFrom : List ℕ → ℕ → List ScanItem
-scanFrom text at = spans at (items (chars (drop at text)))
+-- "Every item .. carries start and end three times: bytes, characters, and UTF-16 units": the item as a span from a byte offset on. The
+-- count says how many characters and units are before the offset.
+abbrev pub spanOf : ℕ → TextCount → Item → ScanItem
+spanOf at before x = record {
+  start = at;
+  end = at + size width (x .chars);
+  kind = x .kind;
+  «tags_complete» = tagsComplete (x .kind) (x .chars);
+  «char_start» = before .chars;
+  «char_end» = countAfter before x .chars;
+  «unit_start» = before .units;
+  «unit_end» = countAfter before x .units;
+}
+
+-- "Spans tile the text": the items as spans, one after the other, the first from the byte offset on.
+unfoldable pub spans : ℕ → TextCount → List Item → List ScanItem
+spans at before [] = []
+spans at before (x ∷ xs) = spanOf at before x ∷ spans (at + size width (x .chars)) (countAfter before x) xs
+
+-- The items of a text from a byte offset on. They end at the first offset, from there on, where no well-formed character begins. "The
+-- scanner may remember the other two beside its byte offset; in one not made as 01 has it they are the program's choice": their
+-- characters and units are counted on from those that are handed in.
+unfoldable pub scanFrom : List ℕ → ℕ → TextCount → List ScanItem
+scanFrom text at before = spans at before (items (chars (drop at text)))
 
 -- The items of a text.
 unfoldable pub scan : List ℕ → List ScanItem
-scan text = scanFrom text 0
+scan text = scanFrom text 0 noCount
+
+-- The start and the end of an item in characters and UTF-16 units.
+abbrev pub startCount : ScanItem → TextCount
+startCount x = record { chars = x .«char_start»; units = x .«unit_start» }
+
+abbrev pub endCount : ScanItem → TextCount
+endCount x = record { chars = x .«char_end»; units = x .«unit_end» }
 
 -- The first item of a list, or the end.
 unfoldable pub firstOf : List ScanItem → ScanStep
@@ -51,8 +79,8 @@ firstOf [] = Step.End
 firstOf (x ∷ xs) = Step.Item x
 
 -- The answer of a cursor at a byte offset: the item that begins there, or the end.
-unfoldable pub scanAt : List ℕ → ℕ → ScanStep
-scanAt text at = firstOf (scanFrom text at)
+unfoldable pub scanAt : List ℕ → ℕ → TextCount → ScanStep
+scanAt text at before = firstOf (scanFrom text at before)
 
 -- The remaining characters of an item, read from the byte offset on. The item's character before the offset led to state p.
 abbrev pub restAt : List ℕ → ℕ → State → List ℕ

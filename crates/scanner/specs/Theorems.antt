@@ -3,13 +3,15 @@ use mathlib.Core.Path.{_≡_}
 use mathlib.Core.Logic.{_≢_, _⊎_, _↔_}
 use mathlib.Core.Bool.{Bool, true, false}
 use mathlib.Core.List.{List, [], _∷_, _++_, List·Memᴰ}
-use Prim.Native.Nat.{ℕ, _+_, _-_, _≤_, _<_}
+use Prim.Native.Nat.{ℕ, _+_, _-_, _^_, _≤_, _<_}
 use lib.Dec.{eqb}
 use lib.ListN.{length, take, drop}
 use Rattle.unicode.specs.Presentation.{isSelector}
 use Rattle.unicode.specs.Unicode.{isEmoji, isTag}
 use Rattle.utf8.specs.Rfc3629.{WellFormed, chars, encodeAll, readChar, validUpTo}
 use Rattle.utf8.specs.declared.ReadChar.the-variants as Read
+use Rattle.positions.specs.Positions.{AtPosition, Boundary, noCount, positionAt, units}
+use Rattle.positions.specs.declared.TextCount.{TextCount}
 use Rattle.scanner.specs.Classes.{strip}
 use Rattle.scanner.specs.Items.{Item, splitFrom, items, join, unit}
 use Rattle.scanner.specs.Runs.{
@@ -54,7 +56,7 @@ use Rattle.scanner.specs.Structure.{
 use Rattle.scanner.specs.RunKinds.{runOf}
 use Rattle.scanner.specs.Tags.{tagModifications, tagsComplete}
 use Rattle.scanner.specs.declared.consume.RunKind.the-variants as Run
-use Rattle.scanner.specs.Spans.{firstOf, scan, scanAt, scanFrom}
+use Rattle.scanner.specs.Spans.{endCount, firstOf, scan, scanAt, scanFrom, startCount}
 use Rattle.scanner.specs.declared.ScanItem.{ScanItem}
 use Rattle.scanner.specs.declared.ScanKind.{ScanKind}
 use Rattle.scanner.specs.declared.ScanKind.the-variants.{EmojiHeaded, LinksOnly, Passthrough, UnsanctionedPresentationSelectors}
@@ -168,7 +170,7 @@ SpansCover = (text : List ℕ) → WellFormed text → Tiles 0 (scan text) (leng
 
 -- The spans of a text from any offset on go to the first offset at which no well-formed character begins.
 unfoldable pub SpansTileFrom : Type 0
-SpansTileFrom = (text : List ℕ) (at : ℕ) → Tiles at (scanFrom text at) (at + validUpTo (drop at text))
+SpansTileFrom = (text : List ℕ) (at : ℕ) (before : TextCount) → Tiles at (scanFrom text at before) (at + validUpTo (drop at text))
 
 -- Each span stands for an item: its bytes are the encoding of the item's characters, and it has the item's kind and tag report.
 pub data SpansOfItems (text : List ℕ) : List ScanItem → List Item → Type 0 where
@@ -183,36 +185,72 @@ pub data SpansOfItems (text : List ℕ) : List ScanItem → List Item → Type 0
 unfoldable pub SpansAreItems : Type 0
 SpansAreItems = (text : List ℕ) → SpansOfItems text (scan text) (items (chars text))
 
--- A scan of a text from an item's end gives the items after that item.
+-- A scan of a text from an item's end, and on from its characters and units there, gives the items after that item.
 unfoldable pub SpansAfresh : Type 0
 SpansAfresh =
     (text : List ℕ) (before after : List ScanItem) (x : ScanItem)
-    → scan text ≡ before ++ x ∷ after → scanFrom text (x .end) ≡ after
+    → scan text ≡ before ++ x ∷ after → scanFrom text (x .end) (endCount x) ≡ after
 
 -- ---- the cursor
 
 -- A cursor at offset 0 answers the first item.
 unfoldable pub CursorAtStart : Type 0
-CursorAtStart = (text : List ℕ) → scanAt text 0 ≡ firstOf (scan text)
+CursorAtStart = (text : List ℕ) → scanAt text 0 noCount ≡ firstOf (scan text)
 
--- A cursor at an item's end answers the next item, or the end.
+-- A cursor at an item's end that was handed the characters and units there answers the next item, or the end.
 unfoldable pub CursorAtItemEnd : Type 0
 CursorAtItemEnd =
     (text : List ℕ) (before after : List ScanItem) (x : ScanItem)
-    → scan text ≡ before ++ x ∷ after → scanAt text (x .end) ≡ firstOf after
+    → scan text ≡ before ++ x ∷ after → scanAt text (x .end) (endCount x) ≡ firstOf after
 
 -- A cursor past the end of the text answers the end.
 unfoldable pub CursorPastEnd : Type 0
-CursorPastEnd = (text : List ℕ) (at : ℕ) → length text ≤ at → scanAt text at ≡ End
+CursorPastEnd = (text : List ℕ) (at : ℕ) (before : TextCount) → length text ≤ at → scanAt text at before ≡ End
 
 -- A cursor at an offset inside a character answers the end.
 unfoldable pub CursorInsideCharacter : Type 0
 CursorInsideCharacter =
-    (text : List ℕ) (at v w k : ℕ) → readChar (drop at text) ≡ Read.Char v w → 0 < k → k < w → scanAt text (at + k) ≡ End
+    (text : List ℕ) (at v w k : ℕ) (before : TextCount) → readChar (drop at text) ≡ Read.Char v w → 0 < k → k < w
+    → scanAt text (at + k) before ≡ End
 
 -- A cursor answers the end exactly at an offset where no well-formed character begins.
 unfoldable pub CursorEnds : Type 0
-CursorEnds = (text : List ℕ) (at : ℕ) → (scanAt text at ≡ End) ↔ (chars (drop at text) ≡ [])
+CursorEnds = (text : List ℕ) (at : ℕ) (before : TextCount) → (scanAt text at before ≡ End) ↔ (chars (drop at text) ≡ [])
+
+-- ---- positions (document 02, v). A text in memory has fewer than 2^63 bytes
+
+-- An item's start and end in characters and UTF-16 units are the positions of its start and end in bytes, and these are character
+-- boundaries.
+pub record Positioned (text : List ℕ) (x : ScanItem) : Type 0 where
+  pub start-is : startCount x ≡ positionAt text (x .start)
+  pub end-is : endCount x ≡ positionAt text (x .end)
+  pub starts : Boundary text (x .start)
+  pub ends : Boundary text (x .end)
+
+-- "Every item .. now carries start and end three times: bytes, characters, and UTF-16 units", in every text.
+unfoldable pub PositionsAreCounts : Type 0
+PositionsAreCounts = (text : List ℕ) → length text < 2 ^ 63 → (x : ScanItem) → List·Memᴰ x (scan text) → Positioned text x
+
+-- The same for a scan from a character boundary on, and on from the position there.
+unfoldable pub PositionsFrom : Type 0
+PositionsFrom =
+    (text : List ℕ) (at : ℕ) (before : TextCount) → AtPosition text at before
+    → (x : ScanItem) → List·Memᴰ x (scanFrom text at before) → Positioned text x
+
+module _ (of : TextCount → ℕ) where
+  -- Spans that go from a to b in characters, or in units: each starts where the one before ended, and none is empty.
+  abbrev pub TilesBy : ℕ → List ScanItem → ℕ → Type 0
+  TilesBy a [] b = a ≡ b
+  TilesBy a (x ∷ xs) b = (of (startCount x) ≡ a) × (of (startCount x) < of (endCount x)) × TilesBy (of (endCount x)) xs b
+
+-- "The items tile the text in all three": from its start to its end, which is the first place where no well-formed character begins.
+pub record TilesThrice (text : List ℕ) : Type 0 where
+  pub in-bytes : Tiles 0 (scan text) (validUpTo text)
+  pub in-chars : TilesBy (λ (c : TextCount). c .chars) 0 (scan text) (length (chars text))
+  pub in-units : TilesBy (λ (c : TextCount). c .units) 0 (scan text) (units (chars text))
+
+unfoldable pub TilesInAll : Type 0
+TilesInAll = (text : List ℕ) → length text < 2 ^ 63 → TilesThrice text
 
 -- ---- the structure of links-only and emoji-headed items; specs/Walks.antt states that the code's functions return it
 
@@ -273,9 +311,18 @@ RunsByClass =
 abbrev pub item : ScanKind → List ℕ → Item
 item k t = record { kind = k; chars = t }
 
--- A short form for spans in the examples.
-abbrev pub span : ℕ → ℕ → ScanKind → Bool → ScanItem
-span a e k b = record { start = a; end = e; kind = k; «tags_complete» = b }
+-- A short form for the span of a text that is one item: its bytes, its kind, whether its tags are complete, its characters and its units.
+abbrev pub only : ℕ → ScanKind → Bool → ℕ → ℕ → ScanItem
+only e k b m n = record {
+  start = 0;
+  end = e;
+  kind = k;
+  «tags_complete» = b;
+  «char_start» = 0;
+  «char_end» = m;
+  «unit_start» = 0;
+  «unit_end» = n;
+}
 
 -- Texts that a scanner can get wrong. Document 01's worked texts are in formatter, specs/Worked.antt.
 unfoldable pub ItemExamples : Type 0
@@ -298,26 +345,26 @@ ItemExamples =
 unfoldable pub TagExamples : Type 0
 TagExamples =
     -- a flag, or another emoji, and E007F alone
-    (scan (encodeAll (0x1F1E6 ∷ 0x1F1E7 ∷ 0xE007F ∷ [])) ≡ span 0 12 EmojiHeaded false ∷ [])
-    × (scan (encodeAll (0x1F3F4 ∷ 0xE007F ∷ [])) ≡ span 0 8 EmojiHeaded false ∷ [])
+    (scan (encodeAll (0x1F1E6 ∷ 0x1F1E7 ∷ 0xE007F ∷ [])) ≡ only 12 EmojiHeaded false 3 6 ∷ [])
+    × (scan (encodeAll (0x1F3F4 ∷ 0xE007F ∷ [])) ≡ only 8 EmojiHeaded false 2 4 ∷ [])
     -- one tag and then E007F; E007F twice; E007F earlier
-    × (scan (encodeAll (0x1F3F4 ∷ 0xE0061 ∷ 0xE007F ∷ [])) ≡ span 0 12 EmojiHeaded true ∷ [])
-    × (scan (encodeAll (0x1F3F4 ∷ 0xE007F ∷ 0xE007F ∷ [])) ≡ span 0 12 EmojiHeaded false ∷ [])
-    × (scan (encodeAll (0x1F3F4 ∷ 0xE0061 ∷ 0xE007F ∷ 0xE007F ∷ [])) ≡ span 0 16 EmojiHeaded false ∷ [])
-    × (scan (encodeAll (0x1F3F4 ∷ 0xE007F ∷ 0xE0061 ∷ [])) ≡ span 0 12 EmojiHeaded false ∷ [])
-    × (scan (encodeAll (0x1F3F4 ∷ 0xE0061 ∷ 0xE007F ∷ 0xE0061 ∷ 0xE007F ∷ [])) ≡ span 0 20 EmojiHeaded false ∷ [])
+    × (scan (encodeAll (0x1F3F4 ∷ 0xE0061 ∷ 0xE007F ∷ [])) ≡ only 12 EmojiHeaded true 3 6 ∷ [])
+    × (scan (encodeAll (0x1F3F4 ∷ 0xE007F ∷ 0xE007F ∷ [])) ≡ only 12 EmojiHeaded false 3 6 ∷ [])
+    × (scan (encodeAll (0x1F3F4 ∷ 0xE0061 ∷ 0xE007F ∷ 0xE007F ∷ [])) ≡ only 16 EmojiHeaded false 4 8 ∷ [])
+    × (scan (encodeAll (0x1F3F4 ∷ 0xE007F ∷ 0xE0061 ∷ [])) ≡ only 12 EmojiHeaded false 3 6 ∷ [])
+    × (scan (encodeAll (0x1F3F4 ∷ 0xE0061 ∷ 0xE007F ∷ 0xE0061 ∷ 0xE007F ∷ [])) ≡ only 20 EmojiHeaded false 5 10 ∷ [])
     -- selectors between the tags and after them are skipped
-    × (scan (encodeAll (0x1F3F4 ∷ 0xE0061 ∷ 0xFE0F ∷ 0xE007F ∷ [])) ≡ span 0 15 EmojiHeaded true ∷ [])
-    × (scan (encodeAll (0x1F3F4 ∷ 0xE0061 ∷ 0xFE0F ∷ 0xE007F ∷ 0xFE0F ∷ [])) ≡ span 0 18 EmojiHeaded true ∷ [])
+    × (scan (encodeAll (0x1F3F4 ∷ 0xE0061 ∷ 0xFE0F ∷ 0xE007F ∷ [])) ≡ only 15 EmojiHeaded true 4 7 ∷ [])
+    × (scan (encodeAll (0x1F3F4 ∷ 0xE0061 ∷ 0xFE0F ∷ 0xE007F ∷ 0xFE0F ∷ [])) ≡ only 18 EmojiHeaded true 5 8 ∷ [])
     -- 20E3 ends a tag modification: two of them, neither complete; two, both complete
-    × (scan (encodeAll (0x1F3F4 ∷ 0xE0061 ∷ 0x20E3 ∷ 0xE007F ∷ [])) ≡ span 0 15 EmojiHeaded false ∷ [])
-    × (scan (encodeAll (0x1F3F4 ∷ 0xE0061 ∷ 0xE007F ∷ 0x20E3 ∷ 0xE0061 ∷ 0xE007F ∷ [])) ≡ span 0 23 EmojiHeaded true ∷ [])
+    × (scan (encodeAll (0x1F3F4 ∷ 0xE0061 ∷ 0x20E3 ∷ 0xE007F ∷ [])) ≡ only 15 EmojiHeaded false 4 7 ∷ [])
+    × (scan (encodeAll (0x1F3F4 ∷ 0xE0061 ∷ 0xE007F ∷ 0x20E3 ∷ 0xE0061 ∷ 0xE007F ∷ [])) ≡ only 23 EmojiHeaded true 6 11 ∷ [])
     -- two units: the tags of the first are complete, those of the second are not
-    × (scan (encodeAll (0x1F3F4 ∷ 0xE0061 ∷ 0xE007F ∷ 0x200D ∷ 0x1F3F4 ∷ 0xE007F ∷ [])) ≡ span 0 23 EmojiHeaded false ∷ [])
+    × (scan (encodeAll (0x1F3F4 ∷ 0xE0061 ∷ 0xE007F ∷ 0x200D ∷ 0x1F3F4 ∷ 0xE007F ∷ [])) ≡ only 23 EmojiHeaded false 6 11 ∷ [])
     -- no tag; tags that are no modification
-    × (scan (encodeAll (0x1F3F4 ∷ [])) ≡ span 0 4 EmojiHeaded true ∷ [])
-    × (scan (encodeAll (0xE007F ∷ [])) ≡ span 0 4 Passthrough true ∷ [])
-    × (scan (encodeAll (0x61 ∷ 0xE0067 ∷ [])) ≡ span 0 5 Passthrough true ∷ [])
+    × (scan (encodeAll (0x1F3F4 ∷ [])) ≡ only 4 EmojiHeaded true 1 2 ∷ [])
+    × (scan (encodeAll (0xE007F ∷ [])) ≡ only 4 Passthrough true 1 2 ∷ [])
+    × (scan (encodeAll (0x61 ∷ 0xE0067 ∷ [])) ≡ only 5 Passthrough true 2 3 ∷ [])
 
 -- The structure of 1F1E6 FE0F 1F1E7 E0067 FE0E E007F 200D 231A 20E3 FE0F 200D 200D: a flag with one tag modification of two runs,
 -- a further unit with a keycap, and two links left over.

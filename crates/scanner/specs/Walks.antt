@@ -6,6 +6,7 @@ use mathlib.Core.List.{List, [], _∷_, _++_}
 use Prim.Native.Nat.{ℕ, _+_, _-_}
 use lib.ListN.{take, drop}
 use Rattle.utf8.specs.Rfc3629.{chars, encodeAll}
+use Rattle.positions.specs.declared.TextCount.{TextCount}
 use Rattle.scanner.specs.Parts.{
   linkFrom,
   modificationFrom,
@@ -98,5 +99,5 @@ module _ (text : List ℕ) where
 -- its start to its end.
 unfoldable pub StructureIsWalked : Type 0
 StructureIsWalked =
-    (text : List ℕ) (at : ℕ) (x : ScanItem) → scanAt text at ≡ Step.Item x → Structured (x .kind)
+    (text : List ℕ) (at : ℕ) (before : TextCount) (x : ScanItem) → scanAt text at before ≡ Step.Item x → Structured (x .kind)
     → (t : List ℕ) × (take (x .end - x .start) (drop (x .start) text) ≡ encodeAll t) × SequenceWalk text (x .start) (x .end) (structure t)

@@ -1,7 +1,8 @@
 // The items of a text: scanner.rs of the crate evfmt; document 01, "Item".
-// `next_item` is the cursor. It keeps nothing from call to call, reads the item at an offset once, character by character, and
-// equals `scanAt` of specs/Spans.antt for every slice and offset. Its loop is `item_rest`, which follows the automaton of
-// src/state.rt.
+// `next_item` is the cursor. It keeps nothing from call to call, reads the item at an offset character by character, and equals
+// `scanAt` of specs/Spans.antt for every slice, offset and count. Its loop is `item_rest`, which follows the automaton of
+// src/state.rt. An item has its start and end in bytes, characters and UTF-16 units (document 02, v): the caller gives the characters
+// and units before the item, and the cursor counts those of the item.
 pub mod char_class;
 pub mod consume;
 pub mod parts;
@@ -19,6 +20,9 @@ ghost use Rattle.scanner.specs.Tags.{tagsComplete};
 use char_class::Peeked;
 use char_class::peek;
 use consume::consume_emoji_tag_runs;
+use positions::TextCount;
+use positions::add_counts;
+use positions::count_between;
 use state::Next;
 use state::State;
 
@@ -30,12 +34,17 @@ pub enum ScanKind {
     EmojiHeaded,
 }
 
-// An item: its bytes from start up to end, its kind, and whether its tags are complete.
+// An item: its bytes from start up to end, its kind, whether its tags are complete, and its start and end in characters and in UTF-16
+// units.
 pub struct ScanItem {
     pub start: usize,
     pub end: usize,
     pub kind: ScanKind,
     pub tags_complete: bool,
+    pub char_start: usize,
+    pub char_end: usize,
+    pub unit_start: usize,
+    pub unit_end: usize,
 }
 
 // The number of a kind.
@@ -59,6 +68,18 @@ impl ScanItem {
             return false;
         }
         if self.end != rhs.end {
+            return false;
+        }
+        if self.char_start != rhs.char_start {
+            return false;
+        }
+        if self.char_end != rhs.char_end {
+            return false;
+        }
+        if self.unit_start != rhs.unit_start {
+            return false;
+        }
+        if self.unit_end != rhs.unit_end {
             return false;
         }
         let kind = self.kind;
@@ -137,9 +158,10 @@ fn item_rest(text: &[u8], from: usize, first: State) -> ItemRest
     }
 }
 
-// The item at an offset, or the end. No item begins past the end of the text or inside a character.
-pub fn next_item(text: &[u8], at: usize) -> ScanStep
-    ensures { λ r. ⌜ r ≡ scanAt (now (text .entry)) at ⌝ }
+// The item at an offset, or the end. No item begins past the end of the text or inside a character. `before` is the count of the text
+// before the offset; the item's start and end in characters and units follow from it.
+pub fn next_item(text: &[u8], at: usize, before: TextCount) -> ScanStep
+    ensures { λ r. ⌜ r ≡ scanAt (now (text .entry)) at before ⌝ }
 {
     match peek(text, at) {
         Peeked::Char {
@@ -150,11 +172,17 @@ pub fn next_item(text: &[u8], at: usize) -> ScanStep
             let first = state::start_state(class);
             let ItemRest { end, tags_complete } = item_rest(text, from, first);
             let kind = state::kind_of(first);
+            let more = count_between(text, at, end);
+            let after = add_counts(before, more);
             ScanStep::Item(ScanItem {
                 start: at,
                 end,
                 kind,
                 tags_complete,
+                char_start: before.chars,
+                char_end: after.chars,
+                unit_start: before.units,
+                unit_end: after.units,
             })
         }
         Peeked::NoChar => ScanStep::End,

@@ -11,6 +11,7 @@ use denote.Enum.Declared.{tagOf}
 use lib.Dec.{eqb, leb}
 use lib.ListN.{drop, length}
 use borrow.Author.Tests.{eq-eqb, eqb-true, le-leb, leb-false, leb-true, lt-leb, ne-eqb, not-false}
+use Rattle.base.specs.Sums.{most}
 use Rattle.base.proofs.Tests.{and-both, both-true, le-or-lt}
 use Rattle.utf8.specs.Rfc3629.{chars, packed, readChar}
 use Rattle.utf8.proofs.Packed.{packed-step, packed-stop}
@@ -55,7 +56,7 @@ use Rattle.scanner.proofs.state.State.{the-type as the-state}
 use Rattle.analysis.specs.Analysis.{chosen, following}
 use Rattle.analysis.specs.CellView.{classInFront, totalCells}
 use Rattle.analysis.specs.Cells.{cells, leading}
-use Rattle.analysis.specs.Counts.{_⊕_, cappedSum, empty, most, total, unsanctioned}
+use Rattle.analysis.specs.Counts.{_⊕_, cappedSum, empty, total, unsanctioned}
 use Rattle.analysis.specs.Rules.{firstAsked, outcome, rule1, runWith}
 use Rattle.analysis.specs.declared.singleton.Outcome.{Outcome}
 use Rattle.analysis.specs.declared.types.NonCanonicality.{NonCanonicality}

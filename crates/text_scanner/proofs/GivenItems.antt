@@ -12,9 +12,24 @@ use Rattle.utf8.specs.Rfc3629.{chars, encodeAll, validUpTo}
 use Rattle.utf8.proofs.Folds.{chars-end}
 use Rattle.utf8.proofs.Fronts.{readChar-nil}
 use Rattle.utf8.proofs.Texts.{validUpTo-le}
+use Rattle.positions.specs.Positions.{noCount}
+use Rattle.positions.specs.declared.TextCount.{TextCount}
 use Rattle.scanner.specs.Items.{Item, items}
 use Rattle.text_scanner.specs.Helpers.{itemOf, leftAfter}
-use Rattle.text_scanner.specs.Scanner.{offsetAfterStep, itemsOf, joinRaw, nthItem, offsetAfter, part, rawOf, startOf, verdictOf}
+use Rattle.text_scanner.specs.Scanner.{
+  Place,
+  answerAt,
+  itemsAt,
+  itemsOf,
+  joinRaw,
+  nthItem,
+  part,
+  placeAfter,
+  placeAfterStep,
+  rawOf,
+  startPlace,
+  verdictOf,
+}
 use Rattle.scanner.specs.Spans.{firstOf, scan, scanAt, scanFrom, spans}
 use Rattle.scanner.specs.Theorems.{SpansOfItems, Tiles}
 use Rattle.scanner.specs.declared.ScanItem.{ScanItem}
@@ -25,52 +40,52 @@ use Rattle.scanner.proofs.Spans.{scan-after, scan-spans-of-items, scan-tiles, s
 -- ---- successive calls
 
 -- After an answer the scanner's items are those after the first.
-after-one : (text : List ℕ) (at : ℕ) → scanFrom text (offsetAfterStep (scanAt text at) at) ≡ drop 1 (scanFrom text at)
+after-one : (text : List ℕ) (p : Place) → itemsAt text (placeAfterStep (answerAt text p) p) ≡ drop 1 (itemsAt text p)
 unfolding scanAt firstOf
-after-one text at = go (scanFrom text at) refl
+after-one text p = go (itemsAt text p) refl
   where
-    go : (xs : List ScanItem) → scanFrom text at ≡ xs → scanFrom text (offsetAfterStep (firstOf xs) at) ≡ drop 1 xs
+    go : (xs : List ScanItem) → itemsAt text p ≡ xs → itemsAt text (placeAfterStep (firstOf xs) p) ≡ drop 1 xs
     go [] e = e
-    go (x ∷ xs) e = scan-after text at [] x xs e
+    go (x ∷ xs) e = scan-after text (p .offset) _ [] x xs e
 
 drop-more : (n : ℕ) (xs : List ScanItem) → drop n (drop 1 xs) ≡ drop (suc n) xs
 drop-more n [] = drop-nil n
 drop-more n (x ∷ xs) = refl
 
-pub after-calls : (text : List ℕ) (at n : ℕ) → scanFrom text (offsetAfter text at n) ≡ drop n (scanFrom text at)
-unfolding offsetAfter
-after-calls text at zero = refl
-after-calls text at (suc n) =
-    after-calls text (offsetAfterStep (scanAt text at) at) n ∙ ap (drop n) (after-one text at) ∙ drop-more n (scanFrom text at)
+pub after-calls : (text : List ℕ) (p : Place) (n : ℕ) → itemsAt text (placeAfter text p n) ≡ drop n (itemsAt text p)
+unfolding placeAfter
+after-calls text p zero = refl
+after-calls text p (suc n) =
+    after-calls text (placeAfterStep (answerAt text p) p) n ∙ ap (drop n) (after-one text p) ∙ drop-more n (itemsAt text p)
 
-pub gives-items : (text : List ℕ) (at n : ℕ) → scanAt text (offsetAfter text at n) ≡ firstOf (drop n (scanFrom text at))
+pub gives-items : (text : List ℕ) (p : Place) (n : ℕ) → answerAt text (placeAfter text p n) ≡ firstOf (drop n (itemsAt text p))
 unfolding scanAt
-gives-items text at n = ap firstOf (after-calls text at n)
+gives-items text p n = ap firstOf (after-calls text p n)
 
 -- ---- the number of calls left
 
--- At the end the offset stays.
-at-end : (text : List ℕ) (at n : ℕ) → scanAt text at ≡ Step.End → offsetAfter text at n ≡ at
-unfolding offsetAfter
-at-end text at zero e = refl
-at-end text at (suc n) e = ap (λ (s : ScanStep). offsetAfter text (offsetAfterStep s at) n) e ∙ at-end text at n e
+-- At the end the place stays.
+at-end : (text : List ℕ) (p : Place) (n : ℕ) → answerAt text p ≡ Step.End → placeAfter text p n ≡ p
+unfolding placeAfter
+at-end text p zero e = refl
+at-end text p (suc n) e = ap (λ (s : ScanStep). placeAfter text (placeAfterStep s p) n) e ∙ at-end text p n e
 
--- One call, and then the calls that are left after its answer, lead to the same offset as all n calls.
-pub one-call : (text : List ℕ) (at n : ℕ) → 0 < n → offsetAfter text (offsetAfterStep (scanAt text at) at) (leftAfter (scanAt text at) n)
-    ≡ offsetAfter text at n
-unfolding offsetAfter
-one-call text at zero l = absurd (omega arith)
-one-call text at (suc n) l = go (scanAt text at) refl
+-- One call, and then the calls that are left after its answer, lead to the same place as all n calls.
+pub one-call : (text : List ℕ) (p : Place) (n : ℕ) → 0 < n
+    → placeAfter text (placeAfterStep (answerAt text p) p) (leftAfter (answerAt text p) n) ≡ placeAfter text p n
+unfolding placeAfter
+one-call text p zero l = absurd (omega arith)
+one-call text p (suc n) l = go (answerAt text p) refl
   where
-    go : (s : ScanStep) → scanAt text at ≡ s → offsetAfter text (offsetAfterStep s at) (leftAfter s (suc n))
-        ≡ offsetAfter text (offsetAfterStep (scanAt text at) at) n
-    go (Step.Item x) e = let d : suc n - 1 ≡ n = omega arith in ap (offsetAfter text (x .end)) d
-        ∙ ap (λ (t : ScanStep). offsetAfter text (offsetAfterStep t at) n) (sym e)
-    go Step.End e = sym (at-end text at n e) ∙ ap (λ (t : ScanStep). offsetAfter text (offsetAfterStep t at) n) (sym e)
+    go : (s : ScanStep) → answerAt text p ≡ s → placeAfter text (placeAfterStep s p) (leftAfter s (suc n))
+        ≡ placeAfter text (placeAfterStep (answerAt text p) p) n
+    go (Step.Item x) e = let d : suc n - 1 ≡ n = omega arith in ap (placeAfter text (placeAfterStep (Step.Item x) p)) d
+        ∙ ap (λ (t : ScanStep). placeAfter text (placeAfterStep t p) n) (sym e)
+    go Step.End e = sym (at-end text p n e) ∙ ap (λ (t : ScanStep). placeAfter text (placeAfterStep t p) n) (sym e)
 
-pub no-call : (text : List ℕ) (at : ℕ) {n : ℕ} → n ≡ 0 → offsetAfter text at n ≡ at
-unfolding offsetAfter
-no-call text at e = ap (offsetAfter text at) e
+pub no-call : (text : List ℕ) (p : Place) {n : ℕ} → n ≡ 0 → placeAfter text p n ≡ p
+unfolding placeAfter
+no-call text p e = ap (placeAfter text p) e
 
 pub fewer-left : (s : ScanStep) (n : ℕ) → 0 < n → leftAfter s n < n
 fewer-left (Step.Item x) n l = omega arith
@@ -79,21 +94,21 @@ fewer-left Step.End n l = l
 -- ---- the scanner that `scan` makes
 
 -- No item begins at the end of a text.
-none-after : (text : List ℕ) → scanFrom text (length text) ≡ []
+none-after : (text : List ℕ) (before : TextCount) → scanFrom text (length text) before ≡ []
 unfolding scanFrom spans items
-none-after text = ap (λ (t : List ℕ). spans (length text) (items t)) (ap chars (drop-length text) ∙ chars-end [] readChar-nil)
+none-after text before = ap (λ (t : List ℕ). spans (length text) before (items t)) (ap chars (drop-length text) ∙ chars-end [] readChar-nil)
 
-pub scan-gives : (text : List ℕ) → scanFrom text (startOf (verdictOf text) text) ≡ itemsOf (verdictOf text) text
+pub scan-gives : (text : List ℕ) → itemsAt text (startPlace (verdictOf text) text) ≡ itemsOf (verdictOf text) text
 unfolding scan
 scan-gives text = go (verdictOf text)
   where
-    go : (v : Check) → scanFrom text (startOf v text) ≡ itemsOf v text
+    go : (v : Check) → itemsAt text (startPlace v text) ≡ itemsOf v text
     go Passed = refl
-    go (Refused r) = none-after text
+    go (Refused r) = none-after text noCount
 
 -- After n calls the scanner that `scan` makes answers the n-th item.
-pub nth-answer : (text : List ℕ) (n : ℕ) → scanAt text (offsetAfter text (startOf (verdictOf text) text) n) ≡ nthItem text n .step
-nth-answer text n = gives-items text (startOf (verdictOf text) text) n
+pub nth-answer : (text : List ℕ) (n : ℕ) → answerAt text (placeAfter text (startPlace (verdictOf text) text) n) ≡ nthItem text n .step
+nth-answer text n = gives-items text (startPlace (verdictOf text) text) n
     ∙ ap (λ (xs : List ScanItem). firstOf (drop n xs)) (scan-gives text)
 
 -- ---- the bytes of an item
@@ -111,26 +126,26 @@ tiles-le [] e = omega arith
 tiles-le (x ∷ xs) t = let l = tiles-le xs (t .2) in omega (arith, t .0, t .1)
 
 -- An item that a scanner answers lies within the text.
-within : (text : List ℕ) (at : ℕ) (x : ScanItem) (xs : List ScanItem) → scanFrom text at ≡ x ∷ xs → (x .start ≤ x .end)
-    × (x .end ≤ length text)
-within text at x xs e =
+within : (text : List ℕ) (at : ℕ) (before : TextCount) (x : ScanItem) (xs : List ScanItem) → scanFrom text at before ≡ x ∷ xs
+    → (x .start ≤ x .end) × (x .end ≤ length text)
+within text at before x xs e =
     let t : Tiles at (x ∷ xs) (at + validUpTo (drop at text)) = subst (λ (ys : List ScanItem). Tiles at ys (at + validUpTo (drop at text)))
-    e (scan-tiles text at) in
+    e (scan-tiles text at before) in
     let l = tiles-le xs (t .2) in
     (omega (arith, t .1), omega (arith, t .0, t .1, validUpTo-le (drop at text), length-drop at text))
 
-pub raw-bytes : (text : List ℕ) (at : ℕ) (x : ScanItem) (i : Item) (is : List Item)
-    → scanAt text at ≡ Step.Item x → items (chars (drop at text)) ≡ i ∷ is → part text (x .start) (x .end) ≡ encodeAll (i .chars)
+pub raw-bytes : (text : List ℕ) (p : Place) (x : ScanItem) (i : Item) (is : List Item) → answerAt text p ≡ Step.Item x
+    → items (chars (drop (p .offset) text)) ≡ i ∷ is → part text (x .start) (x .end) ≡ encodeAll (i .chars)
 unfolding scanAt firstOf
-raw-bytes text at x i is e f = go (scanFrom text at) refl e
+raw-bytes text p x i is e f = go (itemsAt text p) refl e
   where
-    go : (xs : List ScanItem) → scanFrom text at ≡ xs → firstOf xs ≡ Step.Item x → part text (x .start) (x .end) ≡ encodeAll (i .chars)
-    go [] p q = cc
-    go (y ∷ ys) p q =
+    go : (xs : List ScanItem) → itemsAt text p ≡ xs → firstOf xs ≡ Step.Item x → part text (x .start) (x .end) ≡ encodeAll (i .chars)
+    go [] a b = cc
+    go (y ∷ ys) a b =
         let g : y ≡ x = cc in
-        let w = within text at y ys p in
-        let s : SpansOfItems text (y ∷ ys) (i ∷ is) = subst (λ (zs : List ScanItem). SpansOfItems text zs (i ∷ is)) p
-        (subst (SpansOfItems text (scanFrom text at)) f (scan-spans-of-items text at)) in
+        let w = within text (p .offset) _ y ys a in
+        let s : SpansOfItems text (y ∷ ys) (i ∷ is) = subst (λ (zs : List ScanItem). SpansOfItems text zs (i ∷ is)) a
+        (subst (SpansOfItems text (itemsAt text p)) f (scan-spans-of-items text (p .offset) _)) in
         ap (λ (z : ScanItem). part text (z .start) (z .end)) (sym g) ∙ part-is text (y .start) (y .end) (w .0) (w .1) ∙ spans-first s
 
 -- The bytes of spans that tile the text from a to b, one after the other, are the bytes from a to b.

@@ -3,12 +3,11 @@ use mathlib.Core.Bool.{true}
 use mathlib.Core.List.{List}
 use Prim.Native.Nat.{ℕ, _-_}
 use denote.Ref.{now}
-use Rattle.scanner.specs.Spans.{scanAt}
 use Rattle.scanner.specs.declared.ScanItem.{ScanItem}
 use Rattle.scanner.specs.declared.ScanKind.the-variants.{Passthrough}
 use Rattle.scanner.specs.declared.ScanStep.{ScanStep}
 use Rattle.scanner.specs.declared.ScanStep.the-variants as Step
-use Rattle.text_scanner.specs.Scanner.{atOffset, offsetAfter, offsetAfterStep, startOf, verdictOf}
+use Rattle.text_scanner.specs.Scanner.{Place, answerAt, atPlace, placeAfter, placeAfterStep, placeOf, startOf, verdictOf}
 use Rattle.text_scanner.specs.declared.Advanced.{Advanced}
 use Rattle.text_scanner.specs.declared.Opened.{Opened}
 use Rattle.text_scanner.specs.declared.Scanner.{Scanner}
@@ -17,18 +16,30 @@ use Rattle.text_scanner.specs.declared.Scanner.{Scanner}
 abbrev pub opened : List ℕ → Opened
 opened text = record { verdict = verdictOf text; offset = startOf (verdictOf text) text }
 
--- `advance`: the answer of a cursor at an offset, and the offset after it.
-abbrev pub advanced : List ℕ → ℕ → Advanced
-advanced text at = record { step = scanAt text at; offset = offsetAfterStep (scanAt text at) at }
+-- `advance`: the answer of a scanner at a place, and the place after it.
+abbrev pub advanced : List ℕ → Place → Advanced
+advanced text p =
+    let s = answerAt text p in
+    let q = placeAfterStep s p in
+    record { step = s; offset = q .offset; chars = q .chars; units = q .units }
 
 -- `item_of`: the item in an answer; an empty item if the answer is the end.
 abbrev pub itemOf : ScanStep → ScanItem
 itemOf (Step.Item x) = x
-itemOf Step.End = record { start = 0; end = 0; kind = Passthrough; «tags_complete» = true }
+itemOf Step.End = record {
+  start = 0;
+  end = 0;
+  kind = Passthrough;
+  «tags_complete» = true;
+  «char_start» = 0;
+  «char_end» = 0;
+  «unit_start» = 0;
+  «unit_end» = 0;
+}
 
 -- `skip`: a scanner after n calls.
 abbrev pub skipped : Scanner → ℕ → Scanner
-skipped s n = atOffset s (offsetAfter (now (s .text)) (s .offset) n)
+skipped s n = atPlace s (placeAfter (now (s .text)) (placeOf s) n)
 
 -- `left_after`: how many of `left` calls are left after one more answer: one fewer after an item, none after the end.
 abbrev pub leftAfter : ScanStep → ℕ → ℕ

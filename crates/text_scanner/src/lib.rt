@@ -1,4 +1,6 @@
-// The scanner of scanner.rs of the crate evfmt: it borrows the text and remembers one offset (document 01, "Item").
+// The scanner of scanner.rs of the crate evfmt: it borrows the text and remembers one offset (document 01, "Item"), and the number of
+// characters and of UTF-16 units before it (document 02, v). A program can make a scanner at any offset with any two numbers; it
+// counts on from them.
 // The crate `scanner` says what an item is, and its `next_item` reads one.
 // `scan` tests the text and makes a scanner. `next` and `raw` are thin functions over `advance` and `part`, which take the slice
 // and numbers.
@@ -7,20 +9,22 @@
 // Each function equals a definition of specs/Scanner.antt or specs/Helpers.antt for all inputs.
 ghost use mathlib.Core.Path.{_≡_};
 ghost use Rattle.base.specs.Answers.{Answers, checkRow};
-ghost use Rattle.scanner.specs.Spans.{scanAt};
 ghost use Rattle.text_scanner.specs.Helpers.{advanced, itemOf, leftAfter, opened, skipped};
-ghost use Rattle.text_scanner.specs.Scanner.{atOffset, nthItem, offsetAfterStep, part, rawOf, scanned, verdictOf};
+ghost use Rattle.text_scanner.specs.Scanner.{answerAt, atPlace, nthItem, part, placeAfterStep, placeOf, rawOf, scanned, verdictOf};
 use base::Check;
+use positions::TextCount;
 use scanner::ScanItem;
 use scanner::ScanKind;
 use scanner::ScanStep;
 use scanner::next_item;
 use scanner::text_check::check_text;
 
-// A text, and the offset from which the next item is read.
+// A text, the offset from which the next item is read, and the characters and UTF-16 units before that offset.
 pub struct Scanner<'a> {
     pub text: &'a [u8],
     pub offset: usize,
+    pub chars: usize,
+    pub units: usize,
 }
 
 // A scanner, and the verdict on its text.
@@ -35,10 +39,12 @@ pub struct Opened {
     pub offset: usize,
 }
 
-// The answer of a cursor, and the scanner's offset after it.
+// The answer of a cursor, and the offset, the characters and the units that the scanner remembers after it.
 pub struct Advanced {
     pub step: ScanStep,
     pub offset: usize,
+    pub chars: usize,
+    pub units: usize,
 }
 
 // The verdict on a text, and its n-th item or the end.
@@ -61,17 +67,25 @@ fn open_text(text: &[u8]) -> Opened
     }
 }
 
-// The item at an offset, and the offset after it. At the end the offset stays.
-fn advance(text: &[u8], at: usize) -> Advanced
-    ensures { λ r. ⌜ r ≡ advanced (now (text .entry)) at ⌝ }
+// The item at an offset, and what the scanner remembers after it. `chars` and `units` are the numbers of characters and UTF-16 units before
+// the offset. At the end of the text all three numbers stay.
+fn advance(text: &[u8], at: usize, chars: usize, units: usize) -> Advanced
+    ensures { λ r. ⌜ r ≡ advanced (now (text .entry)) (record { offset = at; chars = chars; units = units }) ⌝ }
 {
-    let step = next_item(text, at);
+    let step = next_item(text, at, TextCount { chars, units });
     match step {
         ScanStep::Item(item) => Advanced {
             step,
             offset: item.end,
+            chars: item.char_end,
+            units: item.unit_end,
         },
-        ScanStep::End => Advanced { step, offset: at },
+        ScanStep::End => Advanced {
+            step,
+            offset: at,
+            chars,
+            units,
+        },
     }
 }
 
@@ -98,18 +112,24 @@ pub fn scan<'a>(text: &'a [u8]) -> Scanned<'a>
         scanner: Scanner {
             text: text,
             offset: start.offset,
+            chars: 0,
+            units: 0,
         },
     }
 }
 
 // The next item; after the last one, the end at every call.
 pub fn next<'s, 'a>(s: &'s mut Scanner<'a>) -> ScanStep
-    ensures { λ r. ⌜ (r ≡ scanAt (now (now (s .entry) .text)) (now (s .entry) .offset))
-        × (now (s .exit) ≡ atOffset (now (s .entry)) (offsetAfterStep r (now (s .entry) .offset))) ⌝ }
+    ensures { λ r. ⌜ (r ≡ answerAt (now (now (s .entry) .text)) (placeOf (now (s .entry))))
+        × (now (s .exit) ≡ atPlace (now (s .entry)) (placeAfterStep r (placeOf (now (s .entry))))) ⌝ }
 {
     let at = s.offset;
-    let moved = advance(s.text, at);
+    let chars = s.chars;
+    let units = s.units;
+    let moved = advance(s.text, at, chars, units);
     s.offset = moved.offset;
+    s.chars = moved.chars;
+    s.units = moved.units;
     moved.step
 }
 
@@ -146,6 +166,10 @@ fn item_of(step: ScanStep) -> ScanItem
             end: 0,
             kind: ScanKind::Passthrough,
             tags_complete: true,
+            char_start: 0,
+            char_end: 0,
+            unit_start: 0,
+            unit_end: 0,
         },
     }
 }
@@ -182,5 +206,13 @@ pub fn nth_raw<'a>(text: &'a [u8], n: usize) -> &'a [u8]
 {
     let nth = nth_item(text, n);
     let item = item_of(nth.step);
-    raw(Scanner { text, offset: 0 }, item)
+    raw(
+        Scanner {
+            text,
+            offset: 0,
+            chars: 0,
+            units: 0,
+        },
+        item,
+    )
 }

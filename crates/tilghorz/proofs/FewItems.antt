@@ -1,11 +1,11 @@
 -- A text has at most as many items, and at most as many findings, as it has bytes. A finding wants at most as many decisions as it has
 -- bytes.
-use mathlib.Core.Path.{_≡_, refl, ap, sym}
+use mathlib.Core.Path.{_≡_, ap, sym}
 use mathlib.Core.Logic.{_⊎_, inl, inr}
 use mathlib.Core.Bool.{Bool, true, false, cond}
 use mathlib.Core.List.{List, [], _∷_, _++_, List·Memᴰ, List·Memᴰ·head, List·Memᴰ·tail, List·Memᴰ·cases-cons, List·Memᴰ·not-nil}
 use mathlib.Core.Option.{some}
-use Prim.Native.Nat.{ℕ, suc, _+_, _≤_}
+use Prim.Native.Nat.{ℕ, _+_, _≤_}
 use native.Mathlib.Omega.{arith}
 use lib.Dec.{eqb}
 use lib.ListN.{length, length-append}
@@ -13,13 +13,15 @@ use Rattle.utf8.specs.Rfc3629.{chars}
 use Rattle.utf8.proofs.Texts.{validUpTo-le}
 use Rattle.unicode.specs.declared.presentation.Presentation.{Presentation}
 use Rattle.policy.specs.declared.Policy.{Policy}
+use Rattle.positions.specs.Positions.{noCount}
 use Rattle.scanner.specs.Items.{Item, items, join}
-use Rattle.scanner.specs.Spans.{Found, found, scan, scanFrom, size, spans, width}
+use Rattle.scanner.specs.Spans.{Found, found, scan, scanFrom, size, width}
 use Rattle.scanner.specs.declared.ScanKind.{ScanKind}
 use Rattle.scanner.specs.declared.ScanKind.the-variants.{EmojiHeaded, LinksOnly, Passthrough, UnsanctionedPresentationSelectors}
 use Rattle.scanner.proofs.Bytes.{size-chars}
 use Rattle.scanner.proofs.Rescan.{size-append}
 use Rattle.scanner.proofs.Tiling.{Filled, and-item, filled, no-item, tiling}
+use Rattle.listing.proofs.ItemRows.{spans-number}
 use Rattle.analysis.specs.Analysis.{addDefault, defaultDecisions, defaultsOf, defaultsOfCells, outcomeAt}
 use Rattle.analysis.specs.Cells.{Cell, cells}
 use Rattle.analysis.specs.Decisions.{wanted}
@@ -42,15 +44,10 @@ few-items text =
     let t = chars text in
     omega (arith, items-few (filled t), ap length (tiling t), bytes-some t, size-chars text, validUpTo-le text)
 
-spans-number : (at : ℕ) (xs : List Item) → length (spans at xs) ≡ length xs
-unfolding spans
-spans-number at [] = refl
-spans-number at (x ∷ xs) = ap suc (spans-number (at + size width (x .chars)) xs)
-
 -- Scanning a text gives at most as many items as the text has bytes.
 pub few-spans : (text : List ℕ) → length (scan text) ≤ length text
 unfolding scan scanFrom
-few-spans text = omega (arith, spans-number 0 (items (chars text)), few-items text)
+few-spans text = omega (arith, spans-number 0 noCount (items (chars text)), few-items text)
 
 -- At most all items pass a test.
 pub few-found : (test : Item → Bool) (n : ℕ) (xs : List Item) → length (found test width n xs) ≤ length xs

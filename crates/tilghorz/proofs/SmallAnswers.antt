@@ -131,8 +131,8 @@ list-small text policy table =
     let p = policyOf policy in
     let f = few-found (isFinding p) 0 (items (chars text)) in
     tested listRow Listing.Refused (λ r. refl) (intakeRefusal text policy) table _ (intake-small text policy)
-    (λ e. table-small rowNumbers rowBytes (map (findingRow p) (findings text policy)) table text
-    (omega (arith, length-map (findings text policy) (findingRow p), f, few-items text)) (passed-accepted text policy e .short))
+    (λ e. table-small rowNumbers rowBytes (map (findingRow p text) (findings text policy)) table text
+    (omega (arith, length-map (findings text policy) (findingRow p text), f, few-items text)) (passed-accepted text policy e .short))
 
 pub items-small : (text table : List ℕ) → listRow (listItems text table .answer) .value ≤ most
 unfolding listItems listRow

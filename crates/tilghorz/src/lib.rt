@@ -38,8 +38,8 @@ pub extern "C" fn tilghorz_format(text: &[u8], policy: &[u8], out: &mut [u8]) ->
     format_word(formatting::format_text(text, policy, out))
 }
 
-// Lists the findings of a text under a policy. A row is ten numbers of 8 bytes each: start, end and the eight counts. It may answer
-// refusals 1, 2, 3 and 7.
+// Lists the findings of a text under a policy. A row is fourteen numbers of 8 bytes each: start, end, the eight counts, start and end in
+// characters, start and end in UTF-16 units. It may answer refusals 1, 2, 3 and 7.
 #[no_mangle]
 pub extern "C" fn tilghorz_list(text: &[u8], policy: &[u8], table: &mut [u8]) -> u64
     ensures word { λ r. ⌜ r ≡ word (listRow (listBytes (now (text .entry)) (now (policy .entry)) (now (table .entry)) .answer)) ⌝ }
@@ -65,8 +65,8 @@ pub extern "C" fn tilghorz_mend(
     mend_word(mending::mend(text, policy, offset as usize, decisions, out))
 }
 
-// Lists the items of a text. A row is four numbers of 8 bytes each: start, end, kind and whether the tags are complete. It may answer
-// refusals 1, 3 and 7.
+// Lists the items of a text. A row is eight numbers of 8 bytes each: start, end, kind, whether the tags are complete, start and end in
+// characters, start and end in UTF-16 units. It may answer refusals 1, 3 and 7.
 #[no_mangle]
 pub extern "C" fn tilghorz_scan(text: &[u8], table: &mut [u8]) -> u64
     ensures word { λ r. ⌜ r ≡ word (listRow (listItems (now (text .entry)) (now (table .entry)) .answer)) ⌝ }

@@ -15,6 +15,7 @@ use analysis::types::Finding;
 use analysis::types::MendAnswer;
 use analysis::types::NonCanonicality;
 use policy::Policy;
+use positions::TextCount;
 use replacing::analyze_scan_item;
 use replacing::choice::choice_replacement;
 use replacing::choice::next_choice;
@@ -198,11 +199,15 @@ fn finding_at(line: &[u8], place: Place, text: &[u8], finding: Finding, policy: 
     )
 }
 
-// Matches the finding of the item at an offset of the text, or nothing if it has none.
+// Matches the finding of the item at an offset of the text, or nothing if it has none. The line has no characters or units.
 fn finding_of(line: &[u8], place: Place, text: &[u8], at: usize, policy: Policy) -> Read {
-    match analyze_scan_item(text, at, policy) {
+    match analyze_scan_item(text, at, TextCount { chars: 0, units: 0 }, policy) {
         ItemAnalysis::End => Read::Apart,
-        ItemAnalysis::Canonical { end } => read_to(place, end),
+        ItemAnalysis::Canonical {
+            end,
+            char_end: _,
+            unit_end: _,
+        } => read_to(place, end),
         ItemAnalysis::NonCanonical(finding) => read_to(
             finding_at(line, place, text, finding, policy),
             finding.end,

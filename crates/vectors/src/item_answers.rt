@@ -9,6 +9,7 @@ use crate::notation::span;
 use crate::parse::Place;
 use crate::structure_answers::parts;
 use crate::structure_answers::unit;
+use positions::TextCount;
 use scanner::ScanItem;
 use scanner::ScanKind;
 use scanner::ScanStep;
@@ -73,9 +74,9 @@ fn item_at(line: &[u8], place: Place, text: &[u8], item: ScanItem) -> Place {
     structure(line, past_tags, text, kind, item.start, item.end)
 }
 
-// Matches the item at an offset of the text.
+// Matches the item at an offset of the text. The line has no characters or units.
 fn item_of(line: &[u8], place: Place, text: &[u8], at: usize) -> Read {
-    match scanner::next_item(text, at) {
+    match scanner::next_item(text, at, TextCount { chars: 0, units: 0 }) {
         ScanStep::Item(item) => read_to(item_at(line, place, text, item), item.end),
         ScanStep::End => Read::Apart,
     }

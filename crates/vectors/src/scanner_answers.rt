@@ -2,6 +2,7 @@
 // after the last item the scanner must give the end on each call. A text that ends inside a character must be refused.
 use crate::lines::is_word;
 use base::Check;
+use positions::TextCount;
 use scanner::ScanItem;
 use scanner::ScanStep;
 use text_scanner::NthItem;
@@ -59,9 +60,10 @@ fn cut_is_refused(text: &[u8]) -> bool {
 // Tests whether the scanner gives the items of the cursor, and then the end.
 pub(crate) fn scanner_agrees(text: &[u8]) -> bool {
     let mut at = 0;
+    let mut before = TextCount { chars: 0, units: 0 };
     let mut n = 0;
     while at < text.len() {
-        let ScanStep::Item(item) = scanner::next_item(text, at) else {
+        let ScanStep::Item(item) = scanner::next_item(text, at, before) else {
             return false;
         };
         if !gives_item(text, n, item) {
@@ -72,6 +74,10 @@ pub(crate) fn scanner_agrees(text: &[u8]) -> bool {
             return false;
         }
         at = end;
+        before = TextCount {
+            chars: item.char_end,
+            units: item.unit_end,
+        };
         n += 1;
     }
     gives_end(text, n) && gives_end(text, text.len()) && cut_is_refused(text)

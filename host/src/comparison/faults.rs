@@ -15,6 +15,10 @@ pub enum Fault {
     LastTag,
     /// The first count of the first finding is off by one.
     InventedCount,
+    /// The end of the first finding is off by one UTF-16 unit.
+    FindingUnits,
+    /// The end of the first item is off by one character.
+    ItemCharacters,
     /// The byte after the result is changed.
     ByteAfter,
     /// A refusal writes a byte.
@@ -102,13 +106,15 @@ pub enum Fault {
 }
 
 /// The faults with their names.
-pub const FAULTS: [(&str, Fault); 48] = [
+pub const FAULTS: [(&str, Fault); 50] = [
     ("keycap-rule", Fault::KeycapRule),
     ("finding-span", Fault::FindingSpan),
     ("item-span", Fault::ItemSpan),
     ("tag-report", Fault::TagReport),
     ("last-tag", Fault::LastTag),
     ("invented-count", Fault::InventedCount),
+    ("finding-units", Fault::FindingUnits),
+    ("item-characters", Fault::ItemCharacters),
     ("byte-after", Fault::ByteAfter),
     ("refusal-writes", Fault::RefusalWrites),
     ("unchanged-writes", Fault::UnchangedWrites),

@@ -228,6 +228,7 @@ impl Calls for Faulty<'_> {
             match self.fault {
                 Fault::FindingSpan => flip(table, 8),
                 Fault::InventedCount => flip(table, 16),
+                Fault::FindingUnits => flip(table, 104),
                 _ => {}
             }
         }
@@ -273,6 +274,7 @@ impl Calls for Faulty<'_> {
             let rows = &mut table[..answer.value as usize * ITEM_BYTES];
             match self.fault {
                 Fault::ItemSpan => flip(rows, 8),
+                Fault::ItemCharacters => flip(rows, 40),
                 Fault::TagReport => rows.chunks_mut(ITEM_BYTES).for_each(|row| row[24] = 1),
                 Fault::LastTag => rows
                     .chunks_mut(ITEM_BYTES)

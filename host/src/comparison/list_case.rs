@@ -5,7 +5,7 @@ use std::fmt::{self, Display, Formatter};
 use super::lent::{Difference, hexadecimal, lend, same};
 use super::policies::Policy;
 use crate::Random;
-use crate::calls::Calls;
+use crate::calls::{Calls, FINDING_BYTES};
 use crate::reference::book::Book;
 use crate::reference::calls::{self, Draft};
 
@@ -130,7 +130,7 @@ fn check_findings(
     let table = book.table();
     // The book's table is what a listing gives that reads the text again.
     let afresh = calls::list(text, &policy.bytes);
-    let room = table.len() + 80;
+    let room = table.len() + FINDING_BYTES;
     let name = || format!("list after call {number}");
     let show = |table: &Vec<u8>| hexadecimal(table);
     same(name, &table, &afresh.with_room(room).1.to_vec(), show)?;

@@ -5,7 +5,7 @@ use std::str;
 use super::lent::{Difference, hexadecimal, lend, same};
 use super::policies::Policy;
 use crate::beside;
-use crate::calls::{Calls, ITEM_BYTES};
+use crate::calls::{Calls, FINDING_BYTES, ITEM_BYTES};
 use crate::reference::book::Book;
 use crate::reference::calls::{self, Draft, LONGEST_TEXT};
 
@@ -90,13 +90,17 @@ fn check_reference(
         &written(format),
         show_written,
     )?;
+    // The crate has no positions in characters and UTF-16 units, and no tag report: of a finding it has the first ten
+    // numbers, and of an item the first three.
+    let fronts = |draft: &Draft, row: usize, numbers: usize| {
+        let table = written(draft)?;
+        let rows = table.chunks(row);
+        Some(rows.flat_map(|row| &row[..8 * numbers]).copied().collect())
+    };
     let findings = Some(beside::findings(text, policy));
-    same(|| name("findings"), &findings, &written(list), show_written)?;
-    // The crate has no tag report: the last number of an item.
-    let items = written(scan).map(|table| {
-        let rows = table.chunks(ITEM_BYTES);
-        rows.flat_map(|row| &row[..24]).copied().collect()
-    });
+    let listed = fronts(list, FINDING_BYTES, 10);
+    same(|| name("findings"), &findings, &listed, show_written)?;
+    let items = fronts(scan, ITEM_BYTES, 3);
     same(
         || name("items"),
         &Some(beside::items(text)),

@@ -5,6 +5,7 @@
 
 use super::calls::{Draft, accept, push_finding, replacement};
 use super::items::items;
+use super::positions::Positions;
 use super::rules::{Analysis, Counts, finding};
 use crate::calls::Answer;
 
@@ -86,10 +87,13 @@ impl<'a> Book<'a> {
     #[must_use]
     pub fn table(&self) -> Vec<u8> {
         let mut table = Vec::new();
+        let text = self.text();
+        let mut positions = Positions::new(&text);
         for (_, place, noted) in self.placed() {
             if noted.mended.is_none() {
                 let end = place + (noted.end - noted.start);
-                push_finding(&mut table, place, end, &noted.analysis.counts);
+                let places = positions.of(place, end);
+                push_finding(&mut table, place, end, &noted.analysis.counts, &places);
             }
         }
         table

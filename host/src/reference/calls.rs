@@ -9,6 +9,7 @@ use crate::calls::{Answer, FINDING_BYTES, ITEM_BYTES};
 use super::characters::Presentation;
 use super::items::{Kind, items};
 use super::policy::Policy;
+use super::positions::Positions;
 use super::repair::repaired;
 use super::rules::{Analysis, Counts, finding};
 use super::utf8;
@@ -135,9 +136,11 @@ pub fn list(text: &[u8], policy: &[u8]) -> Draft {
         Err(refusal) => return Draft::Refused(refusal),
     };
     let mut table = Vec::new();
+    let mut positions = Positions::new(text);
     for item in items(text) {
         if let Some(analysis) = finding(&item, &policy) {
-            push_finding(&mut table, item.start, item.end, &analysis.counts);
+            let places = positions.of(item.start, item.end);
+            push_finding(&mut table, item.start, item.end, &analysis.counts, &places);
         }
     }
     Draft::table(table, FINDING_BYTES)
@@ -178,13 +181,14 @@ pub fn replacement(analysis: &Analysis, decisions: &[u8]) -> Result<Vec<u8>, Ans
     Ok(analysis.replacement(decisions.filter_map(Presentation::of_decision)))
 }
 
-/// Scanning: the spans, kinds and tag reports of the items.
+/// Scanning: the spans, kinds, tag reports and positions of the items.
 #[must_use]
 pub fn scan(text: &[u8]) -> Draft {
     if let Err(refusal) = accept_length(text).and_then(|()| accept_form(text)) {
         return Draft::Refused(refusal);
     }
     let mut table = Vec::new();
+    let mut positions = Positions::new(text);
     for item in items(text) {
         let kind = match item.kind {
             Kind::Passthrough => 0,
@@ -192,14 +196,14 @@ pub fn scan(text: &[u8]) -> Draft {
             Kind::Links => 2,
             Kind::Emoji => 3,
         };
-        for number in [
+        let first = [
             item.start as u64,
             item.end as u64,
             kind,
             item.tags_complete().into(),
-        ] {
-            table.extend(number.to_le_bytes());
-        }
+        ];
+        push_numbers(&mut table, &first);
+        push_numbers(&mut table, &positions.of(item.start, item.end));
     }
     Draft::table(table, ITEM_BYTES)
 }
@@ -220,10 +224,22 @@ pub fn repair(text: &[u8]) -> Draft {
     }
 }
 
-/// Adds a finding's place to a table.
-pub fn push_finding(table: &mut Vec<u8>, start: usize, end: usize, counts: &Counts) {
-    let span = [start as u64, end as u64];
-    for number in span.iter().chain(counts) {
+/// Adds a finding's row to a table: "In a listed finding the four new numbers follow the counts, characters first."
+pub fn push_finding(
+    table: &mut Vec<u8>,
+    start: usize,
+    end: usize,
+    counts: &Counts,
+    places: &[u64; 4],
+) {
+    push_numbers(table, &[start as u64, end as u64]);
+    push_numbers(table, counts);
+    push_numbers(table, places);
+}
+
+/// Adds numbers to a table.
+fn push_numbers(table: &mut Vec<u8>, numbers: &[u64]) {
+    for number in numbers {
         table.extend(number.to_le_bytes());
     }
 }

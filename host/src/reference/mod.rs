@@ -14,6 +14,7 @@
 //! | [`policy`] | which bytes are a policy, and its rule for a base |
 //! | [`items`] | the grammar of items, and the tag report, as document 02, (i), has it |
 //! | [`rules`] | counts and replacements |
+//! | [`positions`] | characters and UTF-16 units before an offset |
 //! | [`calls`] | formatting, listing, mending, scanning and repairing, with their refusals |
 //! | [`book`] | a list of mending calls |
 //! | [`feed`] | a thread that comes in pieces |
@@ -27,6 +28,7 @@ pub mod feed;
 pub mod items;
 pub mod kept;
 pub mod policy;
+pub mod positions;
 pub mod programs;
 pub mod repair;
 pub mod rules;

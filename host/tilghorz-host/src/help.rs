@@ -159,8 +159,8 @@ modifier-defective, additional-defective, tag-conflicting, tag-forced, tag-redun
 fifth and the eighth add a selector each, the others remove one each. For a refused text the line is `refused`, the
 number and any offset. Of several files each has a line with its name first.
 
-  --json         a JSON object for each text instead, one on each line, with the names of the counts. In a file's name,
-                 what is not UTF-8 is U+FFFD
+  --json         a JSON object for each text instead, one on each line, with the names of the counts, and with start and
+                 end also in characters and in UTF-16 units. In a file's name, what is not UTF-8 is U+FFFD
   --items        the items of the text instead: start, end, kind, and whether the tags are complete; with --json, beside
                  the findings
   --repair       replace each bad place by U+FFFD first: tilghorz-host help repair. Offsets are those of the repaired

@@ -28,10 +28,19 @@ pub struct FindingObject<'a>(pub &'a Finding);
 
 impl Display for FindingObject<'_> {
     fn fmt(&self, out: &mut Formatter<'_>) -> fmt::Result {
-        let Finding { start, end, counts } = self.0;
+        let Finding {
+            start,
+            end,
+            counts,
+            char_start,
+            char_end,
+            utf16_start,
+            utf16_end,
+        } = self.0;
         write!(
             out,
-            "{{\"start\":{start},\"end\":{end},{}}}",
+            "{{\"start\":{start},\"end\":{end},{},\"char_start\":{char_start},\"char_end\":{char_end},\
+             \"utf16_start\":{utf16_start},\"utf16_end\":{utf16_end}}}",
             Members(counts)
         )
     }
@@ -70,11 +79,16 @@ impl Display for ItemObject<'_> {
             end,
             kind,
             tags_complete,
+            char_start,
+            char_end,
+            utf16_start,
+            utf16_end,
         } = self.0;
         let kind = kind_name(*kind);
         write!(
             out,
-            "{{\"start\":{start},\"end\":{end},\"kind\":\"{kind}\",\"tags_complete\":{tags_complete}}}"
+            "{{\"start\":{start},\"end\":{end},\"kind\":\"{kind}\",\"tags_complete\":{tags_complete},\
+             \"char_start\":{char_start},\"char_end\":{char_end},\"utf16_start\":{utf16_start},\"utf16_end\":{utf16_end}}}"
         )
     }
 }

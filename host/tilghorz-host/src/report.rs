@@ -136,7 +136,10 @@ fn write_lines(found: &Result<Found, Refusal>, out: &mut dyn Write) -> io::Resul
             findings,
             items: None,
         }) => {
-            for Finding { start, end, counts } in findings.iter() {
+            for Finding {
+                start, end, counts, ..
+            } in findings.iter()
+            {
                 write!(out, "{start} {end}")?;
                 write_numbers(&counts.numbers(), out)?;
             }

@@ -198,7 +198,9 @@ fn write_finding(
     style: &Style,
     out: &mut dyn Write,
 ) -> io::Result<()> {
-    let Finding { start, end, counts } = finding;
+    let Finding {
+        start, end, counts, ..
+    } = finding;
     let Style { faint, plain, .. } = style;
     write!(
         out,

@@ -83,14 +83,22 @@ fn report_names_the_counts_in_json() {
              \"tag_conflicting\":0,\"tag_forced\":0,\"tag_redundant\":0,\"policy_redundant\":0,\"decisions\":0"
         )
     };
+    let places = |start: usize, end: usize| {
+        format!(
+            "\"char_start\":{start},\"char_end\":{end},\"utf16_start\":{start},\"utf16_end\":{end}"
+        )
+    };
     let expected = format!(
-        "{{\"file\":\"a\\\"b\",\"bytes\":4,\"findings\":[{{\"start\":1,\"end\":4,{}}}],\"totals\":{{{}}},\"items\":[\
-         {{\"start\":0,\"end\":1,\"kind\":\"passthrough\",\"tags_complete\":true}},\
-         {{\"start\":1,\"end\":4,\"kind\":\"unsanctioned-selectors\",\"tags_complete\":true}}]}}\n\
+        "{{\"file\":\"a\\\"b\",\"bytes\":4,\"findings\":[{{\"start\":1,\"end\":4,{},{}}}],\"totals\":{{{}}},\"items\":[\
+         {{\"start\":0,\"end\":1,\"kind\":\"passthrough\",\"tags_complete\":true,{}}},\
+         {{\"start\":1,\"end\":4,\"kind\":\"unsanctioned-selectors\",\"tags_complete\":true,{}}}]}}\n\
          {{\"file\":\"damaged\",\"refused\":{{\"number\":3,\"value\":8,\
          \"message\":\"not well-formed UTF-8 at byte 8\"}}}}\n",
         counts(1),
-        counts(1)
+        places(1, 2),
+        counts(1),
+        places(0, 1),
+        places(1, 2)
     );
     assert_eq!((ran.status, ran.text()), (2, expected.as_str()));
 }

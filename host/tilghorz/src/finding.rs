@@ -1,4 +1,4 @@
-//! Findings: document 01, "Counts and finding".
+//! Findings: document 01, "Counts and finding"; document 02, (v).
 
 use std::ops::{AddAssign, Range};
 
@@ -14,6 +14,14 @@ pub struct Finding {
     pub end: usize,
     /// What was found.
     pub counts: Counts,
+    /// The number of characters before it.
+    pub char_start: usize,
+    /// The number of characters up to its end.
+    pub char_end: usize,
+    /// The number of UTF-16 units before it.
+    pub utf16_start: usize,
+    /// The number of UTF-16 units up to its end.
+    pub utf16_end: usize,
 }
 
 impl Finding {
@@ -21,6 +29,18 @@ impl Finding {
     #[must_use]
     pub const fn span(&self) -> Range<usize> {
         self.start..self.end
+    }
+
+    /// Its characters in the text, as `str::chars` counts them.
+    #[must_use]
+    pub const fn char_span(&self) -> Range<usize> {
+        self.char_start..self.char_end
+    }
+
+    /// Its UTF-16 units in the text, as `str::encode_utf16` counts them.
+    #[must_use]
+    pub const fn utf16_span(&self) -> Range<usize> {
+        self.utf16_start..self.utf16_end
     }
 }
 
@@ -123,9 +143,17 @@ impl Read for Finding {
     const BYTES: usize = sys::FINDING_BYTES;
 
     fn read(bytes: &[u8]) -> Self {
-        let [start, end, counts @ ..] = table::numbers::<10>(bytes);
-        let counts = Counts::of(counts);
-        Self { start, end, counts }
+        let [start, end, a, b, c, d, e, f, g, h, positions @ ..] = table::numbers::<14>(bytes);
+        let [char_start, char_end, utf16_start, utf16_end] = positions;
+        Self {
+            start,
+            end,
+            counts: Counts::of([a, b, c, d, e, f, g, h]),
+            char_start,
+            char_end,
+            utf16_start,
+            utf16_end,
+        }
     }
 }
 

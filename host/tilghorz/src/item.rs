@@ -1,9 +1,11 @@
-//! Items: document 01, "Item"; document 02, (i).
+//! Items: document 01, "Item"; document 02, (i) and (v).
+
+use std::ops::Range;
 
 use crate::sys;
 use crate::table::{self, Row, sealed::Read};
 
-/// An item. The items of a text tile it, and none is empty.
+/// An item. The items of a text tile it, in bytes, in characters and in UTF-16 units, and none is empty.
 #[derive(Debug, Clone, PartialEq, Eq)]
 pub struct Item {
     /// The offset of its first byte.
@@ -15,6 +17,34 @@ pub struct Item {
     /// Whether every tag modification in it is complete: its tags, selectors skipped, are one or more of E0020 to E007E
     /// and then one E007F. An item without tag modifications is complete; tags in a passthrough belong to none.
     pub tags_complete: bool,
+    /// The number of characters before it.
+    pub char_start: usize,
+    /// The number of characters up to its end.
+    pub char_end: usize,
+    /// The number of UTF-16 units before it.
+    pub utf16_start: usize,
+    /// The number of UTF-16 units up to its end.
+    pub utf16_end: usize,
+}
+
+impl Item {
+    /// Its bytes in the text.
+    #[must_use]
+    pub const fn span(&self) -> Range<usize> {
+        self.start..self.end
+    }
+
+    /// Its characters in the text, as `str::chars` counts them.
+    #[must_use]
+    pub const fn char_span(&self) -> Range<usize> {
+        self.char_start..self.char_end
+    }
+
+    /// Its UTF-16 units in the text, as `str::encode_utf16` counts them.
+    #[must_use]
+    pub const fn utf16_span(&self) -> Range<usize> {
+        self.utf16_start..self.utf16_end
+    }
 }
 
 /// What an item is.
@@ -36,7 +66,16 @@ impl Read for Item {
     const BYTES: usize = sys::ITEM_BYTES;
 
     fn read(bytes: &[u8]) -> Self {
-        let [start, end, kind, tags_complete] = table::numbers(bytes);
+        let [
+            start,
+            end,
+            kind,
+            tags_complete,
+            char_start,
+            char_end,
+            utf16_start,
+            utf16_end,
+        ] = table::numbers(bytes);
         let kind = match kind {
             0 => ItemKind::Passthrough,
             1 => ItemKind::UnsanctionedSelectors,
@@ -51,6 +90,10 @@ impl Read for Item {
             end,
             kind,
             tags_complete: tags_complete == 1,
+            char_start,
+            char_end,
+            utf16_start,
+            utf16_end,
         }
     }
 }

@@ -14,6 +14,7 @@
 //! let findings = tilghorz::findings(text, &policy)?;
 //! let first = findings.get(0).expect("a finding");
 //! assert_eq!((first.start, first.end, first.counts.policy_redundant), (0, 4, 1));
+//! assert_eq!((first.char_span(), first.utf16_span()), (0..2, 0..2));
 //! assert_eq!(&*tilghorz::mend(text, &policy, 0, &[])?, "1 \u{2764}".as_bytes());
 //!
 //! let damaged = tilghorz::format(b"good\xFF", &policy);
@@ -25,6 +26,7 @@
 //!
 //! - [`format()`], [`mend`], [`findings`] and [`items`] allocate what they return; [`format_into`] and [`mend_into`]
 //!   write to the caller's buffer, and [`filed`] says which bytes to keep then.
+//! - A [`Finding`] and an [`Item`] have their start and end in bytes, in characters and in UTF-16 units.
 //! - [`repair`] takes damaged text in, which the others refuse; [`repair_into`] writes to the caller's buffer.
 //! - [`Feed`] formats a thread that comes in pieces; [`FeedWriter`] and [`FeedReader`] do it between a writer or a
 //!   reader and another.

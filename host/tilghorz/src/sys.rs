@@ -12,9 +12,9 @@
 /// The bytes of a policy.
 pub const POLICY_BYTES: usize = 192;
 /// The bytes of a finding in a table.
-pub const FINDING_BYTES: usize = 80;
+pub const FINDING_BYTES: usize = 112;
 /// The bytes of an item in a table.
-pub const ITEM_BYTES: usize = 32;
+pub const ITEM_BYTES: usize = 64;
 /// The bytes of a feed.
 pub const FEED_BYTES: usize = 312;
 /// The bytes of the totals of a feed.

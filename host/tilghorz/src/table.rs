@@ -82,8 +82,13 @@ mod tests {
 
     #[test]
     fn rows_are_read_from_their_bytes() {
-        let numbers = [0u64, 4, 3, 1, 4, 5, 0, 1, 9, 9, 9, 9];
-        let bytes: Vec<u8> = numbers.into_iter().flat_map(u64::to_le_bytes).collect();
+        let rows = [
+            [0u64, 4, 3, 1, 0, 1, 0, 2],
+            [4, 5, 0, 1, 1, 2, 2, 3],
+            [9; 8],
+        ];
+        let numbers = rows.into_iter().flatten();
+        let bytes: Vec<u8> = numbers.flat_map(u64::to_le_bytes).collect();
         let table = Table::<Item>::new(bytes, 2);
         assert_eq!((table.len(), table.is_empty()), (2, false));
         let item = table.get(1).expect("a row");
@@ -91,6 +96,7 @@ mod tests {
             (item.start, item.end, item.kind),
             (4, 5, ItemKind::Passthrough)
         );
+        assert_eq!((item.char_span(), item.utf16_span()), (1..2, 2..3));
         assert_eq!(table.get(2), None);
         assert_eq!(table.get(usize::MAX), None);
         assert_eq!(table.iter().len(), 2);

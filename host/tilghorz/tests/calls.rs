@@ -2,6 +2,7 @@
 
 use std::borrow::Cow;
 use std::fs;
+use std::ops::Range;
 use std::path::Path;
 
 use tilghorz::{
@@ -92,20 +93,48 @@ fn items_tile_the_text() {
         .expect("a text")
         .iter()
         .collect();
-    let item = |start, end, kind, tags_complete| Item {
-        start,
-        end,
-        kind,
-        tags_complete,
-    };
+    let item =
+        |bytes: Range<usize>, chars: Range<usize>, units: Range<usize>, kind, tags_complete| Item {
+            start: bytes.start,
+            end: bytes.end,
+            kind,
+            tags_complete,
+            char_start: chars.start,
+            char_end: chars.end,
+            utf16_start: units.start,
+            utf16_end: units.end,
+        };
     let expected = [
-        item(0, 1, ItemKind::Passthrough, true),
-        item(1, 10, ItemKind::EmojiHeaded, true),
-        item(10, 17, ItemKind::EmojiHeaded, false),
-        item(17, 18, ItemKind::Passthrough, true),
-        item(18, 21, ItemKind::UnsanctionedSelectors, true),
+        item(0..1, 0..1, 0..1, ItemKind::Passthrough, true),
+        item(1..10, 1..4, 1..4, ItemKind::EmojiHeaded, true),
+        item(10..17, 4..6, 4..7, ItemKind::EmojiHeaded, false),
+        item(17..18, 6..7, 7..8, ItemKind::Passthrough, true),
+        item(18..21, 7..8, 8..9, ItemKind::UnsanctionedSelectors, true),
     ];
     assert_eq!(items, expected);
+}
+
+#[test]
+fn spans_are_counted_three_times() {
+    let text = "a\u{E9}\u{1F600}\u{FE0E} \u{2764}\u{1F600}\u{FE0F}b\u{231A}\u{FE0F}";
+    let units: Vec<u16> = text.encode_utf16().collect();
+    let holds = |span: Range<usize>, chars: Range<usize>, utf16: Range<usize>| {
+        let part = &text[span];
+        assert!(
+            part.chars()
+                .eq(text.chars().skip(chars.start).take(chars.len()))
+        );
+        assert!(part.encode_utf16().eq(units[utf16].iter().copied()));
+    };
+    let items = tilghorz::items(text.as_bytes()).expect("a text");
+    for item in items.iter() {
+        holds(item.span(), item.char_span(), item.utf16_span());
+    }
+    let findings = tilghorz::findings(text.as_bytes(), &Policy::default()).expect("a text");
+    assert_eq!(findings.iter().count(), 4);
+    for finding in findings.iter() {
+        holds(finding.span(), finding.char_span(), finding.utf16_span());
+    }
 }
 
 #[test]
@@ -209,6 +238,10 @@ fn results_of_any_length_find_room() {
             decisions: 1,
             ..Counts::default()
         },
+        char_start: 99_999,
+        char_end: 100_000,
+        utf16_start: 99_999,
+        utf16_end: 100_000,
     };
     assert_eq!(findings.get(99_999), Some(last));
     assert_eq!(findings.totals().decisions, 100_000);

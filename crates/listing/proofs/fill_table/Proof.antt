@@ -18,7 +18,7 @@ returns c =
     let x = c .before .before .before .before .args in
     let p = policyOf (x .policy .now) in
     let t = x .text .now in
-    let n = c .before .before .before .before .pre ∙ sym (length-map (findingsFrom p t 0) (findingRow p)) in
+    let n = c .before .before .before .before .pre ∙ sym (length-map (findingsFrom p t 0) (findingRow p t)) in
     no-rows rowNumbers rowBytes length-row (omega arith) (rowsFrom p t 0) (x .table .now) n (c .if1 .taken)
 
 returns-2 : tie.Need-returns-2
@@ -26,7 +26,7 @@ returns-2 c =
     let x = c .before .before .before .before .before .args in
     let p = policyOf (x .policy .now) in
     let t = x .text .now in
-    let n = c .before .before .before .before .before .pre ∙ sym (length-map (findingsFrom p t 0) (findingRow p)) in
+    let n = c .before .before .before .before .before .pre ∙ sym (length-map (findingsFrom p t 0) (findingRow p t)) in
     rows-refused rowNumbers rowBytes length-row (omega arith) (rowsFrom p t 0) (x .table .now) n (omega arith)
 
 put-findings-requires : tie.Need-put-findings-requires
@@ -34,7 +34,7 @@ put-findings-requires c κs =
     let x = c .before .before .before .before .before .before .args in
     let p = policyOf (x .policy .now) in
     let t = x .text .now in
-    let n = c .before .before .before .before .before .before .pre ∙ sym (length-map (findingsFrom p t 0) (findingRow p)) in
+    let n = c .before .before .before .before .before .before .pre ∙ sym (length-map (findingsFrom p t 0) (findingRow p t)) in
     rows-room rowNumbers rowBytes length-row (omega arith) (rowsFrom p t 0) (x .table .now) n (omega arith)
 
 returns-3 : tie.Need-returns-3
@@ -43,7 +43,7 @@ returns-3 c =
     let p = policyOf (x .policy .now) in
     let t = x .text .now in
     let n = c .before .before .before .before .before .before .before .before .before .pre
-    ∙ sym (length-map (findingsFrom p t 0) (findingRow p)) in
+    ∙ sym (length-map (findingsFrom p t 0) (findingRow p t)) in
     rows-written rowNumbers rowBytes length-row (omega arith) (rowsFrom p t 0) (x .table .now) n (omega arith)
     (c .before .before .put-findings .ensures)
 

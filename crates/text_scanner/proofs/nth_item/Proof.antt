@@ -100,7 +100,7 @@ use Rattle.base.specs.Answers.{Answers, checkRow}
 use Rattle.base.proofs.Check as K
 use Rattle.base.proofs.Check.Laws as K′
 use Rattle.text_scanner.specs.Helpers.{skipped}
-use Rattle.text_scanner.specs.Scanner.{scanned, verdictOf}
+use Rattle.text_scanner.specs.Scanner.{placeOf, scanned, verdictOf}
 use Rattle.scanner.specs.declared.ScanStep.{ScanStep}
 use Rattle.text_scanner.specs.declared.NthItem.{NthItem}
 use Rattle.text_scanner.specs.declared.Scanned.{Scanned}
@@ -316,7 +316,11 @@ module _ {M : Type 1} (𝓤 : URA M) (H : Heap 𝓤) (A : Atoms 𝓤) (W : Given
         (init ! 6 refl (LL.lawful (T.the-type αᵉ) (T′.the-laws αᵉ) 𝓤 H A W .typed first _ first-is .0)) $
         move ! (1 ∷ []) $ use1 W (‵ TO ⊛ ‵ TO) (shr-slice-copy 𝓤 H A W (named 0) κ u8 .twice s (v ∷ [])) $ split ! $
         use1 W (‵ (Own κ first))
-        (owns-scanner 𝓤 H A W κ s (first .offset) (LL.owed (T.the-type α₀) (T′.the-laws α₀) first _ first-is .1 .0 .1)) $
+        (owns-scanner 𝓤 H A W κ s (placeOf first) (
+          LL.owed (T.the-type α₀) (T′.the-laws α₀) first _ first-is .1 .0 .1,
+          LL.owed (T.the-type α₀) (T′.the-laws α₀) first _ first-is .1 .1 .0 .1,
+          LL.owed (T.the-type α₀) (T′.the-laws α₀) first _ first-is .1 .1 .1 .0 .1,
+        )) $
         nothing ! $ owned ! usize (Is usize) (uint-makes 𝓤 H A W w64) n _ (refl, ok) $ fjoin ! $ move ! (1 ∷ 0 ∷ []) $ fjoin ! $
         move ! (2 ∷ 0 ∷ []) $ use2 W (raw (Skip 𝓤 H A mem run .pre to-skip)) asked-skip $
         -- [the callee's pre; what s owns; _9; …; _0; …]

@@ -89,7 +89,7 @@ use denote.Triple.Table.{entered, cited}
 use denote.Triple.Walked.{says, Stays, stay-none, stay-none-slice, walkOf, goes-none, goes-none-slice, Walks, ends-at, walked, walk-meets}
 use denote.Exit.{yes}
 use Rattle.text_scanner.specs.Helpers.{itemOf}
-use Rattle.text_scanner.specs.Scanner.{nthItem, part, rawOf}
+use Rattle.text_scanner.specs.Scanner.{nthItem, part, placeOf, rawOf}
 use Rattle.scanner.specs.declared.ScanItem.{ScanItem}
 use Rattle.text_scanner.specs.declared.NthItem.{NthItem}
 use Rattle.text_scanner.specs.declared.Scanner.{Scanner}
@@ -171,7 +171,7 @@ module _ {M : Type 1} (𝓤 : URA M) (H : Heap 𝓤) (A : Atoms 𝓤) (W : Given
 
   -- the scanner for `raw`, and the machine value of an item
   abbrev made : Scanner
-  made = record { text = s; offset = 0 }
+  made = record { text = s; offset = 0; chars = 0; units = 0 }
 
   abbrev item-val : ScanItem → Val
   item-val i = LL.val I.the-type I′.the-laws i
@@ -235,7 +235,7 @@ module _ {M : Type 1} (𝓤 : URA M) (H : Heap 𝓤) (A : Atoms 𝓤) (W : Given
   module _ (C : Calls 𝓤 H) (Λ : Loops 𝓤 H) (fm : FmC 𝓤 H (W .laws) C) (known : Known 𝓤 H A mem run C)
       (p : Is (ShrSlice (named 0) κ u8) s (v ∷ [])) where
     made-is : Is (T.the-row α₀) made (T′.lowered made ∷ [])
-    made-is = LL.owes (T.the-type α₀) (T′.the-laws α₀) made (p, ((refl, lit< tt), tt))
+    made-is = LL.owes (T.the-type α₀) (T′.the-laws α₀) made (p, ((refl, lit< tt), ((refl, lit< tt), ((refl, lit< tt), tt))))
 
     walk : ent 𝓤 (onEntry 𝓤 H A nth-raw.signature (κ, tt) (q, tt) a at) (WpFn 𝓤 H C Λ code.function (v ∷ vint w64 n ∷ []) Post)
     walk =
@@ -273,10 +273,11 @@ module _ {M : Type 1} (𝓤 : URA M) (H : Heap 𝓤) (A : Atoms 𝓤) (W : Given
         rewrite ! 5 (λ (w : Val). ‵ (fat fullShare I′.mir l₄ 0 w)) (ap only (LL.tells I.the-type I′.the-laws i (u₂ ∷ []) is)) refl $
         drop ! $
         -- [the token; what s owns; _5; …; _4; …; _3; …; _2; …; _1; …; room for _0; …]
-        assigns ! (agg ! (and-then ! (load ! (from ! (stop !)) (look ! 10 refl)) (and-then ! (lit ! tt) (no-more !)))) (from ! (stop !))
+        assigns ! (agg ! (and-then ! (load ! (from ! (stop !)) (look ! 10 refl))
+        (and-then ! (lit ! tt) (and-then ! (lit ! tt) (and-then ! (lit ! tt) (no-more !)))))) (from ! (stop !))
         (init ! 2 refl (LL.lawful (T.the-type αᵉ) (T′.the-laws αᵉ) 𝓤 H A W .typed made _ made-is .0)) $
         move ! (1 ∷ []) $ use1 W (‵ TO ⊛ ‵ TO) (shr-slice-copy 𝓤 H A W (named 0) κ u8 .twice s (v ∷ [])) $ split ! $
-        use1 W (‵ (Own κ made)) (owns-scanner 𝓤 H A W κ s 0 (lit< tt)) $
+        use1 W (‵ (Own κ made)) (owns-scanner 𝓤 H A W κ s (placeOf made) (lit< tt, lit< tt, lit< tt)) $
         nothing ! $ owned ! I.the-row (Is I.the-row) ((LL.makes I.the-type I′.the-plain) 𝓤 H A) i _
         (LL.owes I.the-type I′.the-laws i (LL.owed I.the-type I′.the-laws i _ is)) $ fjoin ! $ move ! (1 ∷ 0 ∷ []) $ fjoin ! $
         move ! (2 ∷ 0 ∷ []) $

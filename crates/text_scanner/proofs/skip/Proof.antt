@@ -1,6 +1,6 @@
 -- `text_scanner::skip` meets its contract: a walk of its MIR, with a loop. A turn lends the scanner to `next` and takes it back,
--- and asks `left_after` how many calls are left. The invariant: the calls that are left lead from the scanner's offset to the
--- offset after all n calls.
+-- and asks `left_after` how many calls are left. The invariant: the calls that are left lead from the scanner's place to the place
+-- after all n calls.
 use mathlib.Core.Path.{_≡_, refl, sym, ap, _∙_}
 use mathlib.Core.Logic.{⊎-elim}
 use mathlib.Core.Bool.{Bool}
@@ -114,9 +114,10 @@ use denote.Triple.Table.{entered, cited}
 use denote.Triple.Walked.{says, Stays, stay-none, walkOf, goes-none, Walks, ends-at, walked, walk-meets}
 use denote.Exit.{yes}
 use Rattle.text_scanner.specs.Helpers.{leftAfter, skipped}
-use Rattle.text_scanner.specs.Scanner.{atOffset, offsetAfterStep, offsetAfter}
+use Rattle.text_scanner.specs.Scanner.{Place, atPlace, placeAfter, placeAfterStep, placeOf}
 use Rattle.scanner.specs.declared.ScanStep.{ScanStep}
 use Rattle.text_scanner.specs.declared.Scanner.{Scanner}
+use Rattle.text_scanner.proofs.Advancing.{Fits}
 use Rattle.text_scanner.proofs.GivenItems.{fewer-left, no-call, one-call}
 use Rattle.text_scanner.proofs.Lending.{Aside, Cell, Next, Own, answerOf, lends, loan, moved, takes-back, to-next}
 use Rattle.scanner.proofs.ScanStep as R
@@ -186,13 +187,19 @@ module _ {M : Type 1} (𝓤 : URA M) (H : Heap 𝓤) (A : Atoms 𝓤) (W : Given
       (fact 𝓤 (r ≡ leftAfter s k))
   said-left s k r = exE 𝓤 _ (λ ws. snd∗ 𝓤 (sem 𝓤 H A (lasts left-after.ended tt (s, (k, tt)) ws)) (fact 𝓤 (r ≡ leftAfter s k)))
 
+  -- the numbers of a scanner fit
+  fits-of : (h : Scanner) {us : List Val} → Is (S (κ, tt)) h us → Fits (placeOf h)
+  fits-of h was =
+      let owed = LL.owed (T.the-type (namedLft 1 0 tt (κ, tt))) (T′.the-laws (namedLft 1 0 tt (κ, tt))) h _ was in
+      (owed .1 .0 .1, owed .1 .1 .0 .1, owed .1 .1 .1 .0 .1)
+
   abbrev t : List ℕ
   t = now (d .text)
 
-  -- the loop's variant: the offset and the number of calls left; both fit, and these calls lead to the offset after all calls. It
+  -- the loop's variant: the place and the number of calls left; they fit, and these calls lead to the place after all calls. It
   -- decreases in the number of calls left.
   abbrev State : Type 0
-  State = (o : ℕ) × ((k : ℕ) × ((o < 2 ^ 64) × ((k < 2 ^ 64) × (offsetAfter t o k ≡ offsetAfter t (d .offset) n))))
+  State = (p : Place) × ((k : ℕ) × (Fits p × ((k < 2 ^ 64) × (placeAfter t p k ≡ placeAfter t (placeOf d) n))))
 
   abbrev Nearer : State → State → Type 0
   Nearer j i = j .1 .0 < i .1 .0
@@ -202,20 +209,20 @@ module _ {M : Type 1} (𝓤 : URA M) (H : Heap 𝓤) (A : Atoms 𝓤) (W : Given
 
   -- the scanner, and the variant after a turn that gets the answer s and r calls left
   abbrev here : State → Scanner
-  here i = atOffset d (i .0)
+  here i = atPlace d (i .0)
 
   onward : (i : State) → 0 < i .1 .0 → (s : ScanStep) → s ≡ answerOf (here i) → (r : ℕ) → r ≡ leftAfter s (i .1 .0)
-      → offsetAfterStep s (i .0) < 2 ^ 64 → r < 2 ^ 64 → State
+      → Fits (placeAfterStep s (i .0)) → r < 2 ^ 64 → State
   onward i l s e r f go gr = (
-    offsetAfterStep s (i .0),
+    placeAfterStep s (i .0),
     (
       r,
       (
         go,
         (
           gr,
-          ap (offsetAfter t (offsetAfterStep s (i .0))) f
-              ∙ ap (λ (a : ScanStep). offsetAfter t (offsetAfterStep a (i .0)) (leftAfter a (i .1 .0))) e ∙ one-call t (i .0) (i .1 .0) l
+          ap (placeAfter t (placeAfterStep s (i .0))) f
+              ∙ ap (λ (a : ScanStep). placeAfter t (placeAfterStep a (i .0)) (leftAfter a (i .1 .0))) e ∙ one-call t (i .0) (i .1 .0) l
               ∙ i .1 .1 .1 .1,
         ),
       ),
@@ -289,7 +296,7 @@ module _ {M : Type 1} (𝓤 : URA M) (H : Heap 𝓤) (A : Atoms 𝓤) (W : Given
         rewrite ! 13 (λ (w : Val). ‵ (fat fullShare word l₄ 0 w)) (ap only (is′ .0)) refl $ drop ! $
         forget ! 4 refl $ forget ! 6 refl $ forget ! 10 refl $ move ! (0 ∷ 3 ∷ 1 ∷ 4 ∷ 5 ∷ 6 ∷ 7 ∷ 8 ∷ 9 ∷ 10 ∷ 11 ∷ 12 ∷ 13 ∷ 2 ∷ []) $
         again ! Nearer At i (onward i less s e r f
-        (LL.owed (T.the-type (namedLft 1 0 tt (κ, tt))) (T′.the-laws (namedLft 1 0 tt (κ, tt))) (moved (here i) s) _ was .1 .0 .1)
+        (fits-of (moved (here i) s) was)
         (is′ .1)) (nearer i less s r f))))))))))))
 
     -- the turn that leaves the loop, and the rest of the body
@@ -308,7 +315,7 @@ module _ {M : Type 1} (𝓤 : URA M) (H : Heap 𝓤) (A : Atoms 𝓤) (W : Given
         move ! (19 ∷ 20 ∷ []) $ free1 ! $ move ! (17 ∷ 18 ∷ []) $ free1 ! $ move ! (15 ∷ 16 ∷ []) $ free1 ! $ move ! (13 ∷ 14 ∷ []) $
         free1 ! $ move ! (11 ∷ 12 ∷ []) $ free1 ! $ move ! (9 ∷ 10 ∷ []) $ free1 ! $ move ! (7 ∷ 8 ∷ []) $ free1 ! $ move ! (5 ∷ 6 ∷ [])
         $ free1 ! $ move ! (3 ∷ 4 ∷ []) $ free1 ! $ free0 ! $
-        by ! (exits (here i) (ap (atOffset d) (sym (no-call t (i .0) end) ∙ i .1 .1 .1 .1))))
+        by ! (exits (here i) (ap (atPlace d) (sym (no-call t (i .0) end) ∙ i .1 .1 .1 .1))))
       where
         over : i .1 .0 ≤ 0
         over = let p : i .1 .0 ≡ 0 = end in omega arith
@@ -342,11 +349,11 @@ module _ {M : Type 1} (𝓤 : URA M) (H : Heap 𝓤) (A : Atoms 𝓤) (W : Given
       split ! $
       move ! (20 ∷ []) $ split ! $ move ! (1 ∷ []) $ drop ! $ move ! (1 ∷ 2 ∷ 0 ∷ []) $
       begins 𝓣 known l₀ l₁ l₂ l₃ l₄ l₅ l₆ l₇ l₈ (
-        d .offset,
+        placeOf d,
         (
           n,
           (
-            LL.owed (T.the-type (namedLft 1 0 tt (κ, tt))) (T′.the-laws (namedLft 1 0 tt (κ, tt))) d _ g .1 .0 .1,
+            fits-of d g,
             (ok, refl),
           ),
         ),

@@ -4,14 +4,16 @@ use Prim.Native.Nat.{_+_, _-_, _≤_}
 use native.Mathlib.Omega.{arith}
 use lib.ListN.{length}
 use borrow.Author.Needs.{needs}
-use Rattle.scanner.specs.Spans.{scan, scanFrom}
+use Rattle.positions.specs.Positions.{noCount}
+use Rattle.scanner.specs.Spans.{endCount, scan, scanFrom}
 use Rattle.formatter.proofs.Steps.{cursor-goes}
+use Rattle.listing.proofs.ItemRows.{same-number}
 use Rattle.listing.proofs.items.count_items.Statement.{statement}
 use Rattle.listing.proofs.items.count_items.Tie as tie
 
 abbrev Inv-loop : tie.InvT-loop
 Inv-loop text at₀ items₀ at items =
-    (at ≤ length text) × (items ≤ at) × (items + length (scanFrom text at) ≡ length (scanFrom text 0))
+    (at ≤ length text) × (items ≤ at) × (items + length (scanFrom text at noCount) ≡ length (scanFrom text 0 noCount))
 
 abbrev μ-loop : tie.MeasureT-loop
 μ-loop text at₀ items₀ at items = length text - at
@@ -23,22 +25,23 @@ loop-less : tie.Need-loop-less Inv-loop μ-loop
 loop-less c =
     let x = c .before .before .before .before .before .before .args in
     let l = c .before .before .before .before .loop in
-    let s = cursor-goes (x .text .now) (l .at) (sym (c .before .item .given .1) ∙ c .before .before .before .next-item .ensures) in
+    let s = cursor-goes (x .text .now) (l .at) noCount (sym (c .before .item .given .1) ∙ c .before .before .before .next-item .ensures) in
     omega arith
 
 loop-again : tie.Need-loop-again Inv-loop μ-loop
 loop-again c =
     let x = c .before .before .before .before .before .before .args in
     let l = c .before .before .before .before .loop in
-    let s = cursor-goes (x .text .now) (l .at) (sym (c .before .item .given .1) ∙ c .before .before .before .next-item .ensures) in
-    (omega arith, omega arith, omega (arith, l .inv .2, ap length (s .1)))
+    let s = cursor-goes (x .text .now) (l .at) noCount (sym (c .before .item .given .1) ∙ c .before .before .before .next-item .ensures) in
+    let i = c .before .item .given .0 .0 in
+    (omega arith, omega arith, omega (arith, l .inv .2, ap length (s .1), same-number (x .text .now) (i .end) noCount (endCount i)))
 
 returns : tie.Need-returns Inv-loop μ-loop
 unfolding scan
 returns c =
     let x = c .before .before .before .before .before .args in
     let l = c .before .before .before .loop in
-    let s = cursor-goes (x .text .now) (l .at) (sym (c .enum-told .given .1) ∙ c .before .before .next-item .ensures) in
+    let s = cursor-goes (x .text .now) (l .at) noCount (sym (c .enum-told .given .1) ∙ c .before .before .next-item .ensures) in
     omega (arith, l .inv .2, ap length s)
 
 pub count-items-spec : {M : Type 1} → statement M

@@ -19,7 +19,8 @@ returns c =
     let flag = c .before .before .before .before .before .flag-number in
     let w = c .before .before .write-numbers in
     row-put (x .table .now) (w .last .0) (x .start)
-    (ap₂ (λ (k f : ℕ). i .start ∷ i .end ∷ k ∷ f ∷ []) (kind .ensures) (flag .ensures)) (length-item i) (s .pre) (w .ensures .1)
+    (ap₂ (λ (k f : ℕ). i .start ∷ i .end ∷ k ∷ f ∷ i .«char_start» ∷ i .«char_end» ∷ i .«unit_start» ∷ i .«unit_end» ∷ []) (kind .ensures)
+    (flag .ensures)) (length-item i) (s .pre) (w .ensures .1)
 
 pub put-item-spec : {M : Type 1} → statement M
 put-item-spec =

@@ -1,6 +1,6 @@
 -- `listing::items::put_items` meets its contract: a walk of its MIR, by hand, with a loop. A turn lends the scanner to `next` and takes
 -- it back, lends the table again to `put_step`, and takes it back. The invariant is `Going` (`ItemRows`): the rows of the items from the
--- scanner's offset on are still to be put.
+-- scanner's place on are still to be put.
 use mathlib.Core.Path.{_≡_, refl, ap}
 use mathlib.Core.Bool.{Bool, true, false}
 use mathlib.Core.WellFounded.{WellFounded, InvImage·wf}
@@ -33,13 +33,12 @@ use denote.RattleType.{owns}
 use denote.Laws.{Is, shows}
 use denote.Plain.{uint-makes}
 use denote.Builtin.{u8, usize}
-use denote.Ref.{RefT, NamedLft}
+use denote.Ref.{RefT}
 use denote.Slice.{sliceTy, sliceVal, MutSlice, ShrSlice, Room, slice-vals, mut-slice-tells, shr-slice-tells, shr-slice-copy}
 use denote.Signature.{plain}
 use denote.Steps.{only, owned, peeks, heard, nothing}
 use denote.Enum.Laws as EL
 use denote.Struct.Laws as LL
-use denote.Struct.Rest.{own-shut}
 use denote.Triple.Statement.{Contract, Triple}
 use denote.Triple.Call.{calls-at, calls-at-last}
 use denote.Triple.Clauses.{ensured, lasts}
@@ -55,17 +54,17 @@ use Rattle.scanner.specs.Spans.{scan}
 use Rattle.scanner.specs.declared.ScanStep.{ScanStep}
 use Rattle.scanner.proofs.ScanStep as R
 use Rattle.scanner.proofs.ScanStep.Laws as R′
+use Rattle.text_scanner.specs.Scanner.{Place, placeOf}
 use Rattle.text_scanner.specs.declared.Scanner.{Scanner}
-use Rattle.text_scanner.proofs.Scanner as T
 use Rattle.text_scanner.proofs.Scanner.Laws as T′
-use Rattle.text_scanner.proofs.Lending.{Aside, Cell, Next, Own, answerOf, lends, loan, moved, takes-back, to-next}
+use Rattle.text_scanner.proofs.Lending.{Aside, Cell, Next, Own, answerOf, lends, loan, moved, owns-scanner, takes-back, to-next}
 use Rattle.text_scanner.proofs.next.Symbol as next-def
 use Rattle.text_scanner.proofs.next.Symbol.{name as #next}
 use Rattle.text_scanner.proofs.next.Met as next-thm
 use Rattle.formatter.specs.List.{itemNumbers}
 use Rattle.listing.specs.Items.{isItem, stepBytes}
 use Rattle.listing.specs.declared.items.PutRows.{PutRows}
-use Rattle.listing.proofs.ItemRows.{Going, going-begin, going-done, going-nearer, going-on, going-room, left}
+use Rattle.listing.proofs.ItemRows.{atFirst, Going, going-begin, going-done, going-nearer, going-on, going-room, left}
 use Rattle.listing.proofs.Relending.{LentAgain, comes-back, lends-again}
 use Rattle.listing.proofs.items.PutRows as P
 use Rattle.listing.proofs.items.PutRows.Laws as P′
@@ -107,13 +106,13 @@ record Known {M : Type 1} (𝓤 : URA M) (H : Heap 𝓤) (A : Atoms 𝓤) (mem :
   pub of-next : Triple 𝓤 (C #next) (Next 𝓤 H A mem run)
   pub of-put : Triple 𝓤 (C #put-step) (PutStep 𝓤 H A mem run)
 
--- The index of the loop's invariant: the offset, the rows, and the table that they are put into.
+-- The index of the loop's invariant: the scanner's place, the rows, and the table that they are put into.
 record State (t ys : List ℕ) : Type 0 where
-  pub o : ℕ
+  pub at : Place
   pub rows : PutRows
   pub zs : List ℕ
   pub fits : rows .to < 2 ^ 64
-  pub going : Going t ys o (rows .to) zs (rows .more)
+  pub going : Going t ys at (rows .to) zs (rows .more)
 
 module _ {M : Type 1} (𝓤 : URA M) (H : Heap 𝓤) (A : Atoms 𝓤) (W : Given 𝓤 H A) (mem : Memory → SProp 𝓤) (run : Routine → Fun 𝓤)
     (κ₀ κ₁ : Lft) (q₀ q₁ : Share) (x : RefT (List ℕ)) (b o : ℕ) (γ : GName) (ys : List ℕ) (room : Room u8 (length ys)) where
@@ -187,18 +186,18 @@ module _ {M : Type 1} (𝓤 : URA M) (H : Heap 𝓤) (A : Atoms 𝓤) (W : Given
   Put i st r l = PutAt (i .zs) (i .rows .to) (stepBytes st) l (r .to) × (r .more ≡ isItem st)
 
   abbrev Nearer : St → St → Type 0
-  Nearer j i = left t (j .o) (j .rows .more) < left t (i .o) (i .rows .more)
+  Nearer j i = left t (j .at .offset) (j .rows .more) < left t (i .at .offset) (i .rows .more)
 
   Nearer-wf : WellFounded Nearer
-  Nearer-wf = InvImage·wf (λ (i : St). left t (i .o) (i .rows .more)) (Nat·lt-wfRel .wf)
+  Nearer-wf = InvImage·wf (λ (i : St). left t (i .at .offset) (i .rows .more)) (Nat·lt-wfRel .wf)
 
   abbrev here : St → Scanner
-  here i = record { text = x; offset = i .o }
+  here i = record { text = x; offset = i .at .offset; chars = i .at .chars; units = i .at .units }
 
   -- The index after a turn in which the scanner gives st.
   abbrev onward : (i : St) (st : ScanStep) → st ≡ answerOf (here i) → (r : PutRows) (l : List ℕ) → Put i st r l → r .to < 2 ^ 64 → St
   onward i st e r l f fits = record {
-    o = moved (here i) st .offset;
+    at = placeOf (moved (here i) st);
     rows = r;
     zs = l;
     fits = fits;
@@ -337,8 +336,15 @@ module _ {M : Type 1} (𝓤 : URA M) (H : Heap 𝓤) (A : Atoms 𝓤) (W : Given
       alloc1 ! (λ l₃. alloc1 ! (λ l₄. alloc1 ! (λ l₅. alloc1 ! (λ l₆. alloc1 ! (λ l₇. alloc1 ! (λ l₈. alloc1 ! (λ l₉. alloc0 ! $
       params1 ! $ pass1 ! (init ! 16 refl (tt, (tt, (record { fits = gt }, tt)))) $
       pass1 ! (init ! 14 refl (tt, (tt, (record { fits = room .0 }, tt)))) $ pass0 ! $
-      assigns ! (agg ! (and-then ! (load ! (from ! (stop !)) (look ! 16 refl)) (and-then ! (lit ! tt) (no-more !)))) (from ! (stop !))
-      (init ! 12 refl (tt, ((tt, (record { fits = gt }, tt)), (record { fits = lit< tt }, tt)))) $
+      assigns ! (agg ! (and-then ! (load ! (from ! (stop !)) (look ! 16 refl))
+      (and-then ! (lit ! tt) (and-then ! (lit ! tt) (and-then ! (lit ! tt) (no-more !)))))) (from ! (stop !))
+      (init ! 12 refl (
+        tt,
+        (
+          (tt, (record { fits = gt }, tt)),
+          (record { fits = lit< tt }, (record { fits = lit< tt }, (record { fits = lit< tt }, tt))),
+        ),
+      )) $
       assigns ! (agg ! (and-then ! (lit ! tt) (and-then ! (true-lit !) (no-more !)))) (from ! (stop !))
       (init ! 10 refl (tt, (record { fits = lit< tt }, (tt, tt)))) $
       -- [_9; …; _0; …; the tokens; what the parameters own]
@@ -346,15 +352,12 @@ module _ {M : Type 1} (𝓤 : URA M) (H : Heap 𝓤) (A : Atoms 𝓤) (W : Given
       move ! (22 ∷ []) $ split ! $ move ! (1 ∷ []) $ split ! $ move ! (1 ∷ []) $ drop ! $
       -- ['b's token; 'a's token; the table's; the text's; _9; …; _0; …]
       move ! (3 ∷ []) $ use1 W (‵ TO ⊛ ‵ TO) (shr-slice-copy 𝓤 H A W (named 0) κ₀ u8 .twice x (tv ∷ [])) $ split ! $
-      nothing ! $ owned ! usize (Is usize) (uint-makes 𝓤 H A W w64) 0 _ (refl, lit< tt) $ fjoin ! $ move ! (1 ∷ 0 ∷ []) $ fjoin ! $
-      use1 W (‵ (Own κ₀ (record { text = x; offset = 0 }))) (own-shut 𝓤 H A W (T.the-type α₀) (T′.the-laws α₀) (x, (0, tt))) $
+      use1 W (‵ (Own κ₀ (record { text = x; offset = 0; chars = 0; units = 0 })))
+      (owns-scanner 𝓤 H A W κ₀ x atFirst (lit< tt, lit< tt, lit< tt)) $
       -- [what the scanner owns; the text's; 'b's token; 'a's token; the table's; _9; …; _0; …]
       move ! (0 ∷ 4 ∷ 1 ∷ 3 ∷ 2 ∷ []) $
       begins 𝓣 known l₀ l₁ l₂ l₃ l₄ l₅ l₆ l₇ l₈ l₉
-      (record { o = 0; rows = record { to = 0; more = true }; zs = ys; fits = lit< tt; going = going-begin t ys enough })))))))))))
-    where
-      α₀ : NamedLft
-      α₀ = record { mir = named 0; lft = κ₀ }
+      (record { at = atFirst; rows = record { to = 0; more = true }; zs = ys; fits = lit< tt; going = going-begin t ys enough })))))))))))
 
 module _ {M : Type 1} (𝓤 : URA M) (H : Heap 𝓤) (A : Atoms 𝓤) (W : Given 𝓤 H A) (mem : Memory → SProp 𝓤) (run : Routine → Fun 𝓤) where
   put-items-walks : (𝓣 : Tables 𝓤 H) → Known 𝓤 H A mem run (𝓣 .C)

@@ -1,24 +1,28 @@
--- `listing::table::first_finding` meets its contract. The loop's invariant: the findings from `at` on are those from `start` on.
+-- `listing::table::first_finding` meets its contract. The loop's invariant: if the given numbers are the position of `start`, then the
+-- numbers held are the position of `at`, and the findings from `at` on are those from `start` on.
 use mathlib.Core.Path.{_≡_, refl, sym, ap, _∙_}
 use mathlib.Core.List.{map}
 use Prim.Native.Nat.{_-_}
 use native.Mathlib.Omega.{arith}
 use lib.ListN.{length}
 use borrow.Author.Needs.{needs}
+use Rattle.positions.specs.Positions.{AtPosition}
 use Rattle.formatter.specs.Findings.{findingRow}
 use Rattle.formatter.proofs.Steps.{analysis-says, rowsFrom}
-use Rattle.listing.proofs.Storing.{first-none, first-some}
+use Rattle.listing.proofs.Storing.{first-none, first-some, row-here}
 use Rattle.listing.proofs.table.first_finding.Statement.{statement}
 use Rattle.listing.proofs.table.first_finding.Tie as tie
 
 abbrev Inv-loop : tie.InvT-loop
-Inv-loop text start policy at₀ at = rowsFrom policy text start ≡ rowsFrom policy text at
+Inv-loop text start chars units policy at₀ before₀ at before =
+    AtPosition text start (record { chars = chars; units = units })
+    → AtPosition text at before × (rowsFrom policy text start ≡ rowsFrom policy text at)
 
 abbrev μ-loop : tie.MeasureT-loop
-μ-loop text start policy at₀ at = length text - at
+μ-loop text start chars units policy at₀ before₀ at before = length text - at
 
 loop-holds : tie.Need-loop-holds Inv-loop μ-loop
-loop-holds c = refl
+loop-holds c = λ a. (a, refl)
 
 returns : tie.Need-returns Inv-loop μ-loop
 returns c =
@@ -26,25 +30,27 @@ returns c =
     let l = c .before .before .before .before .loop in
     let p = x .policy in
     let t = x .text .now in
-    let s = analysis-says p t (l .at) (sym (c .before .enum-told .given .1) ∙ c .before .before .before .analyze-scan-item .ensures) in
-    c .no-finding .ensures ∙ first-none p t (x .start) (l .inv ∙ ap (map (findingRow p)) s)
+    let s = analysis-says p t (l .at) (l .before)
+    (sym (c .before .enum-told .given .1) ∙ c .before .before .before .analyze-scan-item .ensures) in
+    λ a. c .no-finding .ensures ∙ first-none p t (x .start) (l .inv a .1 ∙ ap (map (findingRow p t)) s)
 
 loop-less : tie.Need-loop-less Inv-loop μ-loop
 loop-less c =
     let x = c .before .before .before .before .before .before .args in
     let l = c .before .before .before .before .loop in
-    let s = analysis-says (x .policy) (x .text .now) (l .at)
+    let s = analysis-says (x .policy) (x .text .now) (l .at) (l .before)
     (sym (c .before .end .given .1) ∙ c .before .before .before .analyze-scan-item .ensures) in
-    omega arith
+    omega (arith, s .0 .some, s .0 .room)
 
 loop-again : tie.Need-loop-again Inv-loop μ-loop
 loop-again c =
     let x = c .before .before .before .before .before .before .args in
     let l = c .before .before .before .before .loop in
     let p = x .policy in
-    let s = analysis-says p (x .text .now) (l .at)
+    let t = x .text .now in
+    let s = analysis-says p t (l .at) (l .before)
     (sym (c .before .end .given .1) ∙ c .before .before .before .analyze-scan-item .ensures) in
-    l .inv ∙ ap (map (findingRow p)) (s .1)
+    λ a. let i = l .inv a in (s .2 (i .0), i .1 ∙ ap (map (findingRow p t)) (s .1))
 
 returns-2 : tie.Need-returns-2 Inv-loop μ-loop
 returns-2 c =
@@ -52,8 +58,9 @@ returns-2 c =
     let l = c .before .before .before .before .loop in
     let p = x .policy in
     let t = x .text .now in
-    let s = analysis-says p t (l .at) (sym (c .before .finding .given .1) ∙ c .before .before .before .analyze-scan-item .ensures) in
-    first-some p t (x .start) (l .inv ∙ s .1)
+    let s = analysis-says p t (l .at) (l .before)
+    (sym (c .before .finding .given .1) ∙ c .before .before .before .analyze-scan-item .ensures) in
+    λ a. let i = l .inv a in first-some p t (x .start) (i .1 ∙ row-here p t (s .1) (i .0))
 
 pub first-finding-spec : {M : Type 1} → statement M
 first-finding-spec =

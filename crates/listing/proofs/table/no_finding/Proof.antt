@@ -9,7 +9,15 @@ use Rattle.listing.proofs.table.no_finding.Tie as tie
 returns : tie.Need-returns
 returns c =
     let at = c .before .args .at in
-    let with-counts : NonCanonicality → Finding = λ counts. record { start = at; end = at; counts = counts } in
+    let with-counts : NonCanonicality → Finding = λ counts. record {
+      start = at;
+      end = at;
+      counts = counts;
+      «char_start» = 0;
+      «char_end» = 0;
+      «unit_start» = 0;
+      «unit_end» = 0;
+    } in
     ap with-counts (c .empty .ensures)
 
 pub no-finding-spec : {M : Type 1} → statement M

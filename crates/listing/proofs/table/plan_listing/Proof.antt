@@ -16,7 +16,7 @@ use Rattle.listing.proofs.table.plan_listing.Tie as tie
 -- The number of findings counted is the number of rows.
 counted : (text policy : List ℕ) {n : ℕ} → n ≡ length (findingsFrom (policyOf policy) text 0) → n ≡ length (rowsOf text policy)
 unfolding findings
-counted text policy e = e ∙ sym (length-map (findingsFrom (policyOf policy) text 0) (findingRow (policyOf policy)))
+counted text policy e = e ∙ sym (length-map (findingsFrom (policyOf policy) text 0) (findingRow (policyOf policy) text))
 
 returns : tie.Need-returns
 returns c =

@@ -5,9 +5,10 @@ use Prim.Native.Nat.{ℕ, _+_, _-_, _%_}
 use native.Mathlib.Omega.{arith}
 use borrow.Author.Needs.{needs}
 use lib.ListN.{length}
+use Rattle.base.specs.Sums.{capped}
 use Rattle.utf8.proofs.Packed.{packed-step, packed-stop}
 use Rattle.analysis.specs.Helpers.{slotLength}
-use Rattle.analysis.specs.Counts.{capped, cappedSum}
+use Rattle.analysis.specs.Counts.{cappedSum}
 use Rattle.analysis.proofs.CellsAt.{selectors-end}
 use Rattle.analysis.proofs.Measuring.{Measuring, measuring-begin, measuring-cell, measuring-done, measuring-plain, slot-few}
 use Rattle.replacing.proofs.measure.measure_cells.Statement.{statement}

@@ -6,6 +6,7 @@ use native.Mathlib.Omega.{arith}
 use borrow.Author.Needs.{needs}
 use lib.ListN.{length}
 use Rattle.base.proofs.Writer.{Writing, begin, finish, pass, put, room}
+use Rattle.positions.specs.Positions.{noCount}
 use Rattle.message_io.specs.Lines.{findingLine}
 use Rattle.report.specs.Report.{linesFrom, reportNumbers}
 use Rattle.report.proofs.Reports.{a-finding, at-end, no-finding}
@@ -35,14 +36,14 @@ returns c =
     let m = x .message .now in
     let l = c .before .before .before .loop in
     finish (linesFrom p m 0) 0 (x .out .now) (linesFrom p m (l .at)) (l .inv .1)
-    (at-end p m (l .at) (sym (c .enum-told .given .1) ∙ c .before .before .analyze-scan-item .ensures))
+    (at-end p m (l .at) noCount (sym (c .enum-told .given .1) ∙ c .before .before .analyze-scan-item .ensures))
 
 loop-less : tie.Need-loop-less Inv-loop μ-loop
 loop-less c =
     let x = c .before .before .before .before .before .before .before .args in
     let l = c .before .before .before .before .loop in
     let e = sym (c .before .end .given .1) ∙ c .before .before .before .analyze-scan-item .ensures in
-    let s = no-finding (x .policy) (x .message .now) (l .at) e .0 in
+    let s = no-finding (x .policy) (x .message .now) (l .at) noCount e .0 in
     omega (arith, s .some, s .room)
 
 loop-again : tie.Need-loop-again Inv-loop μ-loop
@@ -52,7 +53,7 @@ loop-again c =
     let m = x .message .now in
     let l = c .before .before .before .before .loop in
     let e = sym (c .before .end .given .1) ∙ c .before .before .before .analyze-scan-item .ensures in
-    let s = no-finding p m (l .at) e in
+    let s = no-finding p m (l .at) noCount e in
     (s .0 .room, pass (linesFrom p m 0) 0 (x .out .now) (linesFrom p m (l .at)) _ (l .inv .1) (s .1))
 
 put-finding-requires : tie.Need-put-finding-requires Inv-loop μ-loop
@@ -62,7 +63,7 @@ put-finding-requires c κs =
     let m = x .message .now in
     let l = c .before .before .before .before .before .loop in
     let f = c .before .before .finding .given in
-    let s = a-finding p m (l .at) (sym (f .1) ∙ c .before .before .before .before .analyze-scan-item .ensures) in
+    let s = a-finding p m (l .at) noCount (sym (f .1) ∙ c .before .before .before .before .analyze-scan-item .ensures) in
     let line = findingLine (reportNumbers (f .0 .0)) in
     let later = linesFrom p m (f .0 .0 .end) in
     room (linesFrom p m 0) 0 (x .out .now) (linesFrom p m (l .at)) line later (l .inv .1) (s .1)
@@ -73,7 +74,7 @@ loop-less-2 c =
     let l = c .before .before .before .before .before .before .before .before .loop in
     let a = c .before .before .before .before .before .before .before .analyze-scan-item .ensures in
     let e = sym (c .before .before .before .before .before .finding .given .1) ∙ a in
-    let s = a-finding (x .policy) (x .message .now) (l .at) e .0 in
+    let s = a-finding (x .policy) (x .message .now) (l .at) noCount e .0 in
     omega (arith, s .some, s .room)
 
 loop-again-2 : tie.Need-loop-again-2 Inv-loop μ-loop
@@ -83,7 +84,8 @@ loop-again-2 c =
     let m = x .message .now in
     let l = c .before .before .before .before .before .before .before .before .loop in
     let f = c .before .before .before .before .before .finding .given in
-    let s = a-finding p m (l .at) (sym (f .1) ∙ c .before .before .before .before .before .before .before .analyze-scan-item .ensures) in
+    let a = c .before .before .before .before .before .before .before .analyze-scan-item .ensures in
+    let s = a-finding p m (l .at) noCount (sym (f .1) ∙ a) in
     let later = linesFrom p m (f .0 .0 .end) in
     let w = c .before .before .put-finding .ensures in
     (s .0 .room, put (linesFrom p m 0) 0 (x .out .now) (linesFrom p m (l .at)) later (l .inv .1) w (s .1))

@@ -6,10 +6,10 @@ use Rattle.vectors.proofs.scanner_answers.scanner_agrees.Statement.{sta
 use Rattle.vectors.proofs.scanner_answers.scanner_agrees.Tie as tie
 
 abbrev Inv-loop : tie.InvT-loop
-Inv-loop text at₀ n₀ at n = n ≤ at
+Inv-loop text at₀ before₀ n₀ at before n = n ≤ at
 
 abbrev μ-loop : tie.MeasureT-loop
-μ-loop text at₀ n₀ at n = length text - at
+μ-loop text at₀ before₀ n₀ at before n = length text - at
 
 pub scanner-agrees-spec : {M : Type 1} → statement M
 scanner-agrees-spec =

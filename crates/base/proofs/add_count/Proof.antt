@@ -1,10 +1,10 @@
--- `analysis::types::add_count` meets its contract.
+-- `base::add_count` meets its contract.
 use mathlib.Core.Path.{sym}
 use native.Mathlib.Omega.{arith}
-use Rattle.analysis.proofs.Sums.{capped-held, capped-more}
+use Rattle.base.proofs.Sums.{capped-held, capped-more}
 use borrow.Author.Needs.{needs}
-use Rattle.analysis.proofs.types.add_count.Statement.{statement}
-use Rattle.analysis.proofs.types.add_count.Tie as tie
+use Rattle.base.proofs.add_count.Statement.{statement}
+use Rattle.base.proofs.add_count.Tie as tie
 
 returns : tie.Need-returns
 returns c = sym (capped-more _ (omega (arith, c .if1 .taken)))
