@@ -15,11 +15,17 @@ use Rattle.base.specs.declared.WriteAnswer.{WriteAnswer}
 use Rattle.base.specs.declared.WriteAnswer.the-variants as Write
 use Rattle.base.specs.declared.Refusal.{Refusal}
 use Rattle.base.specs.declared.Refusal.the-variants.{
+  BadClientOrNumber,
   BadDecision,
+  DoesNotFit,
   FeedEnded,
   NoFinding,
   NotAPolicy,
+  NotASheet,
+  NotAnEntry,
+  NotAnEntryList,
   NotWellFormed,
+  OtherVersion,
   OutputTooShort,
   TableTooShort,
   TextTooLong,
@@ -38,7 +44,13 @@ refusalOf w =
     (cond (eqb (w .number) 6) (BadDecision (w .value))
     (cond (eqb (w .number) 7) (TableTooShort (w .value))
     (cond (eqb (w .number) 8) (OutputTooShort (w .value))
-    (cond (eqb (w .number) 9) FeedEnded UnfinishedCharacter))))))))
+    (cond (eqb (w .number) 9) FeedEnded
+    (cond (eqb (w .number) 10) UnfinishedCharacter
+    (cond (eqb (w .number) 11) (NotASheet (w .value))
+    (cond (eqb (w .number) 12) (NotAnEntry (w .value))
+    (cond (eqb (w .number) 13) BadClientOrNumber
+    (cond (eqb (w .number) 14) (DoesNotFit (w .value))
+    (cond (eqb (w .number) 15) OtherVersion NotAnEntryList))))))))))))))
 
 refusal-of-row : (r : Refusal) → refusalOf (refusalRow r) ≡ r
 unfolding refusalOf
@@ -52,6 +64,12 @@ refusal-of-row (TableTooShort n) = refl
 refusal-of-row (OutputTooShort n) = refl
 refusal-of-row FeedEnded = refl
 refusal-of-row UnfinishedCharacter = refl
+refusal-of-row (NotASheet n) = refl
+refusal-of-row (NotAnEntry n) = refl
+refusal-of-row BadClientOrNumber = refl
+refusal-of-row (DoesNotFit n) = refl
+refusal-of-row OtherVersion = refl
+refusal-of-row NotAnEntryList = refl
 
 pub rows-distinct : RefusalRowsDistinct
 unfolding RefusalRowsDistinct
@@ -69,6 +87,12 @@ refusal-numbers (TableTooShort n) = (omega arith, omega arith)
 refusal-numbers (OutputTooShort n) = (omega arith, omega arith)
 refusal-numbers FeedEnded = (omega arith, omega arith)
 refusal-numbers UnfinishedCharacter = (omega arith, omega arith)
+refusal-numbers (NotASheet n) = (omega arith, omega arith)
+refusal-numbers (NotAnEntry n) = (omega arith, omega arith)
+refusal-numbers BadClientOrNumber = (omega arith, omega arith)
+refusal-numbers (DoesNotFit n) = (omega arith, omega arith)
+refusal-numbers OtherVersion = (omega arith, omega arith)
+refusal-numbers NotAnEntryList = (omega arith, omega arith)
 
 -- ---- rows of answers: a refusal's number is from 1 to 254, so it differs from 0 (success) and 255 (nothing)
 

@@ -7,11 +7,17 @@ use Rattle.base.specs.declared.Check.{Check}
 use Rattle.base.specs.declared.Check.the-variants.{Passed, Refused}
 use Rattle.base.specs.declared.Refusal.{Refusal}
 use Rattle.base.specs.declared.Refusal.the-variants.{
+  BadClientOrNumber,
   BadDecision,
+  DoesNotFit,
   FeedEnded,
   NoFinding,
   NotAPolicy,
+  NotASheet,
+  NotAnEntry,
+  NotAnEntryList,
   NotWellFormed,
+  OtherVersion,
   OutputTooShort,
   TableTooShort,
   TextTooLong,
@@ -27,8 +33,10 @@ pub record TableRow : Type 0 where
   pub returned : Option ℕ
 
 -- Document 01's table, row by row, and the rows of document 02: "9, a piece or an end for a feed already ended ..; 10, an end inside a
--- character", "From here a new refusal joins 01's table and returns nothing more unless it says what". The functions of src/refusals.rt
--- equal it, and all other code gets a refusal's number and value from them.
+-- character", "From here a new refusal joins 01's table and returns nothing more unless it says what"; 11 and 12 of a policy sheet, each
+-- "with the offset"; 13 and 14 of a store, 14 "with the number of bytes that would" fit; 15, "another version"; 16, "an old list that
+-- isn't strictly ascending or doesn't match the old policy's word count". The functions of src/refusals.rt equal it, and all other code
+-- gets a refusal's number and value from them.
 abbrev pub refusalTable : Refusal → TableRow
 refusalTable TextTooLong = record { number = 1; returned = none }
 refusalTable NotAPolicy = record { number = 2; returned = none }
@@ -40,6 +48,12 @@ refusalTable (TableTooShort n) = record { number = 7; returned = some n }
 refusalTable (OutputTooShort n) = record { number = 8; returned = some n }
 refusalTable FeedEnded = record { number = 9; returned = none }
 refusalTable UnfinishedCharacter = record { number = 10; returned = none }
+refusalTable (NotASheet n) = record { number = 11; returned = some n }
+refusalTable (NotAnEntry n) = record { number = 12; returned = some n }
+refusalTable BadClientOrNumber = record { number = 13; returned = none }
+refusalTable (DoesNotFit n) = record { number = 14; returned = some n }
+refusalTable OtherVersion = record { number = 15; returned = none }
+refusalTable NotAnEntryList = record { number = 16; returned = none }
 
 -- The row of an answer as two numbers: its number, and its value or 0.
 pub record RefusalRow : Type 0 where

@@ -38,6 +38,12 @@ pub enum Refusal {
     OutputTooShort { wanted: usize },
     FeedEnded,
     UnfinishedCharacter,
+    NotASheet { offset: usize },
+    NotAnEntry { offset: usize },
+    BadClientOrNumber,
+    DoesNotFit { fits: usize },
+    OtherVersion,
+    NotAnEntryList,
 }
 
 // The answer to filling a table: the number of rows written, or a refusal.

@@ -23,6 +23,12 @@ pub fn refusal_number(refusal: Refusal) -> u64
         Refusal::OutputTooShort { wanted: _ } => 8,
         Refusal::FeedEnded => 9,
         Refusal::UnfinishedCharacter => 10,
+        Refusal::NotASheet { offset: _ } => 11,
+        Refusal::NotAnEntry { offset: _ } => 12,
+        Refusal::BadClientOrNumber => 13,
+        Refusal::DoesNotFit { fits: _ } => 14,
+        Refusal::OtherVersion => 15,
+        Refusal::NotAnEntryList => 16,
     }
 }
 
@@ -41,6 +47,12 @@ pub fn refusal_value(refusal: Refusal) -> usize
         Refusal::OutputTooShort { wanted } => wanted,
         Refusal::FeedEnded => 0,
         Refusal::UnfinishedCharacter => 0,
+        Refusal::NotASheet { offset } => offset,
+        Refusal::NotAnEntry { offset } => offset,
+        Refusal::BadClientOrNumber => 0,
+        Refusal::DoesNotFit { fits } => fits,
+        Refusal::OtherVersion => 0,
+        Refusal::NotAnEntryList => 0,
     }
 }
 
@@ -59,5 +71,11 @@ pub fn returns_value(refusal: Refusal) -> bool
         Refusal::OutputTooShort { wanted: _ } => true,
         Refusal::FeedEnded => false,
         Refusal::UnfinishedCharacter => false,
+        Refusal::NotASheet { offset: _ } => true,
+        Refusal::NotAnEntry { offset: _ } => true,
+        Refusal::BadClientOrNumber => false,
+        Refusal::DoesNotFit { fits: _ } => true,
+        Refusal::OtherVersion => false,
+        Refusal::NotAnEntryList => false,
     }
 }
