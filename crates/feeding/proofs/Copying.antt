@@ -1,7 +1,7 @@
 -- Pieces of ASCII that are copied: the words of a feed that copies ASCII, what such a feed does with ASCII, and its bytes after a piece.
 use mathlib.Core.Path.{_≡_, refl, ap, ap₂, sym, _∙_, subst}
-use mathlib.Core.Logic.{_⊎_, inl, inr, ⊎-elim}
-use mathlib.Core.Bool.{Bool, true, false, cond, not, _&&_}
+use mathlib.Core.Logic.{_⊎_, ⊎-elim}
+use mathlib.Core.Bool.{Bool, true, false, cond, not}
 use mathlib.Core.List.{List, [], _∷_, _++_, append-assoc, append-nil, map}
 use Prim.Native.Nat.{ℕ, zero, suc, _+_, _-_, _*_, _%_, _≤_, _<_}
 use native.Mathlib.Omega.{arith}
@@ -15,7 +15,7 @@ use Rattle.base.specs.Words.{allBytes, bytesOf, hasRoom, littleEndian, wordByte
 use Rattle.base.proofs.Tests.{and-both, le-or-lt}
 use Rattle.base.proofs.Words.{allBytes-drop, word-read}
 use Rattle.base.proofs.Writer.{put-as, put-then}
-use Rattle.utf8.specs.Rfc3629.{allScalar, chars, encode, encodeAll, isScalar, validUpTo}
+use Rattle.utf8.specs.Rfc3629.{allScalar, chars, encodeAll, isScalar, validUpTo}
 use Rattle.utf8.specs.Subparts.{unfinished}
 use Rattle.utf8.proofs.Encoding.{encode-1}
 use Rattle.utf8.proofs.Texts.{chars-encodeAll-alone, encodeAll-append, encodeAll-whole}
@@ -42,8 +42,9 @@ use Rattle.analysis.proofs.Rules.{outcome-entry, outcome-no-entry}
 use Rattle.text_pass.specs.Changes.{AsciiBare}
 use Rattle.text_pass.proofs.PlainText.{ascii-other, other-plain}
 use Rattle.text_pass.proofs.RuleClasses.{rules-before, same-outcome}
-use Rattle.feed.specs.Bytes.{Called, called, countsOf, heldFor, pendingOf, policyPart, restOf, selectorOf, smallTo, stateOf, stateWords, wordAt}
-use Rattle.feed.specs.Feed.{Effect, Pending, base, fedAs, heldAfter, joinEffects, noEffect, nothing, settle, takeChar, takeChars, writtenAlone}
+use Rattle.feed.specs.Bytes.{Called, called, countsOf, heldFor, pendingOf, policyPart, restOf, selectorOf, smallTo, stateOf, stateWords}
+use Rattle.feed.specs.Bytes.{wordAt}
+use Rattle.feed.specs.Feed.{Effect, Pending, fedAs, heldAfter, joinEffects, noEffect, settle, takeChar, takeChars, writtenAlone}
 use Rattle.feed.specs.Calls.{piece}
 use Rattle.feed.specs.declared.FeedAnswer.the-variants.{Written}
 use Rattle.feed.specs.declared.State.{State}
@@ -351,7 +352,8 @@ module _ (bs : List ℕ) (w : WordsFit bs) (h : length bs ≡ 312) (t : allBytes
   many : 120 ≡ 0 + length (bytesOf (stateWords S))
   many = omega (arith, words-many S)
 
-  pub words-after : {bs′ : List ℕ} → bs′ ≡ sets (sets bs 8 (wordBytes last)) 48 (wordBytes len) → PutAt bs 0 (bytesOf (stateWords S)) bs′ 120
+  pub words-after : {bs′ : List ℕ} → bs′ ≡ sets (sets bs 8 (wordBytes last)) 48 (wordBytes len)
+      → PutAt bs 0 (bytesOf (stateWords S)) bs′ 120
   words-after e = record {
     ends = many;
     bytes = e ∙ new-words ∙ ap (λ (i : ℕ). bytesOf (stateWords S) ++ drop i bs) many
@@ -365,7 +367,8 @@ pub base-none : (c : ℕ) (o : List ℕ) → c ≡ 0 → PutAt o 0 (heldList c) 
 base-none c o e = put-as (heldList c) (sym (ap (λ (t : Bool). cond t [] (c ∷ [])) (eq-eqb c 0 e))) (record { ends = refl; bytes = refl })
 
 -- A held character.
-pub base-put : (c : ℕ) (o : List ℕ) {o′ : List ℕ} {x : ℕ} → (c ≡ 0 → ⊥) → c ≤ 0x7F → x ≡ c % 256 → o′ ≡ sets o 0 (x ∷ []) → PutAt o 0 (heldList c) o′ 1
+pub base-put : (c : ℕ) (o : List ℕ) {o′ : List ℕ} {x : ℕ} → (c ≡ 0 → ⊥) → c ≤ 0x7F → x ≡ c % 256 → o′ ≡ sets o 0 (x ∷ [])
+    → PutAt o 0 (heldList c) o′ 1
 base-put c o {o′} {x} n h q e =
     let y : x ≡ c = omega arith in
     put-as (heldList c) (sym (ap (λ (t : Bool). cond t [] (c ∷ [])) (ne-eqb c 0 n)))
@@ -404,7 +407,8 @@ module _ (o piece : List ℕ) (c last : ℕ) {o₁ : List ℕ} {at n : ℕ} (w :
 pub both-put : (bs : List ℕ) (x y : ℕ) {m r : List ℕ} → length bs ≡ 312 → m ≡ cond (hasRoom bs 8) (sets bs 8 (wordBytes x)) bs
     → r ≡ cond (hasRoom m 48) (sets m 48 (wordBytes y)) m → r ≡ sets (sets bs 8 (wordBytes x)) 48 (wordBytes y)
 both-put bs x y {m} {r} h p q =
-    let M : m ≡ sets bs 8 (wordBytes x) = p ∙ ap (λ (t : Bool). cond t (sets bs 8 (wordBytes x)) bs) (le-leb (8 + 8) (length bs) (omega arith)) in
+    let M : m ≡ sets bs 8 (wordBytes x) =
+    p ∙ ap (λ (t : Bool). cond t (sets bs 8 (wordBytes x)) bs) (le-leb (8 + 8) (length bs) (omega arith)) in
     let n : length m ≡ 312 = ap length M ∙ length-sets bs 8 (wordBytes x) ∙ h in
     q ∙ ap (λ (t : Bool). cond t (sets m 48 (wordBytes y)) m) (le-leb (48 + 8) (length m) (omega arith))
     ∙ ap (λ (l : List ℕ). sets l 48 (wordBytes y)) M

@@ -31,7 +31,8 @@ last-held-requires c κs =
 put-ascii-requires : tie.Need-put-ascii-requires
 put-ascii-requires c κs =
     let s = c .before .before .before .before .before .before .before .before .before .before .before in
-    let q = c .before .before .before .before .before .is-copied-piece .ensures (not-false _ (c .before .before .before .before .if1 .left)) in
+    let d = c .before .before .before .before in
+    let q = d .before .is-copied-piece .ensures (not-false _ (d .if1 .left)) in
     (omega (arith, c .before .before .base-word .ensures, s .pre .base), q .some, omega (arith, q .fits))
 
 put-words-requires : tie.Need-put-words-requires

@@ -24,7 +24,8 @@ returns-3 c = λ e.
     let f = k .before .args .feed .now in
     copies-if f (d .before .words-fit .ensures (not-false _ (d .if1 .left))) (k .before .pre)
     (sym (c .is-policy .ensures ∙ ap isPolicy (policy-lent f)) ∙ e)
-    (sym (c .before .before .before .ascii-keys-bare .ensures ∙ ap asciiKeysBare (policy-lent f)) ∙ not-false _ (c .before .before .if2 .left))
+    (sym (c .before .before .before .ascii-keys-bare .ensures ∙ ap asciiKeysBare (policy-lent f))
+    ∙ not-false _ (c .before .before .if2 .left))
     (bytes-all f (λ j. omega (arith, k .shared-slice-known .given j .fits)))
 
 pub copies-ascii-spec : {M : Type 1} → statement M

@@ -1,8 +1,5 @@
 -- `feeding::ascii::is_ascii_base` meets its contract: of the ASCII characters, exactly these have a variation entry.
-use mathlib.Core.Path.{sym, _∙_}
-use mathlib.Core.Bool.{true≢false}
 use native.Mathlib.Omega.{arith}
-use borrow.Author.Tests.{eq-eqb}
 use Rattle.feeding.proofs.Copying.{ascii-entry, by-star, entry-digit, entry-hash}
 use Rattle.feeding.proofs.ascii.is_ascii_base.Statement.{statement}
 use Rattle.feeding.proofs.ascii.is_ascii_base.Tie as tie

@@ -10,7 +10,8 @@ put-each-requires c κs =
     let b = c .before .before .before .before in
     let s = b .before .before .before .before .before in
     let x = s .args in
-    ascii-room (x .out .now) (x .piece .now) (x .base) (x .last) (b .put-base .ensures) (b .before .before .copied-len .ensures .1) (s .pre .2)
+    ascii-room (x .out .now) (x .piece .now) (x .base) (x .last) (b .put-base .ensures) (b .before .before .copied-len .ensures .1)
+    (s .pre .2)
 
 add-result : tie.Need-add-result
 add-result c =

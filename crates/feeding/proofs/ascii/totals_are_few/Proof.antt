@@ -31,7 +31,8 @@ loop-again c =
     let x = c .before .before .before .before .before .before .args in (
       omega arith,
       omega arith,
-      and-next (λ (n : ℕ). wordAt n (x .feed .now) ≤ textLimit) (l .inv .2) (leb-true _ _ (sym (c .before .is-few .ensures) ∙ not-false _ (c .if2 .left))),
+      and-next (λ (n : ℕ). wordAt n (x .feed .now) ≤ textLimit) (l .inv .2)
+          (leb-true _ _ (sym (c .before .is-few .ensures) ∙ not-false _ (c .if2 .left))),
     )
 
 returns-3 : tie.Need-returns-3 Inv-loop μ-loop
