@@ -13,7 +13,7 @@ use Rattle.policy.specs.PolicyBytes.{isPolicy}
 use Rattle.utf8.specs.Rfc3629.{begun-2, begun-3, subpart}
 use Rattle.utf8.specs.Subparts.{unfinished}
 use Rattle.utf8.proofs.SecondBytes.{width-1, width-2-low, width-2-tail, width-3}
-use Rattle.feed.specs.Bytes.{isFeed, restOf, smallTo, stateOf}
+use Rattle.feed.specs.Bytes.{heldOf, isFeed, restOf, smallTo, stateOf, wordAt}
 
 -- ---- three bytes
 
@@ -83,6 +83,16 @@ module _ (bs : List ℕ) where
   pub feed-1 : (length bs ≡ 312 → ⊥) → false ≡ isFeed bs
   unfolding isFeed
   feed-1 h = sym (simp (ne-eqb (length bs) 312 h))
+
+  -- The base and the unfinished bytes as they were read.
+  pub feed-base : {w b : ℕ} {t : Bool} → w ≡ wordAt 1 bs → b ≡ w % 4294967296 → isScalar b ≡ t → isScalar (stateOf bs .held .base) ≡ t
+  unfolding stateOf heldOf
+  feed-base p q e = ap isScalar (ap (λ (x : ℕ). x % 4294967296) (sym p) ∙ sym q) ∙ e
+
+  pub feed-rest : {n r : ℕ} {t : Bool} → n ≡ wordAt 4 bs → r ≡ wordAt 5 bs → unfinished (littleEndian n r) ≡ t
+      → unfinished (restOf (stateOf bs)) ≡ t
+  unfolding stateOf
+  feed-rest p q e = ap₂ (λ (x y : ℕ). unfinished (littleEndian x y)) (sym p) (sym q) ∙ e
 
   module _ (h : length bs ≡ 312) where
     pub feed-2 : smallTo 15 bs ≡ false → false ≡ isFeed bs

@@ -204,12 +204,10 @@ pub fn is_feed(feed: &[u8]) -> bool
     if !is_small(feed) {
         return false;
     }
-    let state = read_state(feed);
-    let held = state.held;
-    if !utf8::is_scalar(held.base) {
+    if !utf8::is_scalar(low(word(feed, 1))) {
         return false;
     }
-    if !is_unfinished(state.rest_len, state.rest) {
+    if !is_unfinished(word(feed, 4), word(feed, 5)) {
         return false;
     }
     policy::policy_bytes::is_policy(&feed[STATE_BYTES..])

@@ -11,3 +11,4 @@ pub mod Scanning
 pub mod Resting
 pub mod Fronting
 pub mod Pieces
+pub mod Copying

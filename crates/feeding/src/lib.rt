@@ -3,6 +3,7 @@
 // A piece goes through formatting's own passes, part by part (`take_all`): the character that it completes, its first selectors, the
 // characters that are formatted by themselves, and the last base, which is held. The definition takes the characters one after the other
 // (`takeChars` of crate feed, specs/Feed.antt).
+mod ascii;
 mod middle;
 mod scan;
 mod tail;
@@ -26,6 +27,7 @@ ghost use Rattle.feed.specs.Bytes.{EndsCalled, begun, called, eightWords, feedR
 ghost use Rattle.feed.specs.Calls as Calls;
 ghost use Rattle.feed.specs.Feed.{fedAs, settle, takeChars};
 ghost use Rattle.feed.specs.Feed as Feed;
+ghost use Rattle.feeding.specs.Copied.{CopiesAscii};
 ghost use Rattle.feeding.specs.Helpers.{LeftAt, TakenBy, endedState, openState};
 ghost use Rattle.feeding.specs.Parts.{FrontTaken, ScanFits, charOf, scannedChars};
 ghost use Rattle.scanner.specs.SelectorRun.{firstSelector};
@@ -34,6 +36,13 @@ ghost use Rattle.analysis.specs.CellView.{totalCells};
 use analysis::singleton::Slot;
 use analysis::singleton::analyze_by_policy_bytes;
 use analysis::types::NonCanonicality;
+use ascii::base_word;
+use ascii::copies_ascii;
+use ascii::is_copied_piece;
+use ascii::last_held;
+use ascii::len_word;
+use ascii::put_ascii;
+use ascii::put_words;
 use base::Refusal;
 use base::TEXT_LIMIT;
 use base::WriteAnswer;
@@ -62,7 +71,7 @@ use unicode::presentation::Presentation;
 use utf8::WriteChar;
 
 // What every piece has room for besides 4 bytes for each of its bytes. The end has this room too.
-const END_ROOM: usize = 16;
+pub(crate) const END_ROOM: usize = 16;
 
 const TOTALS_BYTES: usize = 64;
 
@@ -695,6 +704,23 @@ fn take_piece(feed: &mut [u8], piece: &[u8], out: &mut [u8]) -> FeedAnswer
     FeedAnswer::Written { len: taken.end }
 }
 
+// Takes a piece, for a feed that copies ASCII.
+fn copy_piece(feed: &mut [u8], piece: &[u8], out: &mut [u8]) -> FeedAnswer
+    requires { ⌜ CopiesAscii (now feed) ⌝ }
+    ensures { λ r. ⌜ EndsCalled (called (now (feed .entry)) (Calls.piece (now (piece .entry)) (now (out .entry)))) r (now (feed .exit))
+        (now (out .exit)) ⌝ }
+{
+    let len = len_word(feed);
+    if !is_copied_piece(len, piece, out.len()) {
+        return take_piece(feed, piece, out);
+    }
+    let base = base_word(feed);
+    let last = last_held(piece);
+    let end = put_ascii(out, base, piece, last);
+    put_words(feed, last, len + piece.len());
+    FeedAnswer::Written { len: end }
+}
+
 // Takes a piece: writes all but an unfinished character and a last base that has a variation entry, with its selectors. Or it refuses.
 // The length is tested here, so that the compiler knows it wherever the words of the feed are read and written.
 pub fn piece(feed: &mut [u8], piece: &[u8], out: &mut [u8]) -> FeedAnswer
@@ -704,5 +730,8 @@ pub fn piece(feed: &mut [u8], piece: &[u8], out: &mut [u8]) -> FeedAnswer
     if feed.len() != FEED_BYTES {
         return FeedAnswer::Refused(Refusal::FeedEnded);
     }
-    take_piece(feed, piece, out)
+    if !copies_ascii(feed) {
+        return take_piece(feed, piece, out);
+    }
+    copy_piece(feed, piece, out)
 }

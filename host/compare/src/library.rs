@@ -38,6 +38,7 @@ impl Calls for Library {
         sys::feed_begin(policy, feed)
     }
 
+    #[inline]
     fn feed_piece(&self, feed: &mut [u8], piece: &[u8], out: &mut [u8]) -> u64 {
         sys::feed_piece(feed, piece, out)
     }

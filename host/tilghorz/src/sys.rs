@@ -148,6 +148,7 @@ pub fn feed_begin(policy: &[u8], feed: &mut [u8]) -> u64 {
 }
 
 /// `tilghorz_feed_piece`: feeds the next bytes of a thread.
+#[inline]
 #[must_use]
 pub fn feed_piece(feed: &mut [u8], piece: &[u8], out: &mut [u8]) -> u64 {
     // SAFETY: as the head of this file says.

@@ -3,13 +3,9 @@ use mathlib.Core.Path.{ap, sym, _∙_}
 use native.Mathlib.Omega.{arith}
 use borrow.Author.Needs.{needs}
 use borrow.Author.Tests.{not-false, not-true}
-use Rattle.utf8.specs.Rfc3629.{isScalar}
-use Rattle.utf8.specs.Subparts.{unfinished}
-use Rattle.feed.specs.declared.State.{State}
-use Rattle.feed.specs.Bytes.{restOf}
 use Rattle.policy.specs.PolicyBytes.{isPolicy}
 use Rattle.feed.proofs.Reading.{policy-lent}
-use Rattle.feed.proofs.Testing.{feed-1, feed-2, feed-3, feed-4, feed-5}
+use Rattle.feed.proofs.Testing.{feed-1, feed-2, feed-3, feed-4, feed-5, feed-base, feed-rest}
 use Rattle.feed.proofs.is_feed.Statement.{statement}
 use Rattle.feed.proofs.is_feed.Tie as tie
 
@@ -23,45 +19,43 @@ returns-2 c =
 
 returns-3 : tie.Need-returns-3
 returns-3 c =
-    let x = c .before .before .before .before .before .before .before .before .args in
-    feed-3 (x .feed .now) (c .before .before .before .before .before .before .if1 .left)
-    (sym (c .before .before .before .before .before .is-small .ensures) ∙ not-false _ (c .before .before .before .before .if2 .left))
-    (ap (λ (s : State). isScalar (s .held .base)) (sym (c .before .before .before .read-state .ensures .0 (omega
-    (arith, c .before .before .before .before .before .before .if1 .left)))) ∙ sym
-    (c .before .is-scalar .ensures) ∙ not-true _ (c .if3 .taken))
+    let w = c .before .before .before in
+    let s = w .before .before in
+    let f = s .before .before .before .args .feed .now in
+    feed-3 f (s .before .if1 .left) (sym (s .is-small .ensures) ∙ not-false _ (w .before .if2 .left))
+    (feed-base f (w .word .ensures) (c .before .before .low .ensures) (sym (c .before .is-scalar .ensures) ∙ not-true _ (c .if3 .taken)))
 
 returns-4 : tie.Need-returns-4
 returns-4 c =
-    let x = c .before .before .before .before .before .before .before .before .before .before .args in
-    feed-4 (x .feed .now) (c .before .before .before .before .before .before .before .before .if1 .left)
-    (sym (c .before .before .before .before .before .before .before .is-small .ensures)
-    ∙ not-false _ (c .before .before .before .before .before .before .if2 .left))
-    (ap (λ (s : State). isScalar (s .held .base)) (sym (c .before .before .before .before .before .read-state .ensures .0 (omega
-    (arith, c .before .before .before .before .before .before .before .before .if1 .left))))
-    ∙ sym (c .before .before .before .is-scalar .ensures) ∙ not-false _ (c .before .before .if3 .left))
-    (ap (λ (s : State). unfinished (restOf s)) (sym (c .before .before .before .before .before .read-state .ensures .0 (omega
-    (arith, c .before .before .before .before .before .before .before .before .if1 .left))))
-    ∙ sym (c .before .is-unfinished .ensures) ∙ not-true _ (c .if4 .taken))
+    let i = c .before .before .before .before in
+    let w = i .before .before .before in
+    let s = w .before .before in
+    let f = s .before .before .before .args .feed .now in
+    feed-4 f (s .before .if1 .left) (sym (s .is-small .ensures) ∙ not-false _ (w .before .if2 .left))
+    (feed-base f (w .word .ensures) (i .before .before .low .ensures) (sym (i .before .is-scalar .ensures) ∙ not-false _ (i .if3 .left)))
+    (feed-rest f (c .before .before .before .word2 .ensures) (c .before .before .word3 .ensures)
+    (sym (c .before .is-unfinished .ensures) ∙ not-true _ (c .if4 .taken)))
 
 sub-is-policy : tie.Need-sub-is-policy
-sub-is-policy c = omega (arith, c .before .before .before .before .before .before .before .before .if1 .left)
+sub-is-policy c =
+    let s = c .before .before .before .before .before .before .before .before .before in omega (arith, s .before .if1 .left)
 
 part-is-policy-start : tie.Need-part-is-policy-start
-part-is-policy-start c = omega (arith, c .before .before .before .before .before .before .before .before .if1 .left)
+part-is-policy-start c =
+    let s = c .before .before .before .before .before .before .before .before .before in omega (arith, s .before .if1 .left)
 
 returns-5 : tie.Need-returns-5
 returns-5 c =
-    let x = c .before .before .before .before .before .before .before .before .before .before .before .before .args in
-    feed-5 (x .feed .now) (c .before .before .before .before .before .before .before .before .before .before .if1 .left)
-    (sym (c .before .before .before .before .before .before .before .before .before .is-small .ensures)
-    ∙ not-false _ (c .before .before .before .before .before .before .before .before .if2 .left))
-    (ap (λ (s : State). isScalar (s .held .base)) (sym (c .before .before .before .before .before .before .before .read-state .ensures .0
-    (omega (arith, c .before .before .before .before .before .before .before .before .before .before .if1 .left))))
-    ∙ sym (c .before .before .before .before .before .is-scalar .ensures) ∙ not-false _ (c .before .before .before .before .if3 .left))
-    (ap (λ (s : State). unfinished (restOf s)) (sym (c .before .before .before .before .before .before .before .read-state .ensures .0
-    (omega (arith, c .before .before .before .before .before .before .before .before .before .before .if1 .left))))
-    ∙ sym (c .before .before .before .is-unfinished .ensures) ∙ not-false _ (c .before .before .if4 .left))
-    (c .is-policy .ensures ∙ ap isPolicy (policy-lent (x .feed .now)))
+    let u = c .before .before in
+    let i = u .before .before .before .before in
+    let w = i .before .before .before in
+    let s = w .before .before in
+    let f = s .before .before .before .args .feed .now in
+    feed-5 f (s .before .if1 .left) (sym (s .is-small .ensures) ∙ not-false _ (w .before .if2 .left))
+    (feed-base f (w .word .ensures) (i .before .before .low .ensures) (sym (i .before .is-scalar .ensures) ∙ not-false _ (i .if3 .left)))
+    (feed-rest f (u .before .before .before .word2 .ensures) (u .before .before .word3 .ensures)
+    (sym (u .before .is-unfinished .ensures) ∙ not-false _ (u .if4 .left)))
+    (c .is-policy .ensures ∙ ap isPolicy (policy-lent f))
 
 pub is-feed-spec : {M : Type 1} → statement M
 is-feed-spec =
@@ -72,7 +66,10 @@ is-feed-spec =
     returns-2
     (λ c κs. search needs)
     (λ c κs. search needs)
+    (λ c κs. search needs)
     returns-3
+    (λ c κs. search needs)
+    (λ c κs. search needs)
     (λ c κs. search needs)
     returns-4
     sub-is-policy

@@ -1,0 +1,54 @@
+-- `feeding::ascii::totals_are_few` meets its contract. The loop's invariant: the words so far pass.
+use mathlib.Core.Path.{sym, _∙_}
+use mathlib.Core.Bool.{true≢false}
+use Prim.Native.Nat.{ℕ, _-_, _<_, _≤_}
+use native.Mathlib.Omega.{arith}
+use borrow.Author.Tests.{leb-true, not-false}
+use Rattle.base.specs.Refusals.{textLimit}
+use Rattle.feed.specs.Bytes.{wordAt}
+use Rattle.feeding.proofs.Copying.{and-next}
+use Rattle.feeding.proofs.ascii.totals_are_few.Statement.{statement}
+use Rattle.feeding.proofs.ascii.totals_are_few.Tie as tie
+
+abbrev Inv-loop : tie.InvT-loop
+Inv-loop feed k₀ k = (7 ≤ k) × (k ≤ 15) × ((j : ℕ) → 7 ≤ j → j < k → wordAt j feed ≤ textLimit)
+
+abbrev μ-loop : tie.MeasureT-loop
+μ-loop feed k₀ k = 15 - k
+
+returns : tie.Need-returns Inv-loop μ-loop
+returns c = λ e. absurd (true≢false (sym e))
+
+loop-holds : tie.Need-loop-holds Inv-loop μ-loop
+loop-holds c = (omega arith, omega arith, λ j h l. absurd (omega arith))
+
+returns-2 : tie.Need-returns-2 Inv-loop μ-loop
+returns-2 c = λ e. absurd (true≢false (sym e))
+
+loop-again : tie.Need-loop-again Inv-loop μ-loop
+loop-again c =
+    let l = c .before .before .before .loop in
+    let x = c .before .before .before .before .before .before .args in (
+      omega arith,
+      omega arith,
+      and-next (λ (n : ℕ). wordAt n (x .feed .now) ≤ textLimit) (l .inv .2)
+          (leb-true _ _ (sym (c .before .is-few .ensures) ∙ not-false _ (c .if2 .left))),
+    )
+
+returns-3 : tie.Need-returns-3 Inv-loop μ-loop
+returns-3 c = λ e j h m. let l = c .before .loop in l .inv .2 j h (omega arith)
+
+pub totals-are-few-spec : {M : Type 1} → statement M
+totals-are-few-spec =
+    tie.close
+    (tie.spec
+    Inv-loop
+    μ-loop
+    returns
+    loop-holds
+    (λ c κs. omega arith)
+    returns-2
+    (λ c. omega arith)
+    (λ c. omega arith)
+    loop-again
+    returns-3)
