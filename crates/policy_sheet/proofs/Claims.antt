@@ -1,23 +1,36 @@
 -- The claims of specs/Theorems.antt.
 use mathlib.Core.Path.{_≡_, refl, ap, sym, _∙_, subst}
 use mathlib.Core.Logic.{_↔_}
+use mathlib.Core.Bool.{true}
 use mathlib.Core.List.{List}
 use mathlib.Core.Option.{Option, none, some}
 use Prim.Native.Nat.{ℕ, _≤_}
 use native.Mathlib.Omega.{arith}
+use lib.ListN.{length}
 use Rattle.base.specs.Bits.{one}
+use Rattle.base.specs.Refusals.{written}
 use Rattle.base.specs.Texts.{parted}
+use Rattle.base.specs.Words.{allBytes}
 use Rattle.unicode.specs.Tables.{member as in-table}
 use Rattle.unicode.specs.Unicode.{hasVariationSequence}
 use Rattle.unicode.specs.UnicodeData.{variationEntries}
 use Rattle.policy_key_set.specs.Display.{hexDigit, hexDigits}
 use Rattle.policy_key_set.specs.Sets.{member as in-set}
+use Rattle.policy.specs.PolicyBytes.{isPolicy, policyBytes, policyOf}
+use Rattle.policy.specs.Theorems.{WriteRead}
 use Rattle.policy.specs.declared.Policy.{Policy}
+use Rattle.policy.proofs.Claims.{write-read}
+use Rattle.policy_sheet.specs.Calls.{readCall}
 use Rattle.policy_sheet.specs.Grammar.{Piece, Sheet, allowedDigits}
 use Rattle.policy_sheet.specs.Meaning.{AllEntries, FirstNonEntry, Means, Rising, sheetPolicy}
 use Rattle.policy_sheet.specs.Reader.{SheetReading, firstDescending, firstNonEntry, answerOf, is-read, isNone, kindOf, not-a-sheet, not-an-entry, orElse, nonEntryOr, readPieces, readSheet, run, transition, transitionBy}
-use Rattle.policy_sheet.specs.Theorems.{Fault, FirstFault, NonEntryRefused, OnlyMeaning, OnlyReading, ReadsBack, SheetsRead, FewestDigits, SheetsDeterminePolicies, SheetExamples, WritingExample, WrittenRuns}
+use Rattle.policy_sheet.specs.Theorems.{EveryReadCall, EveryWriteCall, Fault, FirstFault, NonEntryRefused, OnlyMeaning, OnlyReading, ReadsBack, SheetsRead, FewestDigits, SheetsDeterminePolicies, SheetExamples, WritingExample, WrittenRuns}
 use Rattle.policy_sheet.specs.Writer.{fewestDigits, firstIn, joined, lineText, runText, runsFrom, withEntry, writeSheet}
+use Rattle.policy_sheet.specs.declared.SheetAnswer.the-variants.{Written}
+use Rattle.policy_sheet.proofs.Lengths.{sheet-few}
+use Rattle.policy_sheet.proofs.Offsets.{fault-inside, non-entry-inside}
+use Rattle.policy_sheet.proofs.Outcomes.{read-as, read-long, read-small, result-done, result-short, write-refused, write-result, write-small}
+use Rattle.policy_sheet.proofs.PolicyValues.{policy-bytes-many, policy-split, value-of-bytes}
 use Rattle.policy_sheet.proofs.ReadsBack.{back}
 use Rattle.policy_sheet.proofs.Faults.{Verdict, faulty, formed, only-pieces, read-rising, verdict}
 use Rattle.policy_sheet.proofs.Maximal.{fewest, maximal, point-small}
@@ -42,9 +55,9 @@ no-fault-read : (o : Option ℕ) (p : Policy) (n : ℕ) → nonEntryOr o (is-rea
 no-fault-read none p n e = let z : _≡_ {A = ℕ} 0 1 = cc in omega arith
 no-fault-read (some m) p n e = let z : _≡_ {A = ℕ} 0 1 = cc in omega arith
 
-read-as : (o : Option ℕ) (p q : Policy) → nonEntryOr o (is-read p) ≡ is-read q → (o ≡ none) × (p ≡ q)
-read-as none p q e = (refl, cc)
-read-as (some m) p q e = let z : _≡_ {A = ℕ} 0 1 = cc in absurd (omega arith)
+read-none : (o : Option ℕ) (p q : Policy) → nonEntryOr o (is-read p) ≡ is-read q → (o ≡ none) × (p ≡ q)
+read-none none p q e = (refl, cc)
+read-none (some m) p q e = let z : _≡_ {A = ℕ} 0 1 = cc in absurd (omega arith)
 
 other-as : (o : Option ℕ) (p : Policy) (n : ℕ) → nonEntryOr o (is-read p) ≡ not-an-entry n → o ≡ some n
 other-as none p n e = let z : _≡_ {A = ℕ} 0 1 = cc in absurd (omega arith)
@@ -76,7 +89,7 @@ sheets-read s p = (λ e. forth (verdict s) e, back-again)
     forth : {x : SheetReading} → Verdict s x → x ≡ is-read p → ReadAs s p
     forth (faulty f g) e = let z : _≡_ {A = ℕ} 0 1 = cc in absurd (omega arith)
     forth (formed {xs} h d f) e =
-        let r = read-as (firstNonEntry xs) (sheetPolicy xs) p e in
+        let r = read-none (firstNonEntry xs) (sheetPolicy xs) p e in
         (xs, h, none-rising xs d, none-entries xs (r .0), subst (Means xs) (r .1) (pieces-mean xs))
 
     back-again : ReadAs s p → readSheet s ≡ is-read p
@@ -111,6 +124,50 @@ sheets-determine-policies p q v w u t = (
   λ e. ap writeSheet e,
   λ e. same-read (sym (reads-back p v u) ∙ ap readSheet e ∙ reads-back q w t),
 )
+
+-- ---- the calls
+
+value-read : (s : List ℕ) (p : Policy) → readSheet s ≡ is-read p → length (policyBytes p) ≡ 192
+unfolding SheetsRead
+value-read s p e = policy-bytes-many p (sheets-read s p .0 e .4 .value)
+
+pub every-read-call : EveryReadCall
+unfolding EveryReadCall FirstFault NonEntryRefused
+every-read-call sheet out = record {
+  long = read-long sheet out;
+  no-sheet = λ h n e. read-as sheet out (not-a-sheet n) h e;
+  no-entry = λ h n e. read-as sheet out (not-an-entry n) h e;
+  short = λ h p e l. read-as sheet out (is-read p) h e ∙ result-short 192 (policyBytes p) out (value-read sheet p e) l;
+  done = λ h p e l. read-as sheet out (is-read p) h e ∙ result-done 192 (policyBytes p) out (value-read sheet p e) l;
+  small =
+      read-small sheet out (λ n e. fault-inside (first-fault sheet n .0 e .0))
+      (λ n e. let r = non-entry-refused sheet n .0 e in non-entry-inside (r .1) (r .3)) (value-read sheet);
+}
+
+pub every-write-call : EveryWriteCall
+unfolding EveryWriteCall ReadsBack WriteRead
+every-write-call policy out = record {
+  no-policy = write-refused policy out;
+  short = λ e l. write-result policy out e ∙ result-short (length S) S out refl l;
+  done = λ e l. write-result policy out e ∙ result-done (length S) S out refl l;
+  few = sheet-few (policyOf policy);
+  small = write-small policy out;
+  reads-back = λ b e o l. back-to b e o l;
+}
+  where
+    S : List ℕ
+    S = writeSheet (policyOf policy)
+
+    back-to : allBytes policy ≡ true → isPolicy policy ≡ true → (o : List ℕ) → 192 ≤ length o
+        → readCall S o ≡ written (Written 192) policy o
+    back-to b e o l =
+        let v = value-of-bytes policy b in
+        let n = policy-split policy e in
+        read-as S o (is-read (policyOf policy)) (omega (arith, sheet-few (policyOf policy))) (reads-back (policyOf policy) v (n .1))
+        ∙ result-done 192 (policyBytes (policyOf policy)) o (policy-bytes-many (policyOf policy) v) l
+        ∙ ap (λ (r : List ℕ). written (Written 192) r o) (write-read policy b (n .0))
+
+-- ---- the form of a written sheet
 
 pub written-runs : WrittenRuns
 unfolding WrittenRuns

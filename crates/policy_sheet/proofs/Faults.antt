@@ -122,7 +122,7 @@ closed-pieces comma-closes k xs at = refl
 closed-pieces newline-closes k xs at = refl
 
 -- It starts before the end of what was read.
-down-before : {s : List ℕ} {n : ℕ} → DescendingRange s n → n < length s
+pub down-before : {s : List ℕ} {n : ℕ} → DescendingRange s n → n < length s
 down-before {s} {n} d = omega (arith, simp length-append at (ap length (d .text)), piece-starts (d .here), d .starts)
 
 -- Where a range runs down, the first one that was read starts there or before.

@@ -11,4 +11,8 @@ pub mod RunCovers
 pub mod Written
 pub mod ReadsBack
 pub mod Maximal
+pub mod Lengths
+pub mod Offsets
+pub mod PolicyValues
+pub mod Outcomes
 pub mod Claims

@@ -5,13 +5,18 @@ use mathlib.Core.Bool.{Bool, true, false}
 use mathlib.Core.List.{List, [], _∷_, _++_}
 use Prim.Native.Nat.{ℕ, suc, _<_, _≤_}
 use lib.ListN.{getD, length, take}
+use Rattle.base.specs.Refusals.{unwritten, written}
+use Rattle.base.specs.Words.{allBytes}
+use Rattle.base.specs.declared.Refusal.the-variants.{NotAPolicy, NotASheet, NotAnEntry, OutputTooShort, TextTooLong}
 use Rattle.unicode.specs.UnicodeData.{variationEntries}
 use Rattle.policy_key_set.specs.Sets.{member}
-use Rattle.policy.specs.PolicyBytes.{PolicyValue, noUnusedBits}
+use Rattle.policy.specs.PolicyBytes.{PolicyValue, isPolicy, noUnusedBits, policyBytes, policyOf}
 use Rattle.policy.specs.declared.Policy.{Policy}
+use Rattle.policy_sheet.specs.Calls.{readCall, sheetRow, writeCall}
 use Rattle.policy_sheet.specs.Grammar.{Begins, CodePoint, DescendingRange, IsSheet, Piece, Sheet}
 use Rattle.policy_sheet.specs.Meaning.{AllEntries, FirstNonEntry, Means, Rising}
 use Rattle.policy_sheet.specs.Reader.{is-read, not-a-sheet, not-an-entry, readSheet}
+use Rattle.policy_sheet.specs.declared.SheetAnswer.the-variants.{Refused, Written}
 use Rattle.policy_sheet.specs.Writer.{Run, fewestDigits, pointText, runsOf, writeSheet}
 
 -- A sheet has one state.
@@ -55,6 +60,43 @@ unfoldable pub SheetsDeterminePolicies : Type 0
 SheetsDeterminePolicies =
     (p q : Policy) → PolicyValue p → PolicyValue q → noUnusedBits p ≡ true → noUnusedBits q ≡ true
     → (p ≡ q) ↔ (writeSheet p ≡ writeSheet q)
+
+-- ---- the calls
+
+-- The claim on reading, for all bytes. The tests are made in the order 1, 11, 12, 8, and a refusal leaves the output as it was. A policy
+-- has 192 bytes. No value of an answer is above the limit of a text.
+pub record ReadCall (sheet out : List ℕ) : Type 0 where
+  pub long : 16777217 ≤ length sheet → readCall sheet out ≡ unwritten (Refused TextTooLong) out
+  pub no-sheet : length sheet ≤ 16777216 → (n : ℕ) → readSheet sheet ≡ not-a-sheet n
+      → readCall sheet out ≡ unwritten (Refused (NotASheet n)) out
+  pub no-entry : length sheet ≤ 16777216 → (n : ℕ) → readSheet sheet ≡ not-an-entry n
+      → readCall sheet out ≡ unwritten (Refused (NotAnEntry n)) out
+  pub short : length sheet ≤ 16777216 → (p : Policy) → readSheet sheet ≡ is-read p → length out < 192
+      → readCall sheet out ≡ unwritten (Refused (OutputTooShort 192)) out
+  pub done : length sheet ≤ 16777216 → (p : Policy) → readSheet sheet ≡ is-read p → 192 ≤ length out
+      → readCall sheet out ≡ written (Written 192) (policyBytes p) out
+  pub small : sheetRow (readCall sheet out .answer) .value ≤ 16777216
+
+unfoldable pub EveryReadCall : Type 0
+EveryReadCall = (sheet out : List ℕ) → ReadCall sheet out
+
+-- The claim on writing, for all bytes. The tests are made in the order 2, 8, and a refusal leaves the output as it was. A written sheet has
+-- at most 9,916 bytes. ".. a written sheet reads back to its policy": reading it gives the bytes of the policy.
+pub record WriteCall (policy out : List ℕ) : Type 0 where
+  pub no-policy : isPolicy policy ≡ false → writeCall policy out ≡ unwritten (Refused NotAPolicy) out
+  pub short : isPolicy policy ≡ true → length out < length (writeSheet (policyOf policy))
+      → writeCall policy out ≡ unwritten (Refused (OutputTooShort (length (writeSheet (policyOf policy))))) out
+  pub done : isPolicy policy ≡ true → length (writeSheet (policyOf policy)) ≤ length out
+      → writeCall policy out ≡ written (Written (length (writeSheet (policyOf policy)))) (writeSheet (policyOf policy)) out
+  pub few : length (writeSheet (policyOf policy)) ≤ 9916
+  pub small : sheetRow (writeCall policy out .answer) .value ≤ 9916
+  pub reads-back : allBytes policy ≡ true → isPolicy policy ≡ true → (o : List ℕ) → 192 ≤ length o
+      → readCall (writeSheet (policyOf policy)) o ≡ written (Written 192) policy o
+
+unfoldable pub EveryWriteCall : Type 0
+EveryWriteCall = (policy out : List ℕ) → WriteCall policy out
+
+-- ---- the form of a written sheet
 
 -- The maximal runs of the neighbouring entries that pass a test, ascending, from place n of the table on: none of the places
 -- passes, or those before the run do not, all of the run do, and the one after it does not.
