@@ -157,7 +157,7 @@ fn descending_with(c: Cursor) -> MaybeOffset
 fn is_no_entry(v: u32) -> bool
     ensures { λ r. ⌜ r ≡ not (hasVariationSequence v) ⌝ }
 {
-    !unicode::has_variation_sequence(v)
+    !unicode::has_variation_sequence_by_block(v)
 }
 
 // Returns the offset of the first code point that is no variation entry, if the piece that was read is closed here.

@@ -136,8 +136,8 @@ fn in_set(set: CharSet, i: usize) -> bool
     ensures { λ r. ⌜ r ≡ firstIn (λ (j : ℕ). member j (set .bits)) i (drop i variationEntries) ⌝ }
 {
     if i < VARIATION_ENTRY_COUNT {
-        let ch = entry(i);
-        return CharSet::contains(set, ch);
+        let words = set.bits;
+        return base::has_bit(words[i / 64], i);
     }
     false
 }

@@ -8,7 +8,7 @@ use mathlib.Core.Path.{ap}
 use mathlib.Core.Bool.{not}
 
 returns : tie.Need-returns
-returns c = ap not (c .has-variation-sequence .ensures)
+returns c = ap not (c .has-variation-sequence-by-block .ensures)
 
 pub is-no-entry-spec : {M : Type 1} → statement M
 is-no-entry-spec = tie.close (tie.spec (λ c κs. search needs) returns)
