@@ -1,4 +1,4 @@
--- The machine reads what the grammar derives.
+-- The reader's automaton accepts what the grammar derives.
 use mathlib.Core.Path.{_≡_, refl, ap, ap₂, sym, _∙_, subst}
 use mathlib.Core.Bool.{Bool, true, false, cond, _&&_}
 use mathlib.Core.List.{List, [], _∷_, _++_, append-assoc, append-nil}
@@ -68,7 +68,7 @@ use Rattle.policy_sheet.specs.Reader.{
 }
 use Rattle.policy_sheet.proofs.ByteKinds.{comma-kind, dash-kind, digit-kind, newline-kind}
 
--- ---- runs one after the other
+-- ---- runs of the automaton one after the other
 
 pub record Steps (at : ℕ) (r : State) (b : ℕ) (q : State) : Type 0 where
   pub goes : transition at r b ≡ some q
@@ -131,7 +131,7 @@ allowed-six k e =
     ⊎-elim (λ p. let q = eqb-true k 2 p in (omega arith, omega arith)) (λ p. let i = within-in 4 6 k p in (omega arith, omega arith))
     (either-true (eqb k 2) (within 4 6 k) e)
 
--- The same state with another number so far.
+-- A state with another number so far.
 abbrev pub numbered : State → Bool → ℕ → ℕ → State
 numbered r f k v = record {
   line = r .line;
@@ -147,7 +147,7 @@ pub digit-step : {b d : ℕ} (at : ℕ) (r : State) → r .line < 4 → r .count
 unfolding transitionBy
 digit-step {b} {d} at r l c h = record { goes = transition-in at r b (digit d) l (digit-kind h) ∙ rw (lt-ltb (r .count) 6 c) }
 
--- Digits from where a number begins. `fresh` is over with the first.
+-- Digits from the start of a number. After the first digit the line is not fresh.
 abbrev still : Bool → ℕ → Bool
 still f zero = f
 still f (suc k) = false
@@ -158,7 +158,7 @@ digits-run at r l h no-digits = no-run
 digits-run at r l h (digits-and {s} {b} {k} {v} {d} ds x) =
     runs-snoc (digits-run at r l (omega arith) ds) (digit-step (at + length s) (numbered r (still (r .fresh) k) k v) l (omega arith) x)
 
--- Behind a code point.
+-- The run over a code point.
 pub record PointRun (at : ℕ) (r : State) (s : List ℕ) (v : ℕ) : Type 0 where
   pub count : ℕ
   pub allowed : allowedDigits count ≡ true
@@ -173,7 +173,7 @@ point-run at r l (code-point {s} {k} {v} ds a) = go k ds a
 
 -- ---- a piece that is closed
 
--- What was read after a byte that closes a piece.
+-- The state after a byte that closes a piece.
 abbrev pub closedBy : {c : ℕ} → Closer c → ℕ → List Piece → ℕ → State
 closedBy comma-closes k xs at = beforePiece k false xs at
 closedBy newline-closes k xs at = beforePiece (suc k) true xs at
@@ -251,7 +251,7 @@ lines-run l (lines-and {k} {s} {t} {xs} {ys} h g) =
     (ap (λ (n : ℕ). beforePiece (suc k) true (xs ++ ys) n) (simp length-append (omega arith)))
     (runs-and (lines-run (omega arith) h) (runs-at (0 + length s) (omega arith) (line-run xs (omega arith) g)))
 
--- What stands in a line before a piece.
+-- The bytes of a line before a piece.
 pub front-run : {k at : ℕ} {s : List ℕ} {f : Bool} {ys : List Piece} (xs : List Piece) → k < 4 → Front k at s f ys
     → Runs at (beforePiece k true xs at) s (beforePiece k f (xs ++ ys) (at + length s))
 front-run {k} {at} xs l line-start =

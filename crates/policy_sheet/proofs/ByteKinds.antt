@@ -1,4 +1,4 @@
--- What a byte is in a sheet, as a view.
+-- The kind of a byte as a view.
 use mathlib.Core.Path.{_≡_, refl, ap, sym, _∙_, subst}
 use mathlib.Core.Bool.{Bool, true, false, cond}
 use Prim.Native.Nat.{ℕ, _-_, _≤_, _<_}
@@ -43,7 +43,7 @@ kind b = by-decimal (within 0x30 0x39 b) refl
     by-decimal true e = is-digit (decimal e)
     by-decimal false e = by-letter (within 0x41 0x46 b) refl
 
--- a decimal digit is no letter
+-- A letter is no decimal digit.
 not-decimal : (b : ℕ) → within 0x41 0x46 b ≡ true → within 0x30 0x39 b ≡ false
 not-decimal b e = above b (within-in 0x41 0x46 b e)
   where

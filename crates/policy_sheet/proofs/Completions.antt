@@ -1,4 +1,4 @@
--- Whatever was read can go on to a sheet.
+-- After every run of the automaton some bytes complete a sheet.
 use mathlib.Core.Path.{_≡_, refl, ap, sym, _∙_, subst}
 use mathlib.Core.Logic.{_⊎_, inl, inr, ⊎-elim}
 use mathlib.Core.Bool.{Bool, true, false}
@@ -31,14 +31,14 @@ by-step {at} {b} {r} {q} h c = record {
   whole = c .whole;
 }
 
--- lines left are empty
+-- The lines that are left can be empty.
 lines-left : (n k at from : ℕ) (xs : List Piece) → k + n ≡ 4 → Completes at (beforePiece k true xs from)
 unfolding allowedDigits
 lines-left zero k at from xs e = record { rest = []; last = beforePiece k true xs from; runs = no-run; whole = omega arith }
 lines-left (suc n) k at from xs e =
     by-step (newline-step at (beforePiece k true xs from) (omega arith) refl refl) (lines-left n (suc k) (at + 1) (at + 1) xs (omega arith))
 
--- the lines left of four
+-- The number of lines that are left.
 left : (k : ℕ) → k ≤ 4 → (n : ℕ) × (k + n ≡ 4)
 left k h = (Prim.Native.Nat._-_ 4 k, omega arith)
 
@@ -50,7 +50,7 @@ closes at r l a =
 a-zero : HexDigit 0x30 0
 a-zero = decimal refl
 
--- a digit 0, and another where it needs one
+-- A digit 0, and another one if the number needs it.
 number-left : (at : ℕ) (r : State) → r .line < 4 → (k : ℕ) → r .count ≡ k → k ≤ 6 → Completes at r
 unfolding allowedDigits
 number-left at r l zero e h =

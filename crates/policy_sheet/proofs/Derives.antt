@@ -1,4 +1,4 @@
--- What the machine has read is derived by the grammar, as far as it goes.
+-- The grammar derives the bytes that the automaton has accepted, as far as they go.
 use mathlib.Core.Path.{_≡_, refl, ap, ap₂, sym, _∙_, subst}
 use mathlib.Core.Logic.{_⊎_, inl, inr, ⊎-elim}
 use mathlib.Core.Bool.{Bool, true, false, cond, _&&_, true≢false}
@@ -68,13 +68,13 @@ use Rattle.policy_sheet.proofs.ByteKinds.{HasKind, is-comma, is-dash, i
 
 -- ---- what was read
 
--- The piece that goes on: digits, or a code point, a dash and digits.
+-- The piece that is not closed yet: digits, or a code point, a dash and digits.
 pub data Number (at : ℕ) : List ℕ → Option Point → ℕ → ℕ → ℕ → Type 0 where
   alone : {s : List ℕ} {k v : ℕ} → Digits s k v → Number at s none at k v
   in-range : {s t : List ℕ} {w k v : ℕ} → CodePoint s w → Digits t k v
       → Number at (s ++ (0x2D ∷ t)) (some (record { at = at; value = w })) (at + length s + 1) k v
 
--- Where nothing of a line was read, the bytes end with the line before it.
+-- If nothing of a line was read, the bytes end with the line before it.
 pub data Fresh : Bool → List ℕ → List ℕ → List Piece → Type 0 where
   nothing-read : Fresh true [] [] []
   not-fresh : {u w : List ℕ} {ys : List Piece} → Fresh false u w ys
@@ -122,14 +122,14 @@ more-number {at} {b = b} {d} (in-range {s} {t} {w} {k} {v} p ds) h =
     subst (λ (l : List ℕ). Number at l (some (record { at = at; value = w })) (at + length s + 1) (suc k) (v * 16 + d)) (sym (append-assoc s (0x2D ∷ t) (b ∷ [])))
     (in-range p (digits-and ds h))
 
--- a piece that may be closed
+-- A piece that may be closed.
 pub piece-held : {at : ℕ} {s : List ℕ} {f : Option Point} {n k v : ℕ} (line : ℕ) → Number at s f n k v → allowedDigits k ≡ true
     → PieceAt line at s (record { line = line; first = orElse f (record { at = n; value = v }); last = record { at = n; value = v } })
 unfolding orElse
 piece-held line (alone ds) a = single (code-point ds a)
 piece-held line (in-range p ds) a = range p (code-point ds a)
 
--- .. with what stands before it
+-- The same with the bytes of the line before it.
 pub pieces-held : {k at : ℕ} {u w : List ℕ} {f : Bool} {ys : List Piece} {x : Piece} → Front k at u f ys → PieceAt k (at + length u) w x
     → Pieces k at (u ++ w) (ys ++ (x ∷ []))
 pieces-held {k} {at} {w = w} {x = x} line-start p = one-piece (subst (λ (n : ℕ). PieceAt k n w x) (omega arith) p)
@@ -137,7 +137,7 @@ pieces-held {k} {at} {w = w} {x = x} (after-comma {s} {xs = ys} h) p =
     subst (λ (l : List ℕ). Pieces k at l (ys ++ (x ∷ []))) (sym (append-assoc s (0x2C ∷ []) w))
     (pieces-and h (subst (λ (n : ℕ). PieceAt k n w x) (simp length-append (omega arith)) p))
 
--- .. before a dash
+-- The same before a dash.
 dashed : {at : ℕ} {s : List ℕ} {f : Option Point} {n k v m : ℕ} → Number at s f n k v → f ≡ none → allowedDigits k ≡ true → at + length s + 1 ≡ m
     → Number at (s ++ (0x2D ∷ [])) (some (record { at = n; value = v })) m 0 0
 dashed {at} {s} {v = v} (alone ds) e a q = subst (λ (k : ℕ). Number at (s ++ (0x2D ∷ [])) (some (record { at = at; value = v })) k 0 0) q (in-range (code-point ds a) no-digits)
@@ -213,7 +213,7 @@ module _ (s : List ℕ) (r : State) (h : Held s r) (l : r .line < 4) where
       at-is : length (h .earlier) + length ((h .front-text ++ h .number-text) ++ (0x2C ∷ [])) ≡ length s + 1
       at-is = simp (h .text, length-append) (omega arith)
 
-  -- Behind 0A.
+  -- After 0A.
   held-line : {t : List ℕ} {xs ys : List Piece} → Lines (suc (r .line)) t xs → t ≡ s ++ (0x0A ∷ []) → ys ≡ xs
       → Held (s ++ (0x0A ∷ [])) (beforePiece (suc (r .line)) true ys (length s + 1))
   held-line {t} {xs} {ys} g e p = record {
@@ -255,7 +255,7 @@ module _ (s : List ℕ) (r : State) (h : Held s r) (l : r .line < 4) where
 
 -- ---- a transition
 
--- What was closed by a byte.
+-- The pieces after a byte: the same, or one more.
 pub data Adds (r : State) (b : ℕ) (q : State) : Type 0 where
   same-pieces : q .pieces ≡ r .pieces → Adds r b q
   adds-piece : Closer b → allowedDigits (r .count) ≡ true → q .pieces ≡ r .pieces ++ (pieceRead r ∷ []) → Adds r b q

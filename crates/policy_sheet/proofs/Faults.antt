@@ -1,4 +1,4 @@
--- Refusal 11: the answer is the first fault, and without a fault the bytes are a sheet that rises.
+-- Refusal 11: the result is the first fault. Without a fault the bytes are a sheet in which no range runs down.
 use mathlib.Core.Path.{_≡_, refl, ap, ap₂, sym, _∙_, subst}
 use mathlib.Core.Logic.{_⊎_, inl, inr, ⊎-elim}
 use mathlib.Core.Bool.{Bool, true, false, cond}
@@ -70,7 +70,7 @@ sheet-run h = lines-run (omega arith) h
 pub only-pieces : (s : List ℕ) (xs ys : List Piece) → Sheet s xs → Sheet s ys → xs ≡ ys
 only-pieces s xs ys h g = ap (λ (r : State). r .pieces) (same-reached (sym (sheet-run h .goes) ∙ sheet-run g .goes))
 
--- ---- no sheet begins so
+-- ---- bytes with which no sheet begins
 
 no-sheet : {a : List ℕ} {r : State} (b : ℕ) → Going a r → transition (length a) r b ≡ none → Begins (a ++ (b ∷ [])) → ⊥
 no-sheet {a} {r} b g e h =
@@ -87,7 +87,7 @@ pub begins-take : (j : ℕ) (s : List ℕ) → Begins s → Begins (take j s)
 begins-take j s h =
     (drop j s ++ h .0, (h .1 .0, subst (λ (l : List ℕ). Sheet l (h .1 .0)) (ap (λ (l : List ℕ). l ++ h .0) (sym (take-append-drop j s)) ∙ append-assoc (take j s) (drop j s) (h .0)) (h .1 .1)))
 
--- Where some sheet begins with k bytes, no byte before is wrong.
+-- If some sheet begins with the first k bytes, no byte among them is wrong.
 wrong-late : (k m : ℕ) (s : List ℕ) → Begins (take k s) → (Begins (take (suc m) s) → ⊥) → k ≤ m
 wrong-late k m s h f =
     ⊎-elim (λ l. l)
@@ -95,7 +95,7 @@ wrong-late k m s h f =
 
 -- ---- ranges that run down
 
--- The first one stays the first.
+-- More bytes do not change which range is the first that runs down.
 down-stays : (n : ℕ) (t s : List ℕ) (r : State) → Going s r → firstDescending (r .pieces) ≡ some n → firstDescending (piecesOf (run (length s) r t)) ≡ some n
 unfolding run piecesOf
 down-stays n [] s r g e = e
@@ -121,11 +121,11 @@ pub closed-pieces : {c : ℕ} (e : Closer c) (k : ℕ) (xs : List Piece) (at : �
 closed-pieces comma-closes k xs at = refl
 closed-pieces newline-closes k xs at = refl
 
--- It starts before the end of what was read.
+-- A range that runs down starts before the end of the bytes.
 pub down-before : {s : List ℕ} {n : ℕ} → DescendingRange s n → n < length s
 down-before {s} {n} d = omega (arith, simp length-append at (ap length (d .text)), piece-starts (d .here), d .starts)
 
--- Where a range runs down, the first one that was read starts there or before.
+-- If a range runs down, the first one that the automaton has read starts there or before.
 pub record DownRead (s : List ℕ) (m : ℕ) : Type 0 where
   pub offset : ℕ
   pub first : firstDescending (piecesOf (run 0 start s)) ≡ some offset
@@ -183,7 +183,7 @@ pub data Verdict (s : List ℕ) : SheetReading → Type 0 where
   faulty : {n : ℕ} → Fault s n → ((m : ℕ) → Fault s m → n ≤ m) → Verdict s (not-a-sheet n)
   formed : {xs : List Piece} → Sheet s xs → firstDescending xs ≡ none → ((m : ℕ) → Fault s m → ⊥) → Verdict s (readPieces xs)
 
--- A fault comes at the place up to which some sheet begins so, or later, or a range runs down.
+-- If some sheet begins with the first k bytes, a fault is at k or later, or it is a range that runs down.
 late : {s : List ℕ} {m : ℕ} (k : ℕ) → k ≤ length s → Begins (take k s) → Fault s m → (k ≤ m) ⊎ DownRead s m
 late {s} {m} k l h (wrong-byte p q f) = inl (wrong-late k m s h f)
 late k l h (breaks-off p f) = inl l
@@ -263,7 +263,7 @@ pub verdict : (s : List ℕ) → Verdict s (readSheet s)
 unfolding readSheet
 verdict s = verdict-ended s (run 0 start s) refl (run-ends s)
 
--- A sheet that rises is read by its pieces.
+-- A sheet in which no range runs down is read by its pieces.
 pub read-rising : {s : List ℕ} {xs : List Piece} → Sheet s xs → firstDescending xs ≡ none → readSheet s ≡ readPieces xs
 unfolding readSheet answerOf
 read-rising {s} {xs} h e = ap (answerOf (length s)) (sheet-run h .goes) ∙ rw e

@@ -18,7 +18,7 @@ use Rattle.policy_sheet.specs.Writer.{Run, fewestDigits, firstIn, joined
 
 -- ---- maximal runs
 
--- one entry more in front
+-- One more entry at the front.
 further : {q : ℕ → Bool} {c : ℕ} {cs : List ℕ} {n : ℕ} {rs : List Run} → MaximalRuns (λ (i : ℕ). q (suc i)) cs n rs → MaximalRuns q (c ∷ cs) (suc n) rs
 further {q} {c} {cs} {n} (no-more f) = no-more (λ i h l. at i h l)
   where
@@ -36,7 +36,7 @@ further {q} {c} {cs} {n} (run-and from to a b l gap inside after more) =
     in-run zero h l = absurd (omega arith)
     in-run (suc i) h l = inside i (omega arith) (omega arith)
 
--- the first entry does not pass
+-- The first entry does not pass.
 not-first : {q : ℕ → Bool} {cs : List ℕ} {rs : List Run} → q 0 ≡ false → MaximalRuns q cs 1 rs → MaximalRuns q cs 0 rs
 not-first {q} {cs} e (no-more f) = no-more at
   where
@@ -144,7 +144,7 @@ fewest-le c k a h = by-two (ltb c 0x100) refl
 pub fewest : {s : List ℕ} {c : ℕ} → CodePoint s c → fewestDigits c ≤ length s
 fewest {s} {c} (code-point {k = k} ds a) = let h = digits-small ds in omega (arith, h .0, fewest-le c k a (h .1))
 
--- a code point of a sheet has at most six digits
+-- A code point of a sheet has at most six digits.
 pow-six : (k : ℕ) → k ≤ 6 → 16 ^ k ≤ 0x1000000
 pow-six zero h = omega arith
 pow-six (suc zero) h = omega arith

@@ -75,8 +75,12 @@ at-split n (u ∷ us) x vs (each-and p hs) = at-split n us x vs hs
 
 pub non-entry-inside : {s : List ℕ} {xs : List Piece} {n : ℕ} → Lines 4 s xs → FirstNonEntry xs n → n ≤ length s
 non-entry-inside {s} {xs} {n} h r =
-    omega (arith, r .offset, at-split (length s) (r .earlier) (r .other) (r .later)
-    (subst (λ (l : List Point). Each (λ (x : Point). x .at ≤ length s) l) (r .split) (lines-before h)))
+    omega (
+      arith,
+      r .offset,
+      at-split (length s) (r .earlier) (r .other) (r .later)
+          (subst (λ (l : List Point). Each (λ (x : Point). x .at ≤ length s) l) (r .split) (lines-before h)),
+    )
 
 pub fault-inside : {s : List ℕ} {n : ℕ} → Fault s n → n ≤ length s
 fault-inside (wrong-byte l p f) = omega arith

@@ -1,4 +1,4 @@
--- The tests on the pieces of a sheet, and what they say.
+-- What the tests on the pieces of a sheet mean.
 use mathlib.Core.Path.{_≡_, refl, ap, sym, _∙_, subst}
 use mathlib.Core.Bool.{Bool, true, false, cond, true≢false}
 use mathlib.Core.List.{List, [], _∷_, _++_}
@@ -86,7 +86,7 @@ some-non-entry n (x ∷ xs) e = go (hasVariationSequence (x .first .value)) (has
       offset = cc;
     }
 
--- Two lists of points that begin with entries up to one that is none have it at the same place.
+-- In a list of code points, the first one that is no entry is unique.
 same-other : (us vs : List Point) (x y : Point) (cs ds : List Point) → Each IsEntry us → Each IsEntry vs
     → hasVariationSequence (x .value) ≡ false → hasVariationSequence (y .value) ≡ false → us ++ (x ∷ cs) ≡ vs ++ (y ∷ ds) → x ≡ y
 same-other [] [] x y cs ds h g p q e = cc

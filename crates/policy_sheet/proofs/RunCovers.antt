@@ -1,4 +1,4 @@
--- The runs of a set hold just its entries.
+-- The runs of a set cover exactly its entries.
 use mathlib.Core.Path.{_≡_, refl, ap, ap₂, sym, _∙_, subst}
 use mathlib.Core.Bool.{Bool, true, false, cond, _&&_, _||_, true≢false}
 use mathlib.Core.List.{List, [], _∷_, _++_}
@@ -12,7 +12,7 @@ use Rattle.base.proofs.Tests.{within-above, within-below, within-true}
 use Rattle.policy_sheet.specs.Meaning.{Each, each-and, each-none}
 use Rattle.policy_sheet.specs.Writer.{Run, firstIn, joined, runsFrom, withEntry}
 
--- Some run has the code point in it.
+-- The code point is in a run.
 unfoldable pub covers : List Run → ℕ → Bool
 covers [] x = false
 covers (r ∷ rs) x = within (r .first) (r .last) x || covers rs x
@@ -64,14 +64,14 @@ unfolding runsFrom
 runs-among p i [] = each-none
 runs-among p i (c ∷ cs) = with-among c cs (p i) (firstIn p (suc i) cs) (runsFrom p (suc i) cs) (runs-among p (suc i) cs)
 
--- What is below every entry is in no run.
+-- A code point below every entry is in no run.
 below-none : (cs : List ℕ) (x : ℕ) (rs : List Run) → ((k : ℕ) → k < length cs → x < getD cs k 0) → Each (Among cs) rs → covers rs x ≡ false
 unfolding covers
 below-none cs x [] h each-none = refl
 below-none cs x (r ∷ rs) h (each-and a as′) =
     rw (within-below (r .first) (r .last) x (omega (arith, a .first-is, h (a .from) (omega (arith, a .in-order, a .in-list)))), below-none cs x rs h as′)
 
--- Where the first entry is in the set, the first run begins with it.
+-- If the first entry is in the set, the first run begins with it.
 data Starts (c : ℕ) : List Run → Type 0 where
   starts : {l : ℕ} {rs : List Run} → Starts c (record { first = c; last = l } ∷ rs)
 
@@ -90,7 +90,7 @@ head-starts p i (c ∷ cs) e =
 within-one : (c x : ℕ) → c < x → within c c x ≡ false
 within-one c x h = within-above c c x h
 
--- the range is stretched down to c, and x is not below its old start
+-- The range now starts at c, and x is not below its old start.
 stretch-same : (c a l x : ℕ) → c ≤ a → a ≤ x → within c l x ≡ within a l x
 stretch-same c a l x h g = ap (λ (b : Bool). b && leb x l) (le-leb c x (omega arith) ∙ sym (le-leb a x g))
 
@@ -119,7 +119,7 @@ module _ (c : ℕ) (cs : List ℕ) (up : Up (c ∷ cs)) where
       go (starts {l = m} {rs}) =
           ap (λ (b : Bool). b || covers rs (getD cs k 0)) (stretch-same c (getD cs 0 0) m (getD cs k 0) (omega (arith, above 0 (omega arith))) (head-le k l))
 
--- An entry is in a run exactly where it passes the test.
+-- An entry is in a run exactly if it passes the test.
 pub runs-cover : (p : ℕ → Bool) (j : ℕ) (cs : List ℕ) → Up cs → (i : ℕ) → i < length cs → covers (runsFrom p j cs) (getD cs i 0) ≡ p (j + i)
 unfolding runsFrom
 runs-cover p j [] up i h = absurd (omega arith)

@@ -1,4 +1,4 @@
--- A run from the start: what was read, where it stops, and which ranges ran down on the way.
+-- A run of the automaton from the start: its state, where it stops, and which ranges run down on the way.
 use mathlib.Core.Path.{_≡_, refl, ap, ap₂, sym, _∙_, subst}
 use mathlib.Core.Logic.{_⊎_, inl, inr, ⊎-elim}
 use mathlib.Core.Bool.{Bool, true, false, cond, _&&_, true≢false}

@@ -120,7 +120,7 @@ one-meaning xs p q h g =
     (same-set (inSet xs 2) _ _ (h .value .bare-as-text) (g .value .bare-as-text) (h .bare-as-text) (g .bare-as-text))
     (same-set (inSet xs 3) _ _ (h .value .bare-as-text-keycap) (g .value .bare-as-text-keycap) (h .bare-as-text-keycap) (g .bare-as-text-keycap))
 
--- six words of 64 bits
+-- Six words of 64 bits are a set.
 pub six-words : (ws : List ℕ) (i : ℕ) → length ws ≡ 6 → 6 ≤ i → ((k : ℕ) → k < i → getD ws k 0 < 2 ^ 64) → SetValue ws
 six-words ws i n l f = record { word-count = n ∙ sym six; words = at }
   where

@@ -61,7 +61,7 @@ nibble n = digit-written (n % 16) (omega arith)
 valued : {s : List ℕ} {k v w : ℕ} → v ≡ w → Digits s k v → Digits s k w
 valued {s} {k} e d = subst (Digits s k) e d
 
--- the digits that are left, after those of the number's front
+-- The digits that are left, after the first digits of the number.
 hex-digits : {s : List ℕ} {j : ℕ} (k n : ℕ) → Digits s j (n / 2 ^ (4 * k)) → Digits (s ++ hexDigits k n) (j + k) n
 unfolding hexDigits
 hex-digits {s} {j} zero n d =

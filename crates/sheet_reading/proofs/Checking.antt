@@ -1,4 +1,4 @@
--- The loop of the check goes with the machine's run.
+-- The loop of the check follows the run of the automaton.
 use mathlib.Core.Path.{_≡_, refl, ap, ap₂, sym, _∙_, subst}
 use mathlib.Core.Bool.{Bool, true, false, cond}
 use mathlib.Core.List.{List, [], _∷_, _++_}
@@ -87,7 +87,7 @@ module _ (c : Cursor) (r : State) (h : Tracks c r) where
 
 -- ---- the loop
 
--- What is left to be read goes on from the cursor.
+-- The run over the whole sheet is the run over the rest from the state that the cursor tracks.
 pub record Checking (s : List ℕ) (c : Cursor) (at : ℕ) : Type 0 where
   pub state : State
   pub tracks : Tracks c state
@@ -132,7 +132,7 @@ check-end {s} {c} {at} k l =
     let e : length s ≡ at = let i = k .in-text in omega arith in
     ap₂ checkOf e (k .same ∙ ap (run at (k .state)) (drop-of-length-le s l) ∙ run-nil at (k .state))
 
--- ---- the check and state
+-- ---- the check and the reading
 
 by-other : (o : Option ℕ) (p : Policy) → nonEntryOr o (is-read p) ≡ answerBy (checkNonEntry o) p
 by-other none p = refl

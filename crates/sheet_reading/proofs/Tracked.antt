@@ -1,4 +1,4 @@
--- What the code keeps of a state tracks it.
+-- The cursor of the code tracks the state of the automaton.
 use mathlib.Core.Path.{_≡_, refl, ap, ap₂, sym, _∙_, subst}
 use mathlib.Core.Bool.{Bool, true, false, cond, not, _&&_, _||_}
 use mathlib.Core.List.{List, [], _∷_, _++_}
@@ -77,7 +77,7 @@ value-between b h l = value-none b (within-above 0x30 0x39 b h) (within-below 0x
 pub value-above : (b : ℕ) → 0x46 < b → DigitValue b 16
 value-above b h = value-none b (within-above 0x30 0x39 b (omega arith)) (within-above 0x41 0x46 b h)
 
--- ---- places
+-- ---- offsets
 
 pub or-found : (t : Bool) (n : ℕ) (o : Option ℕ) → t ≡ true → found t n ≡ orFound (found t n) o
 unfolding found orFound

@@ -125,7 +125,13 @@ fn after_dash(c: Cursor, next: usize) -> Cursor
 }
 
 // Returns the cursor at the start of a piece.
-fn before_piece(line: u32, fresh: bool, down: MaybeOffset, other: MaybeOffset, next: usize) -> Cursor
+fn before_piece(
+    line: u32,
+    fresh: bool,
+    down: MaybeOffset,
+    other: MaybeOffset,
+    next: usize,
+) -> Cursor
     ensures { λ x. ⌜ ((xs : List Piece) → offsetIn down ≡ firstDescending xs → offsetIn other ≡ firstNonEntry xs → Tracks x (beforePiece line fresh xs next)) ⌝ }
 {
     Cursor {

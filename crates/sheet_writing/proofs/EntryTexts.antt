@@ -1,4 +1,4 @@
--- What an entry adds to a line, put into a buffer.
+-- The bytes that an entry adds to a line, in a buffer.
 use mathlib.Core.Path.{_≡_, refl, ap, ap₂, sym, _∙_}
 use mathlib.Core.Bool.{Bool, true, false, _||_}
 use mathlib.Core.List.{List, [], _∷_, _++_}
@@ -46,7 +46,7 @@ put-length {o′} {xs} {s} o p = ap length (p .bytes) ∙ length-sets o s xs
 pub marked-room : (o : List ℕ) (s b c : ℕ) → s + length (b ∷ pointText c) ≤ length o → s + 1 + length (pointText c) ≤ length (set o s b)
 marked-room o s b c h = omega (arith, length-set o s b)
 
--- what is emitted, by the tests
+-- The bytes that an entry adds, by the tests of the code.
 pub entry-out : {h : Bool} (b a n : Bool) (c : ℕ) → h ≡ false → [] ≡ entryText b a h n c
 unfolding entryText
 entry-out b a n c e = sym (ap (λ (h : Bool). entryText b a h n c) e)

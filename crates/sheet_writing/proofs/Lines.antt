@@ -1,4 +1,4 @@
--- The lines of a sheet one after the other, and the outcome of the call.
+-- The four lines of a sheet, one after the other.
 use mathlib.Core.Path.{_≡_, refl, ap, sym, _∙_}
 use mathlib.Core.Bool.{Bool, true, false}
 use mathlib.Core.List.{List, [], _∷_, _++_}

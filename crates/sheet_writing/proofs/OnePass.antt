@@ -1,4 +1,4 @@
--- A line can be written in one pass over the entries, with a look at the next one only.
+-- A line can be written in one pass over the entries that looks at the next entry only.
 use mathlib.Core.Path.{_≡_, refl, ap, ap₂, sym, _∙_, subst}
 use mathlib.Core.Bool.{Bool, true, false, cond, true≢false, _||_}
 use mathlib.Core.List.{List, [], _∷_, _++_, append-assoc, append-nil, map}
@@ -19,7 +19,7 @@ unfoldable pub joinText : Bool → List Run → List ℕ
 joinText any [] = []
 joinText any (r ∷ rs) = withComma any (runText r) ++ joinText true rs
 
--- what is left of a run that has begun, and the runs after it
+-- The rest of a run after its first code point, and the runs after it.
 unfoldable pub afterFirst : List Run → List ℕ
 afterFirst [] = []
 afterFirst (r ∷ rs) = (0x2D ∷ pointText (r .last)) ++ joinText true rs
@@ -66,7 +66,7 @@ head-full p i (c ∷ cs) e =
     subst (λ (b : Bool). Full (withEntry c b (firstIn p (suc i) cs) (runsFrom p (suc i) cs))) (sym e) (with-full c (firstIn p (suc i) cs) (runsFrom p (suc i) cs))
 
 module _ (c : ℕ) (cs : List ℕ) (up : Up (c ∷ cs)) where
-  -- a run that begins with c and goes on
+  -- A run that begins with c and goes on.
   joined-text : (any : Bool) {rs : List Run} → Full rs → Each (Among cs) rs → withComma any (pointText c) ++ afterFirst rs ≡ joinText any (joined c rs)
   unfolding afterFirst joinText joined
   joined-text any (full {r} {rs}) (each-and a hs) =
@@ -126,6 +126,6 @@ pass p i (c ∷ cs) up =
       going = λ e. going-step p i c cs up h (p i) (firstIn p (suc i) cs) e refl;
     }
 
--- A line is what its entries add, one after the other.
+-- A line is the bytes that its entries add, one after the other.
 pub one-pass : (p : ℕ → Bool) (cs : List ℕ) → Up cs → parted 0x2C (map runText (runsFrom p 0 cs)) ≡ lineFrom p 0 false false cs
 one-pass p cs up = parted-join (runsFrom p 0 cs) ∙ sym (pass p 0 cs up .outside false)

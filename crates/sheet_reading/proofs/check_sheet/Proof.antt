@@ -1,4 +1,4 @@
--- `sheet_reading::check_sheet` meets its contract. The invariant: what is left to be read goes on from the cursor.
+-- `sheet_reading::check_sheet` meets its contract. The loop's invariant: what is left to be read goes on from the cursor.
 use mathlib.Core.Path.{_∙_, refl, sym}
 use Prim.Native.Nat.{_-_}
 use native.Mathlib.Omega.{arith}

@@ -1,4 +1,4 @@
--- `sheet_reading::read_pieces` meets its contract. The invariant: what is left to be read goes on from the cursor, and the sets hold
+-- `sheet_reading::read_pieces` meets its contract. The loop's invariant: what is left to be read goes on from the cursor, and the sets hold
 -- the pieces that were closed.
 use mathlib.Core.Path.{refl}
 use Prim.Native.Nat.{_-_}

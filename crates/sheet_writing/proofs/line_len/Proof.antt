@@ -1,4 +1,4 @@
--- `sheet_writing::line_len` meets its contract. The invariant: the length so far and what the entries from i on add are the line's.
+-- `sheet_writing::line_len` meets its contract. The loop's invariant: the length so far and what the entries from i on add are the line's.
 use mathlib.Core.Path.{_≡_, ap}
 use mathlib.Core.Bool.{Bool, false}
 use Prim.Native.Nat.{ℕ, _+_, _*_, _-_, _≤_}

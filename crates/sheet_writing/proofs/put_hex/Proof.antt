@@ -1,4 +1,4 @@
--- The loop writes what is left of the digits at its place.
+-- `sheet_writing::put_hex` meets its contract. The loop's invariant: the digits from k on are still to be written.
 use mathlib.Core.Path.{_≡_, sym, ap, _∙_}
 use mathlib.Core.List.{_∷_}
 use Prim.Native.Nat.{ℕ, _-_, _≤_}

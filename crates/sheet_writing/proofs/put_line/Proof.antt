@@ -1,4 +1,4 @@
--- `sheet_writing::put_line` meets its contract. The invariant: what the entries from i on add is still to be written.
+-- `sheet_writing::put_line` meets its contract. The loop's invariant: what the entries from i on add is still to be written.
 use mathlib.Core.Path.{_≡_, ap, sym}
 use mathlib.Core.Bool.{Bool, false}
 use Prim.Native.Nat.{ℕ, _+_, _-_, _≤_}

@@ -1,4 +1,4 @@
--- `sheet_reading::sets::is_set` meets its contract. The invariant: each word passed has 64 bits.
+-- `sheet_reading::sets::is_set` meets its contract. The loop's invariant: each word passed has 64 bits.
 use mathlib.Core.Path.{_≡_, sym, _∙_, subst}
 use Prim.Native.Nat.{ℕ, _-_, _<_, _≤_, _^_}
 use native.Mathlib.Omega.{arith}
