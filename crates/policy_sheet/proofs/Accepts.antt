@@ -184,7 +184,8 @@ unfolding transitionBy
 close-step at r comma-closes l a = record { goes = transition-in at r 0x2C comma l comma-kind ∙ rw a }
 close-step at r newline-closes l a = record { goes = transition-in at r 0x0A newline l newline-kind ∙ rw a }
 
-pub dash-step : (at : ℕ) (r : State) → r .line < 4 → r .first ≡ none → allowedDigits (r .count) ≡ true → Steps at r 0x2D (afterDash r (at + 1))
+pub dash-step : (at : ℕ) (r : State) → r .line < 4 → r .first ≡ none → allowedDigits (r .count) ≡ true
+    → Steps at r 0x2D (afterDash r (at + 1))
 unfolding transitionBy isNone
 dash-step at r l f a = record { goes = transition-in at r 0x2D dash l dash-kind ∙ rw (f, a) }
 
@@ -198,7 +199,8 @@ piece-run {k} {at} {c = c} f xs e l (range {s} {t} {v} {w} p q) =
     let a = point-run at (beforePiece k f xs at) l p in
     let r₁ = afterDash (numbered (beforePiece k f xs at) false (a .count) v) (at + length s + 1) in
     let b = point-run (at + length s + 1) r₁ l q in
-    let h : Runs at (beforePiece k f xs at) (s ++ (0x2D ∷ t)) (numbered r₁ false (b .count) w) = runs-by (a .runs) (dash-step (at + length s) _ l refl (a .allowed)) (b .runs) in
+    let h : Runs at (beforePiece k f xs at) (s ++ (0x2D ∷ t)) (numbered r₁ false (b .count) w) = runs-by (a .runs)
+    (dash-step (at + length s) _ l refl (a .allowed)) (b .runs) in
     runs-snoc h (close-step (at + length (s ++ (0x2D ∷ t))) _ e l (b .allowed))
 
 -- ---- pieces, lines, sheets
@@ -213,7 +215,8 @@ pub runs-to : {at : ℕ} {r q : State} {s : List ℕ} (z : State) → q ≡ z �
 runs-to {at} {r} {q} {s} z e h = subst (λ (x : State). Runs at r s x) e h
 
 -- Two parts, of which the first ends with the byte b.
-pub runs-parts : {at : ℕ} {r q z : State} (b c : ℕ) (s t : List ℕ) → Runs at r (s ++ (b ∷ [])) q → Runs (at + length s + 1) q (t ++ (c ∷ [])) z
+pub runs-parts : {at : ℕ} {r q z : State} (b c : ℕ) (s t : List ℕ) → Runs at r (s ++ (b ∷ [])) q
+    → Runs (at + length s + 1) q (t ++ (c ∷ [])) z
     → Runs at r ((s ++ (b ∷ t)) ++ (c ∷ [])) z
 runs-parts {at} {r} {q} {z} b c s t h g =
     runs-same ((s ++ (b ∷ t)) ++ (c ∷ [])) (simp append-assoc)
@@ -229,7 +232,8 @@ pieces-run {k} {at} {c = c} xs e l (pieces-and {s} {t} {xs = ys} {x} h p) =
     (ap₂ (λ (us : List Piece) (n : ℕ). closedBy e k us n) (append-assoc xs ys (x ∷ [])) (simp length-append (omega arith)))
     (runs-parts 0x2C c s t a b)
 
-pub newline-step : (at : ℕ) (r : State) → r .line < 4 → r .fresh ≡ true → allowedDigits (r .count) ≡ false → Steps at r 0x0A (beforePiece (suc (r .line)) true (r .pieces) (at + 1))
+pub newline-step : (at : ℕ) (r : State) → r .line < 4 → r .fresh ≡ true → allowedDigits (r .count) ≡ false
+    → Steps at r 0x0A (beforePiece (suc (r .line)) true (r .pieces) (at + 1))
 unfolding transitionBy
 newline-step at r l f a = record { goes = transition-in at r 0x0A newline l newline-kind ∙ rw (a, f) }
 
@@ -240,7 +244,8 @@ none-allowed = refl
 pub line-run : {k at : ℕ} {s : List ℕ} {ys : List Piece} (xs : List Piece) → k < 4 → Line k at s ys
     → Runs at (beforePiece k true xs at) (s ++ (0x0A ∷ [])) (beforePiece (suc k) true (xs ++ ys) (at + length s + 1))
 line-run {k} {at} xs l empty-line =
-    runs-to (beforePiece (suc k) true (xs ++ []) (at + 0 + 1)) (ap (λ (us : List Piece). beforePiece (suc k) true us (at + 0 + 1)) (sym (append-nil xs)))
+    runs-to (beforePiece (suc k) true (xs ++ []) (at + 0 + 1)) (ap (λ (us : List Piece). beforePiece (suc k) true us (at + 0 + 1))
+    (sym (append-nil xs)))
     (runs-snoc no-run (newline-step (at + 0) (beforePiece k true xs at) l refl none-allowed))
 line-run xs l (full-line h) = pieces-run xs newline-closes l h
 

@@ -39,7 +39,8 @@ kind b = by-decimal (within 0x30 0x39 b) refl
     by-letter false e = by-comma (eqb b 0x2C) refl
 
     by-decimal : (t : Bool) → within 0x30 0x39 b ≡ t
-        → HasKind b (cond t (digit (b - 0x30)) (cond (within 0x41 0x46 b) (digit (b - 0x37)) (cond (eqb b 0x2C) comma (cond (eqb b 0x2D) dash (cond (eqb b 0x0A) newline other)))))
+        → HasKind b (cond t (digit (b - 0x30)) (cond (within 0x41 0x46 b) (digit (b - 0x37))
+        (cond (eqb b 0x2C) comma (cond (eqb b 0x2D) dash (cond (eqb b 0x0A) newline other)))))
     by-decimal true e = is-digit (decimal e)
     by-decimal false e = by-letter (within 0x41 0x46 b) refl
 

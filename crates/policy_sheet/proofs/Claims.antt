@@ -23,13 +23,54 @@ use Rattle.policy.proofs.Claims.{write-read}
 use Rattle.policy_sheet.specs.Calls.{readCall}
 use Rattle.policy_sheet.specs.Grammar.{Piece, Sheet, allowedDigits}
 use Rattle.policy_sheet.specs.Meaning.{AllEntries, FirstNonEntry, Means, Rising, sheetPolicy}
-use Rattle.policy_sheet.specs.Reader.{SheetReading, firstDescending, firstNonEntry, answerOf, is-read, isNone, kindOf, not-a-sheet, not-an-entry, orElse, nonEntryOr, readPieces, readSheet, run, transition, transitionBy}
-use Rattle.policy_sheet.specs.Theorems.{EveryReadCall, EveryWriteCall, Fault, FirstFault, NonEntryRefused, OnlyMeaning, OnlyReading, ReadsBack, SheetsRead, FewestDigits, SheetsDeterminePolicies, SheetExamples, WritingExample, WrittenRuns}
+use Rattle.policy_sheet.specs.Reader.{
+  SheetReading,
+  firstDescending,
+  firstNonEntry,
+  answerOf,
+  is-read,
+  isNone,
+  kindOf,
+  not-a-sheet,
+  not-an-entry,
+  orElse,
+  nonEntryOr,
+  readPieces,
+  readSheet,
+  run,
+  transition,
+  transitionBy,
+}
+use Rattle.policy_sheet.specs.Theorems.{
+  EveryReadCall,
+  EveryWriteCall,
+  Fault,
+  FirstFault,
+  NonEntryRefused,
+  OnlyMeaning,
+  OnlyReading,
+  ReadsBack,
+  SheetsRead,
+  FewestDigits,
+  SheetsDeterminePolicies,
+  SheetExamples,
+  WritingExample,
+  WrittenRuns,
+}
 use Rattle.policy_sheet.specs.Writer.{fewestDigits, firstIn, joined, lineText, runText, runsFrom, withEntry, writeSheet}
 use Rattle.policy_sheet.specs.declared.SheetAnswer.the-variants.{Written}
 use Rattle.policy_sheet.proofs.Lengths.{sheet-few}
 use Rattle.policy_sheet.proofs.Offsets.{fault-inside, non-entry-inside}
-use Rattle.policy_sheet.proofs.Outcomes.{read-as, read-long, read-small, result-done, result-short, write-refused, write-result, write-small}
+use Rattle.policy_sheet.proofs.Outcomes.{
+  read-as,
+  read-long,
+  read-small,
+  result-done,
+  result-short,
+  write-refused,
+  write-result,
+  write-small,
+}
 use Rattle.policy_sheet.proofs.PolicyValues.{policy-bytes-many, policy-split, value-of-bytes}
 use Rattle.policy_sheet.proofs.ReadsBack.{back}
 use Rattle.policy_sheet.proofs.Faults.{Verdict, faulty, formed, only-pieces, read-rising, verdict}
@@ -107,7 +148,8 @@ non-entry-refused s n = (λ e. to (verdict s) e, λ h. from (h .0) (h .1) (h .2)
     to (formed {xs} h d f) e = (xs, h, none-rising xs d, some-non-entry n xs (other-as (firstNonEntry xs) (sheetPolicy xs) n e))
 
     from : (xs : List Piece) → Sheet s xs → Rising xs → FirstNonEntry xs n → readSheet s ≡ not-an-entry n
-    from xs h r f = read-rising h (rising-none xs r) ∙ ap (λ (o : Option ℕ). nonEntryOr o (is-read (sheetPolicy xs))) (non-entry-some n xs f)
+    from xs h r f = read-rising h (rising-none xs r) ∙ ap (λ (o : Option ℕ). nonEntryOr o (is-read (sheetPolicy xs)))
+        (non-entry-some n xs f)
 
 -- ---- the writer
 
@@ -171,7 +213,8 @@ every-write-call policy out = record {
 
 pub written-runs : WrittenRuns
 unfolding WrittenRuns
-written-runs ws = maximal (λ (i : ℕ). in-set i ws) 0 variationEntries (λ (i : ℕ). in-set i ws) (λ i. ap (λ (n : ℕ). in-set n ws) (omega arith))
+written-runs ws = maximal (λ (i : ℕ). in-set i ws) 0 variationEntries (λ (i : ℕ). in-set i ws) (λ i. ap (λ (n : ℕ). in-set n ws)
+    (omega arith))
 
 pub fewest-digits : FewestDigits
 unfolding FewestDigits
@@ -180,9 +223,11 @@ fewest-digits c s h = (fewest h, point-written c (point-small h))
 -- ---- examples
 
 pub sheet-examples : SheetExamples
-unfolding SheetExamples readSheet answerOf run transition transitionBy kindOf allowedDigits isNone orElse firstDescending firstNonEntry hasVariationSequence in-table variationEntries
+unfolding SheetExamples readSheet answerOf run transition transitionBy kindOf allowedDigits isNone orElse firstDescending firstNonEntry
+    hasVariationSequence in-table variationEntries
 sheet-examples = (refl, refl, refl, refl, refl, refl, refl, refl, refl, refl, refl, refl, refl, refl, refl, refl)
 
 pub writing-example : WritingExample
-unfolding WritingExample writeSheet lineText runText runsFrom withEntry joined firstIn fewestDigits hexDigits hexDigit parted in-set one variationEntries
+unfolding WritingExample writeSheet lineText runText runsFrom withEntry joined firstIn fewestDigits hexDigits hexDigit parted in-set one
+    variationEntries
 writing-example = refl

@@ -10,7 +10,18 @@ use lib.ListN.{length}
 use Rattle.base.specs.Ranges.{within}
 use Rattle.policy_sheet.specs.Grammar.{Begins, HexDigit, IsSheet, Lines, Piece, allowedDigits, decimal, newline-closes}
 use Rattle.policy_sheet.specs.Reader.{RunResult, State, beforePiece, moreDigits, pieceRead, reached, run, start, transition, stopped}
-use Rattle.policy_sheet.proofs.Accepts.{Runs, Steps, close-step, digit-step, newline-step, no-run, run-then, runs-and, runs-at, runs-by}
+use Rattle.policy_sheet.proofs.Accepts.{
+  Runs,
+  Steps,
+  close-step,
+  digit-step,
+  newline-step,
+  no-run,
+  run-then,
+  runs-and,
+  runs-at,
+  runs-by,
+}
 use Rattle.policy_sheet.proofs.Derives.{Fresh, Held, not-fresh, nothing-read}
 use Rattle.policy_sheet.proofs.Runs.{Ended, Going, all-read, ended, stops}
 
@@ -45,7 +56,8 @@ left k h = (Prim.Native.Nat._-_ 4 k, omega arith)
 closes : (at : ℕ) (r : State) → r .line < 4 → allowedDigits (r .count) ≡ true → Completes at r
 closes at r l a =
     let n = left (suc (r .line)) (omega arith) in
-    by-step (close-step at r newline-closes l a) (lines-left (n .0) (suc (r .line)) (at + 1) (at + 1) (r .pieces ++ (pieceRead r ∷ [])) (n .1))
+    by-step (close-step at r newline-closes l a) (lines-left (n .0) (suc (r .line)) (at + 1) (at + 1) (r .pieces ++ (pieceRead r ∷ []))
+    (n .1))
 
 a-zero : HexDigit 0x30 0
 a-zero = decimal refl
@@ -55,7 +67,8 @@ number-left : (at : ℕ) (r : State) → r .line < 4 → (k : ℕ) → r .count 
 unfolding allowedDigits
 number-left at r l zero e h =
     by-step (digit-step at r l (omega arith) a-zero)
-    (by-step (digit-step (at + 1) (moreDigits r 0) l (omega arith) a-zero) (closes (at + 1 + 1) (moreDigits (moreDigits r 0) 0) l (ap (λ (n : ℕ). allowedDigits (suc (suc n))) e)))
+    (by-step (digit-step (at + 1) (moreDigits r 0) l (omega arith) a-zero) (closes (at + 1 + 1) (moreDigits (moreDigits r 0) 0) l
+    (ap (λ (n : ℕ). allowedDigits (suc (suc n))) e)))
 number-left at r l (suc zero) e h =
     by-step (digit-step at r l (omega arith) a-zero) (closes (at + 1) (moreDigits r 0) l (ap (λ (n : ℕ). allowedDigits (suc n)) e))
 number-left at r l (suc (suc zero)) e h = closes at r l (ap allowedDigits e)
@@ -81,10 +94,12 @@ sheet-held {s} {r} h e = go (h .fresh) (is-fresh (h .in-sheet)) (h .text) (h .pi
     is-fresh (inl l) = absurd (omega arith)
     is-fresh (inr p) = p .1
 
-    go : {f : Bool} {u w : List ℕ} {ys : List Piece} → Fresh f u w ys → f ≡ true → s ≡ h .earlier ++ (u ++ w) → r .pieces ≡ h .xs ++ ys → Lines 4 s (r .pieces)
+    go : {f : Bool} {u w : List ℕ} {ys : List Piece} → Fresh f u w ys → f ≡ true → s ≡ h .earlier ++ (u ++ w) → r .pieces ≡ h .xs ++ ys
+        → Lines 4 s (r .pieces)
     go nothing-read p tx px =
         subst (λ (l : List ℕ). Lines 4 l (r .pieces)) (sym (tx ∙ append-nil (h .earlier)))
-        (subst (λ (l : List Piece). Lines 4 (h .earlier) l) (sym (px ∙ append-nil (h .xs))) (subst (λ (k : ℕ). Lines k (h .earlier) (h .xs)) e (h .lines-before)))
+        (subst (λ (l : List Piece). Lines 4 (h .earlier) l) (sym (px ∙ append-nil (h .xs)))
+        (subst (λ (k : ℕ). Lines k (h .earlier) (h .xs)) e (h .lines-before)))
     go not-fresh p tx px = absurd (mathlib.Core.Bool.true≢false (sym p))
 
 pub same-end : {s : List ℕ} {x y : RunResult} → x ≡ y → Ended s x → Ended s y

@@ -119,7 +119,8 @@ more-number : {at : ℕ} {s : List ℕ} {f : Option Point} {n k v b d : ℕ} →
     → Number at (s ++ (b ∷ [])) f n (suc k) (v * 16 + d)
 more-number (alone ds) h = alone (digits-and ds h)
 more-number {at} {b = b} {d} (in-range {s} {t} {w} {k} {v} p ds) h =
-    subst (λ (l : List ℕ). Number at l (some (record { at = at; value = w })) (at + length s + 1) (suc k) (v * 16 + d)) (sym (append-assoc s (0x2D ∷ t) (b ∷ [])))
+    subst (λ (l : List ℕ). Number at l (some (record { at = at; value = w })) (at + length s + 1) (suc k) (v * 16 + d))
+    (sym (append-assoc s (0x2D ∷ t) (b ∷ [])))
     (in-range p (digits-and ds h))
 
 -- A piece that may be closed.
@@ -138,9 +139,11 @@ pieces-held {k} {at} {w = w} {x = x} (after-comma {s} {xs = ys} h) p =
     (pieces-and h (subst (λ (n : ℕ). PieceAt k n w x) (simp length-append (omega arith)) p))
 
 -- The same before a dash.
-dashed : {at : ℕ} {s : List ℕ} {f : Option Point} {n k v m : ℕ} → Number at s f n k v → f ≡ none → allowedDigits k ≡ true → at + length s + 1 ≡ m
+dashed : {at : ℕ} {s : List ℕ} {f : Option Point} {n k v m : ℕ} → Number at s f n k v → f ≡ none → allowedDigits k ≡ true
+    → at + length s + 1 ≡ m
     → Number at (s ++ (0x2D ∷ [])) (some (record { at = n; value = v })) m 0 0
-dashed {at} {s} {v = v} (alone ds) e a q = subst (λ (k : ℕ). Number at (s ++ (0x2D ∷ [])) (some (record { at = at; value = v })) k 0 0) q (in-range (code-point ds a) no-digits)
+dashed {at} {s} {v = v} (alone ds) e a q = subst (λ (k : ℕ). Number at (s ++ (0x2D ∷ [])) (some (record { at = at; value = v })) k 0 0) q
+    (in-range (code-point ds a) no-digits)
 dashed (in-range p ds) e a q = let z : _≡_ {A = ℕ} 0 1 = cc in absurd (omega arith)
 
 three : (a b c : List ℕ) (x : ℕ) → (a ++ (b ++ c)) ++ (x ∷ []) ≡ a ++ (b ++ (c ++ (x ∷ [])))
@@ -186,13 +189,15 @@ module _ (s : List ℕ) (r : State) (h : Held s r) (l : r .line < 4) where
       at-is : length (h .earlier) + length (h .front-text) + length (h .number-text) + 1 ≡ length s + 1
       at-is = simp (h .text, length-append) (omega arith)
 
-  all-pieces : allowedDigits (r .count) ≡ true → Pieces (r .line) (length (h .earlier)) (h .front-text ++ h .number-text) (h .ys ++ (pieceRead r ∷ []))
+  all-pieces : allowedDigits (r .count) ≡ true → Pieces (r .line) (length (h .earlier)) (h .front-text ++ h .number-text)
+      (h .ys ++ (pieceRead r ∷ []))
   all-pieces a = pieces-held (h .front) (piece-held (r .line) (h .number) a)
 
   with-piece : r .pieces ++ (pieceRead r ∷ []) ≡ h .xs ++ (h .ys ++ (pieceRead r ∷ []))
   with-piece = ap (λ (t : List Piece). t ++ (pieceRead r ∷ [])) (h .pieces) ∙ append-assoc (h .xs) (h .ys) (pieceRead r ∷ [])
 
-  held-comma : allowedDigits (r .count) ≡ true → Held (s ++ (0x2C ∷ [])) (beforePiece (r .line) false (r .pieces ++ (pieceRead r ∷ [])) (length s + 1))
+  held-comma : allowedDigits (r .count) ≡ true → Held (s ++ (0x2C ∷ [])) (beforePiece (r .line) false (r .pieces ++ (pieceRead r ∷ []))
+      (length s + 1))
   held-comma a = record {
     earlier = h .earlier;
     front-text = (h .front-text ++ h .number-text) ++ (0x2C ∷ []);
@@ -202,7 +207,8 @@ module _ (s : List ℕ) (r : State) (h : Held s r) (l : r .line < 4) where
     begun = false;
     lines-before = h .lines-before;
     front = after-comma (all-pieces a);
-    number = subst (λ (k : ℕ). Number (length (h .earlier) + length ((h .front-text ++ h .number-text) ++ (0x2C ∷ []))) [] none k 0 0) at-is (alone no-digits);
+    number = subst (λ (k : ℕ). Number (length (h .earlier) + length ((h .front-text ++ h .number-text) ++ (0x2C ∷ []))) [] none k 0 0)
+        at-is (alone no-digits);
     fresh = not-fresh;
     text = ap (λ (t : List ℕ). t ++ (0x2C ∷ [])) (h .text) ∙ simp (append-assoc, append-nil);
     pieces = with-piece;
@@ -239,10 +245,12 @@ module _ (s : List ℕ) (r : State) (h : Held s r) (l : r .line < 4) where
       four : (suc (r .line) < 4) ⊎ ((suc (r .line) ≡ 4) × (true ≡ true))
       four = ⊎-elim (λ q. inl q) (λ q. inr (omega arith, refl)) (Rattle.base.proofs.Tests.le-or-lt (suc (suc (r .line))) 4)
 
-  held-full : allowedDigits (r .count) ≡ true → Held (s ++ (0x0A ∷ [])) (beforePiece (suc (r .line)) true (r .pieces ++ (pieceRead r ∷ [])) (length s + 1))
+  held-full : allowedDigits (r .count) ≡ true
+      → Held (s ++ (0x0A ∷ [])) (beforePiece (suc (r .line)) true (r .pieces ++ (pieceRead r ∷ [])) (length s + 1))
   held-full a =
       held-line (lines-and (h .lines-before) (full-line (all-pieces a)))
-      (sym (ap (λ (t : List ℕ). t ++ (0x0A ∷ [])) (h .text) ∙ append-assoc (h .earlier) (h .front-text ++ h .number-text) (0x0A ∷ []))) with-piece
+      (sym (ap (λ (t : List ℕ). t ++ (0x0A ∷ [])) (h .text) ∙ append-assoc (h .earlier) (h .front-text ++ h .number-text) (0x0A ∷ [])))
+      with-piece
 
   held-empty : r .fresh ≡ true → Held (s ++ (0x0A ∷ [])) (beforePiece (suc (r .line)) true (r .pieces) (length s + 1))
   held-empty e = go (h .fresh) e (h .text) (h .pieces)
@@ -250,7 +258,8 @@ module _ (s : List ℕ) (r : State) (h : Held s r) (l : r .line < 4) where
       go : {f : Bool} {u w : List ℕ} {ys : List Piece} → Fresh f u w ys → f ≡ true → s ≡ h .earlier ++ (u ++ w) → r .pieces ≡ h .xs ++ ys
           → Held (s ++ (0x0A ∷ [])) (beforePiece (suc (r .line)) true (r .pieces) (length s + 1))
       go nothing-read e tx px =
-          held-line (lines-and (h .lines-before) empty-line) (ap (λ (t : List ℕ). t ++ (0x0A ∷ [])) (sym (append-nil (h .earlier)) ∙ sym tx)) px
+          held-line (lines-and (h .lines-before) empty-line) (ap (λ (t : List ℕ). t ++ (0x0A ∷ [])) (sym (append-nil (h .earlier))
+          ∙ sym tx)) px
       go not-fresh e tx px = absurd (true≢false (sym e))
 
 -- ---- a transition
@@ -283,7 +292,11 @@ is-none (some x) e = absurd (true≢false (sym e))
 
 module _ (s : List ℕ) (r : State) (h : Held s r) (l : r .line < 4) where
   stepped-as : {b : ℕ} {x q : State} → x ≡ q → Held (s ++ (b ∷ [])) x → Adds r b x → Stepped s r b q
-  stepped-as {b} e g a = record { line = l; held = subst (λ (z : State). Held (s ++ (b ∷ [])) z) e g; adds = subst (λ (z : State). Adds r b z) e a }
+  stepped-as {b} e g a = record {
+    line = l;
+    held = subst (λ (z : State). Held (s ++ (b ∷ [])) z) e g;
+    adds = subst (λ (z : State). Adds r b z) e a;
+  }
 
   by-kind : {b : ℕ} {k : ByteKind} {q : State} → HasKind b k → transitionBy (length s) r k ≡ some q → Stepped s r b q
   unfolding transitionBy

@@ -19,14 +19,16 @@ use Rattle.policy_sheet.specs.Writer.{Run, fewestDigits, firstIn, joined
 -- ---- maximal runs
 
 -- One more entry at the front.
-further : {q : ℕ → Bool} {c : ℕ} {cs : List ℕ} {n : ℕ} {rs : List Run} → MaximalRuns (λ (i : ℕ). q (suc i)) cs n rs → MaximalRuns q (c ∷ cs) (suc n) rs
+further : {q : ℕ → Bool} {c : ℕ} {cs : List ℕ} {n : ℕ} {rs : List Run} → MaximalRuns (λ (i : ℕ). q (suc i)) cs n rs
+    → MaximalRuns q (c ∷ cs) (suc n) rs
 further {q} {c} {cs} {n} (no-more f) = no-more (λ i h l. at i h l)
   where
     at : (i : ℕ) → suc n ≤ i → i < length (c ∷ cs) → q i ≡ false
     at zero h l = absurd (omega arith)
     at (suc i) h l = f i (omega arith) (omega arith)
 further {q} {c} {cs} {n} (run-and from to a b l gap inside after more) =
-    run-and {n = suc n} (suc from) (suc to) (omega arith) (omega arith) (omega arith) in-gap in-run (λ h. after (omega arith)) (further more)
+    run-and {n = suc n} (suc from) (suc to) (omega arith) (omega arith) (omega arith) in-gap in-run (λ h. after (omega arith))
+    (further more)
   where
     in-gap : (i : ℕ) → suc n ≤ i → i < suc from → q i ≡ false
     in-gap zero h l = absurd (omega arith)
@@ -53,9 +55,11 @@ module _ (q : ℕ → Bool) (c : ℕ) (cs : List ℕ) where
   alone : {rs : List Run} → q 0 ≡ true → (0 < length cs → q 1 ≡ false) → MaximalRuns (λ (i : ℕ). q (suc i)) cs 0 rs
       → MaximalRuns q (c ∷ cs) 0 (record { first = c; last = c } ∷ rs)
   alone e f m =
-      run-and {n = 0} 0 0 (omega arith) (omega arith) (omega arith) (λ i h l. absurd (omega arith)) (λ i h l. ap q (omega arith) ∙ e) (λ h. f (omega arith)) (further m)
+      run-and {n = 0} 0 0 (omega arith) (omega arith) (omega arith) (λ i h l. absurd (omega arith)) (λ i h l. ap q (omega arith)
+      ∙ e) (λ h. f (omega arith)) (further m)
 
-  join : {n : ℕ} {rs : List Run} → n ≡ 0 → q 0 ≡ true → 0 < length cs → q 1 ≡ true → MaximalRuns (λ (i : ℕ). q (suc i)) cs n rs → MaximalRuns q (c ∷ cs) 0 (joined c rs)
+  join : {n : ℕ} {rs : List Run} → n ≡ 0 → q 0 ≡ true → 0 < length cs → q 1 ≡ true → MaximalRuns (λ (i : ℕ). q (suc i)) cs n rs
+      → MaximalRuns q (c ∷ cs) 0 (joined c rs)
   unfolding joined
   join z e l t (no-more f) = absurd (true≢false (sym t ∙ f 0 (omega arith) l))
   join {n} z e l t (run-and {rs = us} from to a b m gap inside after more) = at-zero from refl
@@ -66,10 +70,12 @@ module _ (q : ℕ → Bool) (c : ℕ) (cs : List ℕ) where
 
       at-zero : (k : ℕ) → from ≡ k → MaximalRuns q (c ∷ cs) 0 (record { first = c; last = getD cs to 0 } ∷ us)
       at-zero zero p =
-          run-and {n = 0} 0 (suc to) (omega arith) (omega arith) (omega arith) (λ i h l. absurd (omega arith)) (λ i h l. in-run i p l) (λ h. after (omega arith)) (further more)
+          run-and {n = 0} 0 (suc to) (omega arith) (omega arith) (omega arith) (λ i h l. absurd (omega arith)) (λ i h l. in-run i p l)
+          (λ h. after (omega arith)) (further more)
       at-zero (suc k) p = absurd (true≢false (sym t ∙ gap 0 (omega arith) (omega arith)))
 
-  with-entry : (b n : Bool) (rs : List Run) → q 0 ≡ b → (n ≡ true → (0 < length cs) × (q 1 ≡ true)) → (n ≡ false → 0 < length cs → q 1 ≡ false)
+  with-entry : (b n : Bool) (rs : List Run) → q 0 ≡ b → (n ≡ true → (0 < length cs) × (q 1 ≡ true))
+      → (n ≡ false → 0 < length cs → q 1 ≡ false)
       → MaximalRuns (λ (i : ℕ). q (suc i)) cs 0 rs → MaximalRuns q (c ∷ cs) 0 (withEntry c b n rs)
   unfolding withEntry
   with-entry false n rs e t f m = not-first e (further m)

@@ -89,7 +89,8 @@ isNone (some x) = false
 -- The state after a byte of a kind at an offset, or none if the byte cannot follow.
 unfoldable pub transitionBy : ℕ → State → ByteKind → Option State
 transitionBy at r (digit d) = cond (ltb (r .count) 6) (some (moreDigits r d)) none
-transitionBy at r comma = cond (allowedDigits (r .count)) (some (beforePiece (r .line) false (r .pieces ++ (pieceRead r ∷ [])) (at + 1))) none
+transitionBy at r comma = cond (allowedDigits (r .count)) (some (beforePiece (r .line) false (r .pieces ++ (pieceRead r ∷ [])) (at + 1)))
+    none
 transitionBy at r dash = cond (isNone (r .first) && allowedDigits (r .count)) (some (afterDash r (at + 1))) none
 transitionBy at r newline =
     cond (allowedDigits (r .count)) (some (beforePiece (suc (r .line)) true (r .pieces ++ (pieceRead r ∷ [])) (at + 1)))

@@ -159,7 +159,14 @@ unfoldable pub WritingExample : Type 0
 WritingExample =
     writeSheet
     (record {
-      «prefer_bare» = record { chars = record { bits = 0x1FFC ∷ 0 ∷ 0 ∷ 0 ∷ 0 ∷ 0 ∷ [] }; «keycap_chars» = record { bits = 0x0 ∷ 0 ∷ 0 ∷ 0 ∷ 0 ∷ 0 ∷ [] } };
-      «bare_as_text» = record { chars = record { bits = 0x1001 ∷ 0 ∷ 0 ∷ 0 ∷ 0 ∷ 0 ∷ [] }; «keycap_chars» = record { bits = 0x7 ∷ 0 ∷ 0 ∷ 0 ∷ 0 ∷ 0 ∷ [] } };
+      «prefer_bare» = record {
+        chars = record { bits = 0x1FFC ∷ 0 ∷ 0 ∷ 0 ∷ 0 ∷ 0 ∷ [] };
+        «keycap_chars» = record { bits = 0x0 ∷ 0 ∷ 0 ∷ 0 ∷ 0 ∷ 0 ∷ [] };
+      };
+      «bare_as_text» = record {
+        chars = record { bits = 0x1001 ∷ 0 ∷ 0 ∷ 0 ∷ 0 ∷ 0 ∷ [] };
+        «keycap_chars» = record { bits = 0x7 ∷ 0 ∷ 0 ∷ 0 ∷ 0 ∷ 0 ∷ [] };
+      };
     })
-    ≡ 0x33 ∷ 0x30 ∷ 0x2D ∷ 0x41 ∷ 0x39 ∷ 0x0A ∷ 0x0A ∷ 0x32 ∷ 0x33 ∷ 0x2C ∷ 0x41 ∷ 0x39 ∷ 0x0A ∷ 0x32 ∷ 0x33 ∷ 0x2D ∷ 0x33 ∷ 0x30 ∷ 0x0A ∷ []
+    ≡ 0x33 ∷ 0x30 ∷ 0x2D ∷ 0x41 ∷ 0x39 ∷ 0x0A ∷ 0x0A ∷ 0x32 ∷ 0x33 ∷ 0x2C ∷ 0x41 ∷ 0x39 ∷ 0x0A ∷ 0x32 ∷ 0x33 ∷ 0x2D ∷ 0x33 ∷ 0x30 ∷ 0x0A
+    ∷ []

@@ -98,7 +98,8 @@ checkDescending none x = x
 
 unfoldable pub checkOf : ℕ → RunResult → SheetCheck
 checkOf len (stopped n r) = checkDescending (firstDescending (r .pieces)) (NotASheet n)
-checkOf len (reached r) = checkDescending (firstDescending (r .pieces)) (cond (eqb (r .line) 4) (checkNonEntry (firstNonEntry (r .pieces))) (NotASheet len))
+checkOf len (reached r) = checkDescending (firstDescending (r .pieces))
+    (cond (eqb (r .line) 4) (checkNonEntry (firstNonEntry (r .pieces))) (NotASheet len))
 
 -- The check of a sheet.
 unfoldable pub checkSheet : List ℕ → SheetCheck

@@ -132,7 +132,8 @@ fn before_piece(
     other: MaybeOffset,
     next: usize,
 ) -> Cursor
-    ensures { λ x. ⌜ ((xs : List Piece) → offsetIn down ≡ firstDescending xs → offsetIn other ≡ firstNonEntry xs → Tracks x (beforePiece line fresh xs next)) ⌝ }
+    ensures { λ x. ⌜ ((xs : List Piece) → offsetIn down ≡ firstDescending xs → offsetIn other ≡ firstNonEntry xs
+        → Tracks x (beforePiece line fresh xs next)) ⌝ }
 {
     Cursor {
         line,

@@ -1,5 +1,5 @@
-// The sets that the pieces of a sheet mean. `with_closed` adds a piece to the policy; the sets then hold what `inSet` of crate policy_sheet,
-// specs/Meaning.antt, says of the pieces.
+// The sets that the pieces of a sheet mean. `with_closed` adds a piece to the policy. The sets then hold what `inSet` (crate policy_sheet,
+// specs/Meaning.antt) says of the pieces.
 ghost use mathlib.Core.Path.{_≡_};
 ghost use mathlib.Core.Bool.{Bool, _||_};
 ghost use mathlib.Core.List.{List, [], _∷_, _++_};
@@ -95,7 +95,8 @@ fn with_range(set: CharSet, lo: u32, hi: u32) -> CharSet
 
 // Adds a piece to set k, if the piece is in line k.
 fn with_piece_in(set: CharSet, k: u32, line: u32, lo: u32, hi: u32) -> CharSet
-    ensures { λ r. ⌜ ((xs : List Piece) (x : Piece) → Spans x line lo hi → Holds (inSet xs k) (set .bits) → Holds (inSet (xs ++ (x ∷ [])) k) (r .bits)) ⌝ }
+    ensures { λ r. ⌜ ((xs : List Piece) (x : Piece) → Spans x line lo hi → Holds (inSet xs k) (set .bits)
+        → Holds (inSet (xs ++ (x ∷ [])) k) (r .bits)) ⌝ }
 {
     if line == k {
         return with_range(set, lo, hi);
@@ -146,7 +147,8 @@ fn first_of(c: Cursor) -> u32
 
 // Adds the piece that a byte closes, if it closes one, to the policy.
 pub(crate) fn with_closed(p: Policy, c: Cursor, b: u8) -> Policy
-    ensures { λ q. ⌜ ((at : ℕ) (r t : State) → Tracks c r → transition at r b ≡ some t → SetsHold (r .pieces) p → SetsHold (t .pieces) q) ⌝ }
+    ensures { λ q. ⌜ ((at : ℕ) (r t : State) → Tracks c r → transition at r b ≡ some t → SetsHold (r .pieces) p
+        → SetsHold (t .pieces) q) ⌝ }
 {
     if is_closing(b, c.count) {
         let lo = first_of(c);

@@ -63,22 +63,27 @@ head-full : (p : ℕ → Bool) (i : ℕ) (cs : List ℕ) → firstIn p i cs ≡ 
 unfolding firstIn runsFrom
 head-full p i [] e = absurd (true≢false (sym e))
 head-full p i (c ∷ cs) e =
-    subst (λ (b : Bool). Full (withEntry c b (firstIn p (suc i) cs) (runsFrom p (suc i) cs))) (sym e) (with-full c (firstIn p (suc i) cs) (runsFrom p (suc i) cs))
+    subst (λ (b : Bool). Full (withEntry c b (firstIn p (suc i) cs) (runsFrom p (suc i) cs))) (sym e) (with-full c (firstIn p (suc i) cs)
+    (runsFrom p (suc i) cs))
 
 module _ (c : ℕ) (cs : List ℕ) (up : Up (c ∷ cs)) where
   -- A run that begins with c and goes on.
-  joined-text : (any : Bool) {rs : List Run} → Full rs → Each (Among cs) rs → withComma any (pointText c) ++ afterFirst rs ≡ joinText any (joined c rs)
+  joined-text : (any : Bool) {rs : List Run} → Full rs → Each (Among cs) rs → withComma any (pointText c) ++ afterFirst rs ≡ joinText any
+      (joined c rs)
   unfolding afterFirst joinText joined
   joined-text any (full {r} {rs}) (each-and a hs) =
       sym (append-assoc (withComma any (pointText c)) (0x2D ∷ pointText (r .last)) (joinText true rs))
       ∙ ap (λ (t : List ℕ). t ++ joinText true rs)
-      (sym (withComma-append any (pointText c) (0x2D ∷ pointText (r .last))) ∙ ap (withComma any) (sym (run-range c (r .last) (omega (arith, a .last-is, up 0 (suc (a .to)) (omega arith) (omega (arith, a .in-list)))))))
+      (sym (withComma-append any (pointText c) (0x2D ∷ pointText (r .last)))
+      ∙ ap (withComma any)
+      (sym (run-range c (r .last) (omega (arith, a .last-is, up 0 (suc (a .to)) (omega arith) (omega (arith, a .in-list)))))))
 
   joined-after : {rs : List Run} → Full rs → afterFirst (joined c rs) ≡ afterFirst rs
   unfolding afterFirst joined
   joined-after full = refl
 
-  single-text : (any : Bool) (rs : List Run) → withComma any (pointText c) ++ joinText true rs ≡ joinText any (record { first = c; last = c } ∷ rs)
+  single-text : (any : Bool) (rs : List Run) → withComma any (pointText c) ++ joinText true rs ≡ joinText any
+      (record { first = c; last = c } ∷ rs)
   unfolding joinText
   single-text any rs = ap (λ (t : List ℕ). withComma any t ++ joinText true rs) (sym (run-single c))
 
@@ -94,14 +99,17 @@ module _ (p : ℕ → Bool) (i c : ℕ) (cs : List ℕ) (up : Up (c ∷ cs)) (h 
   abbrev R : List Run
   R = runsFrom p (suc i) cs
 
-  outside-step : (b n any : Bool) → firstIn p (suc i) cs ≡ n → entryText false any b n c ++ lineFrom p (suc i) b (any || b) cs ≡ joinText any (withEntry c b n R)
+  outside-step : (b n any : Bool) → firstIn p (suc i) cs ≡ n → entryText false any b n c ++ lineFrom p (suc i) b (any || b) cs ≡ joinText
+      any (withEntry c b n R)
   unfolding entryText withEntry
   outside-step false n any f = h .outside (any || false) ∙ ap (λ (a : Bool). joinText a R) (or-false any)
   outside-step true false any f =
-      ap (λ (a : Bool). withComma any (pointText c) ++ lineFrom p (suc i) true a cs) (or-true any) ∙ ap (λ (t : List ℕ). withComma any (pointText c) ++ t) (h .ended f)
+      ap (λ (a : Bool). withComma any (pointText c) ++ lineFrom p (suc i) true a cs) (or-true any)
+      ∙ ap (λ (t : List ℕ). withComma any (pointText c) ++ t) (h .ended f)
       ∙ single-text c cs up any R
   outside-step true true any f =
-      ap (λ (a : Bool). withComma any (pointText c) ++ lineFrom p (suc i) true a cs) (or-true any) ∙ ap (λ (t : List ℕ). withComma any (pointText c) ++ t) (h .going f)
+      ap (λ (a : Bool). withComma any (pointText c) ++ lineFrom p (suc i) true a cs) (or-true any)
+      ∙ ap (λ (t : List ℕ). withComma any (pointText c) ++ t) (h .going f)
       ∙ joined-text c cs up any (head-full p (suc i) cs f) (runs-among p (suc i) cs)
 
   ended-step : (b n : Bool) → b ≡ false → entryText true true b n c ++ lineFrom p (suc i) b true cs ≡ joinText true (withEntry c b n R)
@@ -109,7 +117,8 @@ module _ (p : ℕ → Bool) (i c : ℕ) (cs : List ℕ) (up : Up (c ∷ cs)) (h 
   ended-step false n e = h .outside true
   ended-step true n e = absurd (true≢false e)
 
-  going-step : (b n : Bool) → b ≡ true → firstIn p (suc i) cs ≡ n → entryText true true b n c ++ lineFrom p (suc i) b true cs ≡ afterFirst (withEntry c b n R)
+  going-step : (b n : Bool) → b ≡ true → firstIn p (suc i) cs ≡ n → entryText true true b n c ++ lineFrom p (suc i) b true
+      cs ≡ afterFirst (withEntry c b n R)
   unfolding entryText withEntry afterFirst
   going-step false n e f = absurd (true≢false (sym e))
   going-step true false e f = ap (λ (t : List ℕ). (0x2D ∷ pointText c) ++ t) (h .ended f)

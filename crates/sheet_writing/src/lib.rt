@@ -147,7 +147,8 @@ fn in_set(set: CharSet, i: usize) -> bool
 // Writes a line without the 0A that ends it, and returns the offset after it.
 fn put_line(out: &mut [u8], start: usize, set: CharSet) -> usize
     requires { ⌜ start + length (lineFrom (λ (j : ℕ). member j (set .bits)) 0 false false variationEntries) ≤ length (now out) ⌝ }
-    ensures { λ r. ⌜ PutAt (now (out .entry)) start (lineFrom (λ (j : ℕ). member j (set .bits)) 0 false false variationEntries) (now (out .exit)) r ⌝ }
+    ensures { λ r. ⌜ PutAt (now (out .entry)) start
+        (lineFrom (λ (j : ℕ). member j (set .bits)) 0 false false variationEntries) (now (out .exit)) r ⌝ }
 {
     let mut at = start;
     let mut before = false;

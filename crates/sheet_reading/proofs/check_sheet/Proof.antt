@@ -44,7 +44,8 @@ returns : tie.Need-returns Inv-loop μ-loop
 returns c =
     let k = c .before .before .before .before .before .before .loop .inv in
     c .stopped-at .ensures _ (k .state) (k .tracks)
-    ∙ sym (check-stop k (omega arith) (c .before .before .before .step-on .ensures (c .before .before .before .before .before .before .loop .at) (k .state) refl (k .tracks)) (c .before .enum-told .given .1))
+    ∙ sym (check-stop k (omega arith) (c .before .before .before .step-on .ensures
+    (c .before .before .before .before .before .before .loop .at) (k .state) refl (k .tracks)) (c .before .enum-told .given .1))
 
 add-at : tie.Need-add-at Inv-loop μ-loop
 add-at c = search needs
@@ -55,7 +56,8 @@ loop-less c = search needs
 loop-again : tie.Need-loop-again Inv-loop μ-loop
 loop-again c =
     let k = c .before .before .before .before .before .before .loop .inv in
-    check-on k (omega arith) (c .before .before .before .step-on .ensures (c .before .before .before .before .before .before .loop .at) (k .state) refl (k .tracks)) (c .before .further .given .1)
+    check-on k (omega arith) (c .before .before .before .step-on .ensures (c .before .before .before .before .before .before .loop .at)
+    (k .state) refl (k .tracks)) (c .before .further .given .1)
 
 ended-at-requires : tie.Need-ended-at-requires Inv-loop μ-loop
 ended-at-requires c κs = search needs

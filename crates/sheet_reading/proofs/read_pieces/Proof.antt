@@ -23,7 +23,8 @@ loop-holds c = take-begin (c .before .before .before .args .s .now) (c .before .
 returns : tie.Need-returns Inv-loop μ-loop
 returns c =
     let k = c .before .before .before .before .before .loop .inv in
-    take-stop k (omega arith) (c .before .before .step-on .ensures (c .before .before .before .before .before .loop .at) (k .checking .state) refl (k .checking .tracks)) (c .enum-told .given .1)
+    take-stop k (omega arith) (c .before .before .step-on .ensures (c .before .before .before .before .before .loop .at)
+    (k .checking .state) refl (k .checking .tracks)) (c .enum-told .given .1)
 
 add-at : tie.Need-add-at Inv-loop μ-loop
 add-at c = omega (arith, c .before .before .before .before .before .before .before .before .before .before .before .good .0 .0)
@@ -34,10 +35,14 @@ loop-less c = omega arith
 loop-again : tie.Need-loop-again Inv-loop μ-loop
 loop-again c =
     let k = c .before .before .before .before .before .before .before .loop .inv in
-    take-on k (omega arith) (c .before .before .before .before .step-on .ensures (c .before .before .before .before .before .before .before .loop .at) (k .checking .state) refl (k .checking .tracks)) (c .before .before .further .given .1) (c .with-closed .ensures)
+    take-on k (omega arith) (c .before .before .before .before .step-on .ensures
+    (c .before .before .before .before .before .before .before .loop .at) (k .checking .state) refl (k .checking .tracks))
+    (c .before .before .further .given .1) (c .with-closed .ensures)
 
 returns-2 : tie.Need-returns-2 Inv-loop μ-loop
 returns-2 c = take-end (c .before .loop .inv) (omega arith)
 
 pub read-pieces-spec : {M : Type 1} → statement M
-read-pieces-spec = tie.close (tie.spec Inv-loop μ-loop (λ c κs. search needs) (λ c κs. search needs) loop-holds (λ c. search needs) (λ c. search needs) (λ c κs. search needs) (λ c. search needs) (λ c κs. search needs) (λ c. search needs) returns add-at loop-less loop-again returns-2)
+read-pieces-spec = tie.close (tie.spec Inv-loop μ-loop (λ c κs. search needs) (λ c κs. search needs) loop-holds (λ c. search needs)
+    (λ c. search needs) (λ c κs. search needs) (λ c. search needs) (λ c κs. search needs) (λ c. search needs) returns add-at loop-less
+    loop-again returns-2)

@@ -44,10 +44,13 @@ loop-again c =
       omega arith,
       omega (arith, e .1),
       c .before .before .before .in-set2 .ensures,
-      measured (l .n) _ (entryText (l .before) (l .any) (l .here) (c .before .before .before .in-set2 .result) (c .before .before .entry .result)) _ _ (l .inv .3)
-          (line-step (λ (j : ℕ). member j (a .set .bits)) variationEntries (l .i) (l .before) (l .any) (omega (arith, entries-length)) (l .inv .2) (c .before .before .before .in-set2 .ensures) (c .before .before .entry .ensures))
+      measured (l .n) _ (entryText (l .before) (l .any) (l .here) (c .before .before .before .in-set2 .result)
+          (c .before .before .entry .result)) _ _ (l .inv .3)
+          (line-step (λ (j : ℕ). member j (a .set .bits)) variationEntries (l .i) (l .before) (l .any) (omega (arith, entries-length))
+          (l .inv .2) (c .before .before .before .in-set2 .ensures) (c .before .before .entry .ensures))
           (e .0)
-          (ap (λ (x : Bool). lineFrom (λ (j : ℕ). member j (a .set .bits)) (l .i + 1) (l .here) x (drop (l .i + 1) variationEntries)) (c .either .ensures)),
+          (ap (λ (x : Bool). lineFrom (λ (j : ℕ). member j (a .set .bits)) (l .i + 1) (l .here) x (drop (l .i + 1) variationEntries))
+          (c .either .ensures)),
     )
 
 returns : tie.Need-returns Inv-loop μ-loop
@@ -58,4 +61,5 @@ returns c =
     (omega (arith, l .inv .3, ap length e), omega arith)
 
 pub line-len-spec : {M : Type 1} → statement M
-line-len-spec = tie.close (tie.spec Inv-loop μ-loop (λ c κs. search needs) loop-holds (λ c. search needs) (λ c κs. search needs) (λ c κs. search needs) (λ c κs. search needs) add-n (λ c κs. search needs) (λ c. search needs) loop-less loop-again returns)
+line-len-spec = tie.close (tie.spec Inv-loop μ-loop (λ c κs. search needs) loop-holds (λ c. search needs) (λ c κs. search needs)
+    (λ c κs. search needs) (λ c κs. search needs) add-n (λ c κs. search needs) (λ c. search needs) loop-less loop-again returns)

@@ -23,4 +23,5 @@ returns-5 : tie.Need-returns-5
 returns-5 c = value-above (c .before .before .before .before .args .b) (omega arith)
 
 pub digit-of-spec : {M : Type 1} → statement M
-digit-of-spec = tie.close (tie.spec returns (λ c. search needs) returns-2 returns-3 (λ c. search needs) (λ c. search needs) returns-4 returns-5)
+digit-of-spec = tie.close (tie.spec returns (λ c. search needs) returns-2 returns-3 (λ c. search needs) (λ c. search needs) returns-4
+    returns-5)

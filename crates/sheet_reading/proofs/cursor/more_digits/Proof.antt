@@ -7,7 +7,8 @@ use Rattle.sheet_reading.proofs.cursor.more_digits.Lts as lts
 use Rattle.sheet_reading.proofs.Tracked.{digit-tracks}
 
 returns : tie.Need-returns
-returns c r h = digit-tracks (c .before .before .before .before .args .c) (c .before .before .before .before .args .d) (c .before .before .before .before .pre .0) (c .before .before .before .before .pre .1) r h
+returns c r h = digit-tracks (c .before .before .before .before .args .c) (c .before .before .before .before .args .d)
+    (c .before .before .before .before .pre .0) (c .before .before .before .before .pre .1) r h
 
 pub more-digits-spec : {M : Type 1} → statement M
 more-digits-spec = tie.close (tie.spec (λ c. search needs) (λ c. search needs) (λ c. search needs) returns)

@@ -1,5 +1,5 @@
--- `sheet_reading::sets::entries_below` meets its contract. The loop's invariant: the entries before `lo` are below `ch`, and those from `hi`
--- on are not.
+-- `sheet_reading::sets::entries_below` meets its contract. The loop's invariant: the entries before `lo` are below `ch`, and those from
+-- `hi` on are not.
 use Prim.Native.Nat.{_+_, _-_, _/_}
 use native.Mathlib.Omega.{arith}
 use borrow.Author.Needs.{needs}

@@ -1,4 +1,5 @@
--- `sheet_reading::sets::first_entries` meets its contract. The loop's invariant: each word before word `i` has the bits of the first entries.
+-- `sheet_reading::sets::first_entries` meets its contract. The loop's invariant: each word before word `i` has the right
+-- bits.
 use mathlib.Core.Path.{_≡_}
 use Prim.Native.Nat.{ℕ, _+_, _*_, _-_, _<_, _≤_}
 use native.Mathlib.Omega.{arith}

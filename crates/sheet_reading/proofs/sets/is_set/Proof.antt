@@ -41,7 +41,9 @@ loop-again c = (omega arith, below-more _ _ (c .before .before .loop .inv .1) (c
 returns : tie.Need-returns Inv-loop μ-loop
 returns c =
     let ws = c .before .before .before .args .set .bits in
-    six-words ws (c .before .loop .i) (sym (length-map ws (λ v. v)) ∙ c .before .before .before .good .0 .1 .1 .0 .1 .0 .1) (omega arith) (c .before .loop .inv .1)
+    six-words ws (c .before .loop .i) (sym (length-map ws (λ v. v)) ∙ c .before .before .before .good .0 .1 .1 .0 .1 .0 .1) (omega arith)
+    (c .before .loop .inv .1)
 
 pub is-set-spec : {M : Type 1} → statement M
-is-set-spec = tie.close (tie.spec Inv-loop μ-loop loop-holds mul-is-word array-read-is-word is-word-requires add-i loop-less loop-again returns)
+is-set-spec = tie.close (tie.spec Inv-loop μ-loop loop-holds mul-is-word array-read-is-word is-word-requires add-i loop-less
+    loop-again returns)
