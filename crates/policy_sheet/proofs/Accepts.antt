@@ -1,12 +1,11 @@
 -- The reader's automaton accepts what the grammar derives.
 use mathlib.Core.Path.{_≡_, refl, ap, ap₂, sym, _∙_, subst}
-use mathlib.Core.Bool.{Bool, true, false, cond, _&&_}
+use mathlib.Core.Bool.{Bool, true, false}
 use mathlib.Core.List.{List, [], _∷_, _++_, append-assoc, append-nil}
 use mathlib.Core.Option.{Option, none, some}
-use Prim.Native.Nat.{ℕ, zero, suc, _+_, _*_, _≤_, _<_}
-use native.Mathlib.Numerals.{add-one}
+use Prim.Native.Nat.{ℕ, zero, suc, _+_, _≤_, _<_}
 use native.Mathlib.Omega.{arith}
-use lib.Dec.{eqb, ltb}
+use lib.Dec.{eqb}
 use lib.ListN.{length, length-append}
 use borrow.Author.Tests.{lt-ltb, eqb-true}
 use Rattle.base.specs.Ranges.{within}
@@ -23,8 +22,6 @@ use Rattle.policy_sheet.specs.Grammar.{
   Piece,
   PieceAt,
   Pieces,
-  Point,
-  Sheet,
   allowedDigits,
   after-comma,
   code-point,
@@ -44,7 +41,6 @@ use Rattle.policy_sheet.specs.Grammar.{
 }
 use Rattle.policy_sheet.specs.Reader.{
   ByteKind,
-  RunResult,
   State,
   beforePiece,
   afterDash,
@@ -55,7 +51,6 @@ use Rattle.policy_sheet.specs.Reader.{
   kindOf,
   moreDigits,
   newline,
-  numberRead,
   onward,
   orElse,
   pieceRead,

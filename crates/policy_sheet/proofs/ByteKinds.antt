@@ -1,12 +1,12 @@
 -- The kind of a byte as a view.
-use mathlib.Core.Path.{_≡_, refl, ap, sym, _∙_, subst}
+use mathlib.Core.Path.{_≡_, refl, sym, subst}
 use mathlib.Core.Bool.{Bool, true, false, cond}
-use Prim.Native.Nat.{ℕ, _-_, _≤_, _<_}
+use Prim.Native.Nat.{ℕ, _-_}
 use native.Mathlib.Omega.{arith}
-use lib.Dec.{eqb, leb}
-use borrow.Author.Tests.{eqb-true, leb-true}
+use lib.Dec.{eqb}
+use borrow.Author.Tests.{eqb-true}
 use Rattle.base.specs.Ranges.{within}
-use Rattle.base.proofs.Tests.{In, within-in, within-below}
+use Rattle.base.proofs.Tests.{In, within-in}
 use Rattle.policy_sheet.specs.Grammar.{HexDigit, decimal, letter}
 use Rattle.policy_sheet.specs.Reader.{ByteKind, comma, dash, digit, kindOf, newline, other}
 

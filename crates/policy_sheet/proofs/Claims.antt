@@ -1,6 +1,5 @@
 -- The proof of each statement of specs/Theorems.antt.
 use mathlib.Core.Path.{_≡_, refl, ap, sym, _∙_, subst}
-use mathlib.Core.Logic.{_↔_}
 use mathlib.Core.Bool.{true}
 use mathlib.Core.List.{List}
 use mathlib.Core.Option.{Option, none, some}
@@ -35,7 +34,6 @@ use Rattle.policy_sheet.specs.Reader.{
   not-an-entry,
   orElse,
   nonEntryOr,
-  readPieces,
   readSheet,
   run,
   transition,

@@ -1,27 +1,14 @@
 -- After every run of the automaton some bytes complete a sheet.
 use mathlib.Core.Path.{_≡_, refl, ap, sym, _∙_, subst}
 use mathlib.Core.Logic.{_⊎_, inl, inr, ⊎-elim}
-use mathlib.Core.Bool.{Bool, true, false}
+use mathlib.Core.Bool.{Bool, true}
 use mathlib.Core.List.{List, [], _∷_, _++_, append-nil}
-use mathlib.Core.Option.{none, some}
 use Prim.Native.Nat.{ℕ, zero, suc, _+_, _≤_, _<_}
 use native.Mathlib.Omega.{arith}
 use lib.ListN.{length}
-use Rattle.base.specs.Ranges.{within}
-use Rattle.policy_sheet.specs.Grammar.{Begins, HexDigit, IsSheet, Lines, Piece, allowedDigits, decimal, newline-closes}
-use Rattle.policy_sheet.specs.Reader.{RunResult, State, beforePiece, moreDigits, pieceRead, reached, run, start, transition, stopped}
-use Rattle.policy_sheet.proofs.Accepts.{
-  Runs,
-  Steps,
-  close-step,
-  digit-step,
-  newline-step,
-  no-run,
-  run-then,
-  runs-and,
-  runs-at,
-  runs-by,
-}
+use Rattle.policy_sheet.specs.Grammar.{Begins, HexDigit, Lines, Piece, allowedDigits, decimal, newline-closes}
+use Rattle.policy_sheet.specs.Reader.{RunResult, State, beforePiece, moreDigits, pieceRead, reached}
+use Rattle.policy_sheet.proofs.Accepts.{Runs, Steps, close-step, digit-step, newline-step, no-run, runs-at, runs-by}
 use Rattle.policy_sheet.proofs.Derives.{Fresh, Held, not-fresh, nothing-read}
 use Rattle.policy_sheet.proofs.Runs.{Ended, Going, all-read, ended, stops}
 

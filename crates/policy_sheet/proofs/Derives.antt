@@ -1,12 +1,12 @@
 -- The grammar derives the bytes that the automaton has accepted, as far as they go.
-use mathlib.Core.Path.{_≡_, refl, ap, ap₂, sym, _∙_, subst}
+use mathlib.Core.Path.{_≡_, refl, ap, sym, _∙_, subst}
 use mathlib.Core.Logic.{_⊎_, inl, inr, ⊎-elim}
 use mathlib.Core.Bool.{Bool, true, false, cond, _&&_, true≢false}
 use mathlib.Core.List.{List, [], _∷_, _++_, append-assoc, append-nil}
 use mathlib.Core.Option.{Option, none, some}
-use Prim.Native.Nat.{ℕ, zero, suc, _+_, _*_, _≤_, _<_}
+use Prim.Native.Nat.{ℕ, suc, _+_, _*_, _≤_, _<_}
 use native.Mathlib.Omega.{arith}
-use lib.Dec.{eqb, ltb}
+use lib.Dec.{ltb}
 use lib.ListN.{length, length-append}
 use borrow.Author.Tests.{ltb-true}
 use Rattle.base.proofs.Tests.{both-true}
@@ -16,7 +16,6 @@ use Rattle.policy_sheet.specs.Grammar.{
   Digits,
   Front,
   HexDigit,
-  Line,
   Lines,
   Piece,
   PieceAt,
@@ -41,28 +40,17 @@ use Rattle.policy_sheet.specs.Grammar.{
 }
 use Rattle.policy_sheet.specs.Reader.{
   ByteKind,
-  RunResult,
   State,
   beforePiece,
   afterDash,
-  comma,
-  dash,
-  digit,
   isNone,
   kindOf,
   moreDigits,
-  newline,
-  numberRead,
-  onward,
   orElse,
-  other,
   pieceRead,
-  reached,
-  run,
   start,
   transition,
   transitionBy,
-  stopped,
 }
 use Rattle.policy_sheet.proofs.ByteKinds.{HasKind, is-comma, is-dash, is-digit, is-newline, is-other, kind}
 

@@ -1,22 +1,21 @@
 -- Refusal 11: the result is the first fault. Without a fault the bytes are a sheet in which no range runs down.
-use mathlib.Core.Path.{_≡_, refl, ap, ap₂, sym, _∙_, subst}
+use mathlib.Core.Path.{_≡_, refl, ap, sym, _∙_, subst}
 use mathlib.Core.Logic.{_⊎_, inl, inr, ⊎-elim}
 use mathlib.Core.Bool.{Bool, true, false, cond}
 use mathlib.Core.List.{List, [], _∷_, _++_, append-assoc, append-nil}
 use mathlib.Core.Option.{Option, none, some}
-use Prim.Native.Nat.{ℕ, zero, suc, _+_, _≤_, _<_}
+use Prim.Native.Nat.{ℕ, suc, _+_, _≤_, _<_}
 use native.Mathlib.Numerals.{add-one}
 use native.Mathlib.Omega.{arith}
 use lib.Dec.{eqb}
 use lib.ListN.{drop, length, length-append, take, take-append-drop}
 use lib.Seq.{take-append-add, take-append-seam, take-length, take-take}
-use borrow.Author.Tests.{eq-eqb, eqb-false, eqb-true}
+use borrow.Author.Tests.{eqb-false, eqb-true}
 use Rattle.base.proofs.Tests.{le-or-lt}
 use Rattle.policy_sheet.specs.Grammar.{
   Begins,
   Closer,
   DescendingRange,
-  IsSheet,
   Piece,
   PieceAt,
   Sheet,
@@ -59,19 +58,7 @@ use Rattle.policy_sheet.proofs.Accepts.{
   same-reached,
 }
 use Rattle.policy_sheet.proofs.Derives.{Adds, adds-piece, same-pieces, stepped}
-use Rattle.policy_sheet.proofs.Runs.{
-  Ended,
-  Going,
-  all-read,
-  down-last,
-  down-more,
-  ended,
-  going-start,
-  going-step,
-  one-down,
-  run-ends,
-  stops,
-}
+use Rattle.policy_sheet.proofs.Runs.{Ended, Going, all-read, down-last, down-more, going-step, one-down, run-ends, stops}
 use Rattle.policy_sheet.proofs.Completions.{going-begins, reached-going, sheet-held}
 
 -- ---- a sheet is read

@@ -2,19 +2,19 @@
 use mathlib.Core.Path.{_≡_, refl, ap, sym, _∙_, subst}
 use mathlib.Core.Logic.{⊎-elim}
 use mathlib.Core.Bool.{Bool, true, false, cond, true≢false}
-use mathlib.Core.List.{List, [], _∷_, _++_}
-use Prim.Native.Nat.{ℕ, zero, suc, _+_, _*_, _^_, _≤_, _<_}
+use mathlib.Core.List.{List, [], _∷_}
+use Prim.Native.Nat.{ℕ, zero, suc, _+_, _^_, _≤_, _<_}
 use native.Mathlib.Nat.{pow-suc}
 use native.Mathlib.Omega.{arith}
 use lib.Dec.{eqb, ltb}
 use lib.ListN.{getD, length, length-append}
-use borrow.Author.Tests.{eqb-true, ltb-false, ltb-true}
+use borrow.Author.Tests.{eqb-true, ltb-false}
 use Rattle.base.specs.Ranges.{within}
 use Rattle.base.proofs.Tests.{either-true, le-or-lt, within-in}
 use Rattle.policy_sheet.specs.Grammar.{CodePoint, Digits, HexDigit, allowedDigits, code-point, decimal, digits-and, letter, no-digits}
 use Rattle.policy_sheet.proofs.Accepts.{allowed-six}
 use Rattle.policy_sheet.specs.Theorems.{MaximalRuns, no-more, run-and}
-use Rattle.policy_sheet.specs.Writer.{Run, fewestDigits, firstIn, joined, pointText, runsFrom, withEntry}
+use Rattle.policy_sheet.specs.Writer.{Run, fewestDigits, firstIn, joined, runsFrom, withEntry}
 
 -- ---- maximal runs
 

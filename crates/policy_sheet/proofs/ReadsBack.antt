@@ -1,11 +1,11 @@
 -- A written sheet reads back to its policy.
-use mathlib.Core.Path.{_≡_, refl, ap, ap₂, sym, _∙_, subst}
-use mathlib.Core.Logic.{_⊎_, inl, inr, ⊎-elim}
-use mathlib.Core.Bool.{Bool, true, false, cond, not, _&&_, _||_, true≢false}
+use mathlib.Core.Path.{_≡_, refl, ap, sym, _∙_, subst}
+use mathlib.Core.Logic.{⊎-elim}
+use mathlib.Core.Bool.{Bool, true, false, not, _&&_, _||_, true≢false}
 use mathlib.Core.List.{List, [], _∷_, _++_, map}
-use Prim.Native.Nat.{ℕ, zero, suc, _+_, _*_, _≤_, _<_}
+use Prim.Native.Nat.{ℕ, _+_, _*_, _≤_, _<_}
 use native.Mathlib.Omega.{arith}
-use lib.Dec.{eqb, leb, ltb}
+use lib.Dec.{eqb, ltb}
 use lib.ListN.{getD, length}
 use borrow.Author.Tests.{le-ltb, lt-ltb, not-true}
 use Rattle.base.specs.Ranges.{within}
@@ -13,19 +13,18 @@ use Rattle.base.specs.Texts.{parted}
 use Rattle.base.proofs.Tests.{both-true, either-true, le-or-lt}
 use Rattle.unicode.specs.Unicode.{hasVariationSequence}
 use Rattle.unicode.specs.UnicodeData.{variationEntries}
-use Rattle.unicode.specs.declared.VariationSequenceIndex.the-variants as Index
 use Rattle.unicode.proofs.Ascent.{ascending-le, ascending-lt, isAt}
 use Rattle.unicode.proofs.InOrder.{variation-entries-ascend}
-use Rattle.policy_key_set.specs.Sets.{Holds, allBelow, entryCount, member, wordCount}
+use Rattle.policy_key_set.specs.Sets.{Holds, entryCount, member, wordCount}
 use Rattle.policy_key_set.proofs.Below.{all-below}
 use Rattle.policy_key_set.proofs.Contains.{has-index}
-use Rattle.policy_key_set.proofs.Entries.{entry-count, place-has-index}
+use Rattle.policy_key_set.proofs.Entries.{place-has-index}
 use Rattle.policy_key_set.proofs.Members.{member-past}
 use Rattle.policy.specs.PolicyBytes.{PolicyValue, SetValue, noUnusedBit, noUnusedBits}
 use Rattle.policy.specs.declared.Policy.{Policy}
-use Rattle.policy_sheet.specs.Grammar.{Line, Lines, Piece, Point, Sheet, lines-and, no-lines}
+use Rattle.policy_sheet.specs.Grammar.{Line, Piece, Point, Sheet, lines-and, no-lines}
 use Rattle.policy_sheet.specs.Meaning.{AllEntries, Each, IsEntry, Means, Rising, covered, each-and, each-none, has, inSet, points}
-use Rattle.policy_sheet.specs.Writer.{Run, lineText, runText, runsFrom, runsOf, writeSheet}
+use Rattle.policy_sheet.specs.Writer.{Run, lineText, runText, runsOf, writeSheet}
 use Rattle.policy_sheet.proofs.RunCovers.{Among, Up, covers, runs-among, runs-cover}
 use Rattle.policy_sheet.proofs.Written.{Short, entry-small, line-written, pieceOf, piecesAt}
 

@@ -1,19 +1,17 @@
 -- A run of the automaton from the start: its state, where it stops, and which ranges run down on the way.
-use mathlib.Core.Path.{_≡_, refl, ap, ap₂, sym, _∙_, subst}
-use mathlib.Core.Logic.{_⊎_, inl, inr, ⊎-elim}
-use mathlib.Core.Bool.{Bool, true, false, cond, _&&_, true≢false}
+use mathlib.Core.Path.{_≡_, refl, ap, sym, _∙_, subst}
+use mathlib.Core.Bool.{Bool, true, false, cond}
 use mathlib.Core.List.{List, [], _∷_, _++_, append-assoc, append-nil}
 use mathlib.Core.Option.{Option, none, some}
-use Prim.Native.Nat.{ℕ, zero, suc, _+_, _*_, _≤_, _<_}
+use Prim.Native.Nat.{ℕ, _+_, _<_}
 use native.Mathlib.Omega.{arith}
-use lib.Dec.{eqb, ltb}
+use lib.Dec.{ltb}
 use lib.ListN.{length, length-append}
 use borrow.Author.Tests.{lt-ltb, ltb-true}
-use Rattle.policy_sheet.specs.Grammar.{Closer, DescendingRange, Front, Lines, Piece, PieceAt, Sheet}
+use Rattle.policy_sheet.specs.Grammar.{DescendingRange, Piece}
 use Rattle.policy_sheet.specs.Reader.{
   RunResult,
   State,
-  beforePiece,
   firstDescending,
   onward,
   pieceRead,
@@ -23,22 +21,8 @@ use Rattle.policy_sheet.specs.Reader.{
   transition,
   stopped,
 }
-use Rattle.policy_sheet.proofs.Accepts.{
-  Runs,
-  closedBy,
-  front-run,
-  lines-run,
-  no-run,
-  piece-run,
-  run-cons,
-  run-nil,
-  run-stops,
-  run-then,
-  runs-and,
-  runs-at,
-  runs-snoc,
-}
-use Rattle.policy_sheet.proofs.Derives.{Adds, Held, Stepped, adds-piece, held-start, piece-held, same-pieces, stepped}
+use Rattle.policy_sheet.proofs.Accepts.{Runs, no-run, runs-snoc}
+use Rattle.policy_sheet.proofs.Derives.{Adds, Held, adds-piece, held-start, piece-held, same-pieces, stepped}
 
 -- ---- ranges that run down
 

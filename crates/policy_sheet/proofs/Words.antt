@@ -1,8 +1,8 @@
 -- Words that hold what passes a test, and the policy of pieces.
-use mathlib.Core.Path.{_≡_, refl, ap, ap₂, sym, _∙_, subst}
-use mathlib.Core.Logic.{_⊎_, inl, inr, ⊎-elim}
+use mathlib.Core.Path.{_≡_, refl, ap, ap₂, sym, _∙_}
+use mathlib.Core.Logic.{⊎-elim}
 use mathlib.Core.Bool.{Bool, true, false, _&&_}
-use mathlib.Core.List.{List, [], _∷_, _++_}
+use mathlib.Core.List.{List, _∷_}
 use Prim.Native.Nat.{ℕ, zero, suc, _+_, _*_, _-_, _/_, _%_, _^_, _≤_, _<_}
 use native.Mathlib.Nat.{pow-suc}
 use native.Mathlib.Omega.{arith}
@@ -12,11 +12,10 @@ use borrow.Author.Tests.{le-ltb}
 use Rattle.base.proofs.Bits.{low-bit, next-bit}
 use Rattle.base.proofs.Tests.{le-or-lt}
 use Rattle.base.specs.Bits.{one}
-use Rattle.unicode.specs.UnicodeData.{variationEntries}
-use Rattle.policy_key_set.specs.Sets.{Holds, HoldsBelow, entryCount, member, oneIf, wordCount}
+use Rattle.policy_key_set.specs.Sets.{Holds, entryCount, member, oneIf, wordCount}
 use Rattle.policy_key_set.proofs.Entries.{entry-count}
-use Rattle.policy_key_set.proofs.Members.{holds-same, member-past, members-determine}
-use Rattle.policy.specs.PolicyBytes.{PolicyValue, SetValue, noUnusedBit, noUnusedBits}
+use Rattle.policy_key_set.proofs.Members.{member-past, members-determine}
+use Rattle.policy.specs.PolicyBytes.{SetValue}
 use Rattle.policy.specs.declared.Policy.{Policy}
 use Rattle.policy.proofs.RoundTrips.{same-policy}
 use Rattle.policy_sheet.specs.Grammar.{Piece}

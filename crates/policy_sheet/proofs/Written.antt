@@ -1,18 +1,15 @@
 -- A written sheet is a sheet, with the runs of the sets as its pieces.
-use mathlib.Core.Path.{_≡_, refl, ap, ap₂, sym, _∙_, subst}
-use mathlib.Core.Logic.{_⊎_, inl, inr, ⊎-elim}
-use mathlib.Core.Bool.{Bool, true, false, cond, _&&_, _||_}
+use mathlib.Core.Path.{_≡_, refl, ap, sym, _∙_, subst}
+use mathlib.Core.Bool.{Bool, true, false, cond}
 use mathlib.Core.List.{List, [], _∷_, _++_, append-assoc, append-nil, map}
-use Prim.Native.Nat.{ℕ, zero, suc, _+_, _-_, _*_, _/_, _%_, _^_, _≤_, _<_}
+use Prim.Native.Nat.{ℕ, zero, suc, _+_, _*_, _/_, _%_, _^_, _<_}
 use native.Mathlib.Omega.{arith}
-use lib.Dec.{eqb, leb, ltb}
-use lib.ListN.{getD, length, length-append}
+use lib.Dec.{eqb, ltb}
+use lib.ListN.{length, length-append}
 use lib.Pow.{shr-shr}
-use borrow.Author.Tests.{eqb-true, le-ltb, lt-ltb, ltb-false, ltb-true}
-use Rattle.base.specs.Ranges.{within}
+use borrow.Author.Tests.{eqb-true, ltb-false, ltb-true}
 use Rattle.base.specs.Texts.{parted}
-use Rattle.base.proofs.Tests.{le-or-lt, within-true}
-use Rattle.unicode.specs.Tables.{member}
+use Rattle.base.proofs.Tests.{within-true}
 use Rattle.unicode.specs.Unicode.{hasVariationSequence}
 use Rattle.unicode.specs.UnicodeData.{variationEntries}
 use Rattle.unicode.proofs.Between.{every, every-member}
@@ -23,11 +20,9 @@ use Rattle.policy_sheet.specs.Grammar.{
   Front,
   HexDigit,
   Line,
-  Lines,
   Piece,
   PieceAt,
   Pieces,
-  Point,
   allowedDigits,
   after-comma,
   code-point,

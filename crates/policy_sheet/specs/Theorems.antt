@@ -1,8 +1,8 @@
 -- The claims on policy sheets. proofs/Claims.antt proves each statement, under the same name in lower case with hyphens.
 use mathlib.Core.Path.{_≡_}
-use mathlib.Core.Logic.{_↔_, _⊎_}
+use mathlib.Core.Logic.{_↔_}
 use mathlib.Core.Bool.{Bool, true, false}
-use mathlib.Core.List.{List, [], _∷_, _++_}
+use mathlib.Core.List.{List, [], _∷_}
 use Prim.Native.Nat.{ℕ, suc, _<_, _≤_}
 use lib.ListN.{getD, length, take}
 use Rattle.base.specs.Refusals.{unwritten, written}

@@ -1,9 +1,9 @@
 -- The loop of the check follows the run of the automaton.
 use mathlib.Core.Path.{_≡_, refl, ap, ap₂, sym, _∙_, subst}
 use mathlib.Core.Bool.{Bool, true, false, cond}
-use mathlib.Core.List.{List, [], _∷_, _++_}
+use mathlib.Core.List.{List, _∷_}
 use mathlib.Core.Option.{Option, none, some}
-use Prim.Native.Nat.{ℕ, suc, _+_, _≤_, _<_}
+use Prim.Native.Nat.{ℕ, _+_, _≤_, _<_}
 use native.Mathlib.Numerals.{add-one}
 use native.Mathlib.Omega.{arith}
 use lib.Dec.{eqb}
@@ -11,7 +11,6 @@ use lib.ListN.{drop, drop-of-length-le, getD, length}
 use lib.Seq.{drop-cons}
 use borrow.Author.Tests.{eq-eqb, ne-eqb}
 use Rattle.policy.specs.declared.Policy.{Policy}
-use Rattle.policy_sheet.specs.Grammar.{Piece}
 use Rattle.policy_sheet.specs.Meaning.{sheetPolicy}
 use Rattle.policy_sheet.specs.Reader.{
   RunResult,
@@ -33,7 +32,6 @@ use Rattle.policy_sheet.specs.Reader.{
   stopped,
 }
 use Rattle.sheet_reading.specs.Tracking.{
-  CheckedReading,
   Tracks,
   StepResult,
   answerBy,
@@ -44,7 +42,6 @@ use Rattle.sheet_reading.specs.Tracking.{
   found,
   on,
   piecesRead,
-  offsetIn,
   stop,
 }
 use Rattle.sheet_reading.specs.declared.cursor.Cursor.{Cursor}
@@ -182,6 +179,7 @@ by-ran len (reached r) =
     (sheetPolicy (r .pieces))
     (by-line (eqb (r .line) 4) (firstNonEntry (r .pieces)) len (sheetPolicy (r .pieces)))
 
-pub checked-reading : CheckedReading
-unfolding CheckedReading checkSheet readSheet piecesRead
+-- Reading is the check, and the policy of the pieces if the check is passed.
+pub checked-reading : (s : List ℕ) → readSheet s ≡ answerBy (checkSheet s) (sheetPolicy (piecesRead s))
+unfolding checkSheet readSheet piecesRead
 checked-reading s = by-ran (length s) (run 0 start s)

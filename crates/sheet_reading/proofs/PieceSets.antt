@@ -26,14 +26,12 @@ use Rattle.policy_sheet.specs.Reader.{
   kindOf,
   pieceRead,
   piecesOf,
-  readSheet,
   run,
   start,
   transition,
   transitionBy,
 }
 use Rattle.sheet_reading.specs.declared.cursor.Cursor.{Cursor}
-use Rattle.sheet_reading.specs.declared.SheetCheck.{SheetCheck}
 use Rattle.sheet_reading.specs.declared.cursor.Step.{Step}
 use Rattle.sheet_reading.specs.declared.cursor.Step.the-variants.{On, Stop}
 use Rattle.policy_sheet.proofs.Accepts.{close-step, run-cons, run-nil, run-stops, transition-in}

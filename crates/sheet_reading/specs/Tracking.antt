@@ -1,16 +1,15 @@
 -- What the code keeps of the reader's state (crate policy_sheet, specs/Reader.antt). Of the closed pieces it keeps two offsets only: of the
 -- first range that runs down, and of the first code point that is no variation entry.
 use mathlib.Core.Path.{_≡_}
-use mathlib.Core.Bool.{Bool, true, false, cond, not, _&&_, _||_}
-use mathlib.Core.List.{List, [], _∷_, _++_}
+use mathlib.Core.Bool.{Bool, true, false, cond, _&&_, _||_}
+use mathlib.Core.List.{List}
 use mathlib.Core.Option.{Option, none, some}
 use Prim.Native.Nat.{ℕ, _^_, _≤_, _<_}
 use lib.Dec.{eqb}
 use lib.ListN.{length}
 use Rattle.policy_key_set.specs.Sets.{Holds}
-use Rattle.policy.specs.PolicyBytes.{PolicyValue}
 use Rattle.policy.specs.declared.Policy.{Policy}
-use Rattle.policy_sheet.specs.Meaning.{inSet, sheetPolicy}
+use Rattle.policy_sheet.specs.Meaning.{inSet}
 use Rattle.policy_sheet.specs.Grammar.{Piece, Point, allowedDigits}
 use Rattle.policy_sheet.specs.Reader.{
   ByteKind,
@@ -30,7 +29,6 @@ use Rattle.policy_sheet.specs.Reader.{
   other,
   piecesOf,
   reached,
-  readSheet,
   run,
   start,
   stopped,
@@ -114,10 +112,6 @@ abbrev pub answerBy : SheetCheck → Policy → SheetReading
 answerBy Formed p = is-read p
 answerBy (NotASheet n) p = not-a-sheet n
 answerBy (NotAnEntry n) p = not-an-entry n
-
--- Reading is the check, and the policy of the pieces if the check is passed.
-unfoldable pub CheckedReading : Type 0
-CheckedReading = (s : List ℕ) → readSheet s ≡ answerBy (checkSheet s) (sheetPolicy (piecesRead s))
 
 -- The sets of a policy hold what the pieces say.
 pub record SetsHold (xs : List Piece) (p : Policy) : Type 0 where

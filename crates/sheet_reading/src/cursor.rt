@@ -1,7 +1,7 @@
 // The cursor of a reader: what is kept of the bytes of a sheet before an offset. The functions that take a byte equal `transition` of crate
 // policy_sheet, specs/Reader.antt, on all states that the cursor tracks (`Tracks` of specs/Tracking.antt).
 ghost use mathlib.Core.Path.{_≡_};
-ghost use mathlib.Core.Bool.{Bool, not};
+ghost use mathlib.Core.Bool.{not};
 ghost use mathlib.Core.List.{List, [], _∷_, _++_};
 ghost use Prim.Native.Nat.{ℕ, _+_, _<_};
 ghost use Rattle.unicode.specs.Unicode.{hasVariationSequence};

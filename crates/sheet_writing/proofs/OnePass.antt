@@ -1,14 +1,12 @@
 -- A line can be written in one pass over the entries that looks at the next entry only.
-use mathlib.Core.Path.{_≡_, refl, ap, ap₂, sym, _∙_, subst}
-use mathlib.Core.Bool.{Bool, true, false, cond, true≢false, _||_}
+use mathlib.Core.Path.{_≡_, refl, ap, sym, _∙_, subst}
+use mathlib.Core.Bool.{Bool, true, false, true≢false, _||_}
 use mathlib.Core.List.{List, [], _∷_, _++_, append-assoc, append-nil, map}
-use Prim.Native.Nat.{ℕ, zero, suc, _<_}
+use Prim.Native.Nat.{ℕ, suc, _<_}
 use native.Mathlib.Omega.{arith}
-use lib.Dec.{eqb}
-use lib.ListN.{getD, length}
 use borrow.Author.Tests.{eq-eqb, ne-eqb}
 use Rattle.base.specs.Texts.{parted}
-use Rattle.policy_sheet.specs.Meaning.{Each, each-and, each-none}
+use Rattle.policy_sheet.specs.Meaning.{Each, each-and}
 use Rattle.policy_sheet.specs.Writer.{Run, firstIn, joined, pointText, runText, runsFrom, withEntry}
 use Rattle.sheet_writing.specs.OnePass.{entryText, withComma, lineFrom}
 use Rattle.policy_sheet.proofs.RunCovers.{Among, Up, runs-among, up-tail}

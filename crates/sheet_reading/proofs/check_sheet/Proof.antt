@@ -7,8 +7,6 @@ use lib.ListN.{length}
 use Rattle.sheet_reading.proofs.Checking.{Checking, check-begin, check-end, check-on, check-stop}
 use Rattle.sheet_reading.proofs.check_sheet.Statement.{statement}
 use Rattle.sheet_reading.proofs.check_sheet.Tie as tie
-use Rattle.sheet_reading.proofs.check_sheet.Reads as reads
-use Rattle.sheet_reading.proofs.check_sheet.Lts as lts
 
 abbrev Inv-loop : tie.InvT-loop
 Inv-loop s c₀ at₀ c at = Checking s c at

@@ -1,9 +1,6 @@
 -- `sheet_reading::ended_at` meets its contract.
-use borrow.Author.Needs.{needs}
 use Rattle.sheet_reading.proofs.ended_at.Statement.{statement}
 use Rattle.sheet_reading.proofs.ended_at.Tie as tie
-use Rattle.sheet_reading.proofs.ended_at.Reads as reads
-use Rattle.sheet_reading.proofs.ended_at.Lts as lts
 use native.Mathlib.Omega.{arith}
 use Rattle.sheet_reading.proofs.Checking.{ended-down, ended-formed, ended-other, ended-short}
 

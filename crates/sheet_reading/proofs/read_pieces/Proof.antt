@@ -8,8 +8,6 @@ use lib.ListN.{length}
 use Rattle.sheet_reading.proofs.PieceSets.{Taking, take-begin, take-end, take-on, take-stop}
 use Rattle.sheet_reading.proofs.read_pieces.Statement.{statement}
 use Rattle.sheet_reading.proofs.read_pieces.Tie as tie
-use Rattle.sheet_reading.proofs.read_pieces.Reads as reads
-use Rattle.sheet_reading.proofs.read_pieces.Lts as lts
 
 abbrev Inv-loop : tie.InvT-loop
 Inv-loop s c₀ p₀ at₀ c p at = Taking s c p at

@@ -2,8 +2,6 @@
 use borrow.Author.Needs.{needs}
 use Rattle.sheet_writing.proofs.entry_len.Statement.{statement}
 use Rattle.sheet_writing.proofs.entry_len.Tie as tie
-use Rattle.sheet_writing.proofs.entry_len.Reads as reads
-use Rattle.sheet_writing.proofs.entry_len.Lts as lts
 use native.Mathlib.Omega.{arith}
 use mathlib.Core.Path.{_∙_, ap}
 use lib.ListN.{length}

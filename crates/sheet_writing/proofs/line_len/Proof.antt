@@ -13,8 +13,6 @@ use Rattle.sheet_writing.specs.OnePass.{entryText, lineFrom}
 use Rattle.sheet_writing.proofs.EntryTexts.{measured, line-done, line-step}
 use Rattle.sheet_writing.proofs.line_len.Statement.{statement}
 use Rattle.sheet_writing.proofs.line_len.Tie as tie
-use Rattle.sheet_writing.proofs.line_len.Reads as reads
-use Rattle.sheet_writing.proofs.line_len.Lts as lts
 
 abbrev Inv-loop : tie.InvT-loop
 Inv-loop set n₀ before₀ any₀ here₀ i₀ n before any here i =

@@ -2,9 +2,6 @@
 use borrow.Author.Needs.{needs}
 use Rattle.sheet_writing.proofs.put_entry.Statement.{statement}
 use Rattle.sheet_writing.proofs.put_entry.Tie as tie
-use Rattle.sheet_writing.proofs.put_entry.Reads as reads
-use Rattle.sheet_writing.proofs.put_entry.Lts as lts
-use native.Mathlib.Omega.{arith}
 use Rattle.sheet_writing.proofs.EntryTexts.{entry-first, entry-inside, entry-last, entry-more, entry-out, entry-room, put-none}
 use Rattle.base.proofs.Writer.{put-as}
 

@@ -14,8 +14,6 @@ use Rattle.sheet_writing.specs.OnePass.{entryText, lineFrom}
 use Rattle.sheet_writing.proofs.EntryTexts.{line-done, line-step}
 use Rattle.sheet_writing.proofs.put_line.Statement.{statement}
 use Rattle.sheet_writing.proofs.put_line.Tie as tie
-use Rattle.sheet_writing.proofs.put_line.Reads as reads
-use Rattle.sheet_writing.proofs.put_line.Lts as lts
 
 abbrev Inv-loop : tie.InvT-loop
 Inv-loop out₀ start set at₀ before₀ any₀ here₀ i₀ out at before any here i =

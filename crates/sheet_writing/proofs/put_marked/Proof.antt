@@ -2,9 +2,6 @@
 use borrow.Author.Needs.{needs}
 use Rattle.sheet_writing.proofs.put_marked.Statement.{statement}
 use Rattle.sheet_writing.proofs.put_marked.Tie as tie
-use Rattle.sheet_writing.proofs.put_marked.Reads as reads
-use Rattle.sheet_writing.proofs.put_marked.Lts as lts
-use native.Mathlib.Omega.{arith}
 use Rattle.sheet_writing.proofs.EntryTexts.{marked-put, marked-room, put-length}
 
 put-point-requires : tie.Need-put-point-requires

@@ -2,9 +2,6 @@
 use borrow.Author.Needs.{needs}
 use Rattle.sheet_writing.proofs.put_point.Statement.{statement}
 use Rattle.sheet_writing.proofs.put_point.Tie as tie
-use Rattle.sheet_writing.proofs.put_point.Reads as reads
-use Rattle.sheet_writing.proofs.put_point.Lts as lts
-use native.Mathlib.Omega.{arith}
 use Rattle.sheet_writing.proofs.EntryTexts.{point-put, point-room}
 
 put-hex-requires : tie.Need-put-hex-requires

@@ -2,8 +2,6 @@
 use borrow.Author.Needs.{needs}
 use Rattle.sheet_reading.proofs.cursor.comma_step.Statement.{statement}
 use Rattle.sheet_reading.proofs.cursor.comma_step.Tie as tie
-use Rattle.sheet_reading.proofs.cursor.comma_step.Reads as reads
-use Rattle.sheet_reading.proofs.cursor.comma_step.Lts as lts
 use mathlib.Core.Path.{refl}
 use Rattle.sheet_reading.proofs.Tracked.{comma-on, comma-stop}
 

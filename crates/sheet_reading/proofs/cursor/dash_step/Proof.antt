@@ -2,8 +2,6 @@
 use borrow.Author.Needs.{needs}
 use Rattle.sheet_reading.proofs.cursor.dash_step.Statement.{statement}
 use Rattle.sheet_reading.proofs.cursor.dash_step.Tie as tie
-use Rattle.sheet_reading.proofs.cursor.dash_step.Reads as reads
-use Rattle.sheet_reading.proofs.cursor.dash_step.Lts as lts
 use Rattle.sheet_reading.proofs.Tracked.{dash-on, dash-ranged, dash-stop}
 
 returns : tie.Need-returns

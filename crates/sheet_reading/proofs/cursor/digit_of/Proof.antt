@@ -2,8 +2,6 @@
 use borrow.Author.Needs.{needs}
 use Rattle.sheet_reading.proofs.cursor.digit_of.Statement.{statement}
 use Rattle.sheet_reading.proofs.cursor.digit_of.Tie as tie
-use Rattle.sheet_reading.proofs.cursor.digit_of.Reads as reads
-use Rattle.sheet_reading.proofs.cursor.digit_of.Lts as lts
 use native.Mathlib.Omega.{arith}
 use Rattle.sheet_reading.proofs.Tracked.{value-above, value-below, value-between, value-decimal, value-letter}
 

@@ -2,8 +2,6 @@
 use borrow.Author.Needs.{needs}
 use Rattle.sheet_reading.proofs.cursor.digit_step.Statement.{statement}
 use Rattle.sheet_reading.proofs.cursor.digit_step.Tie as tie
-use Rattle.sheet_reading.proofs.cursor.digit_step.Reads as reads
-use Rattle.sheet_reading.proofs.cursor.digit_step.Lts as lts
 use native.Mathlib.Omega.{arith}
 use Rattle.sheet_reading.proofs.Tracked.{digit-on, digit-stop}
 

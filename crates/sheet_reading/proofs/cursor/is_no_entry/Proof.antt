@@ -2,8 +2,6 @@
 use borrow.Author.Needs.{needs}
 use Rattle.sheet_reading.proofs.cursor.is_no_entry.Statement.{statement}
 use Rattle.sheet_reading.proofs.cursor.is_no_entry.Tie as tie
-use Rattle.sheet_reading.proofs.cursor.is_no_entry.Reads as reads
-use Rattle.sheet_reading.proofs.cursor.is_no_entry.Lts as lts
 use mathlib.Core.Path.{ap}
 use mathlib.Core.Bool.{not}
 

@@ -2,8 +2,6 @@
 use borrow.Author.Needs.{needs}
 use Rattle.sheet_reading.proofs.cursor.more_digits.Statement.{statement}
 use Rattle.sheet_reading.proofs.cursor.more_digits.Tie as tie
-use Rattle.sheet_reading.proofs.cursor.more_digits.Reads as reads
-use Rattle.sheet_reading.proofs.cursor.more_digits.Lts as lts
 use Rattle.sheet_reading.proofs.Tracked.{digit-tracks}
 
 returns : tie.Need-returns

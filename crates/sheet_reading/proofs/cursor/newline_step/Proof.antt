@@ -2,8 +2,6 @@
 use borrow.Author.Needs.{needs}
 use Rattle.sheet_reading.proofs.cursor.newline_step.Statement.{statement}
 use Rattle.sheet_reading.proofs.cursor.newline_step.Tie as tie
-use Rattle.sheet_reading.proofs.cursor.newline_step.Reads as reads
-use Rattle.sheet_reading.proofs.cursor.newline_step.Lts as lts
 use mathlib.Core.Path.{refl}
 use Rattle.sheet_reading.proofs.Tracked.{newline-empty, newline-on, newline-stop}
 

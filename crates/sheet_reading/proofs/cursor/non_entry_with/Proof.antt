@@ -2,8 +2,6 @@
 use borrow.Author.Needs.{needs}
 use Rattle.sheet_reading.proofs.cursor.non_entry_with.Statement.{statement}
 use Rattle.sheet_reading.proofs.cursor.non_entry_with.Tie as tie
-use Rattle.sheet_reading.proofs.cursor.non_entry_with.Reads as reads
-use Rattle.sheet_reading.proofs.cursor.non_entry_with.Lts as lts
 use Rattle.sheet_reading.proofs.Tracked.{other-ranged, other-single}
 
 returns : tie.Need-returns

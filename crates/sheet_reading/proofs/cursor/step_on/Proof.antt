@@ -2,8 +2,6 @@
 use borrow.Author.Needs.{needs}
 use Rattle.sheet_reading.proofs.cursor.step_on.Statement.{statement}
 use Rattle.sheet_reading.proofs.cursor.step_on.Tie as tie
-use Rattle.sheet_reading.proofs.cursor.step_on.Reads as reads
-use Rattle.sheet_reading.proofs.cursor.step_on.Lts as lts
 use native.Mathlib.Omega.{arith}
 use Rattle.sheet_reading.proofs.Tracked.{in-lines, is-comma, is-dash, is-newline, is-other, other-stop, past-lines}
 

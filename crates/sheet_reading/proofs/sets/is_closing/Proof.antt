@@ -2,8 +2,6 @@
 use borrow.Author.Needs.{needs}
 use Rattle.sheet_reading.proofs.sets.is_closing.Statement.{statement}
 use Rattle.sheet_reading.proofs.sets.is_closing.Tie as tie
-use Rattle.sheet_reading.proofs.sets.is_closing.Reads as reads
-use Rattle.sheet_reading.proofs.sets.is_closing.Lts as lts
 use native.Mathlib.Omega.{arith}
 use Rattle.sheet_reading.proofs.PieceSets.{closing-comma, closing-newline, closing-none}
 

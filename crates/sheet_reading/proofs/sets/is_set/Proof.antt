@@ -1,15 +1,13 @@
 -- `sheet_reading::sets::is_set` meets its contract. The loop's invariant: each word passed has 64 bits.
-use mathlib.Core.Path.{_≡_, sym, _∙_, subst}
+use mathlib.Core.Path.{sym, _∙_}
 use Prim.Native.Nat.{ℕ, _-_, _<_, _≤_, _^_}
 use native.Mathlib.Omega.{arith}
 use borrow.Author.Count.{below-more}
 use borrow.Author.Needs.{needs}
-use lib.ListN.{getD, length, length-map}
+use lib.ListN.{getD, length-map}
 use Rattle.policy_sheet.proofs.Words.{six-words}
 use Rattle.sheet_reading.proofs.sets.is_set.Statement.{statement}
 use Rattle.sheet_reading.proofs.sets.is_set.Tie as tie
-use Rattle.sheet_reading.proofs.sets.is_set.Reads as reads
-use Rattle.sheet_reading.proofs.sets.is_set.Lts as lts
 
 abbrev Inv-loop : tie.InvT-loop
 Inv-loop words i₀ i = (i ≤ 6) × ((k : ℕ) → k < i → getD words k 0 < 2 ^ 64)

@@ -2,8 +2,6 @@
 use borrow.Author.Needs.{needs}
 use Rattle.sheet_reading.proofs.sets.no_pieces.Statement.{statement}
 use Rattle.sheet_reading.proofs.sets.no_pieces.Tie as tie
-use Rattle.sheet_reading.proofs.sets.no_pieces.Reads as reads
-use Rattle.sheet_reading.proofs.sets.no_pieces.Lts as lts
 use Rattle.sheet_reading.proofs.PieceSets.{no-sets}
 
 returns : tie.Need-returns

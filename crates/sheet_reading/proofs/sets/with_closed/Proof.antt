@@ -2,8 +2,6 @@
 use borrow.Author.Needs.{needs}
 use Rattle.sheet_reading.proofs.sets.with_closed.Statement.{statement}
 use Rattle.sheet_reading.proofs.sets.with_closed.Tie as tie
-use Rattle.sheet_reading.proofs.sets.with_closed.Reads as reads
-use Rattle.sheet_reading.proofs.sets.with_closed.Lts as lts
 use Rattle.sheet_reading.proofs.PieceSets.{closed-sets, kept-sets, spans-read}
 use Rattle.policy_sheet.specs.Reader.{pieceRead}
 

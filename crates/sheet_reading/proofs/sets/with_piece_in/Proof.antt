@@ -2,8 +2,6 @@
 use borrow.Author.Needs.{needs}
 use Rattle.sheet_reading.proofs.sets.with_piece_in.Statement.{statement}
 use Rattle.sheet_reading.proofs.sets.with_piece_in.Tie as tie
-use Rattle.sheet_reading.proofs.sets.with_piece_in.Reads as reads
-use Rattle.sheet_reading.proofs.sets.with_piece_in.Lts as lts
 use native.Mathlib.Omega.{arith}
 use Rattle.sheet_reading.proofs.PieceSets.{set-more, set-other}
 use Rattle.policy_sheet.specs.Meaning.{inSet}

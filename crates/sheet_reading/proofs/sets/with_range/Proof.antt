@@ -1,5 +1,4 @@
 -- `sheet_reading::sets::with_range` meets its contract: the entries up to the range's end without those below its start.
-use native.Mathlib.Omega.{arith}
 use borrow.Author.Needs.{needs}
 use Rattle.sheet_reading.proofs.RangeSets.{range-added}
 use Rattle.sheet_reading.proofs.sets.with_range.Statement.{statement}
