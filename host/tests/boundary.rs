@@ -93,6 +93,14 @@ impl Calls for WholeWords {
         Reference.feed_totals(feed, totals)
     }
 
+    fn read_sheet(&self, sheet: &[u8], out: &mut [u8]) -> u64 {
+        Reference.read_sheet(sheet, out)
+    }
+
+    fn write_sheet(&self, policy: &[u8], out: &mut [u8]) -> u64 {
+        Reference.write_sheet(policy, out)
+    }
+
     fn default_policy(&self, out: &mut [u8]) -> u64 {
         Reference.default_policy(out)
     }
