@@ -43,6 +43,12 @@ fn faults_are_reported_with_a_reduced_text() {
         (Fault::RoomByNeed, "feeds"),
         (Fault::RefusedFeedChanges, "feeds"),
         (Fault::RefusedPieceWrites, "feeds"),
+        (Fault::LastEnd, "sheets"),
+        (Fault::DownUnclosed, "sheets"),
+        (Fault::RoomBeforeSheet, "sheets"),
+        (Fault::RefusedSheetWrites, "sheets"),
+        (Fault::ByteAfterPolicy, "sheets"),
+        (Fault::SheetLength, "sheets"),
     ] {
         let (is_same, text) = printed(&Faulty::new(&Reference, fault));
         assert!(!is_same, "{fault:?}");

@@ -110,8 +110,8 @@ impl<'a> FaultySheet<'a> {
             Fault::LastPiece if follows() => {
                 let lines = sheet.split_inclusive(|byte| *byte == b'\n');
                 let last = |line: &'_ [u8]| {
-                    let pieces = line.split(|byte| *byte == b',');
-                    pieces.last().unwrap_or_default().to_vec()
+                    let mut pieces = line.split(|byte| *byte == b',');
+                    pieces.next_back().unwrap_or_default().to_vec()
                 };
                 lines.flat_map(last).collect()
             }
