@@ -22,11 +22,13 @@
  *   8          output too short                       number of bytes needed
  *   9          the feed has ended                     0
  *   10         the thread ends inside a character     0
+ *   11         not a policy sheet                     offset at which it stops being one
+ *   12         no variation entry in a sheet          offset of the first code point that is none
  *   255        nothing to do                          0
  *
  * If there are two values, the first has the low 28 bits, and the second has the 28 bits above them. Both are below 2^28.
  *
- * The numbers 1 to 10 are refusals. After a refusal, and after "nothing to do", every buffer is unchanged, a feed too. After "done" the
+ * The numbers 1 to 12 are refusals. After a refusal, and after "nothing to do", every buffer is unchanged, a feed too. After "done" the
  * result is at the front of the buffer, and the bytes after the result are unchanged.
  *
  * Policies. A policy is 192 bytes: 24 words of 8 bytes, lowest byte first. The words are four sets of 6 words, in this order:
@@ -35,6 +37,11 @@
  * There are 354 entries, those of Unicode 15.0; the other 30 bits of a set are unused and must be 0. The function
  * tilghorz_variation_entry gives the code point of an entry. If 20E3 follows a base, the keycap sets apply to the base; otherwise
  * the ordinary sets apply.
+ *
+ * Sheets. A sheet is a policy as text. It has four lines, one for each set in the order above, and each line ends with the byte 0A. A line is
+ * empty, or it has code points and ranges such as 2764 or 30-39, with a comma between two of them and no blanks. A code point has two or
+ * four to six hexadecimal digits in upper case. A range stands for the variation entries in it; both of its ends must be entries. The pieces
+ * of a line may come in any order and may overlap. tilghorz_write_sheet writes one sheet for each policy.
  *
  * Feeds. A feed formats a thread as it arrives. It is 312 bytes, which tilghorz_feed_begin writes. The caller hands these bytes on
  * from call to call and changes none of them. Each call of tilghorz_feed_piece takes the next bytes of the thread, cut at any place, and
@@ -63,6 +70,7 @@ extern "C" {
 #define TILGHORZ_ITEM_BYTES 64       /* the length of a row of tilghorz_scan */
 #define TILGHORZ_FEED_BYTES 312      /* the length of a feed */
 #define TILGHORZ_TOTALS_BYTES 64     /* the length of the totals of tilghorz_feed_totals */
+#define TILGHORZ_SHEET_ROOM 9916     /* no sheet of tilghorz_write_sheet is longer */
 
 /* The number and the value of an answer. The argument may also have a signed type. */
 #define TILGHORZ_NUMBER(word) ((unsigned)((uint64_t)(word) >> 56))
@@ -84,6 +92,8 @@ extern "C" {
 #define TILGHORZ_OUTPUT_TOO_SHORT 8
 #define TILGHORZ_FEED_ENDED 9
 #define TILGHORZ_UNFINISHED_CHARACTER 10
+#define TILGHORZ_NOT_A_SHEET 11
+#define TILGHORZ_NOT_AN_ENTRY 12
 #define TILGHORZ_NOTHING_TO_DO 255
 
 /* Formats a text under a policy. Numbers: 1, 2, 3, 8, and 255 if the text needs no change. Value: the number of bytes written, at
@@ -133,6 +143,16 @@ uint64_t tilghorz_feed_end(uint8_t *feed, size_t feed_len, uint8_t *out, size_t 
 /* Writes the eight totals of the whole characters fed so far, as if the thread ended there, in the order of the counts of tilghorz_list. It
  * may be called at any time, also after the end. Number: 8 with 64. Value: 64. A total is 8 bytes, lowest byte first. */
 uint64_t tilghorz_feed_totals(const uint8_t *feed, size_t feed_len, uint8_t *totals, size_t totals_len);
+
+/* Reads a sheet and writes its policy. Numbers: 1 if the sheet is longer than a text may be; 11 with the offset of the first byte such that
+ * no sheet begins with the bytes up to it, or with the length if the sheet breaks off, or with the start of a range whose end is below its
+ * start, if a comma or 0A follows the range, whichever is smallest; 12 with the offset of the first code point that is no variation entry;
+ * 8 with 192. Value: 192, the number of bytes of a policy. */
+uint64_t tilghorz_read_sheet(const uint8_t *sheet, size_t sheet_len, uint8_t *out, size_t out_len);
+
+/* Writes the sheet of a policy: the code points of a line ascend, each has the fewest digits allowed, and neighbouring entries of the
+ * variation table are one range. Numbers: 2, 8. Value: the number of bytes written, at most 9916. Reading the sheet gives the policy. */
+uint64_t tilghorz_write_sheet(const uint8_t *policy, size_t policy_len, uint8_t *out, size_t out_len);
 
 /* Writes the default policy. Number: 8. Value: the number of bytes written. */
 uint64_t tilghorz_default_policy(uint8_t *out, size_t out_len);

@@ -16,6 +16,9 @@ use Rattle.feed.specs.declared.FeedAnswer.{FeedAnswer}
 use Rattle.feed.specs.declared.FeedAnswer.the-variants as Feed
 use Rattle.analysis.specs.Decisions.{mendRow}
 use Rattle.formatter.specs.Format.{formatRow}
+use Rattle.policy_sheet.specs.Calls.{sheetRow}
+use Rattle.policy_sheet.specs.declared.SheetAnswer.{SheetAnswer}
+use Rattle.policy_sheet.specs.declared.SheetAnswer.the-variants as Sheet
 use Rattle.repair.specs.Repair.{repairRow}
 use Rattle.repair.specs.declared.RepairAnswer.{RepairAnswer}
 use Rattle.repair.specs.declared.RepairAnswer.the-variants as Repair
@@ -79,6 +82,13 @@ feed-rows (Feed.Written n) (Feed.Written m) e = ap Feed.Written (val e)
 feed-rows (Feed.Written n) (Feed.Refused r) e = absurd (omega (arith, num e, refusal-numbers r))
 feed-rows (Feed.Refused r) (Feed.Written n) e = absurd (omega (arith, num e, refusal-numbers r))
 feed-rows (Feed.Refused r) (Feed.Refused s) e = ap Feed.Refused (refusals r s e)
+
+pub sheet-rows : (a b : SheetAnswer) → sheetRow a ≡ sheetRow b → a ≡ b
+unfolding sheetRow
+sheet-rows (Sheet.Written n) (Sheet.Written m) e = ap Sheet.Written (val e)
+sheet-rows (Sheet.Written n) (Sheet.Refused r) e = absurd (omega (arith, num e, refusal-numbers r))
+sheet-rows (Sheet.Refused r) (Sheet.Written n) e = absurd (omega (arith, num e, refusal-numbers r))
+sheet-rows (Sheet.Refused r) (Sheet.Refused s) e = ap Sheet.Refused (refusals r s e)
 
 -- ---- two values below 2^28 in one
 

@@ -6,6 +6,9 @@ use Rattle.base.specs.Answers.{listRow, writeRow}
 use Rattle.feed.specs.Bytes.{feedRow}
 use Rattle.formatter.specs.Format.{formatRow}
 use Rattle.unicode.specs.Rows.{entryRow}
+use Rattle.policy_sheet.specs.Calls.{sheetRow}
+use Rattle.policy_sheet.specs.Theorems.{EveryReadCall, EveryWriteCall}
+use Rattle.policy_sheet.proofs.Claims.{every-read-call, every-write-call}
 use Rattle.repair.specs.Repair.{repairRow}
 use Rattle.repair.proofs.Outcomes.{the-call}
 use Rattle.tilghorz.specs.Theorems.{WordsDetermineAnswers, WordsHaveBothValues}
@@ -20,11 +23,12 @@ use Rattle.tilghorz.proofs.AnswerWords.{
   mend-rows,
   repair-rows,
   repair-small,
+  sheet-rows,
   words-determine,
 }
 
 pub words-determine-answers : WordsDetermineAnswers
-unfolding WordsDetermineAnswers
+unfolding WordsDetermineAnswers EveryReadCall EveryWriteCall
 words-determine-answers = (
   words-determine formatRow _ (λ c. omega (arith, format-small (c .0) (c .1) (c .2))) (λ i j. format-rows _ _),
   words-determine listRow _ (λ c. omega (arith, list-small (c .0) (c .1) (c .2))) (λ i j. list-rows _ _),
@@ -38,6 +42,8 @@ words-determine-answers = (
   words-determine feedRow _ (λ c. omega (arith, begun-small (c .0) (c .1))) (λ i j. feed-rows _ _),
   words-determine feedRow _ (λ c. omega (arith, called-small (c .0) (c .1))) (λ i j. feed-rows _ _),
   words-determine writeRow _ (λ c. omega (arith, totals-small (c .0) (c .1))) (λ i j. write-rows _ _),
+  words-determine sheetRow _ (λ c. omega (arith, every-read-call (c .0) (c .1) .small)) (λ i j. sheet-rows _ _),
+  words-determine sheetRow _ (λ c. omega (arith, every-write-call (c .0) (c .1) .small)) (λ i j. sheet-rows _ _),
 )
 
 pub words-have-both-values : WordsHaveBothValues

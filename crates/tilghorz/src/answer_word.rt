@@ -5,6 +5,7 @@ ghost use Rattle.base.specs.Refusals.{refusalRow};
 ghost use Rattle.analysis.specs.Decisions.{mendRow};
 ghost use Rattle.base.specs.Answers.{listRow, twoValues, writeRow};
 ghost use Rattle.feed.specs.Bytes.{feedRow};
+ghost use Rattle.policy_sheet.specs.Calls.{sheetRow};
 ghost use Rattle.formatter.specs.Format.{formatRow};
 ghost use Rattle.repair.specs.Repair.{repairRow};
 ghost use Rattle.tilghorz.specs.AnswerWord.{word};
@@ -17,6 +18,7 @@ use base::refusals::refusal_number;
 use base::refusals::refusal_value;
 use feed::FeedAnswer;
 use formatter::FormatAnswer;
+use policy_sheet::SheetAnswer;
 use repair::RepairAnswer;
 use unicode::VariationEntry;
 
@@ -119,5 +121,15 @@ pub fn feed_word(answer: FeedAnswer) -> u64
     match answer {
         FeedAnswer::Written { len } => word_of(0, len),
         FeedAnswer::Refused(refusal) => refusal_word(refusal),
+    }
+}
+
+// The word of the answer to reading or writing a policy sheet.
+pub fn sheet_word(answer: SheetAnswer) -> u64
+    ensures { λ r. ⌜ r ≡ word (sheetRow answer) ⌝ }
+{
+    match answer {
+        SheetAnswer::Written { len } => word_of(0, len),
+        SheetAnswer::Refused(refusal) => refusal_word(refusal),
     }
 }

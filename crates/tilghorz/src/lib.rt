@@ -18,6 +18,7 @@ ghost use Rattle.formatter.specs.Format.{formatRow};
 ghost use Rattle.repair.specs.Repair.{repair, repairRow};
 ghost use Rattle.feed.specs.Bytes.{begun, called, eightWords, feedRow, totalsOf};
 ghost use Rattle.feed.specs.Calls as Calls;
+ghost use Rattle.policy_sheet.specs.Calls.{readCall, sheetRow, writeCall};
 ghost use Rattle.tilghorz.specs.AnswerWord.{word};
 ghost use Rattle.unicode.specs.Rows.{entryRow};
 use answer_word::entry_word;
@@ -26,6 +27,7 @@ use answer_word::format_word;
 use answer_word::list_word;
 use answer_word::mend_word;
 use answer_word::repair_word;
+use answer_word::sheet_word;
 use answer_word::write_word;
 use policy::Policy;
 
@@ -123,6 +125,25 @@ pub extern "C" fn tilghorz_feed_totals(feed: &[u8], totals: &mut [u8]) -> u64
     ensures bytes { λ _. ⌜ now (totals .exit) ≡ bufferOf (bytesOf (eightWords (totalsOf (now (feed .entry))))) (now (totals .entry)) ⌝ }
 {
     write_word(feeding::totals(feed, totals))
+}
+
+// Reads a policy sheet and writes the bytes of its policy. It may answer the refusals 1, 11, 12 and 8. Its value is the number of bytes
+// of a policy.
+#[no_mangle]
+pub extern "C" fn tilghorz_read_sheet(sheet: &[u8], out: &mut [u8]) -> u64
+    ensures word { λ r. ⌜ r ≡ word (sheetRow (readCall (now (sheet .entry)) (now (out .entry)) .answer)) ⌝ }
+    ensures bytes { λ _. ⌜ now (out .exit) ≡ readCall (now (sheet .entry)) (now (out .entry)) .buffer ⌝ }
+{
+    sheet_word(sheet_reading::read_sheet(sheet, out))
+}
+
+// Writes the sheet of a policy. It may answer the refusals 2 and 8.
+#[no_mangle]
+pub extern "C" fn tilghorz_write_sheet(policy: &[u8], out: &mut [u8]) -> u64
+    ensures word { λ r. ⌜ r ≡ word (sheetRow (writeCall (now (policy .entry)) (now (out .entry)) .answer)) ⌝ }
+    ensures bytes { λ _. ⌜ now (out .exit) ≡ writeCall (now (policy .entry)) (now (out .entry)) .buffer ⌝ }
+{
+    sheet_word(sheet_writing::write_sheet(policy, out))
 }
 
 // Writes the bytes of the default policy. It may answer refusal 8.

@@ -1,0 +1,2 @@
+-- Reading a sheet: what the code keeps of the bytes before an offset.
+pub mod Tracking

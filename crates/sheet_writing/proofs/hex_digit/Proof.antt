@@ -1,0 +1,25 @@
+-- The two halves of the sixteen digits.
+use borrow.Author.Tests.{le-ltb, lt-ltb}
+use Rattle.policy_key_set.specs.Display.{hexDigit}
+use borrow.Author.Needs.{needs}
+use Rattle.sheet_writing.proofs.hex_digit.Statement.{statement}
+use Rattle.sheet_writing.proofs.hex_digit.Tie as tie
+
+returns : tie.Need-returns
+unfolding hexDigit
+returns c = simp (lt-ltb _ _ (c .if1 .taken))
+
+returns-2 : tie.Need-returns-2
+unfolding hexDigit
+returns-2 c = simp (le-ltb _ _ (c .if1 .left))
+
+pub hex-digit-spec : {M : Type 1} → statement M
+hex-digit-spec =
+    tie.close
+    (tie.spec
+    (λ c. search needs)
+    (λ c. search needs)
+    returns
+    (λ c. search needs)
+    (λ c. search needs)
+    returns-2)

@@ -1,0 +1,2 @@
+-- Writing a sheet: a line in one pass.
+pub mod OnePass
