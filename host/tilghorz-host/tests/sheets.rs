@@ -22,7 +22,6 @@ fn a_sheet_is_taken_wherever_a_policy_is() {
     assert_eq!((ran.status, ran.text()), (0, ""));
     for arguments in [
         &["format", "message"][..],
-        &["format", "--follow", "message"],
         &["report", "message"],
         &["report", "--json", "message"],
         &["show", "message"],
@@ -33,10 +32,12 @@ fn a_sheet_is_taken_wherever_a_policy_is() {
         let (sheet, stored) = (with("sheet"), with("stored"));
         assert_eq!((sheet.status, &sheet.err), (0, &String::new()));
         assert_eq!(sheet.out, stored.out, "{arguments:?}");
-        assert_ne!(sheet.out, folder.run(arguments).out, "{arguments:?}");
     }
-    let ran = folder.run(&["format", "--policy", "sheet", "message"]);
-    assert_eq!(ran.text(), UNDER_SHEET);
+    for arguments in [&["format"][..], &["format", "--follow"]] {
+        let arguments = [arguments, &["--policy", "sheet"]].concat();
+        let ran = folder.run_with(&arguments, MESSAGE.as_bytes());
+        assert_eq!((ran.status, ran.text()), (0, UNDER_SHEET));
+    }
 }
 
 #[test]
