@@ -38,9 +38,9 @@
  * tilghorz_variation_entry gives the code point of an entry. If 20E3 follows a base, the keycap sets apply to the base; otherwise
  * the ordinary sets apply.
  *
- * Sheets. A sheet is a policy as text. It has four lines, one for each set in the order above, and each line ends with the byte 0A. A line is
+ * Sheets. A sheet is a policy as text. It has four lines, one for each set in the order above. Each line ends with the byte 0A. A line is
  * empty, or it has code points and ranges such as 2764 or 30-39, with a comma between two of them and no blanks. A code point has two or
- * four to six hexadecimal digits in upper case. A range stands for the variation entries in it; both of its ends must be entries. The pieces
+ * four to six hexadecimal digits in upper case. A range stands for the variation entries in it; its two ends must be entries. The pieces
  * of a line may come in any order and may overlap. tilghorz_write_sheet writes one sheet for each policy.
  *
  * Feeds. A feed formats a thread as it arrives. It is 312 bytes, which tilghorz_feed_begin writes. The caller hands these bytes on

@@ -1,12 +1,11 @@
--- The machine reads what the grammar derives.
+-- The reader's automaton accepts what the grammar derives.
 use mathlib.Core.Path.{_≡_, refl, ap, ap₂, sym, _∙_, subst}
-use mathlib.Core.Bool.{Bool, true, false, cond, _&&_}
+use mathlib.Core.Bool.{Bool, true, false}
 use mathlib.Core.List.{List, [], _∷_, _++_, append-assoc, append-nil}
 use mathlib.Core.Option.{Option, none, some}
-use Prim.Native.Nat.{ℕ, zero, suc, _+_, _*_, _≤_, _<_}
-use native.Mathlib.Numerals.{add-one}
+use Prim.Native.Nat.{ℕ, zero, suc, _+_, _≤_, _<_}
 use native.Mathlib.Omega.{arith}
-use lib.Dec.{eqb, ltb}
+use lib.Dec.{eqb}
 use lib.ListN.{length, length-append}
 use borrow.Author.Tests.{lt-ltb, eqb-true}
 use Rattle.base.specs.Ranges.{within}
@@ -23,8 +22,6 @@ use Rattle.policy_sheet.specs.Grammar.{
   Piece,
   PieceAt,
   Pieces,
-  Point,
-  Sheet,
   allowedDigits,
   after-comma,
   code-point,
@@ -44,7 +41,6 @@ use Rattle.policy_sheet.specs.Grammar.{
 }
 use Rattle.policy_sheet.specs.Reader.{
   ByteKind,
-  RunResult,
   State,
   beforePiece,
   afterDash,
@@ -55,7 +51,6 @@ use Rattle.policy_sheet.specs.Reader.{
   kindOf,
   moreDigits,
   newline,
-  numberRead,
   onward,
   orElse,
   pieceRead,
@@ -68,7 +63,7 @@ use Rattle.policy_sheet.specs.Reader.{
 }
 use Rattle.policy_sheet.proofs.ByteKinds.{comma-kind, dash-kind, digit-kind, newline-kind}
 
--- ---- runs one after the other
+-- ---- runs of the automaton one after the other
 
 pub record Steps (at : ℕ) (r : State) (b : ℕ) (q : State) : Type 0 where
   pub goes : transition at r b ≡ some q
@@ -131,7 +126,7 @@ allowed-six k e =
     ⊎-elim (λ p. let q = eqb-true k 2 p in (omega arith, omega arith)) (λ p. let i = within-in 4 6 k p in (omega arith, omega arith))
     (either-true (eqb k 2) (within 4 6 k) e)
 
--- The same state with another number so far.
+-- A state with another number so far.
 abbrev pub numbered : State → Bool → ℕ → ℕ → State
 numbered r f k v = record {
   line = r .line;
@@ -147,7 +142,7 @@ pub digit-step : {b d : ℕ} (at : ℕ) (r : State) → r .line < 4 → r .count
 unfolding transitionBy
 digit-step {b} {d} at r l c h = record { goes = transition-in at r b (digit d) l (digit-kind h) ∙ rw (lt-ltb (r .count) 6 c) }
 
--- Digits from where a number begins. `fresh` is over with the first.
+-- Digits from the start of a number. After the first digit the line is not fresh.
 abbrev still : Bool → ℕ → Bool
 still f zero = f
 still f (suc k) = false
@@ -158,7 +153,7 @@ digits-run at r l h no-digits = no-run
 digits-run at r l h (digits-and {s} {b} {k} {v} {d} ds x) =
     runs-snoc (digits-run at r l (omega arith) ds) (digit-step (at + length s) (numbered r (still (r .fresh) k) k v) l (omega arith) x)
 
--- Behind a code point.
+-- The run over a code point.
 pub record PointRun (at : ℕ) (r : State) (s : List ℕ) (v : ℕ) : Type 0 where
   pub count : ℕ
   pub allowed : allowedDigits count ≡ true
@@ -173,7 +168,7 @@ point-run at r l (code-point {s} {k} {v} ds a) = go k ds a
 
 -- ---- a piece that is closed
 
--- What was read after a byte that closes a piece.
+-- The state after a byte that closes a piece.
 abbrev pub closedBy : {c : ℕ} → Closer c → ℕ → List Piece → ℕ → State
 closedBy comma-closes k xs at = beforePiece k false xs at
 closedBy newline-closes k xs at = beforePiece (suc k) true xs at
@@ -184,7 +179,8 @@ unfolding transitionBy
 close-step at r comma-closes l a = record { goes = transition-in at r 0x2C comma l comma-kind ∙ rw a }
 close-step at r newline-closes l a = record { goes = transition-in at r 0x0A newline l newline-kind ∙ rw a }
 
-pub dash-step : (at : ℕ) (r : State) → r .line < 4 → r .first ≡ none → allowedDigits (r .count) ≡ true → Steps at r 0x2D (afterDash r (at + 1))
+pub dash-step : (at : ℕ) (r : State) → r .line < 4 → r .first ≡ none → allowedDigits (r .count) ≡ true
+    → Steps at r 0x2D (afterDash r (at + 1))
 unfolding transitionBy isNone
 dash-step at r l f a = record { goes = transition-in at r 0x2D dash l dash-kind ∙ rw (f, a) }
 
@@ -198,7 +194,8 @@ piece-run {k} {at} {c = c} f xs e l (range {s} {t} {v} {w} p q) =
     let a = point-run at (beforePiece k f xs at) l p in
     let r₁ = afterDash (numbered (beforePiece k f xs at) false (a .count) v) (at + length s + 1) in
     let b = point-run (at + length s + 1) r₁ l q in
-    let h : Runs at (beforePiece k f xs at) (s ++ (0x2D ∷ t)) (numbered r₁ false (b .count) w) = runs-by (a .runs) (dash-step (at + length s) _ l refl (a .allowed)) (b .runs) in
+    let h : Runs at (beforePiece k f xs at) (s ++ (0x2D ∷ t)) (numbered r₁ false (b .count) w) = runs-by (a .runs)
+    (dash-step (at + length s) _ l refl (a .allowed)) (b .runs) in
     runs-snoc h (close-step (at + length (s ++ (0x2D ∷ t))) _ e l (b .allowed))
 
 -- ---- pieces, lines, sheets
@@ -213,7 +210,8 @@ pub runs-to : {at : ℕ} {r q : State} {s : List ℕ} (z : State) → q ≡ z �
 runs-to {at} {r} {q} {s} z e h = subst (λ (x : State). Runs at r s x) e h
 
 -- Two parts, of which the first ends with the byte b.
-pub runs-parts : {at : ℕ} {r q z : State} (b c : ℕ) (s t : List ℕ) → Runs at r (s ++ (b ∷ [])) q → Runs (at + length s + 1) q (t ++ (c ∷ [])) z
+pub runs-parts : {at : ℕ} {r q z : State} (b c : ℕ) (s t : List ℕ) → Runs at r (s ++ (b ∷ [])) q
+    → Runs (at + length s + 1) q (t ++ (c ∷ [])) z
     → Runs at r ((s ++ (b ∷ t)) ++ (c ∷ [])) z
 runs-parts {at} {r} {q} {z} b c s t h g =
     runs-same ((s ++ (b ∷ t)) ++ (c ∷ [])) (simp append-assoc)
@@ -229,7 +227,8 @@ pieces-run {k} {at} {c = c} xs e l (pieces-and {s} {t} {xs = ys} {x} h p) =
     (ap₂ (λ (us : List Piece) (n : ℕ). closedBy e k us n) (append-assoc xs ys (x ∷ [])) (simp length-append (omega arith)))
     (runs-parts 0x2C c s t a b)
 
-pub newline-step : (at : ℕ) (r : State) → r .line < 4 → r .fresh ≡ true → allowedDigits (r .count) ≡ false → Steps at r 0x0A (beforePiece (suc (r .line)) true (r .pieces) (at + 1))
+pub newline-step : (at : ℕ) (r : State) → r .line < 4 → r .fresh ≡ true → allowedDigits (r .count) ≡ false
+    → Steps at r 0x0A (beforePiece (suc (r .line)) true (r .pieces) (at + 1))
 unfolding transitionBy
 newline-step at r l f a = record { goes = transition-in at r 0x0A newline l newline-kind ∙ rw (a, f) }
 
@@ -240,7 +239,8 @@ none-allowed = refl
 pub line-run : {k at : ℕ} {s : List ℕ} {ys : List Piece} (xs : List Piece) → k < 4 → Line k at s ys
     → Runs at (beforePiece k true xs at) (s ++ (0x0A ∷ [])) (beforePiece (suc k) true (xs ++ ys) (at + length s + 1))
 line-run {k} {at} xs l empty-line =
-    runs-to (beforePiece (suc k) true (xs ++ []) (at + 0 + 1)) (ap (λ (us : List Piece). beforePiece (suc k) true us (at + 0 + 1)) (sym (append-nil xs)))
+    runs-to (beforePiece (suc k) true (xs ++ []) (at + 0 + 1)) (ap (λ (us : List Piece). beforePiece (suc k) true us (at + 0 + 1))
+    (sym (append-nil xs)))
     (runs-snoc no-run (newline-step (at + 0) (beforePiece k true xs at) l refl none-allowed))
 line-run xs l (full-line h) = pieces-run xs newline-closes l h
 
@@ -251,7 +251,7 @@ lines-run l (lines-and {k} {s} {t} {xs} {ys} h g) =
     (ap (λ (n : ℕ). beforePiece (suc k) true (xs ++ ys) n) (simp length-append (omega arith)))
     (runs-and (lines-run (omega arith) h) (runs-at (0 + length s) (omega arith) (line-run xs (omega arith) g)))
 
--- What stands in a line before a piece.
+-- The bytes of a line before a piece.
 pub front-run : {k at : ℕ} {s : List ℕ} {f : Bool} {ys : List Piece} (xs : List Piece) → k < 4 → Front k at s f ys
     → Runs at (beforePiece k true xs at) s (beforePiece k f (xs ++ ys) (at + length s))
 front-run {k} {at} xs l line-start =

@@ -1,12 +1,12 @@
--- What a byte is in a sheet, as a view.
-use mathlib.Core.Path.{_≡_, refl, ap, sym, _∙_, subst}
+-- The kind of a byte as a view.
+use mathlib.Core.Path.{_≡_, refl, sym, subst}
 use mathlib.Core.Bool.{Bool, true, false, cond}
-use Prim.Native.Nat.{ℕ, _-_, _≤_, _<_}
+use Prim.Native.Nat.{ℕ, _-_}
 use native.Mathlib.Omega.{arith}
-use lib.Dec.{eqb, leb}
-use borrow.Author.Tests.{eqb-true, leb-true}
+use lib.Dec.{eqb}
+use borrow.Author.Tests.{eqb-true}
 use Rattle.base.specs.Ranges.{within}
-use Rattle.base.proofs.Tests.{In, within-in, within-below}
+use Rattle.base.proofs.Tests.{In, within-in}
 use Rattle.policy_sheet.specs.Grammar.{HexDigit, decimal, letter}
 use Rattle.policy_sheet.specs.Reader.{ByteKind, comma, dash, digit, kindOf, newline, other}
 
@@ -39,11 +39,12 @@ kind b = by-decimal (within 0x30 0x39 b) refl
     by-letter false e = by-comma (eqb b 0x2C) refl
 
     by-decimal : (t : Bool) → within 0x30 0x39 b ≡ t
-        → HasKind b (cond t (digit (b - 0x30)) (cond (within 0x41 0x46 b) (digit (b - 0x37)) (cond (eqb b 0x2C) comma (cond (eqb b 0x2D) dash (cond (eqb b 0x0A) newline other)))))
+        → HasKind b (cond t (digit (b - 0x30)) (cond (within 0x41 0x46 b) (digit (b - 0x37))
+        (cond (eqb b 0x2C) comma (cond (eqb b 0x2D) dash (cond (eqb b 0x0A) newline other)))))
     by-decimal true e = is-digit (decimal e)
     by-decimal false e = by-letter (within 0x41 0x46 b) refl
 
--- a decimal digit is no letter
+-- A letter is no decimal digit.
 not-decimal : (b : ℕ) → within 0x41 0x46 b ≡ true → within 0x30 0x39 b ≡ false
 not-decimal b e = above b (within-in 0x41 0x46 b e)
   where

@@ -1,6 +1,5 @@
--- The claims of specs/Theorems.antt.
+-- The proof of each statement of specs/Theorems.antt.
 use mathlib.Core.Path.{_≡_, refl, ap, sym, _∙_, subst}
-use mathlib.Core.Logic.{_↔_}
 use mathlib.Core.Bool.{true}
 use mathlib.Core.List.{List}
 use mathlib.Core.Option.{Option, none, some}
@@ -23,13 +22,53 @@ use Rattle.policy.proofs.Claims.{write-read}
 use Rattle.policy_sheet.specs.Calls.{readCall}
 use Rattle.policy_sheet.specs.Grammar.{Piece, Sheet, allowedDigits}
 use Rattle.policy_sheet.specs.Meaning.{AllEntries, FirstNonEntry, Means, Rising, sheetPolicy}
-use Rattle.policy_sheet.specs.Reader.{SheetReading, firstDescending, firstNonEntry, answerOf, is-read, isNone, kindOf, not-a-sheet, not-an-entry, orElse, nonEntryOr, readPieces, readSheet, run, transition, transitionBy}
-use Rattle.policy_sheet.specs.Theorems.{EveryReadCall, EveryWriteCall, Fault, FirstFault, NonEntryRefused, OnlyMeaning, OnlyReading, ReadsBack, SheetsRead, FewestDigits, SheetsDeterminePolicies, SheetExamples, WritingExample, WrittenRuns}
+use Rattle.policy_sheet.specs.Reader.{
+  SheetReading,
+  firstDescending,
+  firstNonEntry,
+  answerOf,
+  is-read,
+  isNone,
+  kindOf,
+  not-a-sheet,
+  not-an-entry,
+  orElse,
+  nonEntryOr,
+  readSheet,
+  run,
+  transition,
+  transitionBy,
+}
+use Rattle.policy_sheet.specs.Theorems.{
+  EveryReadCall,
+  EveryWriteCall,
+  Fault,
+  FirstFault,
+  NonEntryRefused,
+  OnlyMeaning,
+  OnlyReading,
+  ReadsBack,
+  SheetsRead,
+  FewestDigits,
+  SheetsDeterminePolicies,
+  SheetExamples,
+  WritingExample,
+  WrittenRuns,
+}
 use Rattle.policy_sheet.specs.Writer.{fewestDigits, firstIn, joined, lineText, runText, runsFrom, withEntry, writeSheet}
 use Rattle.policy_sheet.specs.declared.SheetAnswer.the-variants.{Written}
 use Rattle.policy_sheet.proofs.Lengths.{sheet-few}
 use Rattle.policy_sheet.proofs.Offsets.{fault-inside, non-entry-inside}
-use Rattle.policy_sheet.proofs.Outcomes.{read-as, read-long, read-small, result-done, result-short, write-refused, write-result, write-small}
+use Rattle.policy_sheet.proofs.Outcomes.{
+  read-as,
+  read-long,
+  read-small,
+  result-done,
+  result-short,
+  write-refused,
+  write-result,
+  write-small,
+}
 use Rattle.policy_sheet.proofs.PolicyValues.{policy-bytes-many, policy-split, value-of-bytes}
 use Rattle.policy_sheet.proofs.ReadsBack.{back}
 use Rattle.policy_sheet.proofs.Faults.{Verdict, faulty, formed, only-pieces, read-rising, verdict}
@@ -67,47 +106,48 @@ other-as (some m) p n e = cc
 
 pub first-fault : FirstFault
 unfolding FirstFault
-first-fault s n = (λ e. forth (verdict s) e, λ h. back-again (verdict s) (h .0) (h .1))
+first-fault s n = (λ e. to (verdict s) e, λ h. from (verdict s) (h .0) (h .1))
   where
-    forth : {x : SheetReading} → Verdict s x → x ≡ not-a-sheet n → Fault s n × ((m : ℕ) → Fault s m → n ≤ m)
-    forth (faulty f g) e = let q = same-offset e in (subst (Fault s) q f, λ m h. subst (λ (k : ℕ). k ≤ m) q (g m h))
-    forth (formed {xs} h d f) e = absurd (no-fault-read (firstNonEntry xs) (sheetPolicy xs) n e)
+    to : {x : SheetReading} → Verdict s x → x ≡ not-a-sheet n → Fault s n × ((m : ℕ) → Fault s m → n ≤ m)
+    to (faulty f g) e = let q = same-offset e in (subst (Fault s) q f, λ m h. subst (λ (k : ℕ). k ≤ m) q (g m h))
+    to (formed {xs} h d f) e = absurd (no-fault-read (firstNonEntry xs) (sheetPolicy xs) n e)
 
-    back-again : {x : SheetReading} → Verdict s x → Fault s n → ((m : ℕ) → Fault s m → n ≤ m) → x ≡ not-a-sheet n
-    back-again (faulty {n = k} f g) h l = let p = g n h in let q = l k f in let e : k ≡ n = omega arith in ap not-a-sheet e
-    back-again (formed {xs} p d f) h l = absurd (f n h)
+    from : {x : SheetReading} → Verdict s x → Fault s n → ((m : ℕ) → Fault s m → n ≤ m) → x ≡ not-a-sheet n
+    from (faulty {n = k} f g) h l = let p = g n h in let q = l k f in let e : k ≡ n = omega arith in ap not-a-sheet e
+    from (formed {xs} p d f) h l = absurd (f n h)
 
--- ---- what is read, and refusal 12
+-- ---- accepted sheets, and refusal 12
 
 abbrev ReadAs : List ℕ → Policy → Type 0
 ReadAs s p = (xs : List Piece) × Sheet s xs × Rising xs × AllEntries xs × Means xs p
 
 pub sheets-read : SheetsRead
 unfolding SheetsRead
-sheets-read s p = (λ e. forth (verdict s) e, back-again)
+sheets-read s p = (λ e. to (verdict s) e, from)
   where
-    forth : {x : SheetReading} → Verdict s x → x ≡ is-read p → ReadAs s p
-    forth (faulty f g) e = let z : _≡_ {A = ℕ} 0 1 = cc in absurd (omega arith)
-    forth (formed {xs} h d f) e =
+    to : {x : SheetReading} → Verdict s x → x ≡ is-read p → ReadAs s p
+    to (faulty f g) e = let z : _≡_ {A = ℕ} 0 1 = cc in absurd (omega arith)
+    to (formed {xs} h d f) e =
         let r = read-none (firstNonEntry xs) (sheetPolicy xs) p e in
         (xs, h, none-rising xs d, none-entries xs (r .0), subst (Means xs) (r .1) (pieces-mean xs))
 
-    back-again : ReadAs s p → readSheet s ≡ is-read p
-    back-again h =
+    from : ReadAs s p → readSheet s ≡ is-read p
+    from h =
         let xs = h .0 in
         read-rising (h .1) (rising-none xs (h .2)) ∙ ap (λ (o : Option ℕ). nonEntryOr o (is-read (sheetPolicy xs))) (entries-none xs (h .3))
         ∙ ap is-read (one-meaning xs (sheetPolicy xs) p (pieces-mean xs) (h .4))
 
 pub non-entry-refused : NonEntryRefused
 unfolding NonEntryRefused
-non-entry-refused s n = (λ e. forth (verdict s) e, λ h. back-again (h .0) (h .1) (h .2) (h .3))
+non-entry-refused s n = (λ e. to (verdict s) e, λ h. from (h .0) (h .1) (h .2) (h .3))
   where
-    forth : {x : SheetReading} → Verdict s x → x ≡ not-an-entry n → (xs : List Piece) × Sheet s xs × Rising xs × FirstNonEntry xs n
-    forth (faulty f g) e = let z : _≡_ {A = ℕ} 0 1 = cc in absurd (omega arith)
-    forth (formed {xs} h d f) e = (xs, h, none-rising xs d, some-non-entry n xs (other-as (firstNonEntry xs) (sheetPolicy xs) n e))
+    to : {x : SheetReading} → Verdict s x → x ≡ not-an-entry n → (xs : List Piece) × Sheet s xs × Rising xs × FirstNonEntry xs n
+    to (faulty f g) e = let z : _≡_ {A = ℕ} 0 1 = cc in absurd (omega arith)
+    to (formed {xs} h d f) e = (xs, h, none-rising xs d, some-non-entry n xs (other-as (firstNonEntry xs) (sheetPolicy xs) n e))
 
-    back-again : (xs : List Piece) → Sheet s xs → Rising xs → FirstNonEntry xs n → readSheet s ≡ not-an-entry n
-    back-again xs h r f = read-rising h (rising-none xs r) ∙ ap (λ (o : Option ℕ). nonEntryOr o (is-read (sheetPolicy xs))) (non-entry-some n xs f)
+    from : (xs : List Piece) → Sheet s xs → Rising xs → FirstNonEntry xs n → readSheet s ≡ not-an-entry n
+    from xs h r f = read-rising h (rising-none xs r) ∙ ap (λ (o : Option ℕ). nonEntryOr o (is-read (sheetPolicy xs)))
+        (non-entry-some n xs f)
 
 -- ---- the writer
 
@@ -171,18 +211,21 @@ every-write-call policy out = record {
 
 pub written-runs : WrittenRuns
 unfolding WrittenRuns
-written-runs ws = maximal (λ (i : ℕ). in-set i ws) 0 variationEntries (λ (i : ℕ). in-set i ws) (λ i. ap (λ (n : ℕ). in-set n ws) (omega arith))
+written-runs ws = maximal (λ (i : ℕ). in-set i ws) 0 variationEntries (λ (i : ℕ). in-set i ws) (λ i. ap (λ (n : ℕ). in-set n ws)
+    (omega arith))
 
 pub fewest-digits : FewestDigits
 unfolding FewestDigits
 fewest-digits c s h = (fewest h, point-written c (point-small h))
 
--- ---- worked sheets
+-- ---- examples
 
 pub sheet-examples : SheetExamples
-unfolding SheetExamples readSheet answerOf run transition transitionBy kindOf allowedDigits isNone orElse firstDescending firstNonEntry hasVariationSequence in-table variationEntries
+unfolding SheetExamples readSheet answerOf run transition transitionBy kindOf allowedDigits isNone orElse firstDescending firstNonEntry
+    hasVariationSequence in-table variationEntries
 sheet-examples = (refl, refl, refl, refl, refl, refl, refl, refl, refl, refl, refl, refl, refl, refl, refl, refl)
 
 pub writing-example : WritingExample
-unfolding WritingExample writeSheet lineText runText runsFrom withEntry joined firstIn fewestDigits hexDigits hexDigit parted in-set one variationEntries
+unfolding WritingExample writeSheet lineText runText runsFrom withEntry joined firstIn fewestDigits hexDigits hexDigit parted in-set one
+    variationEntries
 writing-example = refl

@@ -1,16 +1,14 @@
--- Whatever was read can go on to a sheet.
+-- After every run of the automaton some bytes complete a sheet.
 use mathlib.Core.Path.{_≡_, refl, ap, sym, _∙_, subst}
 use mathlib.Core.Logic.{_⊎_, inl, inr, ⊎-elim}
-use mathlib.Core.Bool.{Bool, true, false}
+use mathlib.Core.Bool.{Bool, true}
 use mathlib.Core.List.{List, [], _∷_, _++_, append-nil}
-use mathlib.Core.Option.{none, some}
 use Prim.Native.Nat.{ℕ, zero, suc, _+_, _≤_, _<_}
 use native.Mathlib.Omega.{arith}
 use lib.ListN.{length}
-use Rattle.base.specs.Ranges.{within}
-use Rattle.policy_sheet.specs.Grammar.{Begins, HexDigit, IsSheet, Lines, Piece, allowedDigits, decimal, newline-closes}
-use Rattle.policy_sheet.specs.Reader.{RunResult, State, beforePiece, moreDigits, pieceRead, reached, run, start, transition, stopped}
-use Rattle.policy_sheet.proofs.Accepts.{Runs, Steps, close-step, digit-step, newline-step, no-run, run-then, runs-and, runs-at, runs-by}
+use Rattle.policy_sheet.specs.Grammar.{Begins, HexDigit, Lines, Piece, allowedDigits, decimal, newline-closes}
+use Rattle.policy_sheet.specs.Reader.{RunResult, State, beforePiece, moreDigits, pieceRead, reached}
+use Rattle.policy_sheet.proofs.Accepts.{Runs, Steps, close-step, digit-step, newline-step, no-run, runs-at, runs-by}
 use Rattle.policy_sheet.proofs.Derives.{Fresh, Held, not-fresh, nothing-read}
 use Rattle.policy_sheet.proofs.Runs.{Ended, Going, all-read, ended, stops}
 
@@ -31,31 +29,33 @@ by-step {at} {b} {r} {q} h c = record {
   whole = c .whole;
 }
 
--- lines left are empty
+-- The lines that are left can be empty.
 lines-left : (n k at from : ℕ) (xs : List Piece) → k + n ≡ 4 → Completes at (beforePiece k true xs from)
 unfolding allowedDigits
 lines-left zero k at from xs e = record { rest = []; last = beforePiece k true xs from; runs = no-run; whole = omega arith }
 lines-left (suc n) k at from xs e =
     by-step (newline-step at (beforePiece k true xs from) (omega arith) refl refl) (lines-left n (suc k) (at + 1) (at + 1) xs (omega arith))
 
--- the lines left of four
+-- The number of lines that are left.
 left : (k : ℕ) → k ≤ 4 → (n : ℕ) × (k + n ≡ 4)
 left k h = (Prim.Native.Nat._-_ 4 k, omega arith)
 
 closes : (at : ℕ) (r : State) → r .line < 4 → allowedDigits (r .count) ≡ true → Completes at r
 closes at r l a =
     let n = left (suc (r .line)) (omega arith) in
-    by-step (close-step at r newline-closes l a) (lines-left (n .0) (suc (r .line)) (at + 1) (at + 1) (r .pieces ++ (pieceRead r ∷ [])) (n .1))
+    by-step (close-step at r newline-closes l a) (lines-left (n .0) (suc (r .line)) (at + 1) (at + 1) (r .pieces ++ (pieceRead r ∷ []))
+    (n .1))
 
 a-zero : HexDigit 0x30 0
 a-zero = decimal refl
 
--- a digit 0, and another where it needs one
+-- A digit 0, and another one if the number needs it.
 number-left : (at : ℕ) (r : State) → r .line < 4 → (k : ℕ) → r .count ≡ k → k ≤ 6 → Completes at r
 unfolding allowedDigits
 number-left at r l zero e h =
     by-step (digit-step at r l (omega arith) a-zero)
-    (by-step (digit-step (at + 1) (moreDigits r 0) l (omega arith) a-zero) (closes (at + 1 + 1) (moreDigits (moreDigits r 0) 0) l (ap (λ (n : ℕ). allowedDigits (suc (suc n))) e)))
+    (by-step (digit-step (at + 1) (moreDigits r 0) l (omega arith) a-zero) (closes (at + 1 + 1) (moreDigits (moreDigits r 0) 0) l
+    (ap (λ (n : ℕ). allowedDigits (suc (suc n))) e)))
 number-left at r l (suc zero) e h =
     by-step (digit-step at r l (omega arith) a-zero) (closes (at + 1) (moreDigits r 0) l (ap (λ (n : ℕ). allowedDigits (suc n)) e))
 number-left at r l (suc (suc zero)) e h = closes at r l (ap allowedDigits e)
@@ -81,10 +81,12 @@ sheet-held {s} {r} h e = go (h .fresh) (is-fresh (h .in-sheet)) (h .text) (h .pi
     is-fresh (inl l) = absurd (omega arith)
     is-fresh (inr p) = p .1
 
-    go : {f : Bool} {u w : List ℕ} {ys : List Piece} → Fresh f u w ys → f ≡ true → s ≡ h .earlier ++ (u ++ w) → r .pieces ≡ h .xs ++ ys → Lines 4 s (r .pieces)
+    go : {f : Bool} {u w : List ℕ} {ys : List Piece} → Fresh f u w ys → f ≡ true → s ≡ h .earlier ++ (u ++ w) → r .pieces ≡ h .xs ++ ys
+        → Lines 4 s (r .pieces)
     go nothing-read p tx px =
         subst (λ (l : List ℕ). Lines 4 l (r .pieces)) (sym (tx ∙ append-nil (h .earlier)))
-        (subst (λ (l : List Piece). Lines 4 (h .earlier) l) (sym (px ∙ append-nil (h .xs))) (subst (λ (k : ℕ). Lines k (h .earlier) (h .xs)) e (h .lines-before)))
+        (subst (λ (l : List Piece). Lines 4 (h .earlier) l) (sym (px ∙ append-nil (h .xs)))
+        (subst (λ (k : ℕ). Lines k (h .earlier) (h .xs)) e (h .lines-before)))
     go not-fresh p tx px = absurd (mathlib.Core.Bool.true≢false (sym p))
 
 pub same-end : {s : List ℕ} {x y : RunResult} → x ≡ y → Ended s x → Ended s y

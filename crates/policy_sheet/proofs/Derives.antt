@@ -1,12 +1,12 @@
--- What the machine has read is derived by the grammar, as far as it goes.
-use mathlib.Core.Path.{_≡_, refl, ap, ap₂, sym, _∙_, subst}
+-- The grammar derives the bytes that the automaton has accepted, as far as they go.
+use mathlib.Core.Path.{_≡_, refl, ap, sym, _∙_, subst}
 use mathlib.Core.Logic.{_⊎_, inl, inr, ⊎-elim}
 use mathlib.Core.Bool.{Bool, true, false, cond, _&&_, true≢false}
 use mathlib.Core.List.{List, [], _∷_, _++_, append-assoc, append-nil}
 use mathlib.Core.Option.{Option, none, some}
-use Prim.Native.Nat.{ℕ, zero, suc, _+_, _*_, _≤_, _<_}
+use Prim.Native.Nat.{ℕ, suc, _+_, _*_, _≤_, _<_}
 use native.Mathlib.Omega.{arith}
-use lib.Dec.{eqb, ltb}
+use lib.Dec.{ltb}
 use lib.ListN.{length, length-append}
 use borrow.Author.Tests.{ltb-true}
 use Rattle.base.proofs.Tests.{both-true}
@@ -16,7 +16,6 @@ use Rattle.policy_sheet.specs.Grammar.{
   Digits,
   Front,
   HexDigit,
-  Line,
   Lines,
   Piece,
   PieceAt,
@@ -41,40 +40,29 @@ use Rattle.policy_sheet.specs.Grammar.{
 }
 use Rattle.policy_sheet.specs.Reader.{
   ByteKind,
-  RunResult,
   State,
   beforePiece,
   afterDash,
-  comma,
-  dash,
-  digit,
   isNone,
   kindOf,
   moreDigits,
-  newline,
-  numberRead,
-  onward,
   orElse,
-  other,
   pieceRead,
-  reached,
-  run,
   start,
   transition,
   transitionBy,
-  stopped,
 }
 use Rattle.policy_sheet.proofs.ByteKinds.{HasKind, is-comma, is-dash, is-digit, is-newline, is-other, kind}
 
 -- ---- what was read
 
--- The piece that goes on: digits, or a code point, a dash and digits.
+-- The piece that is not closed yet: digits, or a code point, a dash and digits.
 pub data Number (at : ℕ) : List ℕ → Option Point → ℕ → ℕ → ℕ → Type 0 where
   alone : {s : List ℕ} {k v : ℕ} → Digits s k v → Number at s none at k v
   in-range : {s t : List ℕ} {w k v : ℕ} → CodePoint s w → Digits t k v
       → Number at (s ++ (0x2D ∷ t)) (some (record { at = at; value = w })) (at + length s + 1) k v
 
--- Where nothing of a line was read, the bytes end with the line before it.
+-- If nothing of a line was read, the bytes end with the line before it.
 pub data Fresh : Bool → List ℕ → List ℕ → List Piece → Type 0 where
   nothing-read : Fresh true [] [] []
   not-fresh : {u w : List ℕ} {ys : List Piece} → Fresh false u w ys
@@ -119,17 +107,18 @@ more-number : {at : ℕ} {s : List ℕ} {f : Option Point} {n k v b d : ℕ} →
     → Number at (s ++ (b ∷ [])) f n (suc k) (v * 16 + d)
 more-number (alone ds) h = alone (digits-and ds h)
 more-number {at} {b = b} {d} (in-range {s} {t} {w} {k} {v} p ds) h =
-    subst (λ (l : List ℕ). Number at l (some (record { at = at; value = w })) (at + length s + 1) (suc k) (v * 16 + d)) (sym (append-assoc s (0x2D ∷ t) (b ∷ [])))
+    subst (λ (l : List ℕ). Number at l (some (record { at = at; value = w })) (at + length s + 1) (suc k) (v * 16 + d))
+    (sym (append-assoc s (0x2D ∷ t) (b ∷ [])))
     (in-range p (digits-and ds h))
 
--- a piece that may be closed
+-- A piece that may be closed.
 pub piece-held : {at : ℕ} {s : List ℕ} {f : Option Point} {n k v : ℕ} (line : ℕ) → Number at s f n k v → allowedDigits k ≡ true
     → PieceAt line at s (record { line = line; first = orElse f (record { at = n; value = v }); last = record { at = n; value = v } })
 unfolding orElse
 piece-held line (alone ds) a = single (code-point ds a)
 piece-held line (in-range p ds) a = range p (code-point ds a)
 
--- .. with what stands before it
+-- The same with the bytes of the line before it.
 pub pieces-held : {k at : ℕ} {u w : List ℕ} {f : Bool} {ys : List Piece} {x : Piece} → Front k at u f ys → PieceAt k (at + length u) w x
     → Pieces k at (u ++ w) (ys ++ (x ∷ []))
 pieces-held {k} {at} {w = w} {x = x} line-start p = one-piece (subst (λ (n : ℕ). PieceAt k n w x) (omega arith) p)
@@ -137,10 +126,12 @@ pieces-held {k} {at} {w = w} {x = x} (after-comma {s} {xs = ys} h) p =
     subst (λ (l : List ℕ). Pieces k at l (ys ++ (x ∷ []))) (sym (append-assoc s (0x2C ∷ []) w))
     (pieces-and h (subst (λ (n : ℕ). PieceAt k n w x) (simp length-append (omega arith)) p))
 
--- .. before a dash
-dashed : {at : ℕ} {s : List ℕ} {f : Option Point} {n k v m : ℕ} → Number at s f n k v → f ≡ none → allowedDigits k ≡ true → at + length s + 1 ≡ m
+-- The same before a dash.
+dashed : {at : ℕ} {s : List ℕ} {f : Option Point} {n k v m : ℕ} → Number at s f n k v → f ≡ none → allowedDigits k ≡ true
+    → at + length s + 1 ≡ m
     → Number at (s ++ (0x2D ∷ [])) (some (record { at = n; value = v })) m 0 0
-dashed {at} {s} {v = v} (alone ds) e a q = subst (λ (k : ℕ). Number at (s ++ (0x2D ∷ [])) (some (record { at = at; value = v })) k 0 0) q (in-range (code-point ds a) no-digits)
+dashed {at} {s} {v = v} (alone ds) e a q = subst (λ (k : ℕ). Number at (s ++ (0x2D ∷ [])) (some (record { at = at; value = v })) k 0 0) q
+    (in-range (code-point ds a) no-digits)
 dashed (in-range p ds) e a q = let z : _≡_ {A = ℕ} 0 1 = cc in absurd (omega arith)
 
 three : (a b c : List ℕ) (x : ℕ) → (a ++ (b ++ c)) ++ (x ∷ []) ≡ a ++ (b ++ (c ++ (x ∷ [])))
@@ -186,13 +177,15 @@ module _ (s : List ℕ) (r : State) (h : Held s r) (l : r .line < 4) where
       at-is : length (h .earlier) + length (h .front-text) + length (h .number-text) + 1 ≡ length s + 1
       at-is = simp (h .text, length-append) (omega arith)
 
-  all-pieces : allowedDigits (r .count) ≡ true → Pieces (r .line) (length (h .earlier)) (h .front-text ++ h .number-text) (h .ys ++ (pieceRead r ∷ []))
+  all-pieces : allowedDigits (r .count) ≡ true → Pieces (r .line) (length (h .earlier)) (h .front-text ++ h .number-text)
+      (h .ys ++ (pieceRead r ∷ []))
   all-pieces a = pieces-held (h .front) (piece-held (r .line) (h .number) a)
 
   with-piece : r .pieces ++ (pieceRead r ∷ []) ≡ h .xs ++ (h .ys ++ (pieceRead r ∷ []))
   with-piece = ap (λ (t : List Piece). t ++ (pieceRead r ∷ [])) (h .pieces) ∙ append-assoc (h .xs) (h .ys) (pieceRead r ∷ [])
 
-  held-comma : allowedDigits (r .count) ≡ true → Held (s ++ (0x2C ∷ [])) (beforePiece (r .line) false (r .pieces ++ (pieceRead r ∷ [])) (length s + 1))
+  held-comma : allowedDigits (r .count) ≡ true → Held (s ++ (0x2C ∷ [])) (beforePiece (r .line) false (r .pieces ++ (pieceRead r ∷ []))
+      (length s + 1))
   held-comma a = record {
     earlier = h .earlier;
     front-text = (h .front-text ++ h .number-text) ++ (0x2C ∷ []);
@@ -202,7 +195,8 @@ module _ (s : List ℕ) (r : State) (h : Held s r) (l : r .line < 4) where
     begun = false;
     lines-before = h .lines-before;
     front = after-comma (all-pieces a);
-    number = subst (λ (k : ℕ). Number (length (h .earlier) + length ((h .front-text ++ h .number-text) ++ (0x2C ∷ []))) [] none k 0 0) at-is (alone no-digits);
+    number = subst (λ (k : ℕ). Number (length (h .earlier) + length ((h .front-text ++ h .number-text) ++ (0x2C ∷ []))) [] none k 0 0)
+        at-is (alone no-digits);
     fresh = not-fresh;
     text = ap (λ (t : List ℕ). t ++ (0x2C ∷ [])) (h .text) ∙ simp (append-assoc, append-nil);
     pieces = with-piece;
@@ -213,7 +207,7 @@ module _ (s : List ℕ) (r : State) (h : Held s r) (l : r .line < 4) where
       at-is : length (h .earlier) + length ((h .front-text ++ h .number-text) ++ (0x2C ∷ [])) ≡ length s + 1
       at-is = simp (h .text, length-append) (omega arith)
 
-  -- Behind 0A.
+  -- After 0A.
   held-line : {t : List ℕ} {xs ys : List Piece} → Lines (suc (r .line)) t xs → t ≡ s ++ (0x0A ∷ []) → ys ≡ xs
       → Held (s ++ (0x0A ∷ [])) (beforePiece (suc (r .line)) true ys (length s + 1))
   held-line {t} {xs} {ys} g e p = record {
@@ -239,10 +233,12 @@ module _ (s : List ℕ) (r : State) (h : Held s r) (l : r .line < 4) where
       four : (suc (r .line) < 4) ⊎ ((suc (r .line) ≡ 4) × (true ≡ true))
       four = ⊎-elim (λ q. inl q) (λ q. inr (omega arith, refl)) (Rattle.base.proofs.Tests.le-or-lt (suc (suc (r .line))) 4)
 
-  held-full : allowedDigits (r .count) ≡ true → Held (s ++ (0x0A ∷ [])) (beforePiece (suc (r .line)) true (r .pieces ++ (pieceRead r ∷ [])) (length s + 1))
+  held-full : allowedDigits (r .count) ≡ true
+      → Held (s ++ (0x0A ∷ [])) (beforePiece (suc (r .line)) true (r .pieces ++ (pieceRead r ∷ [])) (length s + 1))
   held-full a =
       held-line (lines-and (h .lines-before) (full-line (all-pieces a)))
-      (sym (ap (λ (t : List ℕ). t ++ (0x0A ∷ [])) (h .text) ∙ append-assoc (h .earlier) (h .front-text ++ h .number-text) (0x0A ∷ []))) with-piece
+      (sym (ap (λ (t : List ℕ). t ++ (0x0A ∷ [])) (h .text) ∙ append-assoc (h .earlier) (h .front-text ++ h .number-text) (0x0A ∷ [])))
+      with-piece
 
   held-empty : r .fresh ≡ true → Held (s ++ (0x0A ∷ [])) (beforePiece (suc (r .line)) true (r .pieces) (length s + 1))
   held-empty e = go (h .fresh) e (h .text) (h .pieces)
@@ -250,12 +246,13 @@ module _ (s : List ℕ) (r : State) (h : Held s r) (l : r .line < 4) where
       go : {f : Bool} {u w : List ℕ} {ys : List Piece} → Fresh f u w ys → f ≡ true → s ≡ h .earlier ++ (u ++ w) → r .pieces ≡ h .xs ++ ys
           → Held (s ++ (0x0A ∷ [])) (beforePiece (suc (r .line)) true (r .pieces) (length s + 1))
       go nothing-read e tx px =
-          held-line (lines-and (h .lines-before) empty-line) (ap (λ (t : List ℕ). t ++ (0x0A ∷ [])) (sym (append-nil (h .earlier)) ∙ sym tx)) px
+          held-line (lines-and (h .lines-before) empty-line) (ap (λ (t : List ℕ). t ++ (0x0A ∷ [])) (sym (append-nil (h .earlier))
+          ∙ sym tx)) px
       go not-fresh e tx px = absurd (true≢false (sym e))
 
 -- ---- a transition
 
--- What was closed by a byte.
+-- The pieces after a byte: the same, or one more.
 pub data Adds (r : State) (b : ℕ) (q : State) : Type 0 where
   same-pieces : q .pieces ≡ r .pieces → Adds r b q
   adds-piece : Closer b → allowedDigits (r .count) ≡ true → q .pieces ≡ r .pieces ++ (pieceRead r ∷ []) → Adds r b q
@@ -283,7 +280,11 @@ is-none (some x) e = absurd (true≢false (sym e))
 
 module _ (s : List ℕ) (r : State) (h : Held s r) (l : r .line < 4) where
   stepped-as : {b : ℕ} {x q : State} → x ≡ q → Held (s ++ (b ∷ [])) x → Adds r b x → Stepped s r b q
-  stepped-as {b} e g a = record { line = l; held = subst (λ (z : State). Held (s ++ (b ∷ [])) z) e g; adds = subst (λ (z : State). Adds r b z) e a }
+  stepped-as {b} e g a = record {
+    line = l;
+    held = subst (λ (z : State). Held (s ++ (b ∷ [])) z) e g;
+    adds = subst (λ (z : State). Adds r b z) e a;
+  }
 
   by-kind : {b : ℕ} {k : ByteKind} {q : State} → HasKind b k → transitionBy (length s) r k ≡ some q → Stepped s r b q
   unfolding transitionBy

@@ -2,31 +2,33 @@
 use mathlib.Core.Path.{_≡_, refl, ap, sym, _∙_, subst}
 use mathlib.Core.Logic.{⊎-elim}
 use mathlib.Core.Bool.{Bool, true, false, cond, true≢false}
-use mathlib.Core.List.{List, [], _∷_, _++_}
-use Prim.Native.Nat.{ℕ, zero, suc, _+_, _*_, _^_, _≤_, _<_}
+use mathlib.Core.List.{List, [], _∷_}
+use Prim.Native.Nat.{ℕ, zero, suc, _+_, _^_, _≤_, _<_}
 use native.Mathlib.Nat.{pow-suc}
 use native.Mathlib.Omega.{arith}
 use lib.Dec.{eqb, ltb}
 use lib.ListN.{getD, length, length-append}
-use borrow.Author.Tests.{eqb-true, ltb-false, ltb-true}
+use borrow.Author.Tests.{eqb-true, ltb-false}
 use Rattle.base.specs.Ranges.{within}
 use Rattle.base.proofs.Tests.{either-true, le-or-lt, within-in}
 use Rattle.policy_sheet.specs.Grammar.{CodePoint, Digits, HexDigit, allowedDigits, code-point, decimal, digits-and, letter, no-digits}
 use Rattle.policy_sheet.proofs.Accepts.{allowed-six}
 use Rattle.policy_sheet.specs.Theorems.{MaximalRuns, no-more, run-and}
-use Rattle.policy_sheet.specs.Writer.{Run, fewestDigits, firstIn, joined, pointText, runsFrom, withEntry}
+use Rattle.policy_sheet.specs.Writer.{Run, fewestDigits, firstIn, joined, runsFrom, withEntry}
 
 -- ---- maximal runs
 
--- one entry more in front
-further : {q : ℕ → Bool} {c : ℕ} {cs : List ℕ} {n : ℕ} {rs : List Run} → MaximalRuns (λ (i : ℕ). q (suc i)) cs n rs → MaximalRuns q (c ∷ cs) (suc n) rs
+-- One more entry at the front.
+further : {q : ℕ → Bool} {c : ℕ} {cs : List ℕ} {n : ℕ} {rs : List Run} → MaximalRuns (λ (i : ℕ). q (suc i)) cs n rs
+    → MaximalRuns q (c ∷ cs) (suc n) rs
 further {q} {c} {cs} {n} (no-more f) = no-more (λ i h l. at i h l)
   where
     at : (i : ℕ) → suc n ≤ i → i < length (c ∷ cs) → q i ≡ false
     at zero h l = absurd (omega arith)
     at (suc i) h l = f i (omega arith) (omega arith)
 further {q} {c} {cs} {n} (run-and from to a b l gap inside after more) =
-    run-and {n = suc n} (suc from) (suc to) (omega arith) (omega arith) (omega arith) in-gap in-run (λ h. after (omega arith)) (further more)
+    run-and {n = suc n} (suc from) (suc to) (omega arith) (omega arith) (omega arith) in-gap in-run (λ h. after (omega arith))
+    (further more)
   where
     in-gap : (i : ℕ) → suc n ≤ i → i < suc from → q i ≡ false
     in-gap zero h l = absurd (omega arith)
@@ -36,7 +38,7 @@ further {q} {c} {cs} {n} (run-and from to a b l gap inside after more) =
     in-run zero h l = absurd (omega arith)
     in-run (suc i) h l = inside i (omega arith) (omega arith)
 
--- the first entry does not pass
+-- The first entry does not pass.
 not-first : {q : ℕ → Bool} {cs : List ℕ} {rs : List Run} → q 0 ≡ false → MaximalRuns q cs 1 rs → MaximalRuns q cs 0 rs
 not-first {q} {cs} e (no-more f) = no-more at
   where
@@ -53,9 +55,11 @@ module _ (q : ℕ → Bool) (c : ℕ) (cs : List ℕ) where
   alone : {rs : List Run} → q 0 ≡ true → (0 < length cs → q 1 ≡ false) → MaximalRuns (λ (i : ℕ). q (suc i)) cs 0 rs
       → MaximalRuns q (c ∷ cs) 0 (record { first = c; last = c } ∷ rs)
   alone e f m =
-      run-and {n = 0} 0 0 (omega arith) (omega arith) (omega arith) (λ i h l. absurd (omega arith)) (λ i h l. ap q (omega arith) ∙ e) (λ h. f (omega arith)) (further m)
+      run-and {n = 0} 0 0 (omega arith) (omega arith) (omega arith) (λ i h l. absurd (omega arith)) (λ i h l. ap q (omega arith)
+      ∙ e) (λ h. f (omega arith)) (further m)
 
-  join : {n : ℕ} {rs : List Run} → n ≡ 0 → q 0 ≡ true → 0 < length cs → q 1 ≡ true → MaximalRuns (λ (i : ℕ). q (suc i)) cs n rs → MaximalRuns q (c ∷ cs) 0 (joined c rs)
+  join : {n : ℕ} {rs : List Run} → n ≡ 0 → q 0 ≡ true → 0 < length cs → q 1 ≡ true → MaximalRuns (λ (i : ℕ). q (suc i)) cs n rs
+      → MaximalRuns q (c ∷ cs) 0 (joined c rs)
   unfolding joined
   join z e l t (no-more f) = absurd (true≢false (sym t ∙ f 0 (omega arith) l))
   join {n} z e l t (run-and {rs = us} from to a b m gap inside after more) = at-zero from refl
@@ -66,10 +70,12 @@ module _ (q : ℕ → Bool) (c : ℕ) (cs : List ℕ) where
 
       at-zero : (k : ℕ) → from ≡ k → MaximalRuns q (c ∷ cs) 0 (record { first = c; last = getD cs to 0 } ∷ us)
       at-zero zero p =
-          run-and {n = 0} 0 (suc to) (omega arith) (omega arith) (omega arith) (λ i h l. absurd (omega arith)) (λ i h l. in-run i p l) (λ h. after (omega arith)) (further more)
+          run-and {n = 0} 0 (suc to) (omega arith) (omega arith) (omega arith) (λ i h l. absurd (omega arith)) (λ i h l. in-run i p l)
+          (λ h. after (omega arith)) (further more)
       at-zero (suc k) p = absurd (true≢false (sym t ∙ gap 0 (omega arith) (omega arith)))
 
-  with-entry : (b n : Bool) (rs : List Run) → q 0 ≡ b → (n ≡ true → (0 < length cs) × (q 1 ≡ true)) → (n ≡ false → 0 < length cs → q 1 ≡ false)
+  with-entry : (b n : Bool) (rs : List Run) → q 0 ≡ b → (n ≡ true → (0 < length cs) × (q 1 ≡ true))
+      → (n ≡ false → 0 < length cs → q 1 ≡ false)
       → MaximalRuns (λ (i : ℕ). q (suc i)) cs 0 rs → MaximalRuns q (c ∷ cs) 0 (withEntry c b n rs)
   unfolding withEntry
   with-entry false n rs e t f m = not-first e (further m)
@@ -144,7 +150,7 @@ fewest-le c k a h = by-two (ltb c 0x100) refl
 pub fewest : {s : List ℕ} {c : ℕ} → CodePoint s c → fewestDigits c ≤ length s
 fewest {s} {c} (code-point {k = k} ds a) = let h = digits-small ds in omega (arith, h .0, fewest-le c k a (h .1))
 
--- a code point of a sheet has at most six digits
+-- A code point of a sheet has at most six digits.
 pow-six : (k : ℕ) → k ≤ 6 → 16 ^ k ≤ 0x1000000
 pow-six zero h = omega arith
 pow-six (suc zero) h = omega arith

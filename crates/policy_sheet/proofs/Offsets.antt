@@ -1,5 +1,5 @@
 -- The offsets of refusals 11 and 12 are at most the length of the sheet.
-use mathlib.Core.Path.{_≡_, refl, ap, sym, subst}
+use mathlib.Core.Path.{subst}
 use mathlib.Core.List.{List, [], _∷_, _++_}
 use Prim.Native.Nat.{ℕ, _+_, _≤_}
 use native.Mathlib.Omega.{arith}
@@ -75,8 +75,12 @@ at-split n (u ∷ us) x vs (each-and p hs) = at-split n us x vs hs
 
 pub non-entry-inside : {s : List ℕ} {xs : List Piece} {n : ℕ} → Lines 4 s xs → FirstNonEntry xs n → n ≤ length s
 non-entry-inside {s} {xs} {n} h r =
-    omega (arith, r .offset, at-split (length s) (r .earlier) (r .other) (r .later)
-    (subst (λ (l : List Point). Each (λ (x : Point). x .at ≤ length s) l) (r .split) (lines-before h)))
+    omega (
+      arith,
+      r .offset,
+      at-split (length s) (r .earlier) (r .other) (r .later)
+          (subst (λ (l : List Point). Each (λ (x : Point). x .at ≤ length s) l) (r .split) (lines-before h)),
+    )
 
 pub fault-inside : {s : List ℕ} {n : ℕ} → Fault s n → n ≤ length s
 fault-inside (wrong-byte l p f) = omega arith

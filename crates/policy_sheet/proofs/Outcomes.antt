@@ -1,24 +1,23 @@
 -- The outcomes of the two calls, answer by answer.
-use mathlib.Core.Path.{_≡_, refl, ap, sym, _∙_}
+use mathlib.Core.Path.{_≡_, refl, ap, _∙_}
 use mathlib.Core.Bool.{Bool, true, false, cond}
-use mathlib.Core.List.{List, _++_}
+use mathlib.Core.List.{List}
 use mathlib.Core.Option.{none, some}
 use Prim.Native.Nat.{ℕ, _≤_, _<_}
 use native.Mathlib.Omega.{arith}
 use lib.Dec.{leb}
-use lib.ListN.{drop, length}
+use lib.ListN.{length}
 use borrow.Author.Tests.{le-leb, leb-true, lt-leb}
 use Rattle.base.specs.Output.{answerOf, bufferOf}
-use Rattle.base.specs.Refusals.{After, orElse, textLimit, unwritten, written}
+use Rattle.base.specs.Refusals.{orElse, textLimit, unwritten, written}
 use Rattle.base.specs.declared.Refusal.{Refusal}
-use Rattle.base.specs.declared.Refusal.the-variants.{NotAPolicy, NotASheet, NotAnEntry, OutputTooShort, TextTooLong}
+use Rattle.base.specs.declared.Refusal.the-variants.{NotAPolicy, OutputTooShort, TextTooLong}
 use Rattle.base.specs.declared.WriteAnswer.the-variants as Write
 use Rattle.policy.specs.PolicyBytes.{isPolicy, policyBytes, policyFault, policyOf, policyRefusal}
 use Rattle.policy.specs.declared.Policy.{Policy}
 use Rattle.policy_sheet.specs.Calls.{afterReading, readCall, sheetAnswer, sheetRow, writeCall, writeResult}
 use Rattle.policy_sheet.specs.Reader.{SheetReading, is-read, not-a-sheet, not-an-entry, readSheet}
 use Rattle.policy_sheet.specs.Writer.{writeSheet}
-use Rattle.policy_sheet.specs.declared.SheetAnswer.{SheetAnswer}
 use Rattle.policy_sheet.specs.declared.SheetAnswer.the-variants.{Refused, Written}
 use Rattle.policy_sheet.proofs.Lengths.{sheet-few}
 

@@ -1,5 +1,5 @@
 -- The policy that bytes encode has words of 64 bits, and the bytes of a policy are 192.
-use mathlib.Core.Path.{_≡_, ap, _∙_}
+use mathlib.Core.Path.{_≡_, _∙_}
 use mathlib.Core.Logic.{⊎-elim}
 use mathlib.Core.Bool.{true}
 use mathlib.Core.List.{List, [], _∷_}
@@ -56,12 +56,12 @@ pub policy-bytes-many : (p : Policy) → PolicyValue p → length (policyBytes p
 unfolding policyBytes
 policy-bytes-many p v =
     let n = many-words p
-        (record {
-          first = v .prefer-bare .word-count ∙ six;
-          second = v .prefer-bare-keycap .word-count ∙ six;
-          third = v .bare-as-text .word-count ∙ six;
-          fourth = v .bare-as-text-keycap .word-count ∙ six;
-        }) in
+    (record {
+      first = v .prefer-bare .word-count ∙ six;
+      second = v .prefer-bare-keycap .word-count ∙ six;
+      third = v .bare-as-text .word-count ∙ six;
+      fourth = v .bare-as-text-keycap .word-count ∙ six;
+    }) in
     omega (arith, length-bytesOf (policyWords p), n)
 
 -- Bytes that are a policy have its length, and no unused bit.

@@ -1,18 +1,28 @@
--- A run from the start: what was read, where it stops, and which ranges ran down on the way.
-use mathlib.Core.Path.{_≡_, refl, ap, ap₂, sym, _∙_, subst}
-use mathlib.Core.Logic.{_⊎_, inl, inr, ⊎-elim}
-use mathlib.Core.Bool.{Bool, true, false, cond, _&&_, true≢false}
+-- A run of the automaton from the start: its state, where it stops, and which ranges run down on the way.
+use mathlib.Core.Path.{_≡_, refl, ap, sym, _∙_, subst}
+use mathlib.Core.Bool.{Bool, true, false, cond}
 use mathlib.Core.List.{List, [], _∷_, _++_, append-assoc, append-nil}
 use mathlib.Core.Option.{Option, none, some}
-use Prim.Native.Nat.{ℕ, zero, suc, _+_, _*_, _≤_, _<_}
+use Prim.Native.Nat.{ℕ, _+_, _<_}
 use native.Mathlib.Omega.{arith}
-use lib.Dec.{eqb, ltb}
+use lib.Dec.{ltb}
 use lib.ListN.{length, length-append}
 use borrow.Author.Tests.{lt-ltb, ltb-true}
-use Rattle.policy_sheet.specs.Grammar.{Closer, DescendingRange, Front, Lines, Piece, PieceAt, Sheet}
-use Rattle.policy_sheet.specs.Reader.{RunResult, State, beforePiece, firstDescending, onward, pieceRead, reached, run, start, transition, stopped}
-use Rattle.policy_sheet.proofs.Accepts.{Runs, closedBy, front-run, lines-run, no-run, piece-run, run-cons, run-nil, run-stops, run-then, runs-and, runs-at, runs-snoc}
-use Rattle.policy_sheet.proofs.Derives.{Adds, Held, Stepped, adds-piece, held-start, piece-held, same-pieces, stepped}
+use Rattle.policy_sheet.specs.Grammar.{DescendingRange, Piece}
+use Rattle.policy_sheet.specs.Reader.{
+  RunResult,
+  State,
+  firstDescending,
+  onward,
+  pieceRead,
+  reached,
+  run,
+  start,
+  transition,
+  stopped,
+}
+use Rattle.policy_sheet.proofs.Accepts.{Runs, no-run, runs-snoc}
+use Rattle.policy_sheet.proofs.Derives.{Adds, Held, adds-piece, held-start, piece-held, same-pieces, stepped}
 
 -- ---- ranges that run down
 
@@ -22,7 +32,8 @@ down-more n [] ys e = let z : _≡_ {A = ℕ} 0 1 = cc in absurd (omega arith)
 down-more n (x ∷ xs) ys e = go (ltb (x .last .value) (x .first .value)) refl e (down-more n xs ys)
   where
     go : (t : Bool) → ltb (x .last .value) (x .first .value) ≡ t → cond t (some (x .first .at)) (firstDescending xs) ≡ some n
-        → (firstDescending xs ≡ some n → firstDescending (xs ++ ys) ≡ some n) → cond t (some (x .first .at)) (firstDescending (xs ++ ys)) ≡ some n
+        → (firstDescending xs ≡ some n → firstDescending (xs ++ ys) ≡ some n)
+        → cond t (some (x .first .at)) (firstDescending (xs ++ ys)) ≡ some n
     go true p e h = e
     go false p e h = h e
 
@@ -32,7 +43,8 @@ down-last [] ys e = refl
 down-last (x ∷ xs) ys e = go (ltb (x .last .value) (x .first .value)) refl e (down-last xs ys)
   where
     go : (t : Bool) → ltb (x .last .value) (x .first .value) ≡ t → cond t (some (x .first .at)) (firstDescending xs) ≡ none
-        → (firstDescending xs ≡ none → firstDescending (xs ++ ys) ≡ firstDescending ys) → cond t (some (x .first .at)) (firstDescending (xs ++ ys)) ≡ firstDescending ys
+        → (firstDescending xs ≡ none → firstDescending (xs ++ ys) ≡ firstDescending ys)
+        → cond t (some (x .first .at)) (firstDescending (xs ++ ys)) ≡ firstDescending ys
     go true p e h = let z : _≡_ {A = ℕ} 0 1 = cc in absurd (omega arith)
     go false p e h = h e
 
@@ -40,7 +52,8 @@ pub down-one : (x : Piece) (n : ℕ) → firstDescending (x ∷ []) ≡ some n �
 unfolding firstDescending
 down-one x n e = go (ltb (x .last .value) (x .first .value)) refl e
   where
-    go : (t : Bool) → ltb (x .last .value) (x .first .value) ≡ t → cond t (some (x .first .at)) none ≡ some n → (x .last .value < x .first .value) × (x .first .at ≡ n)
+    go : (t : Bool) → ltb (x .last .value) (x .first .value) ≡ t → cond t (some (x .first .at)) none ≡ some n
+        → (x .last .value < x .first .value) × (x .first .at ≡ n)
     go true p e = (ltb-true _ _ p, cc)
     go false p e = let z : _≡_ {A = ℕ} 0 1 = cc in absurd (omega arith)
 
@@ -81,7 +94,8 @@ pub going-start : Going [] start
 unfolding firstDescending
 going-start = record { held = held-start; runs = no-run; found = λ n e. let z : _≡_ {A = ℕ} 0 1 = cc in absurd (omega arith) }
 
-found-more : {s : List ℕ} {r : State} {b : ℕ} {q : State} → Going s r → r .line < 4 → Adds r b q → (n : ℕ) → firstDescending (q .pieces) ≡ some n
+found-more : {s : List ℕ} {r : State} {b : ℕ} {q : State} → Going s r → r .line < 4 → Adds r b q → (n : ℕ)
+    → firstDescending (q .pieces) ≡ some n
     → DescendingRange (s ++ (b ∷ [])) n
 found-more {s} {r} {b} {q} g l (same-pieces e) n f = widened (b ∷ []) (g .found n (ap firstDescending (sym e) ∙ f))
 found-more {s} {r} {b} {q} g l (adds-piece c a e) n f = go (firstDescending (r .pieces)) refl
@@ -126,7 +140,8 @@ going-step {s} {r} b q g e =
 -- How a run ends.
 pub data Ended (s : List ℕ) : RunResult → Type 0 where
   all-read : {r : State} → Going s r → Ended s (reached r)
-  stops : {a : List ℕ} {r : State} (b : ℕ) (c : List ℕ) → Going a r → s ≡ a ++ (b ∷ c) → transition (length a) r b ≡ none → Ended s (stopped (length a) r)
+  stops : {a : List ℕ} {r : State} (b : ℕ) (c : List ℕ) → Going a r → s ≡ a ++ (b ∷ c) → transition (length a) r b ≡ none
+      → Ended s (stopped (length a) r)
 
 pub ended : (t s : List ℕ) (r : State) → Going s r → Ended (s ++ t) (run (length s) r t)
 unfolding run

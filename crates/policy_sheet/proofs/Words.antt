@@ -1,8 +1,8 @@
 -- Words that hold what passes a test, and the policy of pieces.
-use mathlib.Core.Path.{_≡_, refl, ap, ap₂, sym, _∙_, subst}
-use mathlib.Core.Logic.{_⊎_, inl, inr, ⊎-elim}
+use mathlib.Core.Path.{_≡_, refl, ap, ap₂, sym, _∙_}
+use mathlib.Core.Logic.{⊎-elim}
 use mathlib.Core.Bool.{Bool, true, false, _&&_}
-use mathlib.Core.List.{List, [], _∷_, _++_}
+use mathlib.Core.List.{List, _∷_}
 use Prim.Native.Nat.{ℕ, zero, suc, _+_, _*_, _-_, _/_, _%_, _^_, _≤_, _<_}
 use native.Mathlib.Nat.{pow-suc}
 use native.Mathlib.Omega.{arith}
@@ -12,11 +12,10 @@ use borrow.Author.Tests.{le-ltb}
 use Rattle.base.proofs.Bits.{low-bit, next-bit}
 use Rattle.base.proofs.Tests.{le-or-lt}
 use Rattle.base.specs.Bits.{one}
-use Rattle.unicode.specs.UnicodeData.{variationEntries}
-use Rattle.policy_key_set.specs.Sets.{Holds, HoldsBelow, entryCount, member, oneIf, wordCount}
+use Rattle.policy_key_set.specs.Sets.{Holds, entryCount, member, oneIf, wordCount}
 use Rattle.policy_key_set.proofs.Entries.{entry-count}
-use Rattle.policy_key_set.proofs.Members.{holds-same, member-past, members-determine}
-use Rattle.policy.specs.PolicyBytes.{PolicyValue, SetValue, noUnusedBit, noUnusedBits}
+use Rattle.policy_key_set.proofs.Members.{member-past, members-determine}
+use Rattle.policy.specs.PolicyBytes.{SetValue}
 use Rattle.policy.specs.declared.Policy.{Policy}
 use Rattle.policy.proofs.RoundTrips.{same-policy}
 use Rattle.policy_sheet.specs.Grammar.{Piece}
@@ -69,7 +68,8 @@ words-member (suc n) p i h = ⊎-elim (later (words-member n (λ (k : ℕ). p (6
         let m : i % 64 ≡ i = omega arith in
         ap₂ (λ (x y : ℕ). one x (getD (wordOf 64 p ∷ wordsOf n (λ (k : ℕ). p (64 + k))) y 0)) m q ∙ word-one 64 i p l
 
-    later : ((j : ℕ) → j < n * 64 → one (j % 64) (getD (wordsOf n (λ (k : ℕ). p (64 + k))) (j / 64) 0) ≡ p (64 + j)) → 64 ≤ i → one (i % 64) (getD (wordOf 64 p ∷ wordsOf n (λ (k : ℕ). p (64 + k))) (i / 64) 0) ≡ p i
+    later : ((j : ℕ) → j < n * 64 → one (j % 64) (getD (wordsOf n (λ (k : ℕ). p (64 + k))) (j / 64) 0) ≡ p (64 + j)) → 64 ≤ i
+        → one (i % 64) (getD (wordOf 64 p ∷ wordsOf n (λ (k : ℕ). p (64 + k))) (i / 64) 0) ≡ p i
     later f l =
         let q : i / 64 ≡ suc ((i - 64) / 64) = omega arith in
         let m : i % 64 ≡ (i - 64) % 64 = omega arith in
@@ -116,11 +116,13 @@ same-set p ws vs a b h g = members-determine ws vs (a .word-count ∙ sym (b .wo
 pub one-meaning : (xs : List Piece) (p q : Policy) → Means xs p → Means xs q → p ≡ q
 one-meaning xs p q h g =
     same-policy p q (same-set (inSet xs 0) _ _ (h .value .prefer-bare) (g .value .prefer-bare) (h .prefer-bare) (g .prefer-bare))
-    (same-set (inSet xs 1) _ _ (h .value .prefer-bare-keycap) (g .value .prefer-bare-keycap) (h .prefer-bare-keycap) (g .prefer-bare-keycap))
+    (same-set (inSet xs 1) _ _ (h .value .prefer-bare-keycap) (g .value .prefer-bare-keycap) (h .prefer-bare-keycap)
+    (g .prefer-bare-keycap))
     (same-set (inSet xs 2) _ _ (h .value .bare-as-text) (g .value .bare-as-text) (h .bare-as-text) (g .bare-as-text))
-    (same-set (inSet xs 3) _ _ (h .value .bare-as-text-keycap) (g .value .bare-as-text-keycap) (h .bare-as-text-keycap) (g .bare-as-text-keycap))
+    (same-set (inSet xs 3) _ _ (h .value .bare-as-text-keycap) (g .value .bare-as-text-keycap) (h .bare-as-text-keycap)
+    (g .bare-as-text-keycap))
 
--- six words of 64 bits
+-- Six words of 64 bits are a set.
 pub six-words : (ws : List ℕ) (i : ℕ) → length ws ≡ 6 → 6 ≤ i → ((k : ℕ) → k < i → getD ws k 0 < 2 ^ 64) → SetValue ws
 six-words ws i n l f = record { word-count = n ∙ sym six; words = at }
   where

@@ -1,18 +1,15 @@
 -- A written sheet is a sheet, with the runs of the sets as its pieces.
-use mathlib.Core.Path.{_≡_, refl, ap, ap₂, sym, _∙_, subst}
-use mathlib.Core.Logic.{_⊎_, inl, inr, ⊎-elim}
-use mathlib.Core.Bool.{Bool, true, false, cond, _&&_, _||_}
+use mathlib.Core.Path.{_≡_, refl, ap, sym, _∙_, subst}
+use mathlib.Core.Bool.{Bool, true, false, cond}
 use mathlib.Core.List.{List, [], _∷_, _++_, append-assoc, append-nil, map}
-use Prim.Native.Nat.{ℕ, zero, suc, _+_, _-_, _*_, _/_, _%_, _^_, _≤_, _<_}
+use Prim.Native.Nat.{ℕ, zero, suc, _+_, _*_, _/_, _%_, _^_, _<_}
 use native.Mathlib.Omega.{arith}
-use lib.Dec.{eqb, leb, ltb}
-use lib.ListN.{getD, length, length-append}
+use lib.Dec.{eqb, ltb}
+use lib.ListN.{length, length-append}
 use lib.Pow.{shr-shr}
-use borrow.Author.Tests.{eqb-true, le-ltb, lt-ltb, ltb-false, ltb-true}
-use Rattle.base.specs.Ranges.{within}
+use borrow.Author.Tests.{eqb-true, ltb-false, ltb-true}
 use Rattle.base.specs.Texts.{parted}
-use Rattle.base.proofs.Tests.{le-or-lt, within-true}
-use Rattle.unicode.specs.Tables.{member}
+use Rattle.base.proofs.Tests.{within-true}
 use Rattle.unicode.specs.Unicode.{hasVariationSequence}
 use Rattle.unicode.specs.UnicodeData.{variationEntries}
 use Rattle.unicode.proofs.Between.{every, every-member}
@@ -23,11 +20,9 @@ use Rattle.policy_sheet.specs.Grammar.{
   Front,
   HexDigit,
   Line,
-  Lines,
   Piece,
   PieceAt,
   Pieces,
-  Point,
   allowedDigits,
   after-comma,
   code-point,
@@ -52,8 +47,10 @@ unfolding hexDigit
 digit-written d h = go (ltb d 10) refl
   where
     go : (t : Bool) → ltb d 10 ≡ t → HexDigit (cond t (48 + d) (55 + d)) d
-    go true e = let l = ltb-true d 10 e in subst (HexDigit (48 + d)) (omega arith) (decimal (within-true 0x30 0x39 (48 + d) (omega arith) (omega arith)))
-    go false e = let l = ltb-false d 10 e in subst (HexDigit (55 + d)) (omega arith) (letter (within-true 0x41 0x46 (55 + d) (omega arith) (omega arith)))
+    go true e = let l = ltb-true d 10 e in subst (HexDigit (48 + d)) (omega arith)
+        (decimal (within-true 0x30 0x39 (48 + d) (omega arith) (omega arith)))
+    go false e = let l = ltb-false d 10 e in subst (HexDigit (55 + d)) (omega arith)
+        (letter (within-true 0x41 0x46 (55 + d) (omega arith) (omega arith)))
 
 nibble : (n : ℕ) → HexDigit (hexDigit (n % 16)) (n % 16)
 nibble n = digit-written (n % 16) (omega arith)
@@ -61,7 +58,7 @@ nibble n = digit-written (n % 16) (omega arith)
 valued : {s : List ℕ} {k v w : ℕ} → v ≡ w → Digits s k v → Digits s k w
 valued {s} {k} e d = subst (Digits s k) e d
 
--- the digits that are left, after those of the number's front
+-- The digits that are left, after the first digits of the number.
 hex-digits : {s : List ℕ} {j : ℕ} (k n : ℕ) → Digits s j (n / 2 ^ (4 * k)) → Digits (s ++ hexDigits k n) (j + k) n
 unfolding hexDigits
 hex-digits {s} {j} zero n d =
@@ -120,11 +117,14 @@ piece-written k at r s = go (eqb (r .first) (r .last)) refl
         → PieceAt k at (cond t (pointText (r .first)) (pointText (r .first) ++ (0x2D ∷ pointText (r .last))))
         (pieceAs k at r (cond t at (at + length (pointText (r .first)) + 1)))
     go true e =
-        subst (λ (v : ℕ). PieceAt k at (pointText (r .first)) (record { line = k; first = record { at = at; value = r .first }; last = record { at = at; value = v } })) (eqb-true (r .first) (r .last) e)
+        subst (λ (v : ℕ). PieceAt k at (pointText (r .first))
+        (record { line = k; first = record { at = at; value = r .first }; last = record { at = at; value = v } }))
+        (eqb-true (r .first) (r .last) e)
         (single (point-written (r .first) (s .first)))
     go false e = range (point-written (r .first) (s .first)) (point-written (r .last) (s .last))
 
-pub pieces-written : {k at : ℕ} {u : List ℕ} {f : Bool} {ys : List Piece} (r : Run) (rs : List Run) → Front k at u f ys → Short r → Each Short rs
+pub pieces-written : {k at : ℕ} {u : List ℕ} {f : Bool} {ys : List Piece} (r : Run) (rs : List Run) → Front k at u f ys → Short r
+    → Each Short rs
     → Pieces k at (u ++ parted 0x2C (runText r ∷ map runText rs)) (ys ++ piecesAt k (at + length u) (r ∷ rs))
 unfolding parted piecesAt
 pieces-written {k} {at} {u} {f} {ys} r [] g s each-none = pieces-held g (piece-written k (at + length u) r s)
@@ -133,7 +133,8 @@ pieces-written {k} {at} {u} {f} {ys} r (q ∷ rs) g s (each-and t ts) =
     let later = pieces-written q rs (after-comma here) t ts in
     subst (λ (l : List ℕ). Pieces k at l (ys ++ piecesAt k (at + length u) (r ∷ (q ∷ rs)))) (simp append-assoc)
     (subst (λ (l : List Piece). Pieces k at (((u ++ runText r) ++ (0x2C ∷ [])) ++ parted 0x2C (runText q ∷ map runText rs)) l)
-    (append-assoc ys (pieceOf k (at + length u) r ∷ []) _ ∙ ap (λ (n : ℕ). ys ++ (pieceOf k (at + length u) r ∷ piecesAt k n (q ∷ rs))) (simp length-append (omega arith)))
+    (append-assoc ys (pieceOf k (at + length u) r ∷ []) _ ∙ ap (λ (n : ℕ). ys ++ (pieceOf k (at + length u) r ∷ piecesAt k n (q ∷ rs)))
+    (simp length-append (omega arith)))
     later)
 
 pub line-written : (k at : ℕ) (rs : List Run) → Each Short rs → Line k at (parted 0x2C (map runText rs)) (piecesAt k at rs)
@@ -141,7 +142,8 @@ unfolding parted piecesAt
 line-written k at [] each-none = empty-line
 line-written k at (r ∷ rs) (each-and s ss) =
     let e : at + 0 ≡ at = omega arith in
-    full-line (subst (λ (n : ℕ). Pieces k at (parted 0x2C (runText r ∷ map runText rs)) (piecesAt k n (r ∷ rs))) e (pieces-written {k = k} {at = at} r rs line-start s ss))
+    full-line (subst (λ (n : ℕ). Pieces k at (parted 0x2C (runText r ∷ map runText rs)) (piecesAt k n (r ∷ rs))) e
+    (pieces-written {k = k} {at = at} r rs line-start s ss))
 
 -- ---- entries have six digits at most
 

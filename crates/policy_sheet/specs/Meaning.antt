@@ -1,4 +1,4 @@
--- What the pieces of a sheet mean: the policy's four sets, in order; and the tests of refusals 11 and 12 on them.
+-- The meaning of the pieces of a sheet: the policy's four sets, in order. And what refusals 11 and 12 say of pieces.
 use mathlib.Core.Path.{_≡_}
 use mathlib.Core.Bool.{Bool, true, false, _&&_, _||_}
 use mathlib.Core.List.{List, [], _∷_, _++_}
@@ -14,19 +14,20 @@ use Rattle.policy.specs.PolicyBytes.{PolicyValue}
 use Rattle.policy.specs.declared.Policy.{Policy}
 use Rattle.policy_sheet.specs.Grammar.{Piece, Point}
 
--- A piece of line k has the code point c in it.
+-- The piece is in line k, and the code point c is in the piece.
 abbrev pub has : ℕ → ℕ → Piece → Bool
 has k c x = eqb (x .line) k && within (x .first .value) (x .last .value) c
 
+-- The code point c is in a piece of line k. "The reader takes pieces in any sequence and overlapping."
 unfoldable pub covered : List Piece → ℕ → ℕ → Bool
 covered [] k c = false
 covered (x ∷ xs) k c = has k c x || covered xs k c
 
--- Entry i is in set k.
+-- Variation entry i is in set k.
 abbrev pub inSet : List Piece → ℕ → ℕ → Bool
 inSet xs k i = covered xs k (getD variationEntries i 0)
 
--- ".. in the order of the policy's four sets", "A range includes only the variation entries inside it"
+-- ".. in the order of the policy's four sets", "A range includes only the variation entries inside it": the policy that pieces mean.
 pub record Means (xs : List Piece) (p : Policy) : Type 0 where
   pub value : PolicyValue p
   pub prefer-bare : Holds (inSet xs 0) (p .«prefer_bare» .chars .bits)
@@ -34,7 +35,7 @@ pub record Means (xs : List Piece) (p : Policy) : Type 0 where
   pub bare-as-text : Holds (inSet xs 2) (p .«bare_as_text» .chars .bits)
   pub bare-as-text-keycap : Holds (inSet xs 3) (p .«bare_as_text» .«keycap_chars» .bits)
 
--- Each of a list.
+-- Each element of a list has a property.
 pub data Each {A : Type 0} (P : A → Type 0) : List A → Type 0 where
   each-none : Each P []
   each-and : {x : A} {xs : List A} → P x → Each P xs → Each P (x ∷ xs)
@@ -43,18 +44,20 @@ pub data Each {A : Type 0} (P : A → Type 0) : List A → Type 0 where
 abbrev pub Rising : List Piece → Type 0
 Rising xs = Each (λ (x : Piece). x .first .value ≤ x .last .value) xs
 
--- The code points of a sheet, in its order.
+-- The single code points and the ends of ranges, in the order of the sheet. A single code point is twice in the list.
 unfoldable pub points : List Piece → List Point
 points [] = []
 points (x ∷ xs) = x .first ∷ (x .last ∷ points xs)
 
+-- The code point is a variation entry; and this for all code points of a sheet.
 abbrev pub IsEntry : Point → Type 0
 IsEntry x = hasVariationSequence (x .value) ≡ true
 
 abbrev pub AllEntries : List Piece → Type 0
 AllEntries xs = Each IsEntry (points xs)
 
--- "12, the first single code point or either end of a range that is no variation entry, with its offset"
+-- "12, the first single code point or either end of a range that is no variation entry, with its offset": all code points before it are
+-- entries.
 pub record FirstNonEntry (xs : List Piece) (n : ℕ) : Type 0 where
   pub earlier : List Point
   pub later : List Point
@@ -75,10 +78,11 @@ unfoldable pub wordsOf : ℕ → (ℕ → Bool) → List ℕ
 wordsOf zero p = []
 wordsOf (suc n) p = wordOf 64 p ∷ wordsOf n (λ (k : ℕ). p (64 + k))
 
+-- The set of the entries that pass a test.
 abbrev pub setBy : (ℕ → Bool) → CharSet
 setBy p = record { bits = wordsOf wordCount (λ (i : ℕ). ltb i entryCount && p i) }
 
--- The policy that the pieces say.
+-- The policy that pieces mean, computed. `pieces-mean` of proofs/Words.antt says so.
 unfoldable pub sheetPolicy : List Piece → Policy
 sheetPolicy xs = record {
   «prefer_bare» = record { chars = setBy (inSet xs 0); «keycap_chars» = setBy (inSet xs 1) };

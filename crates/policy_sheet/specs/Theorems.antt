@@ -1,8 +1,8 @@
--- What is claimed of sheets. The proofs are in proofs/Claims.antt.
+-- The claims on policy sheets. proofs/Claims.antt proves each statement, under the same name in lower case with hyphens.
 use mathlib.Core.Path.{_≡_}
-use mathlib.Core.Logic.{_↔_, _⊎_}
+use mathlib.Core.Logic.{_↔_}
 use mathlib.Core.Bool.{Bool, true, false}
-use mathlib.Core.List.{List, [], _∷_, _++_}
+use mathlib.Core.List.{List, [], _∷_}
 use Prim.Native.Nat.{ℕ, suc, _<_, _≤_}
 use lib.ListN.{getD, length, take}
 use Rattle.base.specs.Refusals.{unwritten, written}
@@ -23,39 +23,40 @@ use Rattle.policy_sheet.specs.Writer.{Run, fewestDigits, pointText, runs
 unfoldable pub OnlyReading : Type 0
 OnlyReading = (s : List ℕ) (xs ys : List Piece) → Sheet s xs → Sheet s ys → xs ≡ ys
 
--- A sheet's pieces mean one policy.
+-- Pieces mean at most one policy.
 unfoldable pub OnlyMeaning : Type 0
 OnlyMeaning = (xs : List Piece) (p q : Policy) → Means xs p → Means xs q → p ≡ q
 
--- A policy is read exactly of a sheet without a range that runs down and with entries only, and it is what the sheet means.
+-- The reader accepts exactly the sheets in which no range runs down and every code point is a variation entry. It gives the policy that the
+-- pieces mean.
 unfoldable pub SheetsRead : Type 0
 SheetsRead =
     (s : List ℕ) (p : Policy)
     → (readSheet s ≡ is-read p) ↔ ((xs : List Piece) × Sheet s xs × Rising xs × AllEntries xs × Means xs p)
 
--- "11, bytes that don't follow this, with the offset of the first byte such that no sheet begins with the bytes up to and
--- including it, or the length if the sheet merely breaks off (a range running down passes this test)"; "A range whose end
--- is below its start is 11, at its start, if a comma or 0A closes it"
+-- "11, bytes that don't follow this, with the offset of the first byte such that no sheet begins with the bytes up to and including it, or
+-- the length if the sheet merely breaks off (a range running down passes this test)"; "A range whose end is below its start is 11, at its
+-- start, if a comma or 0A closes it".
 pub data Fault (s : List ℕ) : ℕ → Type 0 where
   wrong-byte : {n : ℕ} → n < length s → Begins (take n s) → (Begins (take (suc n) s) → ⊥) → Fault s n
   breaks-off : Begins s → (IsSheet s → ⊥) → Fault s (length s)
   descending-range : {n : ℕ} → DescendingRange s n → Fault s n
 
--- ".. of two such errors the smaller offset is given"
+-- ".. of two such errors the smaller offset is given": refusal 11 gives the smallest offset of a fault.
 unfoldable pub FirstFault : Type 0
 FirstFault = (s : List ℕ) (n : ℕ) → (readSheet s ≡ not-a-sheet n) ↔ (Fault s n × ((m : ℕ) → Fault s m → n ≤ m))
 
--- "12, the first single code point or either end of a range that is no variation entry, with its offset, tested after the
--- whole sheet's form"
+-- "12, the first single code point or either end of a range that is no variation entry, with its offset, tested after the whole sheet's
+-- form".
 unfoldable pub NonEntryRefused : Type 0
 NonEntryRefused =
     (s : List ℕ) (n : ℕ) → (readSheet s ≡ not-an-entry n) ↔ ((xs : List Piece) × Sheet s xs × Rising xs × FirstNonEntry xs n)
 
--- ".. a written sheet reads back to its policy"
+-- ".. a written sheet reads back to its policy".
 unfoldable pub ReadsBack : Type 0
 ReadsBack = (p : Policy) → PolicyValue p → noUnusedBits p ≡ true → readSheet (writeSheet p) ≡ is-read p
 
--- "Two policies are equal exactly when their written sheets are"
+-- "Two policies are equal exactly when their written sheets are".
 unfoldable pub SheetsDeterminePolicies : Type 0
 SheetsDeterminePolicies =
     (p q : Policy) → PolicyValue p → PolicyValue q → noUnusedBits p ≡ true → noUnusedBits q ≡ true
@@ -98,8 +99,8 @@ EveryWriteCall = (policy out : List ℕ) → WriteCall policy out
 
 -- ---- the form of a written sheet
 
--- The maximal runs of the neighbouring entries that pass a test, ascending, from place n of the table on: none of the places
--- passes, or those before the run do not, all of the run do, and the one after it does not.
+-- The maximal runs of neighbouring entries that pass a test, ascending, from index n of the table on. Either no entry from n on passes, or
+-- there is a first run: no entry before it passes, all entries of it pass, and the entry after it does not.
 pub data MaximalRuns (p : ℕ → Bool) (cs : List ℕ) : ℕ → List Run → Type 0 where
   no-more : {n : ℕ} → ((i : ℕ) → n ≤ i → i < length cs → p i ≡ false) → MaximalRuns p cs n []
   run-and : {n : ℕ} {rs : List Run} (from to : ℕ) → n ≤ from → from ≤ to → to < length cs
@@ -109,15 +110,15 @@ pub data MaximalRuns (p : ℕ → Bool) (cs : List ℕ) : ℕ → List Run → T
       → MaximalRuns p cs (suc to) rs
       → MaximalRuns p cs n (record { first = getD cs from 0; last = getD cs to 0 } ∷ rs)
 
--- "ascending, .. and neighbouring entries of the variation table joined into one range": what a line is written of
+-- "ascending, .. and neighbouring entries of the variation table joined into one range": the runs of which a line is written.
 unfoldable pub WrittenRuns : Type 0
 WrittenRuns = (ws : List ℕ) → MaximalRuns (λ (i : ℕ). member i ws) variationEntries 0 (runsOf ws)
 
--- "each code point in the fewest digits allowed": as few as any digits of that value
+-- "each code point in the fewest digits allowed": no code point of that value has fewer digits.
 unfoldable pub FewestDigits : Type 0
 FewestDigits = (c : ℕ) (s : List ℕ) → CodePoint s c → (fewestDigits c ≤ length s) × CodePoint (pointText c) c
 
--- Worked sheets: the offsets of refusals 11 and 12.
+-- Sheets with the offsets of refusals 11 and 12.
 unfoldable pub SheetExamples : Type 0
 SheetExamples =
     -- three digits: 276,
@@ -126,9 +127,9 @@ SheetExamples =
     × (readSheet (0x31 ∷ 0x32 ∷ 0x33 ∷ 0x34 ∷ 0x35 ∷ 0x36 ∷ 0x37 ∷ []) ≡ not-a-sheet 6)
     -- one digit before a dash: 2-
     × (readSheet (0x32 ∷ 0x2D ∷ []) ≡ not-a-sheet 1)
-    -- nothing after a comma: 30,\n
+    -- no piece after a comma: 30,\n
     × (readSheet (0x33 ∷ 0x30 ∷ 0x2C ∷ 0x0A ∷ []) ≡ not-a-sheet 3)
-    -- nothing before a comma: ,30
+    -- no piece before a comma: ,30
     × (readSheet (0x2C ∷ 0x33 ∷ 0x30 ∷ []) ≡ not-a-sheet 0)
     -- a lower-case digit: a9
     × (readSheet (0x61 ∷ 0x39 ∷ []) ≡ not-a-sheet 0)
@@ -140,25 +141,32 @@ SheetExamples =
     × (readSheet (0x33 ∷ 0x30 ∷ 0x2D ∷ 0x33 ∷ 0x31 ∷ 0x2D ∷ []) ≡ not-a-sheet 5)
     -- a range running down, closed: 39-30,
     × (readSheet (0x33 ∷ 0x39 ∷ 0x2D ∷ 0x33 ∷ 0x30 ∷ 0x2C ∷ []) ≡ not-a-sheet 0)
-    -- .. not closed: 39-30
+    -- the same, not closed: 39-30
     × (readSheet (0x33 ∷ 0x39 ∷ 0x2D ∷ 0x33 ∷ 0x30 ∷ []) ≡ not-a-sheet 5)
-    -- .. before a wrong byte that does not close it: 39-30x
+    -- the same before a wrong byte, which does not close it: 39-30x
     × (readSheet (0x33 ∷ 0x39 ∷ 0x2D ∷ 0x33 ∷ 0x30 ∷ 0x78 ∷ []) ≡ not-a-sheet 5)
-    -- .. and a wrong byte after it: 39-30,x
+    -- the same, closed, with a wrong byte after it: 39-30,x
     × (readSheet (0x33 ∷ 0x39 ∷ 0x2D ∷ 0x33 ∷ 0x30 ∷ 0x2C ∷ 0x78 ∷ []) ≡ not-a-sheet 0)
     -- no entry: FFFFFF\n\n\n\n
     × (readSheet (0x46 ∷ 0x46 ∷ 0x46 ∷ 0x46 ∷ 0x46 ∷ 0x46 ∷ 0x0A ∷ 0x0A ∷ 0x0A ∷ 0x0A ∷ []) ≡ not-an-entry 0)
     -- a range's end that is no entry: 30-FF\n\n\n\n
     × (readSheet (0x33 ∷ 0x30 ∷ 0x2D ∷ 0x46 ∷ 0x46 ∷ 0x0A ∷ 0x0A ∷ 0x0A ∷ 0x0A ∷ []) ≡ not-an-entry 3)
-    -- form before entries: FF\n\n\n
+    -- no entry in a sheet that breaks off: FF\n\n\n
     × (readSheet (0x46 ∷ 0x46 ∷ 0x0A ∷ 0x0A ∷ 0x0A ∷ []) ≡ not-a-sheet 5)
 
--- The entries 30 to 39 and A9 are neighbours in the table; 2A stands between 23 and 30.
+-- A written sheet. The entries 30 to 39 and A9 are neighbours in the table; 2A is between 23 and 30.
 unfoldable pub WritingExample : Type 0
 WritingExample =
     writeSheet
     (record {
-      «prefer_bare» = record { chars = record { bits = 0x1FFC ∷ 0 ∷ 0 ∷ 0 ∷ 0 ∷ 0 ∷ [] }; «keycap_chars» = record { bits = 0x0 ∷ 0 ∷ 0 ∷ 0 ∷ 0 ∷ 0 ∷ [] } };
-      «bare_as_text» = record { chars = record { bits = 0x1001 ∷ 0 ∷ 0 ∷ 0 ∷ 0 ∷ 0 ∷ [] }; «keycap_chars» = record { bits = 0x7 ∷ 0 ∷ 0 ∷ 0 ∷ 0 ∷ 0 ∷ [] } };
+      «prefer_bare» = record {
+        chars = record { bits = 0x1FFC ∷ 0 ∷ 0 ∷ 0 ∷ 0 ∷ 0 ∷ [] };
+        «keycap_chars» = record { bits = 0x0 ∷ 0 ∷ 0 ∷ 0 ∷ 0 ∷ 0 ∷ [] };
+      };
+      «bare_as_text» = record {
+        chars = record { bits = 0x1001 ∷ 0 ∷ 0 ∷ 0 ∷ 0 ∷ 0 ∷ [] };
+        «keycap_chars» = record { bits = 0x7 ∷ 0 ∷ 0 ∷ 0 ∷ 0 ∷ 0 ∷ [] };
+      };
     })
-    ≡ 0x33 ∷ 0x30 ∷ 0x2D ∷ 0x41 ∷ 0x39 ∷ 0x0A ∷ 0x0A ∷ 0x32 ∷ 0x33 ∷ 0x2C ∷ 0x41 ∷ 0x39 ∷ 0x0A ∷ 0x32 ∷ 0x33 ∷ 0x2D ∷ 0x33 ∷ 0x30 ∷ 0x0A ∷ []
+    ≡ 0x33 ∷ 0x30 ∷ 0x2D ∷ 0x41 ∷ 0x39 ∷ 0x0A ∷ 0x0A ∷ 0x32 ∷ 0x33 ∷ 0x2C ∷ 0x41 ∷ 0x39 ∷ 0x0A ∷ 0x32 ∷ 0x33 ∷ 0x2D ∷ 0x33 ∷ 0x30 ∷ 0x0A
+    ∷ []

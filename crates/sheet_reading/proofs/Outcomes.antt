@@ -2,7 +2,6 @@
 use mathlib.Core.Path.{_≡_, ap, ap₂, sym, _∙_}
 use mathlib.Core.List.{List}
 use Prim.Native.Nat.{ℕ, _≤_, _<_}
-use lib.Dec.{leb}
 use lib.ListN.{length}
 use borrow.Author.Tests.{le-leb, lt-leb}
 use Rattle.base.specs.Output.{Wrote}
@@ -13,10 +12,10 @@ use Rattle.policy.specs.PolicyBytes.{PolicyValue, policyBytes}
 use Rattle.policy.specs.declared.Policy.{Policy}
 use Rattle.policy_sheet.specs.Calls.{afterReading, readCall, sheetAnswer, writeResult}
 use Rattle.policy_sheet.specs.Meaning.{sheetPolicy}
-use Rattle.policy_sheet.specs.Reader.{SheetReading, readSheet}
+use Rattle.policy_sheet.specs.Reader.{SheetReading}
 use Rattle.policy_sheet.specs.declared.SheetAnswer.{SheetAnswer}
 use Rattle.policy_sheet.specs.declared.SheetAnswer.the-variants.{Refused}
-use Rattle.sheet_reading.specs.Tracking.{CheckedReading, SetsHold, answerBy, checkSheet, piecesRead}
+use Rattle.sheet_reading.specs.Tracking.{SetsHold, answerBy, checkSheet, piecesRead}
 use Rattle.sheet_reading.specs.declared.SheetCheck.{SheetCheck}
 use Rattle.sheet_reading.specs.declared.SheetCheck.the-variants.{Formed, NotASheet, NotAnEntry}
 use Rattle.sheet_reading.proofs.Checking.{checked-reading}
@@ -37,7 +36,7 @@ module _ (sheet out : List ℕ) where
 
   checked : {x : SheetCheck} (y : SheetCheck) → length sheet ≤ textLimit → x ≡ checkSheet sheet → x ≡ y
       → afterReading (answerBy y (sheetPolicy (piecesRead sheet))) out ≡ readCall sheet out
-  unfolding readCall CheckedReading
+  unfolding readCall
   checked y h e f =
       ap (λ (a : SheetReading). afterReading a out)
       (sym (checked-reading sheet ∙ ap (λ (z : SheetCheck). answerBy z (sheetPolicy (piecesRead sheet))) (sym e ∙ f)))

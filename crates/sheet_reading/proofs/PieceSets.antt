@@ -17,9 +17,21 @@ use Rattle.policy_key_set.proofs.Members.{holds-same}
 use Rattle.policy.specs.PolicyBytes.{PolicyValue}
 use Rattle.policy.specs.declared.Policy.{Policy}
 use Rattle.policy_sheet.specs.Grammar.{Closer, Piece, Point, allowedDigits, comma-closes, newline-closes}
-use Rattle.policy_sheet.specs.Reader.{ByteKind, RunResult, State, beforePiece, isNone, kindOf, pieceRead, piecesOf, readSheet, run, start, transition, transitionBy}
+use Rattle.policy_sheet.specs.Reader.{
+  ByteKind,
+  RunResult,
+  State,
+  beforePiece,
+  isNone,
+  kindOf,
+  pieceRead,
+  piecesOf,
+  run,
+  start,
+  transition,
+  transitionBy,
+}
 use Rattle.sheet_reading.specs.declared.cursor.Cursor.{Cursor}
-use Rattle.sheet_reading.specs.declared.SheetCheck.{SheetCheck}
 use Rattle.sheet_reading.specs.declared.cursor.Step.{Step}
 use Rattle.sheet_reading.specs.declared.cursor.Step.the-variants.{On, Stop}
 use Rattle.policy_sheet.proofs.Accepts.{close-step, run-cons, run-nil, run-stops, transition-in}
@@ -55,7 +67,8 @@ pub set-other : {line lo hi k : ℕ} (vs : List ℕ) (xs : List Piece) (x : Piec
     → Holds (inSet xs k) vs → Holds (inSet (xs ++ (x ∷ [])) k) vs
 set-other {line} {lo} {hi} {k} vs xs x e s h =
     holds-same entryCount (inSet xs k) (inSet (xs ++ (x ∷ [])) k) vs h
-    (λ i l. sym (in-more xs x k i s ∙ ap (λ (b : Bool). inSet xs k i || (b && within lo hi (getD variationEntries i 0))) (ne-eqb line k e) ∙ or-false (inSet xs k i)))
+    (λ i l. sym (in-more xs x k i s ∙ ap (λ (b : Bool). inSet xs k i || (b && within lo hi (getD variationEntries i 0)))
+    (ne-eqb line k e) ∙ or-false (inSet xs k i)))
 
 -- ---- what a byte closes
 
@@ -70,7 +83,8 @@ line-below at r t b e = go (ltb (r .line) 4) refl e
 same-some : {a b : State} → some a ≡ some b → a ≡ b
 same-some e = cc
 
-closed-by : {b : ℕ} (at : ℕ) (r t : State) → Closer b → allowedDigits (r .count) ≡ true → transition at r b ≡ some t → t .pieces ≡ r .pieces ++ (pieceRead r ∷ [])
+closed-by : {b : ℕ} (at : ℕ) (r t : State) → Closer b → allowedDigits (r .count) ≡ true → transition at r b ≡ some t
+    → t .pieces ≡ r .pieces ++ (pieceRead r ∷ [])
 closed-by {b} at r t c a e =
     ap (λ (q : State). q .pieces) (same-some (sym e ∙ close-step at r c (line-below at r t b e) a .goes))
     ∙ closed-pieces c (r .line) (r .pieces ++ (pieceRead r ∷ [])) (at + 1)
@@ -79,34 +93,41 @@ some-of : {x q : State} (u : Bool) → cond u (some x) none ≡ some q → (u �
 some-of true e = (refl, cc)
 some-of false e = let z : _≡_ {A = ℕ} 0 1 = cc in absurd (omega arith)
 
-kept-by : {b : ℕ} {k : ByteKind} (at : ℕ) (r t : State) → HasKind b k → (Closer b → allowedDigits (r .count) ≡ false) → transitionBy at r k ≡ some t → t .pieces ≡ r .pieces
+kept-by : {b : ℕ} {k : ByteKind} (at : ℕ) (r t : State) → HasKind b k → (Closer b → allowedDigits (r .count) ≡ false)
+    → transitionBy at r k ≡ some t → t .pieces ≡ r .pieces
 unfolding transitionBy
 kept-by at r t (is-digit x) f e = ap (λ (q : State). q .pieces) (sym (some-of (ltb (r .count) 6) e .1))
 kept-by at r t is-comma f e = absurd (true≢false (sym (some-of (allowedDigits (r .count)) e .0) ∙ f comma-closes))
 kept-by at r t is-dash f e = ap (λ (q : State). q .pieces) (sym (some-of (isNone (r .first) && allowedDigits (r .count)) e .1))
 kept-by at r t is-newline f e = go _ (allowedDigits (r .count)) (f newline-closes) e
   where
-    go : (x : State) (u : Bool) → u ≡ false → cond u (some x) (cond (r .fresh) (some (beforePiece (suc (r .line)) true (r .pieces) (at + 1))) none) ≡ some t → t .pieces ≡ r .pieces
+    go : (x : State) (u : Bool) → u ≡ false
+        → cond u (some x) (cond (r .fresh) (some (beforePiece (suc (r .line)) true (r .pieces) (at + 1))) none) ≡ some t
+        → t .pieces ≡ r .pieces
     go x false p e = ap (λ (q : State). q .pieces) (sym (some-of (r .fresh) e .1))
     go x true p e = absurd (true≢false p)
 kept-by at r t is-other f e = let z : _≡_ {A = ℕ} 0 1 = cc in absurd (omega arith)
 
-step-kept : (at : ℕ) (r t : State) (b : ℕ) → (Closer b → allowedDigits (r .count) ≡ false) → transition at r b ≡ some t → t .pieces ≡ r .pieces
+step-kept : (at : ℕ) (r t : State) (b : ℕ) → (Closer b → allowedDigits (r .count) ≡ false) → transition at r b ≡ some t
+    → t .pieces ≡ r .pieces
 step-kept at r t b f e = kept-by at r t (kind b) f (sym (transition-in at r b (kindOf b) (line-below at r t b e) refl) ∙ e)
 
 closer-of : (b : ℕ) → (eqb b 0x2C || eqb b 0x0A) ≡ true → Closer b
-closer-of b e = ⊎-elim (λ p. subst Closer (sym (eqb-true b 0x2C p)) comma-closes) (λ p. subst Closer (sym (eqb-true b 0x0A p)) newline-closes) (either-true (eqb b 0x2C) (eqb b 0x0A) e)
+closer-of b e = ⊎-elim (λ p. subst Closer (sym (eqb-true b 0x2C p)) comma-closes) (λ p. subst Closer (sym (eqb-true b 0x0A p))
+    newline-closes) (either-true (eqb b 0x2C) (eqb b 0x0A) e)
 
 closer-true : {b : ℕ} → Closer b → (eqb b 0x2C || eqb b 0x0A) ≡ true
 closer-true comma-closes = refl
 closer-true newline-closes = refl
 
 module _ (c : Cursor) (at : ℕ) (r t : State) (h : Tracks c r) (b : ℕ) (e : transition at r b ≡ some t) where
-  pub closed-sets : (q : Policy) {u : Bool} → u ≡ closing b (c .count) → u ≡ true → SetsHold (r .pieces ++ (pieceRead r ∷ [])) q → SetsHold (t .pieces) q
+  pub closed-sets : (q : Policy) {u : Bool} → u ≡ closing b (c .count) → u ≡ true → SetsHold (r .pieces ++ (pieceRead r ∷ [])) q
+      → SetsHold (t .pieces) q
   unfolding closing
   closed-sets q p g s =
       let both = both-true (eqb b 0x2C || eqb b 0x0A) (allowedDigits (c .count)) (sym p ∙ g) in
-      subst (λ (xs : List Piece). SetsHold xs q) (sym (closed-by at r t (closer-of b (both .0)) (ap allowedDigits (sym (h .count)) ∙ both .1) e)) s
+      subst (λ (xs : List Piece). SetsHold xs q) (sym (closed-by at r t (closer-of b (both .0)) (ap allowedDigits (sym (h .count))
+      ∙ both .1) e)) s
 
   pub kept-sets : (q : Policy) {u : Bool} → u ≡ closing b (c .count) → u ≡ false → SetsHold (r .pieces) q → SetsHold (t .pieces) q
   unfolding closing
@@ -116,9 +137,11 @@ module _ (c : Cursor) (at : ℕ) (r t : State) (h : Tracks c r) (b : ℕ) (e : t
       go x e = e
 
       not-allowed : Closer b → allowedDigits (r .count) ≡ false
-      not-allowed x = ap allowedDigits (sym (h .count)) ∙ go (allowedDigits (c .count)) (ap (λ (y : Bool). y && allowedDigits (c .count)) (sym (closer-true x)) ∙ sym p ∙ g)
+      not-allowed x = ap allowedDigits (sym (h .count)) ∙ go (allowedDigits (c .count)) (ap (λ (y : Bool). y && allowedDigits (c .count))
+          (sym (closer-true x)) ∙ sym p ∙ g)
 
-pub spans-read : {lo : ℕ} (c : Cursor) (r : State) → Tracks c r → lo ≡ pieceRead r .first .value → Spans (pieceRead r) (c .line) lo (c .value)
+pub spans-read : {lo : ℕ} (c : Cursor) (r : State) → Tracks c r → lo ≡ pieceRead r .first .value
+    → Spans (pieceRead r) (c .line) lo (c .value)
 spans-read c r h e = record { line-is = sym (h .line); first-is = sym e; last-is = sym (h .value) }
 
 -- ---- the loop
@@ -129,18 +152,21 @@ pub record Taking (s : List ℕ) (c : Cursor) (p : Policy) (at : ℕ) : Type 0 w
 
 pub take-on : {s : List ℕ} {c x : Cursor} {at : ℕ} {p q : Policy} {y : Step} (k : Taking s c p at) → at < length s
     → StepResult (transition at (k .checking .state) (getD s at 0)) y → y ≡ On x
-    → ((n : ℕ) (r t : State) → Tracks c r → transition n r (getD s at 0) ≡ some t → SetsHold (r .pieces) p → SetsHold (t .pieces) q) → Taking s x q (at + 1)
+    → ((n : ℕ) (r t : State) → Tracks c r → transition n r (getD s at 0) ≡ some t → SetsHold (r .pieces) p → SetsHold (t .pieces) q)
+    → Taking s x q (at + 1)
 take-on {s} {c} {x} {at} {p} {q} k l t e f = go refl t e
   where
     as-cursor : {a b : Cursor} → On a ≡ On b → a ≡ b
     as-cursor e = cc
 
-    go : {o : Option State} {y : Step} → transition at (k .checking .state) (getD s at 0) ≡ o → StepResult o y → y ≡ On x → Taking s x q (at + 1)
+    go : {o : Option State} {y : Step} → transition at (k .checking .state) (getD s at 0) ≡ o → StepResult o y → y ≡ On x
+        → Taking s x q (at + 1)
     go w (on {q = z} h) e = record {
       checking = record {
         state = z;
         tracks = subst (λ (n : Cursor). Tracks n z) (as-cursor e) h;
-        same = k .checking .same ∙ ap (run at (k .checking .state)) (here s at l) ∙ run-cons at (k .checking .state) z (getD s at 0) (drop (at + 1) s) w;
+        same = k .checking .same ∙ ap (run at (k .checking .state)) (here s at l) ∙ run-cons at (k .checking .state) z (getD s at 0)
+            (drop (at + 1) s) w;
         in-text = omega arith;
       };
       sets = f at (k .checking .state) z (k .checking .tracks) w (k .sets);
@@ -152,10 +178,12 @@ pub take-stop : {s : List ℕ} {c : Cursor} {at : ℕ} {p : Policy} {y : Step} (
 unfolding piecesRead piecesOf
 take-stop {s} {c} {at} {p} k l t e =
     subst (λ (x : RunResult). SetsHold (piecesOf x) p)
-    (sym (k .checking .same ∙ ap (run at (k .checking .state)) (here s at l) ∙ run-stops at (k .checking .state) (getD s at 0) (drop (at + 1) s) (go refl t e)))
+    (sym (k .checking .same ∙ ap (run at (k .checking .state)) (here s at l)
+    ∙ run-stops at (k .checking .state) (getD s at 0) (drop (at + 1) s) (go refl t e)))
     (k .sets)
   where
-    go : {o : Option State} {y : Step} → transition at (k .checking .state) (getD s at 0) ≡ o → StepResult o y → y ≡ Stop → transition at (k .checking .state) (getD s at 0) ≡ none
+    go : {o : Option State} {y : Step} → transition at (k .checking .state) (getD s at 0) ≡ o → StepResult o y → y ≡ Stop
+        → transition at (k .checking .state) (getD s at 0) ≡ none
     go w (on h) e = let z : _≡_ {A = ℕ} 0 1 = cc in absurd (omega arith)
     go w stop e = w
 
@@ -189,8 +217,10 @@ pub closing-none : (b n : ℕ) → (b ≡ 0x2C → ⊥) → (b ≡ 0x0A → ⊥)
 unfolding closing
 closing-none b n e f = sym (rw (ne-eqb b 0x2C e, ne-eqb b 0x0A f))
 
-pub no-sets : (p : Policy) → Holds (λ (i : ℕ). false) (p .«prefer_bare» .chars .bits) → Holds (λ (i : ℕ). false) (p .«prefer_bare» .«keycap_chars» .bits)
-    → Holds (λ (i : ℕ). false) (p .«bare_as_text» .chars .bits) → Holds (λ (i : ℕ). false) (p .«bare_as_text» .«keycap_chars» .bits) → SetsHold [] p
+pub no-sets : (p : Policy) → Holds (λ (i : ℕ). false) (p .«prefer_bare» .chars .bits)
+    → Holds (λ (i : ℕ). false) (p .«prefer_bare» .«keycap_chars» .bits)
+    → Holds (λ (i : ℕ). false) (p .«bare_as_text» .chars .bits) → Holds (λ (i : ℕ). false) (p .«bare_as_text» .«keycap_chars» .bits)
+    → SetsHold [] p
 unfolding covered
 no-sets p a b c d = record { prefer-bare = a; prefer-bare-keycap = b; bare-as-text = c; bare-as-text-keycap = d }
 

@@ -1,13 +1,13 @@
--- What the code keeps of a state tracks it.
+-- The cursor of the code tracks the state of the automaton.
 use mathlib.Core.Path.{_≡_, refl, ap, ap₂, sym, _∙_, subst}
-use mathlib.Core.Bool.{Bool, true, false, cond, not, _&&_, _||_}
+use mathlib.Core.Bool.{Bool, true, false, cond, not, _&&_}
 use mathlib.Core.List.{List, [], _∷_, _++_}
 use mathlib.Core.Option.{Option, none, some}
 use Prim.Native.Nat.{ℕ, zero, suc, _+_, _-_, _*_, _%_, _^_, _≤_, _<_}
 use native.Mathlib.Nat.{pow-suc}
 use native.Mathlib.Omega.{arith}
-use lib.Dec.{eqb, leb, ltb}
-use borrow.Author.Tests.{eq-eqb, le-leb, le-ltb, lt-leb, lt-ltb, ne-eqb}
+use lib.Dec.{leb, ltb}
+use borrow.Author.Tests.{eq-eqb, le-leb, le-ltb, lt-ltb, ne-eqb}
 use Rattle.base.specs.Ranges.{within}
 use Rattle.base.proofs.Tests.{within-above, within-below, within-true}
 use Rattle.unicode.specs.Unicode.{hasVariationSequence}
@@ -62,7 +62,10 @@ value-decimal b l h = record { is-digit = λ q. rw (within-true 0x30 0x39 b l h)
 
 pub value-letter : (b : ℕ) → 0x41 ≤ b → b ≤ 0x46 → DigitValue b (b - 0x37)
 unfolding kindOf
-value-letter b l h = record { is-digit = λ q. rw (within-above 0x30 0x39 b (omega arith), within-true 0x41 0x46 b l h); no-digit = λ q. absurd (omega arith) }
+value-letter b l h = record {
+  is-digit = λ q. rw (within-above 0x30 0x39 b (omega arith), within-true 0x41 0x46 b l h);
+  no-digit = λ q. absurd (omega arith);
+}
 
 value-none : (b : ℕ) → within 0x30 0x39 b ≡ false → within 0x41 0x46 b ≡ false → DigitValue b 16
 unfolding kindOf separator
@@ -77,7 +80,7 @@ value-between b h l = value-none b (within-above 0x30 0x39 b h) (within-below 0x
 pub value-above : (b : ℕ) → 0x46 < b → DigitValue b 16
 value-above b h = value-none b (within-above 0x30 0x39 b (omega arith)) (within-above 0x41 0x46 b h)
 
--- ---- places
+-- ---- offsets
 
 pub or-found : (t : Bool) (n : ℕ) (o : Option ℕ) → t ≡ true → found t n ≡ orFound (found t n) o
 unfolding found orFound
@@ -106,20 +109,24 @@ cond-found false n = refl
 
 -- ---- pieces one after the other
 
-down-snoc : (xs : List Piece) (x : Piece) → firstDescending (xs ++ (x ∷ [])) ≡ orFound (firstDescending xs) (found (ltb (x .last .value) (x .first .value)) (x .first .at))
+down-snoc : (xs : List Piece) (x : Piece) → firstDescending (xs ++ (x ∷ [])) ≡ orFound (firstDescending xs)
+    (found (ltb (x .last .value) (x .first .value)) (x .first .at))
 unfolding firstDescending orFound
 down-snoc [] x = cond-found (ltb (x .last .value) (x .first .value)) (x .first .at)
 down-snoc (y ∷ xs) x = go _ (ltb (y .last .value) (y .first .value)) (down-snoc xs x)
   where
-    go : {a : Option ℕ} (o : Option ℕ) (t : Bool) → a ≡ orFound (firstDescending xs) o → cond t (some (y .first .at)) a ≡ orFound (cond t (some (y .first .at)) (firstDescending xs)) o
+    go : {a : Option ℕ} (o : Option ℕ) (t : Bool) → a ≡ orFound (firstDescending xs) o
+        → cond t (some (y .first .at)) a ≡ orFound (cond t (some (y .first .at)) (firstDescending xs)) o
     go o true e = refl
     go o false e = e
 
-other-one : (x : Piece) → firstNonEntry (x ∷ []) ≡ orFound (found (not (hasVariationSequence (x .first .value))) (x .first .at)) (found (not (hasVariationSequence (x .last .value))) (x .last .at))
+other-one : (x : Piece) → firstNonEntry (x ∷ []) ≡ orFound (found (not (hasVariationSequence (x .first .value))) (x .first .at))
+    (found (not (hasVariationSequence (x .last .value))) (x .last .at))
 unfolding firstNonEntry orFound found
 other-one x = go (hasVariationSequence (x .first .value)) (hasVariationSequence (x .last .value))
   where
-    go : (t u : Bool) → cond t (cond u none (some (x .last .at))) (some (x .first .at)) ≡ orFound (found (not t) (x .first .at)) (found (not u) (x .last .at))
+    go : (t u : Bool) → cond t (cond u none (some (x .last .at))) (some (x .first .at)) ≡ orFound (found (not t) (x .first .at))
+        (found (not u) (x .last .at))
     go true true = refl
     go true false = refl
     go false u = refl
@@ -130,7 +137,8 @@ other-snoc [] x = refl
 other-snoc (y ∷ xs) x = go _ (hasVariationSequence (y .first .value)) (hasVariationSequence (y .last .value)) (other-snoc xs x)
   where
     go : {a : Option ℕ} (o : Option ℕ) (t u : Bool) → a ≡ orFound (firstNonEntry xs) o
-        → cond t (cond u a (some (y .last .at))) (some (y .first .at)) ≡ orFound (cond t (cond u (firstNonEntry xs) (some (y .last .at))) (some (y .first .at))) o
+        → cond t (cond u a (some (y .last .at))) (some (y .first .at)) ≡ orFound (cond t (cond u (firstNonEntry xs) (some (y .last .at)))
+        (some (y .first .at))) o
     go o true true e = e
     go o true false e = refl
     go o false u e = refl
@@ -146,8 +154,20 @@ pow-five (suc (suc (suc (suc zero)))) h = omega arith
 pow-five (suc (suc (suc (suc (suc zero))))) h = omega arith
 pow-five (suc (suc (suc (suc (suc (suc k)))))) h = absurd (omega arith)
 
-pub before-tracks : (line next : ℕ) (fresh : Bool) (down other : MaybeOffset) (xs : List Piece) → offsetIn down ≡ firstDescending xs → offsetIn other ≡ firstNonEntry xs
-    → Tracks (record { line = line; fresh = fresh; ranged = false; «first_at» = 0; «first_value» = 0; from = next; count = 0; value = 0; down = down; other = other })
+pub before-tracks : (line next : ℕ) (fresh : Bool) (down other : MaybeOffset) (xs : List Piece) → offsetIn down ≡ firstDescending xs
+    → offsetIn other ≡ firstNonEntry xs
+    → Tracks (record {
+      line = line;
+      fresh = fresh;
+      ranged = false;
+      «first_at» = 0;
+      «first_value» = 0;
+      from = next;
+      count = 0;
+      value = 0;
+      down = down;
+      other = other;
+    })
     (beforePiece line fresh xs next)
 unfolding firstPoint
 before-tracks line next fresh down others xs p q = record {
@@ -164,7 +184,18 @@ before-tracks line next fresh down others xs p q = record {
 }
 
 pub dash-tracks : (c : Cursor) (next : ℕ) (r : State) → Tracks c r
-    → Tracks (record { line = c .line; fresh = false; ranged = true; «first_at» = c .from; «first_value» = c .value; from = next; count = 0; value = 0; down = c .down; other = c .other })
+    → Tracks (record {
+      line = c .line;
+      fresh = false;
+      ranged = true;
+      «first_at» = c .from;
+      «first_value» = c .value;
+      from = next;
+      count = 0;
+      value = 0;
+      down = c .down;
+      other = c .other;
+    })
     (afterDash r next)
 unfolding firstPoint
 dash-tracks c next r h = record {
@@ -181,7 +212,18 @@ dash-tracks c next r h = record {
 }
 
 pub digit-tracks : (c : Cursor) (d : ℕ) → c .count < 6 → d < 16 → (r : State) → Tracks c r
-    → Tracks (record { line = c .line; fresh = false; ranged = c .ranged; «first_at» = c .«first_at»; «first_value» = c .«first_value»; from = c .from; count = c .count + 1; value = c .value % 0x100000 * 16 + d; down = c .down; other = c .other })
+    → Tracks (record {
+      line = c .line;
+      fresh = false;
+      ranged = c .ranged;
+      «first_at» = c .«first_at»;
+      «first_value» = c .«first_value»;
+      from = c .from;
+      count = c .count + 1;
+      value = c .value % 0x100000 * 16 + d;
+      down = c .down;
+      other = c .other;
+    })
     (moreDigits r d)
 digit-tracks c d k l r h =
     let n = h .count in
@@ -206,44 +248,55 @@ digit-tracks c d k l r h =
 module _ (c : Cursor) (r : State) (h : Tracks c r) where
   pub first-ranged : c .ranged ≡ true → pieceRead r .first ≡ record { at = c .«first_at»; value = c .«first_value» }
   unfolding orElse firstPoint
-  first-ranged e = ap (λ (o : Option Point). orElse o (numberRead r)) (sym (h .first)) ∙ ap (λ (t : Bool). orElse (firstPoint t (c .«first_at») (c .«first_value»)) (numberRead r)) e
+  first-ranged e = ap (λ (o : Option Point). orElse o (numberRead r)) (sym (h .first))
+      ∙ ap (λ (t : Bool). orElse (firstPoint t (c .«first_at») (c .«first_value»)) (numberRead r)) e
 
   pub first-single : c .ranged ≡ false → pieceRead r .first ≡ numberRead r
   unfolding orElse firstPoint
-  first-single e = ap (λ (o : Option Point). orElse o (numberRead r)) (sym (h .first)) ∙ ap (λ (t : Bool). orElse (firstPoint t (c .«first_at») (c .«first_value»)) (numberRead r)) e
+  first-single e = ap (λ (o : Option Point). orElse o (numberRead r)) (sym (h .first))
+      ∙ ap (λ (t : Bool). orElse (firstPoint t (c .«first_at») (c .«first_value»)) (numberRead r)) e
 
-  pub down-ranged : {o : Option ℕ} → c .ranged ≡ true → o ≡ orFound (offsetIn (c .down)) (found (ltb (c .value) (c .«first_value»)) (c .«first_at»))
+  pub down-ranged : {o : Option ℕ} → c .ranged ≡ true
+      → o ≡ orFound (offsetIn (c .down)) (found (ltb (c .value) (c .«first_value»)) (c .«first_at»))
       → o ≡ firstDescending (r .pieces ++ (pieceRead r ∷ []))
   down-ranged e q =
       q ∙ ap₂ (λ (a : Option ℕ) (x : Point). orFound a (found (ltb (c .value) (x .value)) (x .at))) (h .down) (sym (first-ranged e))
-      ∙ ap (λ (v : ℕ). orFound (firstDescending (r .pieces)) (found (ltb v (pieceRead r .first .value)) (pieceRead r .first .at))) (h .value)
+      ∙ ap (λ (v : ℕ). orFound (firstDescending (r .pieces)) (found (ltb v (pieceRead r .first .value)) (pieceRead r .first .at)))
+      (h .value)
       ∙ sym (down-snoc (r .pieces) (pieceRead r))
 
   pub down-single : c .ranged ≡ false → offsetIn (c .down) ≡ firstDescending (r .pieces ++ (pieceRead r ∷ []))
   unfolding found
   down-single e =
       h .down ∙ sym (or-none (firstDescending (r .pieces)))
-      ∙ ap (λ (t : Bool). orFound (firstDescending (r .pieces)) (found t (pieceRead r .first .at))) (sym (ap (λ (x : Point). ltb (r .value) (x .value)) (first-single e) ∙ le-ltb (r .value) (r .value) (omega arith)))
+      ∙ ap (λ (t : Bool). orFound (firstDescending (r .pieces)) (found t (pieceRead r .first .at)))
+      (sym (ap (λ (x : Point). ltb (r .value) (x .value)) (first-single e) ∙ le-ltb (r .value) (r .value) (omega arith)))
       ∙ sym (down-snoc (r .pieces) (pieceRead r))
 
   pub other-ranged : {o a : Option ℕ} {t u : Bool} → c .ranged ≡ true → t ≡ not (hasVariationSequence (c .«first_value»))
-      → u ≡ not (hasVariationSequence (c .value)) → a ≡ orFound (offsetIn (c .other)) (found t (c .«first_at»)) → o ≡ orFound a (found u (c .from))
+      → u ≡ not (hasVariationSequence (c .value)) → a ≡ orFound (offsetIn (c .other)) (found t (c .«first_at»))
+      → o ≡ orFound a (found u (c .from))
       → o ≡ firstNonEntry (r .pieces ++ (pieceRead r ∷ []))
   other-ranged {a = a} e i j f g =
       let p = f ∙ ap (λ (t : Bool). orFound (offsetIn (c .other)) (found t (c .«first_at»))) i in
-      g ∙ ap (λ (t : Bool). orFound a (found t (c .from))) j ∙ ap (λ (x : Option ℕ). orFound x (found (not (hasVariationSequence (c .value))) (c .from))) p
+      g ∙ ap (λ (t : Bool). orFound a (found t (c .from))) j
+      ∙ ap (λ (x : Option ℕ). orFound x (found (not (hasVariationSequence (c .value))) (c .from))) p
       ∙ or-or (offsetIn (c .other)) _ _
-      ∙ ap₂ (λ (a : Option ℕ) (x : Point). orFound a (orFound (found (not (hasVariationSequence (x .value))) (x .at)) (found (not (hasVariationSequence (c .value))) (c .from)))) (h .other) (sym (first-ranged e))
-      ∙ ap₂ (λ (v n : ℕ). orFound (firstNonEntry (r .pieces)) (orFound (found (not (hasVariationSequence (pieceRead r .first .value))) (pieceRead r .first .at)) (found (not (hasVariationSequence v)) n))) (h .value) (h .from)
+      ∙ ap₂ (λ (a : Option ℕ) (x : Point). orFound a (orFound (found (not (hasVariationSequence (x .value))) (x .at))
+      (found (not (hasVariationSequence (c .value))) (c .from)))) (h .other) (sym (first-ranged e))
+      ∙ ap₂ (λ (v n : ℕ). orFound (firstNonEntry (r .pieces)) (orFound (found (not (hasVariationSequence (pieceRead r .first .value)))
+      (pieceRead r .first .at)) (found (not (hasVariationSequence v)) n))) (h .value) (h .from)
       ∙ sym (other-snoc (r .pieces) (pieceRead r) ∙ ap (orFound (firstNonEntry (r .pieces))) (other-one (pieceRead r)))
 
   pub other-single : {o : Option ℕ} {u : Bool} → c .ranged ≡ false → u ≡ not (hasVariationSequence (c .value))
       → o ≡ orFound (offsetIn (c .other)) (found u (c .from)) → o ≡ firstNonEntry (r .pieces ++ (pieceRead r ∷ []))
   other-single e j g =
-      g ∙ ap (λ (t : Bool). orFound (offsetIn (c .other)) (found t (c .from))) j ∙ ap (λ (a : Option ℕ). orFound a (found (not (hasVariationSequence (c .value))) (c .from))) (h .other)
+      g ∙ ap (λ (t : Bool). orFound (offsetIn (c .other)) (found t (c .from))) j
+      ∙ ap (λ (a : Option ℕ). orFound a (found (not (hasVariationSequence (c .value))) (c .from))) (h .other)
       ∙ ap₂ (λ (v n : ℕ). orFound (firstNonEntry (r .pieces)) (found (not (hasVariationSequence v)) n)) (h .value) (h .from)
       ∙ ap (orFound (firstNonEntry (r .pieces))) (twice (not (hasVariationSequence (r .value))) (r .from))
-      ∙ ap (λ (x : Point). orFound (firstNonEntry (r .pieces)) (orFound (found (not (hasVariationSequence (x .value))) (x .at)) (found (not (hasVariationSequence (r .value))) (r .from)))) (sym (first-single e))
+      ∙ ap (λ (x : Point). orFound (firstNonEntry (r .pieces)) (orFound (found (not (hasVariationSequence (x .value))) (x .at))
+      (found (not (hasVariationSequence (r .value))) (r .from)))) (sym (first-single e))
       ∙ sym (other-snoc (r .pieces) (pieceRead r) ∙ ap (orFound (firstNonEntry (r .pieces))) (other-one (pieceRead r)))
     where
       twice : (t : Bool) (n : ℕ) → found t n ≡ orFound (found t n) (found t n)
@@ -299,13 +352,16 @@ module _ (c : Cursor) (at : ℕ) (r : State) (h : Tracks c r) where
 
   pub dash-ranged : c .ranged ≡ true → StepResult (transitionBy at r dash) Stop
   unfolding transitionBy
-  dash-ranged e = result-stop _ (isNone (r .first) && allowedDigits (r .count)) (ap (λ (t : Bool). t && allowedDigits (r .count)) (none-first true e))
+  dash-ranged e = result-stop _ (isNone (r .first) && allowedDigits (r .count)) (ap (λ (t : Bool). t && allowedDigits (r .count))
+      (none-first true e))
 
-  pub dash-on : {x : Cursor} {t : Bool} {next : ℕ} → c .ranged ≡ false → t ≡ allowedDigits (c .count) → t ≡ true → next ≡ at + 1 → Tracks x (afterDash r next)
+  pub dash-on : {x : Cursor} {t : Bool} {next : ℕ} → c .ranged ≡ false → t ≡ allowedDigits (c .count) → t ≡ true → next ≡ at + 1
+      → Tracks x (afterDash r next)
       → StepResult (transitionBy at r dash) (On x)
   unfolding transitionBy
   dash-on {x} d e f n g =
-      result-on (isNone (r .first) && allowedDigits (r .count)) (ap₂ _&&_ (none-first false d) (allowed-as e f)) (subst (λ (m : ℕ). Tracks x (afterDash r m)) n g)
+      result-on (isNone (r .first) && allowedDigits (r .count)) (ap₂ _&&_ (none-first false d) (allowed-as e f))
+      (subst (λ (m : ℕ). Tracks x (afterDash r m)) n g)
 
   pub dash-stop : {t : Bool} → c .ranged ≡ false → t ≡ allowedDigits (c .count) → t ≡ false → StepResult (transitionBy at r dash) Stop
   unfolding transitionBy
@@ -320,14 +376,16 @@ module _ (c : Cursor) (at : ℕ) (r : State) (h : Tracks c r) where
       (subst (λ (m : ℕ). Tracks x (beforePiece m true (r .pieces ++ (pieceRead r ∷ [])) (at + 1))) i
       (subst (λ (m : ℕ). Tracks x (beforePiece line true (r .pieces ++ (pieceRead r ∷ [])) m)) n g))
 
-  pub newline-empty : {x : Cursor} {t : Bool} {line next : ℕ} → t ≡ allowedDigits (c .count) → t ≡ false → c .fresh ≡ true → next ≡ at + 1 → line ≡ c .line + 1
+  pub newline-empty : {x : Cursor} {t : Bool} {line next : ℕ} → t ≡ allowedDigits (c .count) → t ≡ false → c .fresh ≡ true
+      → next ≡ at + 1 → line ≡ c .line + 1
       → Tracks x (beforePiece line true (r .pieces) next) → StepResult (transitionBy at r newline) (On x)
   unfolding transitionBy
   newline-empty {x} {t} {line} {next} e f d n l g =
       let i : line ≡ suc (r .line) = let j = h .line in omega arith in
       result-else _ (allowedDigits (r .count)) (allowed-as e f)
       (result-on (r .fresh) (sym (h .fresh) ∙ d)
-      (subst (λ (m : ℕ). Tracks x (beforePiece m true (r .pieces) (at + 1))) i (subst (λ (m : ℕ). Tracks x (beforePiece line true (r .pieces) m)) n g)))
+      (subst (λ (m : ℕ). Tracks x (beforePiece m true (r .pieces) (at + 1))) i
+      (subst (λ (m : ℕ). Tracks x (beforePiece line true (r .pieces) m)) n g)))
 
   pub newline-stop : {t : Bool} → t ≡ allowedDigits (c .count) → t ≡ false → c .fresh ≡ false → StepResult (transitionBy at r newline) Stop
   unfolding transitionBy
@@ -335,10 +393,13 @@ module _ (c : Cursor) (at : ℕ) (r : State) (h : Tracks c r) where
 
   pub past-lines : (b : ℕ) → 4 ≤ c .line → StepResult (transition at r b) Stop
   unfolding transition
-  past-lines b l = subst (λ (t : Bool). StepResult (cond t (transitionBy at r (kindOf b)) none) Stop) (sym (le-ltb (r .line) 4 (subst (λ (n : ℕ). 4 ≤ n) (h .line) l))) stop
+  past-lines b l = subst (λ (t : Bool). StepResult (cond t (transitionBy at r (kindOf b)) none) Stop)
+      (sym (le-ltb (r .line) 4 (subst (λ (n : ℕ). 4 ≤ n) (h .line) l))) stop
 
-  pub in-lines : {x : Step} {k : ByteKind} (b : ℕ) → c .line < 4 → kindOf b ≡ k → StepResult (transitionBy at r k) x → StepResult (transition at r b) x
-  in-lines {x} {k} b l e g = subst (λ (o : Option State). StepResult o x) (sym (transition-in at r b k (subst (λ (n : ℕ). n < 4) (h .line) l) e)) g
+  pub in-lines : {x : Step} {k : ByteKind} (b : ℕ) → c .line < 4 → kindOf b ≡ k → StepResult (transitionBy at r k) x
+      → StepResult (transition at r b) x
+  in-lines {x} {k} b l e g = subst (λ (o : Option State). StepResult o x)
+      (sym (transition-in at r b k (subst (λ (n : ℕ). n < 4) (h .line) l) e)) g
 
 pub is-comma : {d : ℕ} (b : ℕ) → DigitValue b d → 16 ≤ d → b ≡ 0x2C → kindOf b ≡ comma
 unfolding separator

@@ -1,7 +1,7 @@
 // The cursor of a reader: what is kept of the bytes of a sheet before an offset. The functions that take a byte equal `transition` of crate
 // policy_sheet, specs/Reader.antt, on all states that the cursor tracks (`Tracks` of specs/Tracking.antt).
 ghost use mathlib.Core.Path.{_≡_};
-ghost use mathlib.Core.Bool.{Bool, not};
+ghost use mathlib.Core.Bool.{not};
 ghost use mathlib.Core.List.{List, [], _∷_, _++_};
 ghost use Prim.Native.Nat.{ℕ, _+_, _<_};
 ghost use Rattle.unicode.specs.Unicode.{hasVariationSequence};
@@ -125,8 +125,15 @@ fn after_dash(c: Cursor, next: usize) -> Cursor
 }
 
 // Returns the cursor at the start of a piece.
-fn before_piece(line: u32, fresh: bool, down: MaybeOffset, other: MaybeOffset, next: usize) -> Cursor
-    ensures { λ x. ⌜ ((xs : List Piece) → offsetIn down ≡ firstDescending xs → offsetIn other ≡ firstNonEntry xs → Tracks x (beforePiece line fresh xs next)) ⌝ }
+fn before_piece(
+    line: u32,
+    fresh: bool,
+    down: MaybeOffset,
+    other: MaybeOffset,
+    next: usize,
+) -> Cursor
+    ensures { λ x. ⌜ ((xs : List Piece) → offsetIn down ≡ firstDescending xs → offsetIn other ≡ firstNonEntry xs
+        → Tracks x (beforePiece line fresh xs next)) ⌝ }
 {
     Cursor {
         line,
@@ -157,7 +164,7 @@ fn descending_with(c: Cursor) -> MaybeOffset
 fn is_no_entry(v: u32) -> bool
     ensures { λ r. ⌜ r ≡ not (hasVariationSequence v) ⌝ }
 {
-    !unicode::has_variation_sequence(v)
+    !unicode::has_variation_sequence_by_block(v)
 }
 
 // Returns the offset of the first code point that is no variation entry, if the piece that was read is closed here.

@@ -1,12 +1,13 @@
-// The sets that the pieces of a sheet mean. `with_closed` adds a piece to the policy; the sets then hold what `inSet` of crate policy_sheet,
-// specs/Meaning.antt, says of the pieces.
+// The sets that the pieces of a sheet mean. `with_closed` adds a piece to the policy. The sets then hold what `inSet` (crate policy_sheet,
+// specs/Meaning.antt) says of the pieces.
 ghost use mathlib.Core.Path.{_≡_};
-ghost use mathlib.Core.Bool.{Bool, _&&_, _||_};
+ghost use mathlib.Core.Bool.{Bool, _||_};
 ghost use mathlib.Core.List.{List, [], _∷_, _++_};
 ghost use mathlib.Core.Option.{some};
-ghost use Prim.Native.Nat.{ℕ, _<_, _^_};
-ghost use lib.Dec.{eqb};
+ghost use Prim.Native.Nat.{ℕ, _+_, _<_, _≤_, _^_};
+ghost use lib.Dec.{ltb};
 ghost use lib.ListN.{getD};
+ghost use Rattle.base.specs.Bits.{one};
 ghost use Rattle.base.specs.Ranges.{within};
 ghost use Rattle.unicode.specs.UnicodeData.{variationEntries};
 ghost use Rattle.policy_key_set.specs.Sets.{Holds};
@@ -35,35 +36,67 @@ fn entry(i: usize) -> u32
     }
 }
 
-// Adds a variation entry to a set, if the entry is in a range.
-fn with_entry(z: CharSet, ch: u32, lo: u32, hi: u32) -> CharSet
-    ensures { λ r. ⌜ ((p : ℕ → Bool) → Holds p (z .bits) → Holds (λ (i : ℕ). p i || (within lo hi ch && eqb (getD variationEntries i 0) ch)) (r .bits)) ⌝ }
+// Returns the number of variation entries below a code point, by a binary search.
+fn entries_below(ch: u64) -> usize
+    ensures few { λ r. ⌜ r ≤ 354 ⌝ }
+    ensures below { λ r. ⌜ ((i : ℕ) → i < 354 → ltb i r ≡ ltb (getD variationEntries i 0) ch) ⌝ }
 {
-    if ch < lo {
-        return z;
+    let mut lo: usize = 0;
+    let mut hi = VARIATION_ENTRY_COUNT;
+    while lo < hi {
+        let mid = lo + (hi - lo) / 2;
+        let current = entry(mid) as u64;
+        if current < ch {
+            lo = mid + 1;
+        } else {
+            hi = mid;
+        }
     }
-    if hi < ch {
-        return z;
-    }
-    CharSet::bitor(z, CharSet::singleton(ch))
+    lo
 }
 
-// Adds the variation entries of a range to a set.
-fn with_range(set: CharSet, lo: u32, hi: u32) -> CharSet
-    ensures { λ r. ⌜ ((p : ℕ → Bool) → Holds p (set .bits) → Holds (λ (i : ℕ). p i || within lo hi (getD variationEntries i 0)) (r .bits)) ⌝ }
+// Returns the word whose bit k is 1 if start + k is below n.
+fn bits_below(n: usize, start: usize) -> u64
+    requires { ⌜ start ≤ 320 ⌝ }
+    ensures { λ r. ⌜ ((k : ℕ) → k < 64 → one k r ≡ ltb (start + k) n) ⌝ }
 {
-    let mut z = set;
+    if n <= start {
+        return 0;
+    }
+    if start + 64 <= n {
+        return 0xFFFF_FFFF_FFFF_FFFF;
+    }
+    (1u64 << (n - start)) - 1
+}
+
+// Returns the set of the first n variation entries.
+fn first_entries(n: usize) -> CharSet
+    requires { ⌜ n ≤ 354 ⌝ }
+    ensures { λ r. ⌜ Holds (λ (i : ℕ). ltb i n) (r .bits) ⌝ }
+{
+    let mut z = [0u64; CHARSET_WORDS];
     let mut i = 0;
-    while i < VARIATION_ENTRY_COUNT {
-        z = with_entry(z, entry(i), lo, hi);
+    while i < CHARSET_WORDS {
+        z[i] = bits_below(n, 64 * i);
         i += 1;
     }
-    z
+    CharSet { bits: z }
+}
+
+// Adds the variation entries of a range to a set. The time does not depend on the range.
+fn with_range(set: CharSet, lo: u32, hi: u32) -> CharSet
+    ensures { λ r. ⌜ ((p : ℕ → Bool) → Holds p (set .bits)
+        → Holds (λ (i : ℕ). p i || within lo hi (getD variationEntries i 0)) (r .bits)) ⌝ }
+{
+    let below = first_entries(entries_below(lo as u64));
+    let up_to = first_entries(entries_below(hi as u64 + 1));
+    CharSet::bitor(set, CharSet::sub(up_to, below))
 }
 
 // Adds a piece to set k, if the piece is in line k.
 fn with_piece_in(set: CharSet, k: u32, line: u32, lo: u32, hi: u32) -> CharSet
-    ensures { λ r. ⌜ ((xs : List Piece) (x : Piece) → Spans x line lo hi → Holds (inSet xs k) (set .bits) → Holds (inSet (xs ++ (x ∷ [])) k) (r .bits)) ⌝ }
+    ensures { λ r. ⌜ ((xs : List Piece) (x : Piece) → Spans x line lo hi → Holds (inSet xs k) (set .bits)
+        → Holds (inSet (xs ++ (x ∷ [])) k) (r .bits)) ⌝ }
 {
     if line == k {
         return with_range(set, lo, hi);
@@ -114,7 +147,8 @@ fn first_of(c: Cursor) -> u32
 
 // Adds the piece that a byte closes, if it closes one, to the policy.
 pub(crate) fn with_closed(p: Policy, c: Cursor, b: u8) -> Policy
-    ensures { λ q. ⌜ ((at : ℕ) (r t : State) → Tracks c r → transition at r b ≡ some t → SetsHold (r .pieces) p → SetsHold (t .pieces) q) ⌝ }
+    ensures { λ q. ⌜ ((at : ℕ) (r t : State) → Tracks c r → transition at r b ≡ some t → SetsHold (r .pieces) p
+        → SetsHold (t .pieces) q) ⌝ }
 {
     if is_closing(b, c.count) {
         let lo = first_of(c);

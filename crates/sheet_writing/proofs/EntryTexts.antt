@@ -1,4 +1,4 @@
--- What an entry adds to a line, put into a buffer.
+-- The bytes that an entry adds to a line, in a buffer.
 use mathlib.Core.Path.{_≡_, refl, ap, ap₂, sym, _∙_}
 use mathlib.Core.Bool.{Bool, true, false, _||_}
 use mathlib.Core.List.{List, [], _∷_, _++_}
@@ -34,7 +34,8 @@ fewest-six c l = sym (rw (le-ltb c 0x100 (omega arith), le-ltb c 0x10000 (omega 
 pub point-room : (start width c n : ℕ) → width ≡ fewestDigits c → start + length (pointText c) ≤ n → start + width ≤ n
 point-room start width c n e h = omega (arith, e, hex-length (fewestDigits c) c)
 
-pub point-put : {o o′ : List ℕ} {s r : ℕ} (width c : ℕ) → width ≡ fewestDigits c → PutAt o s (hexDigits width c) o′ r → PutAt o s (pointText c) o′ r
+pub point-put : {o o′ : List ℕ} {s r : ℕ} (width c : ℕ) → width ≡ fewestDigits c → PutAt o s (hexDigits width c) o′ r
+    → PutAt o s (pointText c) o′ r
 point-put width c e p = put-as (pointText c) (ap (λ (w : ℕ). hexDigits w c) e) p
 
 pub marked-put : {o o′ : List ℕ} {s r : ℕ} (b c : ℕ) → PutAt (set o s b) (s + 1) (pointText c) o′ r → PutAt o s (b ∷ pointText c) o′ r
@@ -46,26 +47,30 @@ put-length {o′} {xs} {s} o p = ap length (p .bytes) ∙ length-sets o s xs
 pub marked-room : (o : List ℕ) (s b c : ℕ) → s + length (b ∷ pointText c) ≤ length o → s + 1 + length (pointText c) ≤ length (set o s b)
 marked-room o s b c h = omega (arith, length-set o s b)
 
--- what is emitted, by the tests
+-- The bytes that an entry adds, by the tests of the code.
 pub entry-out : {h : Bool} (b a n : Bool) (c : ℕ) → h ≡ false → [] ≡ entryText b a h n c
 unfolding entryText
 entry-out b a n c e = sym (ap (λ (h : Bool). entryText b a h n c) e)
 
 pub entry-inside : {b h n : Bool} (a : Bool) (c : ℕ) → h ≡ true → b ≡ true → n ≡ true → [] ≡ entryText b a h n c
 unfolding entryText
-entry-inside {b} {h} {n} a c e f g = sym (ap (λ (h : Bool). entryText b a h n c) e ∙ ap (λ (b : Bool). entryText b a true n c) f ∙ ap (λ (n : Bool). entryText true a true n c) g)
+entry-inside {b} {h} {n} a c e f g = sym (ap (λ (h : Bool). entryText b a h n c) e ∙ ap (λ (b : Bool). entryText b a true n c) f
+    ∙ ap (λ (n : Bool). entryText true a true n c) g)
 
 pub entry-last : {b h n : Bool} (a : Bool) (c : ℕ) → h ≡ true → b ≡ true → n ≡ false → 0x2D ∷ pointText c ≡ entryText b a h n c
 unfolding entryText
-entry-last {b} {h} {n} a c e f g = sym (ap (λ (h : Bool). entryText b a h n c) e ∙ ap (λ (b : Bool). entryText b a true n c) f ∙ ap (λ (n : Bool). entryText true a true n c) g)
+entry-last {b} {h} {n} a c e f g = sym (ap (λ (h : Bool). entryText b a h n c) e ∙ ap (λ (b : Bool). entryText b a true n c) f
+    ∙ ap (λ (n : Bool). entryText true a true n c) g)
 
 pub entry-more : {b a h : Bool} (n : Bool) (c : ℕ) → h ≡ true → b ≡ false → a ≡ true → 0x2C ∷ pointText c ≡ entryText b a h n c
 unfolding entryText withComma
-entry-more {b} {a} {h} n c e f g = sym (ap (λ (h : Bool). entryText b a h n c) e ∙ ap (λ (b : Bool). entryText b a true n c) f ∙ ap (λ (a : Bool). entryText false a true n c) g)
+entry-more {b} {a} {h} n c e f g = sym (ap (λ (h : Bool). entryText b a h n c) e ∙ ap (λ (b : Bool). entryText b a true n c) f
+    ∙ ap (λ (a : Bool). entryText false a true n c) g)
 
 pub entry-first : {b a h : Bool} (n : Bool) (c : ℕ) → h ≡ true → b ≡ false → a ≡ false → pointText c ≡ entryText b a h n c
 unfolding entryText withComma
-entry-first {b} {a} {h} n c e f g = sym (ap (λ (h : Bool). entryText b a h n c) e ∙ ap (λ (b : Bool). entryText b a true n c) f ∙ ap (λ (a : Bool). entryText false a true n c) g)
+entry-first {b} {a} {h} n c e f g = sym (ap (λ (h : Bool). entryText b a h n c) e ∙ ap (λ (b : Bool). entryText b a true n c) f
+    ∙ ap (λ (a : Bool). entryText false a true n c) g)
 
 pub put-none : (o : List ℕ) (s : ℕ) → PutAt o s [] o s
 put-none o s = record { ends = omega arith; bytes = refl }
@@ -83,15 +88,18 @@ pub head-past : (p : ℕ → Bool) (cs : List ℕ) (i : ℕ) → length cs ≤ i
 unfolding firstIn
 head-past p cs i l = ap (firstIn p i) (drop-of-length-le cs l)
 
-pub line-step : {here next : Bool} {c : ℕ} (p : ℕ → Bool) (cs : List ℕ) (i : ℕ) (before any : Bool) → i < length cs → here ≡ firstIn p i (drop i cs)
+pub line-step : {here next : Bool} {c : ℕ} (p : ℕ → Bool) (cs : List ℕ) (i : ℕ) (before any : Bool) → i < length cs
+    → here ≡ firstIn p i (drop i cs)
     → next ≡ firstIn p (i + 1) (drop (i + 1) cs) → c ≡ getD cs i 0
     → lineFrom p i before any (drop i cs) ≡ entryText before any here next c ++ lineFrom p (i + 1) here (any || here) (drop (i + 1) cs)
 unfolding lineFrom
 line-step {here} {next} {c} p cs i before any l e f g =
     let h : here ≡ p i = e ∙ head-here p cs i l in
     ap (lineFrom p i before any) (drop-cons cs i 0 l)
-    ∙ ap (λ (m : ℕ). entryText before any (p i) (firstIn p m (drop m cs)) (getD cs i 0) ++ lineFrom p m (p i) (any || p i) (drop m cs)) (sym (add-one i))
-    ∙ ap (λ (b : Bool). entryText before any b (firstIn p (i + 1) (drop (i + 1) cs)) (getD cs i 0) ++ lineFrom p (i + 1) b (any || b) (drop (i + 1) cs)) (sym h)
+    ∙ ap (λ (m : ℕ). entryText before any (p i) (firstIn p m (drop m cs)) (getD cs i 0) ++ lineFrom p m (p i) (any || p i) (drop m cs))
+    (sym (add-one i))
+    ∙ ap (λ (b : Bool). entryText before any b (firstIn p (i + 1) (drop (i + 1) cs)) (getD cs i 0) ++ lineFrom p (i + 1) b (any || b)
+    (drop (i + 1) cs)) (sym h)
     ∙ ap₂ (λ (n : Bool) (x : ℕ). entryText before any here n x ++ lineFrom p (i + 1) here (any || here) (drop (i + 1) cs)) (sym f) (sym g)
 
 pub line-done : (p : ℕ → Bool) (cs : List ℕ) (i : ℕ) (before any : Bool) → length cs ≤ i → lineFrom p i before any (drop i cs) ≡ []

@@ -1,14 +1,12 @@
--- A line can be written in one pass over the entries, with a look at the next one only.
-use mathlib.Core.Path.{_≡_, refl, ap, ap₂, sym, _∙_, subst}
-use mathlib.Core.Bool.{Bool, true, false, cond, true≢false, _||_}
+-- A line can be written in one pass over the entries that looks at the next entry only.
+use mathlib.Core.Path.{_≡_, refl, ap, sym, _∙_, subst}
+use mathlib.Core.Bool.{Bool, true, false, true≢false, _||_}
 use mathlib.Core.List.{List, [], _∷_, _++_, append-assoc, append-nil, map}
-use Prim.Native.Nat.{ℕ, zero, suc, _<_}
+use Prim.Native.Nat.{ℕ, suc, _<_}
 use native.Mathlib.Omega.{arith}
-use lib.Dec.{eqb}
-use lib.ListN.{getD, length}
 use borrow.Author.Tests.{eq-eqb, ne-eqb}
 use Rattle.base.specs.Texts.{parted}
-use Rattle.policy_sheet.specs.Meaning.{Each, each-and, each-none}
+use Rattle.policy_sheet.specs.Meaning.{Each, each-and}
 use Rattle.policy_sheet.specs.Writer.{Run, firstIn, joined, pointText, runText, runsFrom, withEntry}
 use Rattle.sheet_writing.specs.OnePass.{entryText, withComma, lineFrom}
 use Rattle.policy_sheet.proofs.RunCovers.{Among, Up, runs-among, up-tail}
@@ -19,7 +17,7 @@ unfoldable pub joinText : Bool → List Run → List ℕ
 joinText any [] = []
 joinText any (r ∷ rs) = withComma any (runText r) ++ joinText true rs
 
--- what is left of a run that has begun, and the runs after it
+-- The rest of a run after its first code point, and the runs after it.
 unfoldable pub afterFirst : List Run → List ℕ
 afterFirst [] = []
 afterFirst (r ∷ rs) = (0x2D ∷ pointText (r .last)) ++ joinText true rs
@@ -63,22 +61,27 @@ head-full : (p : ℕ → Bool) (i : ℕ) (cs : List ℕ) → firstIn p i cs ≡ 
 unfolding firstIn runsFrom
 head-full p i [] e = absurd (true≢false (sym e))
 head-full p i (c ∷ cs) e =
-    subst (λ (b : Bool). Full (withEntry c b (firstIn p (suc i) cs) (runsFrom p (suc i) cs))) (sym e) (with-full c (firstIn p (suc i) cs) (runsFrom p (suc i) cs))
+    subst (λ (b : Bool). Full (withEntry c b (firstIn p (suc i) cs) (runsFrom p (suc i) cs))) (sym e) (with-full c (firstIn p (suc i) cs)
+    (runsFrom p (suc i) cs))
 
 module _ (c : ℕ) (cs : List ℕ) (up : Up (c ∷ cs)) where
-  -- a run that begins with c and goes on
-  joined-text : (any : Bool) {rs : List Run} → Full rs → Each (Among cs) rs → withComma any (pointText c) ++ afterFirst rs ≡ joinText any (joined c rs)
+  -- A run that begins with c and goes on.
+  joined-text : (any : Bool) {rs : List Run} → Full rs → Each (Among cs) rs → withComma any (pointText c) ++ afterFirst rs ≡ joinText any
+      (joined c rs)
   unfolding afterFirst joinText joined
   joined-text any (full {r} {rs}) (each-and a hs) =
       sym (append-assoc (withComma any (pointText c)) (0x2D ∷ pointText (r .last)) (joinText true rs))
       ∙ ap (λ (t : List ℕ). t ++ joinText true rs)
-      (sym (withComma-append any (pointText c) (0x2D ∷ pointText (r .last))) ∙ ap (withComma any) (sym (run-range c (r .last) (omega (arith, a .last-is, up 0 (suc (a .to)) (omega arith) (omega (arith, a .in-list)))))))
+      (sym (withComma-append any (pointText c) (0x2D ∷ pointText (r .last)))
+      ∙ ap (withComma any)
+      (sym (run-range c (r .last) (omega (arith, a .last-is, up 0 (suc (a .to)) (omega arith) (omega (arith, a .in-list)))))))
 
   joined-after : {rs : List Run} → Full rs → afterFirst (joined c rs) ≡ afterFirst rs
   unfolding afterFirst joined
   joined-after full = refl
 
-  single-text : (any : Bool) (rs : List Run) → withComma any (pointText c) ++ joinText true rs ≡ joinText any (record { first = c; last = c } ∷ rs)
+  single-text : (any : Bool) (rs : List Run) → withComma any (pointText c) ++ joinText true rs ≡ joinText any
+      (record { first = c; last = c } ∷ rs)
   unfolding joinText
   single-text any rs = ap (λ (t : List ℕ). withComma any t ++ joinText true rs) (sym (run-single c))
 
@@ -94,14 +97,17 @@ module _ (p : ℕ → Bool) (i c : ℕ) (cs : List ℕ) (up : Up (c ∷ cs)) (h 
   abbrev R : List Run
   R = runsFrom p (suc i) cs
 
-  outside-step : (b n any : Bool) → firstIn p (suc i) cs ≡ n → entryText false any b n c ++ lineFrom p (suc i) b (any || b) cs ≡ joinText any (withEntry c b n R)
+  outside-step : (b n any : Bool) → firstIn p (suc i) cs ≡ n → entryText false any b n c ++ lineFrom p (suc i) b (any || b) cs ≡ joinText
+      any (withEntry c b n R)
   unfolding entryText withEntry
   outside-step false n any f = h .outside (any || false) ∙ ap (λ (a : Bool). joinText a R) (or-false any)
   outside-step true false any f =
-      ap (λ (a : Bool). withComma any (pointText c) ++ lineFrom p (suc i) true a cs) (or-true any) ∙ ap (λ (t : List ℕ). withComma any (pointText c) ++ t) (h .ended f)
+      ap (λ (a : Bool). withComma any (pointText c) ++ lineFrom p (suc i) true a cs) (or-true any)
+      ∙ ap (λ (t : List ℕ). withComma any (pointText c) ++ t) (h .ended f)
       ∙ single-text c cs up any R
   outside-step true true any f =
-      ap (λ (a : Bool). withComma any (pointText c) ++ lineFrom p (suc i) true a cs) (or-true any) ∙ ap (λ (t : List ℕ). withComma any (pointText c) ++ t) (h .going f)
+      ap (λ (a : Bool). withComma any (pointText c) ++ lineFrom p (suc i) true a cs) (or-true any)
+      ∙ ap (λ (t : List ℕ). withComma any (pointText c) ++ t) (h .going f)
       ∙ joined-text c cs up any (head-full p (suc i) cs f) (runs-among p (suc i) cs)
 
   ended-step : (b n : Bool) → b ≡ false → entryText true true b n c ++ lineFrom p (suc i) b true cs ≡ joinText true (withEntry c b n R)
@@ -109,7 +115,8 @@ module _ (p : ℕ → Bool) (i c : ℕ) (cs : List ℕ) (up : Up (c ∷ cs)) (h 
   ended-step false n e = h .outside true
   ended-step true n e = absurd (true≢false e)
 
-  going-step : (b n : Bool) → b ≡ true → firstIn p (suc i) cs ≡ n → entryText true true b n c ++ lineFrom p (suc i) b true cs ≡ afterFirst (withEntry c b n R)
+  going-step : (b n : Bool) → b ≡ true → firstIn p (suc i) cs ≡ n → entryText true true b n c ++ lineFrom p (suc i) b true
+      cs ≡ afterFirst (withEntry c b n R)
   unfolding entryText withEntry afterFirst
   going-step false n e f = absurd (true≢false (sym e))
   going-step true false e f = ap (λ (t : List ℕ). (0x2D ∷ pointText c) ++ t) (h .ended f)
@@ -126,6 +133,6 @@ pass p i (c ∷ cs) up =
       going = λ e. going-step p i c cs up h (p i) (firstIn p (suc i) cs) e refl;
     }
 
--- A line is what its entries add, one after the other.
+-- A line is the bytes that its entries add, one after the other.
 pub one-pass : (p : ℕ → Bool) (cs : List ℕ) → Up cs → parted 0x2C (map runText (runsFrom p 0 cs)) ≡ lineFrom p 0 false false cs
 one-pass p cs up = parted-join (runsFrom p 0 cs) ∙ sym (pass p 0 cs up .outside false)

@@ -3,12 +3,11 @@ use mathlib.Core.Path.{_≡_, ap, ap₂, sym, _∙_}
 use mathlib.Core.Bool.{true, false}
 use mathlib.Core.List.{List}
 use Prim.Native.Nat.{ℕ}
-use Rattle.base.specs.Output.{Wrote, answerOf, bufferOf}
+use Rattle.base.specs.Output.{Wrote}
 use Rattle.base.specs.Refusals.{After, unwritten}
 use Rattle.base.specs.declared.Refusal.{Refusal}
 use Rattle.base.specs.declared.WriteAnswer.{WriteAnswer}
-use Rattle.policy.specs.PolicyBytes.{isPolicy, policyFault, policyOf, policyRefusal, readPolicy}
-use Rattle.policy.specs.declared.Policy.{Policy}
+use Rattle.policy.specs.PolicyBytes.{isPolicy, policyFault, policyRefusal, readPolicy}
 use Rattle.policy.specs.declared.ReadPolicy.{ReadPolicy}
 use Rattle.policy_sheet.specs.Calls.{sheetAnswer, writeCall, writeResult}
 use Rattle.policy_sheet.specs.Writer.{writeSheet}

@@ -24,7 +24,7 @@ use policy_sheet::sheet_answer;
 use unicode::VariationEntry;
 use unicode::unicode_data::VARIATION_ENTRY_COUNT;
 
-// The entry at a place of the table.
+// Returns the variation entry at an index.
 fn entry(i: usize) -> u32
     requires { ⌜ i < 354 ⌝ }
     ensures { λ r. ⌜ r ≡ getD variationEntries i 0 ⌝ }
@@ -35,7 +35,7 @@ fn entry(i: usize) -> u32
     }
 }
 
-// "each code point in the fewest digits allowed"
+// Returns the number of digits of a code point: "the fewest digits allowed".
 fn digits_of(ch: u32) -> usize
     ensures { λ r. ⌜ (r ≡ fewestDigits ch) × (r ≤ 6) ⌝ }
 {
@@ -51,6 +51,7 @@ fn digits_of(ch: u32) -> usize
     6
 }
 
+// Returns the byte of an upper-case hexadecimal digit.
 fn hex_digit(d: u32) -> u8
     requires { ⌜ d < 16 ⌝ }
     ensures { λ r. ⌜ r ≡ hexDigit d ⌝ }
@@ -61,7 +62,7 @@ fn hex_digit(d: u32) -> u8
     (55 + d) as u8
 }
 
-// Writes the last digits of a number.
+// Writes the last `width` hexadecimal digits of a number, and returns the offset after them.
 fn put_hex(out: &mut [u8], start: usize, ch: u32, width: usize) -> usize
     requires { ⌜ (width ≤ 6) × (start + width ≤ length (now out)) ⌝ }
     ensures { λ r. ⌜ PutAt (now (out .entry)) start (hexDigits width ch) (now (out .exit)) r ⌝ }
@@ -76,7 +77,7 @@ fn put_hex(out: &mut [u8], start: usize, ch: u32, width: usize) -> usize
     at
 }
 
-// Writes a code point.
+// Writes a code point, and returns the offset after it.
 fn put_point(out: &mut [u8], start: usize, ch: u32) -> usize
     requires { ⌜ start + length (pointText ch) ≤ length (now out) ⌝ }
     ensures { λ r. ⌜ PutAt (now (out .entry)) start (pointText ch) (now (out .exit)) r ⌝ }
@@ -85,7 +86,7 @@ fn put_point(out: &mut [u8], start: usize, ch: u32) -> usize
     put_hex(out, start, ch, width)
 }
 
-// Writes a byte and a code point.
+// Writes a byte and a code point, and returns the offset after them.
 fn put_marked(out: &mut [u8], start: usize, b: u8, ch: u32) -> usize
     requires { ⌜ start + length (b ∷ pointText ch) ≤ length (now out) ⌝ }
     ensures { λ r. ⌜ PutAt (now (out .entry)) start (b ∷ pointText ch) (now (out .exit)) r ⌝ }
@@ -94,7 +95,7 @@ fn put_marked(out: &mut [u8], start: usize, b: u8, ch: u32) -> usize
     put_point(out, start + 1, ch)
 }
 
-// Writes what an entry adds.
+// Writes the bytes that an entry adds to a line, and returns the offset after them.
 fn put_entry(
     out: &mut [u8],
     start: usize,
@@ -122,6 +123,7 @@ fn put_entry(
     start
 }
 
+// Tests whether one of two statements holds.
 fn either(a: bool, b: bool) -> bool
     ensures { λ r. ⌜ r ≡ (a || b) ⌝ }
 {
@@ -131,21 +133,22 @@ fn either(a: bool, b: bool) -> bool
     b
 }
 
-// Whether the entry at a place is in a set; after the last one there is none.
+// Tests whether a set has the entry at an index. After the last entry there is none.
 fn in_set(set: CharSet, i: usize) -> bool
     ensures { λ r. ⌜ r ≡ firstIn (λ (j : ℕ). member j (set .bits)) i (drop i variationEntries) ⌝ }
 {
     if i < VARIATION_ENTRY_COUNT {
-        let ch = entry(i);
-        return CharSet::contains(set, ch);
+        let words = set.bits;
+        return base::has_bit(words[i / 64], i);
     }
     false
 }
 
-// Writes a line without the 0A that ends it.
+// Writes a line without the 0A that ends it, and returns the offset after it.
 fn put_line(out: &mut [u8], start: usize, set: CharSet) -> usize
     requires { ⌜ start + length (lineFrom (λ (j : ℕ). member j (set .bits)) 0 false false variationEntries) ≤ length (now out) ⌝ }
-    ensures { λ r. ⌜ PutAt (now (out .entry)) start (lineFrom (λ (j : ℕ). member j (set .bits)) 0 false false variationEntries) (now (out .exit)) r ⌝ }
+    ensures { λ r. ⌜ PutAt (now (out .entry)) start
+        (lineFrom (λ (j : ℕ). member j (set .bits)) 0 false false variationEntries) (now (out .exit)) r ⌝ }
 {
     let mut at = start;
     let mut before = false;
@@ -164,7 +167,7 @@ fn put_line(out: &mut [u8], start: usize, set: CharSet) -> usize
     at
 }
 
-// How many bytes an entry adds.
+// Returns the number of bytes that an entry adds to a line: at most a comma or a dash, and six digits.
 fn entry_len(before: bool, any: bool, here: bool, next: bool, ch: u32) -> usize
     ensures { λ r. ⌜ (r ≡ length (entryText before any here next ch)) × (r ≤ 7) ⌝ }
 {
@@ -184,7 +187,7 @@ fn entry_len(before: bool, any: bool, here: bool, next: bool, ch: u32) -> usize
     0
 }
 
-// How many bytes a line has without the 0A that ends it.
+// Returns the number of bytes of a line without the 0A that ends it.
 fn line_len(set: CharSet) -> usize
     ensures { λ r. ⌜ (r ≡ length (lineFrom (λ (j : ℕ). member j (set .bits)) 0 false false variationEntries)) × (r ≤ 2478) ⌝ }
 {

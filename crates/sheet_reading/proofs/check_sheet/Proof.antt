@@ -1,4 +1,4 @@
--- `sheet_reading::check_sheet` meets its contract. The invariant: what is left to be read goes on from the cursor.
+-- `sheet_reading::check_sheet` meets its contract. The loop's invariant: what is left to be read goes on from the cursor.
 use mathlib.Core.Path.{_∙_, refl, sym}
 use Prim.Native.Nat.{_-_}
 use native.Mathlib.Omega.{arith}
@@ -7,8 +7,6 @@ use lib.ListN.{length}
 use Rattle.sheet_reading.proofs.Checking.{Checking, check-begin, check-end, check-on, check-stop}
 use Rattle.sheet_reading.proofs.check_sheet.Statement.{statement}
 use Rattle.sheet_reading.proofs.check_sheet.Tie as tie
-use Rattle.sheet_reading.proofs.check_sheet.Reads as reads
-use Rattle.sheet_reading.proofs.check_sheet.Lts as lts
 
 abbrev Inv-loop : tie.InvT-loop
 Inv-loop s c₀ at₀ c at = Checking s c at
@@ -44,7 +42,8 @@ returns : tie.Need-returns Inv-loop μ-loop
 returns c =
     let k = c .before .before .before .before .before .before .loop .inv in
     c .stopped-at .ensures _ (k .state) (k .tracks)
-    ∙ sym (check-stop k (omega arith) (c .before .before .before .step-on .ensures (c .before .before .before .before .before .before .loop .at) (k .state) refl (k .tracks)) (c .before .enum-told .given .1))
+    ∙ sym (check-stop k (omega arith) (c .before .before .before .step-on .ensures
+    (c .before .before .before .before .before .before .loop .at) (k .state) refl (k .tracks)) (c .before .enum-told .given .1))
 
 add-at : tie.Need-add-at Inv-loop μ-loop
 add-at c = search needs
@@ -55,7 +54,8 @@ loop-less c = search needs
 loop-again : tie.Need-loop-again Inv-loop μ-loop
 loop-again c =
     let k = c .before .before .before .before .before .before .loop .inv in
-    check-on k (omega arith) (c .before .before .before .step-on .ensures (c .before .before .before .before .before .before .loop .at) (k .state) refl (k .tracks)) (c .before .further .given .1)
+    check-on k (omega arith) (c .before .before .before .step-on .ensures (c .before .before .before .before .before .before .loop .at)
+    (k .state) refl (k .tracks)) (c .before .further .given .1)
 
 ended-at-requires : tie.Need-ended-at-requires Inv-loop μ-loop
 ended-at-requires c κs = search needs

@@ -1,9 +1,6 @@
 -- `sheet_reading::stopped_at` meets its contract.
-use borrow.Author.Needs.{needs}
 use Rattle.sheet_reading.proofs.stopped_at.Statement.{statement}
 use Rattle.sheet_reading.proofs.stopped_at.Tie as tie
-use Rattle.sheet_reading.proofs.stopped_at.Reads as reads
-use Rattle.sheet_reading.proofs.stopped_at.Lts as lts
 use Rattle.sheet_reading.proofs.Checking.{stopped-down, stopped-here}
 
 returns : tie.Need-returns

@@ -1,9 +1,6 @@
 -- `sheet_writing::digits_of` meets its contract.
-use borrow.Author.Needs.{needs}
 use Rattle.sheet_writing.proofs.digits_of.Statement.{statement}
 use Rattle.sheet_writing.proofs.digits_of.Tie as tie
-use Rattle.sheet_writing.proofs.digits_of.Reads as reads
-use Rattle.sheet_writing.proofs.digits_of.Lts as lts
 use native.Mathlib.Omega.{arith}
 use Rattle.sheet_writing.proofs.EntryTexts.{fewest-five, fewest-four, fewest-six, fewest-two}
 

@@ -1,9 +1,6 @@
 -- `sheet_writing::either` meets its contract.
-use borrow.Author.Needs.{needs}
 use Rattle.sheet_writing.proofs.either.Statement.{statement}
 use Rattle.sheet_writing.proofs.either.Tie as tie
-use Rattle.sheet_writing.proofs.either.Reads as reads
-use Rattle.sheet_writing.proofs.either.Lts as lts
 use mathlib.Core.Path.{ap, sym}
 use mathlib.Core.Bool.{Bool, _||_}
 

@@ -1,4 +1,4 @@
--- The two halves of the sixteen digits.
+-- `sheet_writing::hex_digit` meets its contract.
 use borrow.Author.Tests.{le-ltb, lt-ltb}
 use Rattle.policy_key_set.specs.Display.{hexDigit}
 use borrow.Author.Needs.{needs}

@@ -1,4 +1,4 @@
--- `sheet_writing::line_len` meets its contract. The invariant: the length so far and what the entries from i on add are the line's.
+-- `sheet_writing::line_len` meets its contract. The loop's invariant: the length so far and what the entries from i on add are the line's.
 use mathlib.Core.Path.{_≡_, ap}
 use mathlib.Core.Bool.{Bool, false}
 use Prim.Native.Nat.{ℕ, _+_, _*_, _-_, _≤_}
@@ -13,8 +13,6 @@ use Rattle.sheet_writing.specs.OnePass.{entryText, lineFrom}
 use Rattle.sheet_writing.proofs.EntryTexts.{measured, line-done, line-step}
 use Rattle.sheet_writing.proofs.line_len.Statement.{statement}
 use Rattle.sheet_writing.proofs.line_len.Tie as tie
-use Rattle.sheet_writing.proofs.line_len.Reads as reads
-use Rattle.sheet_writing.proofs.line_len.Lts as lts
 
 abbrev Inv-loop : tie.InvT-loop
 Inv-loop set n₀ before₀ any₀ here₀ i₀ n before any here i =
@@ -44,10 +42,13 @@ loop-again c =
       omega arith,
       omega (arith, e .1),
       c .before .before .before .in-set2 .ensures,
-      measured (l .n) _ (entryText (l .before) (l .any) (l .here) (c .before .before .before .in-set2 .result) (c .before .before .entry .result)) _ _ (l .inv .3)
-          (line-step (λ (j : ℕ). member j (a .set .bits)) variationEntries (l .i) (l .before) (l .any) (omega (arith, entries-length)) (l .inv .2) (c .before .before .before .in-set2 .ensures) (c .before .before .entry .ensures))
+      measured (l .n) _ (entryText (l .before) (l .any) (l .here) (c .before .before .before .in-set2 .result)
+          (c .before .before .entry .result)) _ _ (l .inv .3)
+          (line-step (λ (j : ℕ). member j (a .set .bits)) variationEntries (l .i) (l .before) (l .any) (omega (arith, entries-length))
+          (l .inv .2) (c .before .before .before .in-set2 .ensures) (c .before .before .entry .ensures))
           (e .0)
-          (ap (λ (x : Bool). lineFrom (λ (j : ℕ). member j (a .set .bits)) (l .i + 1) (l .here) x (drop (l .i + 1) variationEntries)) (c .either .ensures)),
+          (ap (λ (x : Bool). lineFrom (λ (j : ℕ). member j (a .set .bits)) (l .i + 1) (l .here) x (drop (l .i + 1) variationEntries))
+          (c .either .ensures)),
     )
 
 returns : tie.Need-returns Inv-loop μ-loop
@@ -58,4 +59,5 @@ returns c =
     (omega (arith, l .inv .3, ap length e), omega arith)
 
 pub line-len-spec : {M : Type 1} → statement M
-line-len-spec = tie.close (tie.spec Inv-loop μ-loop (λ c κs. search needs) loop-holds (λ c. search needs) (λ c κs. search needs) (λ c κs. search needs) (λ c κs. search needs) add-n (λ c κs. search needs) (λ c. search needs) loop-less loop-again returns)
+line-len-spec = tie.close (tie.spec Inv-loop μ-loop (λ c κs. search needs) loop-holds (λ c. search needs) (λ c κs. search needs)
+    (λ c κs. search needs) (λ c κs. search needs) add-n (λ c κs. search needs) (λ c. search needs) loop-less loop-again returns)

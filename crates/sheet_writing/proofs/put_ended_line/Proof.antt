@@ -1,6 +1,5 @@
 -- `sheet_writing::put_ended_line` meets its contract: the line, then the byte 0A.
 use native.Mathlib.Omega.{arith}
-use borrow.Author.Needs.{needs}
 use Rattle.sheet_writing.proofs.EntryTexts.{put-length}
 use Rattle.sheet_writing.proofs.Lines.{ended-put, ended-room, line-room}
 use Rattle.sheet_writing.proofs.put_ended_line.Statement.{statement}

@@ -1,4 +1,4 @@
--- The loop writes what is left of the digits at its place.
+-- `sheet_writing::put_hex` meets its contract. The loop's invariant: the digits from k on are still to be written.
 use mathlib.Core.Path.{_≡_, sym, ap, _∙_}
 use mathlib.Core.List.{_∷_}
 use Prim.Native.Nat.{ℕ, _-_, _≤_}
@@ -28,14 +28,16 @@ slice-write-out : tie.Need-slice-write-out Inv-loop μ-loop
 slice-write-out c =
     let l = c .before .before .loop in
     let a = c .before .before .before .before .args in
-    let r = byte-room (hexDigits (a .width) (a .ch)) (a .start) (a .out .now) (hexDigits (l .k) (a .ch)) (l .inv .2) (hexDigits-cons (l .k) (a .ch) (omega arith)) in
+    let r = byte-room (hexDigits (a .width) (a .ch)) (a .start) (a .out .now) (hexDigits (l .k) (a .ch)) (l .inv .2)
+    (hexDigits-cons (l .k) (a .ch) (omega arith)) in
     omega arith
 
 add-at : tie.Need-add-at Inv-loop μ-loop
 add-at c =
     let l = c .before .before .loop in
     let a = c .before .before .before .before .args in
-    let r = byte-room (hexDigits (a .width) (a .ch)) (a .start) (a .out .now) (hexDigits (l .k) (a .ch)) (l .inv .2) (hexDigits-cons (l .k) (a .ch) (omega arith)) in
+    let r = byte-room (hexDigits (a .width) (a .ch)) (a .start) (a .out .now) (hexDigits (l .k) (a .ch)) (l .inv .2)
+    (hexDigits-cons (l .k) (a .ch) (omega arith)) in
     omega arith
 
 loop-again : tie.Need-loop-again Inv-loop μ-loop
@@ -57,7 +59,8 @@ returns c =
     let l = c .before .loop in
     let a = c .before .before .before .args in
     let e : l .k ≡ 0 = omega arith in
-    finish (hexDigits (a .width) (a .ch)) (a .start) (a .out .now) (hexDigits (l .k) (a .ch)) (l .inv .2) (ap (λ (k : ℕ). hexDigits k (a .ch)) e)
+    finish (hexDigits (a .width) (a .ch)) (a .start) (a .out .now) (hexDigits (l .k) (a .ch)) (l .inv .2)
+    (ap (λ (k : ℕ). hexDigits k (a .ch)) e)
 
 pub put-hex-spec : {M : Type 1} → statement M
 put-hex-spec =

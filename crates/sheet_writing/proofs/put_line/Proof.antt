@@ -1,4 +1,4 @@
--- `sheet_writing::put_line` meets its contract. The invariant: what the entries from i on add is still to be written.
+-- `sheet_writing::put_line` meets its contract. The loop's invariant: what the entries from i on add is still to be written.
 use mathlib.Core.Path.{_≡_, ap, sym}
 use mathlib.Core.Bool.{Bool, false}
 use Prim.Native.Nat.{ℕ, _+_, _-_, _≤_}
@@ -14,8 +14,6 @@ use Rattle.sheet_writing.specs.OnePass.{entryText, lineFrom}
 use Rattle.sheet_writing.proofs.EntryTexts.{line-done, line-step}
 use Rattle.sheet_writing.proofs.put_line.Statement.{statement}
 use Rattle.sheet_writing.proofs.put_line.Tie as tie
-use Rattle.sheet_writing.proofs.put_line.Reads as reads
-use Rattle.sheet_writing.proofs.put_line.Lts as lts
 
 abbrev Inv-loop : tie.InvT-loop
 Inv-loop out₀ start set at₀ before₀ any₀ here₀ i₀ out at before any here i =
@@ -35,7 +33,8 @@ put-entry-requires c κs =
     let l = c .before .before .before .before .loop in
     let a = c .before .before .before .before .before .before .before .args in
     room _ _ _ _ (entryText (l .before) (l .any) (l .here) (c .before .before .in-set2 .result) (c .before .entry .result)) _ (l .inv .2)
-    (line-step (λ (j : ℕ). member j (a .set .bits)) variationEntries (l .i) (l .before) (l .any) (omega (arith, entries-length)) (l .inv .1) (c .before .before .in-set2 .ensures) (c .before .entry .ensures))
+    (line-step (λ (j : ℕ). member j (a .set .bits)) variationEntries (l .i) (l .before) (l .any) (omega (arith, entries-length))
+    (l .inv .1) (c .before .before .in-set2 .ensures) (c .before .entry .ensures))
 
 loop-less : tie.Need-loop-less Inv-loop μ-loop
 loop-less c = omega arith
@@ -49,8 +48,11 @@ loop-again c =
       c .before .before .before .before .before .before .in-set2 .ensures,
       pass all (a .start) (a .out .now) _ _
           (put all (a .start) (a .out .now) _ _ (l .inv .2) (c .before .before .before .put-entry .ensures)
-          (line-step (λ (j : ℕ). member j (a .set .bits)) variationEntries (l .i) (l .before) (l .any) (omega (arith, entries-length)) (l .inv .1) (c .before .before .before .before .before .before .in-set2 .ensures) (c .before .before .before .before .before .entry .ensures)))
-          (ap (λ (x : Bool). lineFrom (λ (j : ℕ). member j (a .set .bits)) (l .i + 1) (l .here) x (drop (l .i + 1) variationEntries)) (sym (c .either .ensures))),
+          (line-step (λ (j : ℕ). member j (a .set .bits)) variationEntries (l .i) (l .before) (l .any) (omega (arith, entries-length))
+          (l .inv .1) (c .before .before .before .before .before .before .in-set2 .ensures)
+          (c .before .before .before .before .before .entry .ensures)))
+          (ap (λ (x : Bool). lineFrom (λ (j : ℕ). member j (a .set .bits)) (l .i + 1) (l .here) x (drop (l .i + 1) variationEntries))
+          (sym (c .either .ensures))),
     )
 
 same-length : tie.Need-same-length Inv-loop μ-loop
@@ -60,7 +62,9 @@ returns : tie.Need-returns Inv-loop μ-loop
 returns c =
     let l = c .before .loop in
     let a = c .before .before .before .before .args in
-    finish _ _ _ _ (l .inv .2) (line-done (λ (j : ℕ). member j (a .set .bits)) variationEntries (l .i) (l .before) (l .any) (omega (arith, entries-length)))
+    finish _ _ _ _ (l .inv .2) (line-done (λ (j : ℕ). member j (a .set .bits)) variationEntries (l .i) (l .before) (l .any)
+    (omega (arith, entries-length)))
 
 pub put-line-spec : {M : Type 1} → statement M
-put-line-spec = tie.close (tie.spec Inv-loop μ-loop (λ c κs. search needs) loop-holds (λ c. search needs) (λ c κs. search needs) (λ c κs. search needs) put-entry-requires (λ c κs. search needs) (λ c. search needs) loop-less loop-again same-length returns)
+put-line-spec = tie.close (tie.spec Inv-loop μ-loop (λ c κs. search needs) loop-holds (λ c. search needs) (λ c κs. search needs)
+    (λ c κs. search needs) put-entry-requires (λ c κs. search needs) (λ c. search needs) loop-less loop-again same-length returns)

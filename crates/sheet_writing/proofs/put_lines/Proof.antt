@@ -1,6 +1,5 @@
 -- `sheet_writing::put_lines` meets its contract: the four lines one after the other.
 use borrow.Author.Needs.{needs}
-use Rattle.sheet_writing.proofs.EntryTexts.{put-length}
 use Rattle.sheet_writing.proofs.Lines.{first-room, fourth-room, second-room, sheet-put, third-room}
 use Rattle.sheet_writing.proofs.put_lines.Statement.{statement}
 use Rattle.sheet_writing.proofs.put_lines.Tie as tie

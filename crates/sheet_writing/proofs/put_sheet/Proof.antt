@@ -13,7 +13,8 @@ put-lines-requires : tie.Need-put-lines-requires
 put-lines-requires c κs = omega (arith, c .before .before .sheet-len .ensures .0, c .before .if1 .left)
 
 returns-2 : tie.Need-returns-2
-returns-2 c = wrote (c .before .before .before .before .before .sheet-len .ensures .0) (omega (arith, c .before .before .before .before .if1 .left)) (c .before .before .put-lines .ensures)
+returns-2 c = wrote (c .before .before .before .before .before .sheet-len .ensures .0)
+    (omega (arith, c .before .before .before .before .if1 .left)) (c .before .before .put-lines .ensures)
 
 pub put-sheet-spec : {M : Type 1} → statement M
 put-sheet-spec = tie.close (tie.spec (λ c κs. search needs) returns put-lines-requires (λ c. search needs) returns-2)

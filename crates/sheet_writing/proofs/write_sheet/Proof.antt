@@ -18,7 +18,8 @@ returns-2 c =
     let t = c .before .before .before .before .before .before in
     let x = t .before .before .before .before .args in
     ends-as (write-done (x .policy .now) (x .out .now) (sym (t .before .is-policy .ensures) ∙ not-false _ (t .if1 .left))
-    (c .before .before .before .before .before .read-policy .ensures) (c .before .before .before .put-sheet .ensures) (c .sheet-answer .ensures))
+    (c .before .before .before .before .before .read-policy .ensures) (c .before .before .before .put-sheet .ensures)
+    (c .sheet-answer .ensures))
 
 pub write-sheet-spec : {M : Type 1} → statement M
 write-sheet-spec =

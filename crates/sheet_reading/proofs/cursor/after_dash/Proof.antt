@@ -1,9 +1,6 @@
 -- `sheet_reading::cursor::after_dash` meets its contract.
-use borrow.Author.Needs.{needs}
 use Rattle.sheet_reading.proofs.cursor.after_dash.Statement.{statement}
 use Rattle.sheet_reading.proofs.cursor.after_dash.Tie as tie
-use Rattle.sheet_reading.proofs.cursor.after_dash.Reads as reads
-use Rattle.sheet_reading.proofs.cursor.after_dash.Lts as lts
 use Rattle.sheet_reading.proofs.Tracked.{dash-tracks}
 
 returns : tie.Need-returns

@@ -1,9 +1,6 @@
 -- `sheet_reading::cursor::before_piece` meets its contract.
-use borrow.Author.Needs.{needs}
 use Rattle.sheet_reading.proofs.cursor.before_piece.Statement.{statement}
 use Rattle.sheet_reading.proofs.cursor.before_piece.Tie as tie
-use Rattle.sheet_reading.proofs.cursor.before_piece.Reads as reads
-use Rattle.sheet_reading.proofs.cursor.before_piece.Lts as lts
 use Rattle.sheet_reading.proofs.Tracked.{before-tracks}
 
 returns : tie.Need-returns

@@ -2,8 +2,6 @@
 use borrow.Author.Needs.{needs}
 use Rattle.sheet_reading.proofs.cursor.begin.Statement.{statement}
 use Rattle.sheet_reading.proofs.cursor.begin.Tie as tie
-use Rattle.sheet_reading.proofs.cursor.begin.Reads as reads
-use Rattle.sheet_reading.proofs.cursor.begin.Lts as lts
 use mathlib.Core.Path.{refl}
 use mathlib.Core.List.{[]}
 use Rattle.policy_sheet.specs.Reader.{firstDescending, firstNonEntry}

@@ -2,8 +2,6 @@
 use borrow.Author.Needs.{needs}
 use Rattle.sheet_reading.proofs.cursor.descending_with.Statement.{statement}
 use Rattle.sheet_reading.proofs.cursor.descending_with.Tie as tie
-use Rattle.sheet_reading.proofs.cursor.descending_with.Reads as reads
-use Rattle.sheet_reading.proofs.cursor.descending_with.Lts as lts
 use Rattle.sheet_reading.proofs.Tracked.{down-ranged, down-single}
 
 returns : tie.Need-returns

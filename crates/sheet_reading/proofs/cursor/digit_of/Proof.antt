@@ -2,8 +2,6 @@
 use borrow.Author.Needs.{needs}
 use Rattle.sheet_reading.proofs.cursor.digit_of.Statement.{statement}
 use Rattle.sheet_reading.proofs.cursor.digit_of.Tie as tie
-use Rattle.sheet_reading.proofs.cursor.digit_of.Reads as reads
-use Rattle.sheet_reading.proofs.cursor.digit_of.Lts as lts
 use native.Mathlib.Omega.{arith}
 use Rattle.sheet_reading.proofs.Tracked.{value-above, value-below, value-between, value-decimal, value-letter}
 
@@ -23,4 +21,5 @@ returns-5 : tie.Need-returns-5
 returns-5 c = value-above (c .before .before .before .before .args .b) (omega arith)
 
 pub digit-of-spec : {M : Type 1} → statement M
-digit-of-spec = tie.close (tie.spec returns (λ c. search needs) returns-2 returns-3 (λ c. search needs) (λ c. search needs) returns-4 returns-5)
+digit-of-spec = tie.close (tie.spec returns (λ c. search needs) returns-2 returns-3 (λ c. search needs) (λ c. search needs) returns-4
+    returns-5)

@@ -2,13 +2,12 @@
 use borrow.Author.Needs.{needs}
 use Rattle.sheet_reading.proofs.cursor.digit_step.Statement.{statement}
 use Rattle.sheet_reading.proofs.cursor.digit_step.Tie as tie
-use Rattle.sheet_reading.proofs.cursor.digit_step.Reads as reads
-use Rattle.sheet_reading.proofs.cursor.digit_step.Lts as lts
 use native.Mathlib.Omega.{arith}
 use Rattle.sheet_reading.proofs.Tracked.{digit-on, digit-stop}
 
 returns : tie.Need-returns
-returns c at r h = digit-on (c .before .before .before .args .c) at r h (c .before .before .before .args .d) (omega arith) (c .more-digits .ensures r h)
+returns c at r h = digit-on (c .before .before .before .args .c) at r h (c .before .before .before .args .d) (omega arith)
+    (c .more-digits .ensures r h)
 
 returns-2 : tie.Need-returns-2
 returns-2 c at r h = digit-stop (c .before .before .args .c) at r h (c .before .before .args .d) (omega arith)

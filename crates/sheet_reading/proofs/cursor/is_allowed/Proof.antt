@@ -1,9 +1,6 @@
 -- `sheet_reading::cursor::is_allowed` meets its contract.
-use borrow.Author.Needs.{needs}
 use Rattle.sheet_reading.proofs.cursor.is_allowed.Statement.{statement}
 use Rattle.sheet_reading.proofs.cursor.is_allowed.Tie as tie
-use Rattle.sheet_reading.proofs.cursor.is_allowed.Reads as reads
-use Rattle.sheet_reading.proofs.cursor.is_allowed.Lts as lts
 use native.Mathlib.Omega.{arith}
 use Rattle.sheet_reading.proofs.Tracked.{allowed-none, allowed-rest, allowed-two}
 

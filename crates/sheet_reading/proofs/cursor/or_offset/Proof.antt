@@ -1,9 +1,6 @@
 -- `sheet_reading::cursor::or_offset` meets its contract.
-use borrow.Author.Needs.{needs}
 use Rattle.sheet_reading.proofs.cursor.or_offset.Statement.{statement}
 use Rattle.sheet_reading.proofs.cursor.or_offset.Tie as tie
-use Rattle.sheet_reading.proofs.cursor.or_offset.Reads as reads
-use Rattle.sheet_reading.proofs.cursor.or_offset.Lts as lts
 use Rattle.sheet_reading.proofs.Tracked.{or-found, or-missing}
 
 returns : tie.Need-returns

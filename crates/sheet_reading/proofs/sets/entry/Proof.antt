@@ -1,4 +1,4 @@
--- The table has an entry at each place below its length.
+-- `sheet_reading::sets::entry` meets its contract: the table has an entry at each index below its length.
 use native.Mathlib.Omega.{arith}
 use Rattle.unicode.specs.Unicode.{variationEntry}
 use Rattle.unicode.specs.UnicodeData.{variationEntries}

@@ -1,9 +1,6 @@
 -- `sheet_reading::sets::first_of` meets its contract.
-use borrow.Author.Needs.{needs}
 use Rattle.sheet_reading.proofs.sets.first_of.Statement.{statement}
 use Rattle.sheet_reading.proofs.sets.first_of.Tie as tie
-use Rattle.sheet_reading.proofs.sets.first_of.Reads as reads
-use Rattle.sheet_reading.proofs.sets.first_of.Lts as lts
 use Rattle.sheet_reading.proofs.PieceSets.{first-ranged-value, first-single-value}
 
 returns : tie.Need-returns

@@ -2,8 +2,6 @@
 use borrow.Author.Needs.{needs}
 use Rattle.sheet_reading.proofs.sets.is_closing.Statement.{statement}
 use Rattle.sheet_reading.proofs.sets.is_closing.Tie as tie
-use Rattle.sheet_reading.proofs.sets.is_closing.Reads as reads
-use Rattle.sheet_reading.proofs.sets.is_closing.Lts as lts
 use native.Mathlib.Omega.{arith}
 use Rattle.sheet_reading.proofs.PieceSets.{closing-comma, closing-newline, closing-none}
 
@@ -11,7 +9,8 @@ returns : tie.Need-returns
 returns c = closing-comma (c .before .before .args .b) (c .before .before .args .count) (omega arith) (c .is-allowed .ensures)
 
 returns-2 : tie.Need-returns-2
-returns-2 c = closing-newline (c .before .before .before .args .b) (c .before .before .before .args .count) (omega arith) (c .is-allowed2 .ensures)
+returns-2 c = closing-newline (c .before .before .before .args .b) (c .before .before .before .args .count) (omega arith)
+    (c .is-allowed2 .ensures)
 
 returns-3 : tie.Need-returns-3
 returns-3 c = closing-none (c .before .before .args .b) (c .before .before .args .count) (c .before .if1 .left) (c .if2 .left)

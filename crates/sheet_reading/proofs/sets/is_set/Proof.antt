@@ -1,15 +1,13 @@
--- `sheet_reading::sets::is_set` meets its contract. The invariant: each word passed has 64 bits.
-use mathlib.Core.Path.{_≡_, sym, _∙_, subst}
+-- `sheet_reading::sets::is_set` meets its contract. The loop's invariant: each word passed has 64 bits.
+use mathlib.Core.Path.{sym, _∙_}
 use Prim.Native.Nat.{ℕ, _-_, _<_, _≤_, _^_}
 use native.Mathlib.Omega.{arith}
 use borrow.Author.Count.{below-more}
 use borrow.Author.Needs.{needs}
-use lib.ListN.{getD, length, length-map}
+use lib.ListN.{getD, length-map}
 use Rattle.policy_sheet.proofs.Words.{six-words}
 use Rattle.sheet_reading.proofs.sets.is_set.Statement.{statement}
 use Rattle.sheet_reading.proofs.sets.is_set.Tie as tie
-use Rattle.sheet_reading.proofs.sets.is_set.Reads as reads
-use Rattle.sheet_reading.proofs.sets.is_set.Lts as lts
 
 abbrev Inv-loop : tie.InvT-loop
 Inv-loop words i₀ i = (i ≤ 6) × ((k : ℕ) → k < i → getD words k 0 < 2 ^ 64)
@@ -41,7 +39,9 @@ loop-again c = (omega arith, below-more _ _ (c .before .before .loop .inv .1) (c
 returns : tie.Need-returns Inv-loop μ-loop
 returns c =
     let ws = c .before .before .before .args .set .bits in
-    six-words ws (c .before .loop .i) (sym (length-map ws (λ v. v)) ∙ c .before .before .before .good .0 .1 .1 .0 .1 .0 .1) (omega arith) (c .before .loop .inv .1)
+    six-words ws (c .before .loop .i) (sym (length-map ws (λ v. v)) ∙ c .before .before .before .good .0 .1 .1 .0 .1 .0 .1) (omega arith)
+    (c .before .loop .inv .1)
 
 pub is-set-spec : {M : Type 1} → statement M
-is-set-spec = tie.close (tie.spec Inv-loop μ-loop loop-holds mul-is-word array-read-is-word is-word-requires add-i loop-less loop-again returns)
+is-set-spec = tie.close (tie.spec Inv-loop μ-loop loop-holds mul-is-word array-read-is-word is-word-requires add-i loop-less
+    loop-again returns)

@@ -2,8 +2,6 @@
 use borrow.Author.Needs.{needs}
 use Rattle.sheet_reading.proofs.sets.with_piece.Statement.{statement}
 use Rattle.sheet_reading.proofs.sets.with_piece.Tie as tie
-use Rattle.sheet_reading.proofs.sets.with_piece.Reads as reads
-use Rattle.sheet_reading.proofs.sets.with_piece.Lts as lts
 
 returns : tie.Need-returns
 returns c xs x s h = record {

@@ -2,14 +2,13 @@
 use borrow.Author.Needs.{needs}
 use Rattle.sheet_reading.proofs.sets.with_piece_in.Statement.{statement}
 use Rattle.sheet_reading.proofs.sets.with_piece_in.Tie as tie
-use Rattle.sheet_reading.proofs.sets.with_piece_in.Reads as reads
-use Rattle.sheet_reading.proofs.sets.with_piece_in.Lts as lts
 use native.Mathlib.Omega.{arith}
 use Rattle.sheet_reading.proofs.PieceSets.{set-more, set-other}
 use Rattle.policy_sheet.specs.Meaning.{inSet}
 
 returns : tie.Need-returns
-returns c xs x s h = set-more (c .with-range .result .bits) xs x (omega arith) s (c .with-range .ensures (inSet xs (c .before .before .args .k)) h)
+returns c xs x s h = set-more (c .with-range .result .bits) xs x (omega arith) s
+    (c .with-range .ensures (inSet xs (c .before .before .args .k)) h)
 
 returns-2 : tie.Need-returns-2
 returns-2 c xs x s h = set-other (c .before .args .set .bits) xs x (c .if1 .left) s h

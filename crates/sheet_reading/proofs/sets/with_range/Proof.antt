@@ -1,31 +1,28 @@
--- `sheet_reading::sets::with_range` meets its contract. The invariant: the entries of the range below entry i are in.
-use mathlib.Core.Path.{refl}
-use Prim.Native.Nat.{_-_}
-use native.Mathlib.Omega.{arith}
+-- `sheet_reading::sets::with_range` meets its contract: the entries up to the range's end without those below its start.
 use borrow.Author.Needs.{needs}
-use Rattle.sheet_reading.proofs.RangeSets.{Ranged, ranged-all, ranged-more, ranged-none}
+use Rattle.sheet_reading.proofs.RangeSets.{range-added}
 use Rattle.sheet_reading.proofs.sets.with_range.Statement.{statement}
 use Rattle.sheet_reading.proofs.sets.with_range.Tie as tie
-use Rattle.sheet_reading.proofs.sets.with_range.Reads as reads
-use Rattle.sheet_reading.proofs.sets.with_range.Lts as lts
 
-abbrev Inv-loop : tie.InvT-loop
-Inv-loop lo hi z₀ i₀ z i = Ranged lo hi (z₀ .bits) (z .bits) i
-
-abbrev μ-loop : tie.MeasureT-loop
-μ-loop lo hi z₀ i₀ z i = 354 - i
-
-loop-holds : tie.Need-loop-holds Inv-loop μ-loop
-loop-holds c = ranged-none _ _ _
-
-loop-less : tie.Need-loop-less Inv-loop μ-loop
-loop-less c = omega arith
-
-loop-again : tie.Need-loop-again Inv-loop μ-loop
-loop-again c = ranged-more (c .before .before .before .loop .inv) (omega arith) (c .before .entry .ensures) (c .with-entry .ensures)
-
-returns : tie.Need-returns Inv-loop μ-loop
-returns c p h = ranged-all (c .before .loop .inv) (omega arith) p h
+returns : tie.Need-returns
+returns c p h =
+    let a = c .before .before .first-entries2 in
+    let t = c .before .before .before .entries-below2 in
+    let b = c .before .before .before .before .first-entries in
+    let f = c .before .before .before .before .before .entries-below in
+    let x = c .before .before .before .before .before .before .args in
+    range-added (x .lo) (x .hi) (f .result) (t .result) (x .set .bits) (b .result .bits) (a .result .bits) (c .before .sub .result .bits)
+    (c .bitor .result .bits) (f .ensures .1) (t .ensures .1) (b .ensures) (a .ensures) (c .before .sub .ensures) (c .bitor .ensures) p h
 
 pub with-range-spec : {M : Type 1} → statement M
-with-range-spec = tie.close (tie.spec Inv-loop μ-loop loop-holds (λ c κs. search needs) (λ c κs. search needs) (λ c. search needs) loop-less loop-again returns)
+with-range-spec =
+    tie.close
+    (tie.spec
+    (λ c κs. search needs)
+    (λ c κs. search needs)
+    (λ c. search needs)
+    (λ c κs. search needs)
+    (λ c κs. search needs)
+    (λ c κs. search needs)
+    (λ c κs. search needs)
+    returns)
