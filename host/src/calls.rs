@@ -13,6 +13,8 @@ pub const POLICY_BYTES: usize = 192;
 pub const FINDING_BYTES: usize = 112;
 /// The bytes of an item in a table.
 pub const ITEM_BYTES: usize = 64;
+/// No sheet that is written has more bytes.
+pub const SHEET_ROOM: usize = 9916;
 
 /// The functions of `include/tilghorz.h`, each with its slices.
 pub trait Calls {

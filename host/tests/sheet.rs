@@ -1,7 +1,7 @@
 //! The reading of document 02, (vi), by its sentences.
 
 use tilghorz_comparison::Random;
-use tilghorz_comparison::calls::{Answer, Calls, POLICY_BYTES, Reference};
+use tilghorz_comparison::calls::{Answer, Calls, POLICY_BYTES, Reference, SHEET_ROOM};
 use tilghorz_comparison::comparison::faults::Fault;
 use tilghorz_comparison::comparison::faulty::Faulty;
 use tilghorz_comparison::comparison::{sheet_case, sheets};
@@ -253,6 +253,15 @@ fn drawn_sheets_are_of_each_kind() {
     for number in [0, 11, 12] {
         assert!(numbers[number] > 500, "{numbers:?}");
     }
+}
+
+#[test]
+fn every_sheet_has_room() {
+    let mut random = Random::from_seed(1);
+    let lengths = sheets::policies(&mut random)
+        .into_iter()
+        .map(|policy| sheet::write(&policy).wanted());
+    assert!(lengths.max() <= Some(SHEET_ROOM));
 }
 
 #[test]

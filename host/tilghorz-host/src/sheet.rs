@@ -75,8 +75,8 @@ fn separator_error(byte: u8, sheet: &[u8], offset: usize, piece: &[u8], digits: 
             "a comma at the start of the line".to_owned()
         }
         (0, _) => "nothing between two commas".to_owned(),
-        (1, _) => "a code point of one digit: it has two or four to six".to_owned(),
-        (3, _) => "a code point of three digits: it has two or four to six".to_owned(),
+        (1, _) => "one digit: a code point has two or four to six".to_owned(),
+        (3, _) => "three digits: a code point has two or four to six".to_owned(),
         _ => "a second dash in a range".to_owned(),
     }
 }
@@ -117,14 +117,9 @@ mod tests {
     #[test]
     fn each_error_of_form_has_its_words() {
         for (sheet, offset, place, wrong) in [
-            ("30,3\n", 4, "1, column 5", "a code point of one digit"),
-            (
-                "\n276,30\n",
-                4,
-                "2, column 4",
-                "a code point of three digits",
-            ),
-            ("276-30", 3, "1, column 4", "a code point of three digits"),
+            ("30,3\n", 4, "1, column 5", "one digit: "),
+            ("\n276,30\n", 4, "2, column 4", "three digits: "),
+            ("276-30", 3, "1, column 4", "three digits: "),
             ("0000030\n", 6, "1, column 7", "a seventh digit"),
             ("\n\na9\n\n", 2, "3, column 1", "a digit in lower case"),
             ("30, 31\n", 3, "1, column 4", "a blank"),

@@ -77,7 +77,7 @@ fn what_is_wrong_with_a_sheet_is_told_with_line_and_column() {
             "\n\n276\n\n",
             11,
             "at byte 5, in line 3, column 4",
-            "a code point of three digits: ",
+            "three digits: ",
         ),
         (
             "0000030\n\n\n\n",

@@ -11,9 +11,6 @@ use crate::{Refusal, answer, sys};
 /// The bytes of a character set: a policy is four.
 const SET_BYTES: usize = sys::POLICY_BYTES / 4;
 
-/// The room for a sheet at first.
-const FIRST_SHEET: usize = 4096;
-
 /// A policy: two key sets, each an ordinary and a keycap set of characters.
 ///
 /// ```
@@ -161,13 +158,14 @@ impl Policy {
     /// Its sheet, in bytes. They are ASCII.
     #[must_use]
     pub fn to_sheet(&self) -> Vec<u8> {
-        match with_room(FIRST_SHEET, 1, |out| self.write_sheet_into(out)) {
+        match with_room(sys::SHEET_ROOM, 1, |out| self.write_sheet_into(out)) {
             Ok((len, out)) => front(out, len),
             Err(refusal) => panic!("the linked library refuses its own policy: {refusal}"),
         }
     }
 
-    /// Writes its sheet into the caller's buffer, and gives the length of the sheet. What is after it stays as it was.
+    /// Writes its sheet into the caller's buffer, and gives the length of the sheet. [`sys::SHEET_ROOM`] bytes are always
+    /// enough room. What is after the sheet stays as it was.
     ///
     /// # Errors
     /// Refusal 8; the buffer is then as it was.

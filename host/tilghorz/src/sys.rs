@@ -19,6 +19,8 @@ pub const ITEM_BYTES: usize = 64;
 pub const FEED_BYTES: usize = 312;
 /// The bytes of the totals of a feed.
 pub const TOTALS_BYTES: usize = 64;
+/// No sheet that is written has more bytes.
+pub const SHEET_ROOM: usize = 9916;
 
 unsafe extern "C" {
     fn tilghorz_format(
