@@ -31,6 +31,8 @@ CLAIMED_RECORDS = {
     "FeedInBytes": "EveryFeedInBytes",
     "NextPiece": "FeedInBytes",
     "NextEnd": "FeedInBytes",
+    "ReadCall": "EveryReadCall",
+    "WriteCall": "EveryWriteCall",
 }
 # Names of Rust's standard library that docs/AUDIT.md and docs/DECISIONS.md quote from document 01 or from evfmt.
 OF_RUST = {"Clone", "Debug", "Hash", "Option", "PartialEq", "Peekable", "String", "Vec", "VecDeque"}

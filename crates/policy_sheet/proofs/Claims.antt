@@ -223,7 +223,7 @@ fewest-digits c s h = (fewest h, point-written c (point-small h))
 pub sheet-examples : SheetExamples
 unfolding SheetExamples readSheet answerOf run transition transitionBy kindOf allowedDigits isNone orElse firstDescending firstNonEntry
     hasVariationSequence in-table variationEntries
-sheet-examples = (refl, refl, refl, refl, refl, refl, refl, refl, refl, refl, refl, refl, refl, refl, refl, refl)
+sheet-examples = (refl, refl, refl, refl, refl, refl, refl, refl, refl, refl, refl, refl, refl, refl, refl, refl, refl)
 
 pub writing-example : WritingExample
 unfolding WritingExample writeSheet lineText runText runsFrom withEntry joined firstIn fewestDigits hexDigits hexDigit parted in-set one

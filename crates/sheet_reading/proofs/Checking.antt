@@ -64,42 +64,42 @@ not-found n false e p = sym p
 not-found n true e p = let z : _≡_ {A = ℕ} 0 1 = cc in absurd (omega arith)
 
 module _ (c : Cursor) (r : State) (h : Tracks c r) where
-  pub stopped-down : (at len : ℕ) → c .down .found ≡ true → NotASheet (c .down .at) ≡ checkOf len (stopped at r)
+  pub stopped-down : (at len : ℕ) → c .descending .found ≡ true → NotASheet (c .descending .at) ≡ checkOf len (stopped at r)
   unfolding checkOf
-  stopped-down at len e = sym (ap (λ (o : Option ℕ). checkDescending o (NotASheet at)) (found-at (c .down .found) e (h .down)))
+  stopped-down at len e = sym (ap (λ (o : Option ℕ). checkDescending o (NotASheet at)) (found-at (c .descending .found) e (h .descending)))
 
-  pub stopped-here : (at len : ℕ) → c .down .found ≡ false → NotASheet at ≡ checkOf len (stopped at r)
+  pub stopped-here : (at len : ℕ) → c .descending .found ≡ false → NotASheet at ≡ checkOf len (stopped at r)
   unfolding checkOf
-  stopped-here at len e = sym (ap (λ (o : Option ℕ). checkDescending o (NotASheet at)) (not-found (c .down .at) (c .down .found) e
-      (h .down)))
+  stopped-here at len e =
+      sym (ap (λ (o : Option ℕ). checkDescending o (NotASheet at)) (not-found (c .descending .at) (c .descending .found) e (h .descending)))
 
-  pub ended-down : (len : ℕ) → c .down .found ≡ true → NotASheet (c .down .at) ≡ checkOf len (reached r)
+  pub ended-down : (len : ℕ) → c .descending .found ≡ true → NotASheet (c .descending .at) ≡ checkOf len (reached r)
   unfolding checkOf
   ended-down len e =
       sym (ap (λ (o : Option ℕ). checkDescending o (cond (eqb (r .line) 4) (checkNonEntry (firstNonEntry (r .pieces))) (NotASheet len)))
-      (found-at (c .down .found) e (h .down)))
+      (found-at (c .descending .found) e (h .descending)))
 
-  no-down : (len : ℕ) → c .down .found ≡ false → checkOf len (reached r) ≡ cond (eqb (r .line) 4)
+  no-down : (len : ℕ) → c .descending .found ≡ false → checkOf len (reached r) ≡ cond (eqb (r .line) 4)
       (checkNonEntry (firstNonEntry (r .pieces))) (NotASheet len)
   unfolding checkOf
   no-down len e = ap (λ (o : Option ℕ). checkDescending o (cond (eqb (r .line) 4) (checkNonEntry (firstNonEntry (r .pieces)))
-      (NotASheet len))) (not-found (c .down .at) (c .down .found) e (h .down))
+      (NotASheet len))) (not-found (c .descending .at) (c .descending .found) e (h .descending))
 
   at-four : c .line ≡ 4 → eqb (r .line) 4 ≡ true
   at-four e = eq-eqb (r .line) 4 (sym (h .line) ∙ e)
 
-  pub ended-other : (len : ℕ) → c .down .found ≡ false → c .line ≡ 4 → c .other .found ≡ true
-      → NotAnEntry (c .other .at) ≡ checkOf len (reached r)
+  pub ended-other : (len : ℕ) → c .descending .found ≡ false → c .line ≡ 4 → c .stray .found ≡ true
+      → NotAnEntry (c .stray .at) ≡ checkOf len (reached r)
   ended-other len e f g =
       sym (no-down len e ∙ ap₂ (λ (t : Bool) (o : Option ℕ). cond t (checkNonEntry o) (NotASheet len)) (at-four f)
-      (found-at (c .other .found) g (h .other)))
+      (found-at (c .stray .found) g (h .stray)))
 
-  pub ended-formed : (len : ℕ) → c .down .found ≡ false → c .line ≡ 4 → c .other .found ≡ false → Formed ≡ checkOf len (reached r)
+  pub ended-formed : (len : ℕ) → c .descending .found ≡ false → c .line ≡ 4 → c .stray .found ≡ false → Formed ≡ checkOf len (reached r)
   ended-formed len e f g =
       sym (no-down len e ∙ ap₂ (λ (t : Bool) (o : Option ℕ). cond t (checkNonEntry o) (NotASheet len)) (at-four f)
-      (not-found (c .other .at) (c .other .found) g (h .other)))
+      (not-found (c .stray .at) (c .stray .found) g (h .stray)))
 
-  pub ended-short : (len : ℕ) → c .down .found ≡ false → (c .line ≡ 4 → ⊥) → NotASheet len ≡ checkOf len (reached r)
+  pub ended-short : (len : ℕ) → c .descending .found ≡ false → (c .line ≡ 4 → ⊥) → NotASheet len ≡ checkOf len (reached r)
   ended-short len e f =
       sym (no-down len e ∙ ap (λ (t : Bool). cond t (checkNonEntry (firstNonEntry (r .pieces))) (NotASheet len))
       (ne-eqb (r .line) 4 (λ p. f (h .line ∙ p))))

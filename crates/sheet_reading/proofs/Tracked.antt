@@ -154,8 +154,8 @@ pow-five (suc (suc (suc (suc zero)))) h = omega arith
 pow-five (suc (suc (suc (suc (suc zero))))) h = omega arith
 pow-five (suc (suc (suc (suc (suc (suc k)))))) h = absurd (omega arith)
 
-pub before-tracks : (line next : ℕ) (fresh : Bool) (down other : MaybeOffset) (xs : List Piece) → offsetIn down ≡ firstDescending xs
-    → offsetIn other ≡ firstNonEntry xs
+pub before-tracks : (line next : ℕ) (fresh : Bool) (descending stray : MaybeOffset) (xs : List Piece)
+    → offsetIn descending ≡ firstDescending xs → offsetIn stray ≡ firstNonEntry xs
     → Tracks (record {
       line = line;
       fresh = fresh;
@@ -165,20 +165,20 @@ pub before-tracks : (line next : ℕ) (fresh : Bool) (down other : MaybeOffset) 
       from = next;
       count = 0;
       value = 0;
-      down = down;
-      other = other;
+      descending = descending;
+      stray = stray;
     })
     (beforePiece line fresh xs next)
 unfolding firstPoint
-before-tracks line next fresh down others xs p q = record {
+before-tracks line next fresh descending stray xs p q = record {
   line = refl;
   fresh = refl;
   first = refl;
   from = refl;
   count = refl;
   value = refl;
-  down = p;
-  other = q;
+  descending = p;
+  stray = q;
   digits = omega arith;
   small = omega arith;
 }
@@ -193,8 +193,8 @@ pub dash-tracks : (c : Cursor) (next : ℕ) (r : State) → Tracks c r
       from = next;
       count = 0;
       value = 0;
-      down = c .down;
-      other = c .other;
+      descending = c .descending;
+      stray = c .stray;
     })
     (afterDash r next)
 unfolding firstPoint
@@ -205,8 +205,8 @@ dash-tracks c next r h = record {
   from = refl;
   count = refl;
   value = refl;
-  down = h .down;
-  other = h .other;
+  descending = h .descending;
+  stray = h .stray;
   digits = omega arith;
   small = omega arith;
 }
@@ -221,8 +221,8 @@ pub digit-tracks : (c : Cursor) (d : ℕ) → c .count < 6 → d < 16 → (r : S
       from = c .from;
       count = c .count + 1;
       value = c .value % 0x100000 * 16 + d;
-      down = c .down;
-      other = c .other;
+      descending = c .descending;
+      stray = c .stray;
     })
     (moreDigits r d)
 digit-tracks c d k l r h =
@@ -237,8 +237,8 @@ digit-tracks c d k l r h =
       from = h .from;
       count = omega arith;
       value = omega arith;
-      down = h .down;
-      other = h .other;
+      descending = h .descending;
+      stray = h .stray;
       digits = omega arith;
       small = omega (arith, pow-suc 16 (r .count));
     }
@@ -257,42 +257,42 @@ module _ (c : Cursor) (r : State) (h : Tracks c r) where
       ∙ ap (λ (t : Bool). orElse (firstPoint t (c .«first_at») (c .«first_value»)) (numberRead r)) e
 
   pub down-ranged : {o : Option ℕ} → c .ranged ≡ true
-      → o ≡ orFound (offsetIn (c .down)) (found (ltb (c .value) (c .«first_value»)) (c .«first_at»))
+      → o ≡ orFound (offsetIn (c .descending)) (found (ltb (c .value) (c .«first_value»)) (c .«first_at»))
       → o ≡ firstDescending (r .pieces ++ (pieceRead r ∷ []))
   down-ranged e q =
-      q ∙ ap₂ (λ (a : Option ℕ) (x : Point). orFound a (found (ltb (c .value) (x .value)) (x .at))) (h .down) (sym (first-ranged e))
+      q ∙ ap₂ (λ (a : Option ℕ) (x : Point). orFound a (found (ltb (c .value) (x .value)) (x .at))) (h .descending) (sym (first-ranged e))
       ∙ ap (λ (v : ℕ). orFound (firstDescending (r .pieces)) (found (ltb v (pieceRead r .first .value)) (pieceRead r .first .at)))
       (h .value)
       ∙ sym (down-snoc (r .pieces) (pieceRead r))
 
-  pub down-single : c .ranged ≡ false → offsetIn (c .down) ≡ firstDescending (r .pieces ++ (pieceRead r ∷ []))
+  pub down-single : c .ranged ≡ false → offsetIn (c .descending) ≡ firstDescending (r .pieces ++ (pieceRead r ∷ []))
   unfolding found
   down-single e =
-      h .down ∙ sym (or-none (firstDescending (r .pieces)))
+      h .descending ∙ sym (or-none (firstDescending (r .pieces)))
       ∙ ap (λ (t : Bool). orFound (firstDescending (r .pieces)) (found t (pieceRead r .first .at)))
       (sym (ap (λ (x : Point). ltb (r .value) (x .value)) (first-single e) ∙ le-ltb (r .value) (r .value) (omega arith)))
       ∙ sym (down-snoc (r .pieces) (pieceRead r))
 
   pub other-ranged : {o a : Option ℕ} {t u : Bool} → c .ranged ≡ true → t ≡ not (hasVariationSequence (c .«first_value»))
-      → u ≡ not (hasVariationSequence (c .value)) → a ≡ orFound (offsetIn (c .other)) (found t (c .«first_at»))
+      → u ≡ not (hasVariationSequence (c .value)) → a ≡ orFound (offsetIn (c .stray)) (found t (c .«first_at»))
       → o ≡ orFound a (found u (c .from))
       → o ≡ firstNonEntry (r .pieces ++ (pieceRead r ∷ []))
   other-ranged {a = a} e i j f g =
-      let p = f ∙ ap (λ (t : Bool). orFound (offsetIn (c .other)) (found t (c .«first_at»))) i in
+      let p = f ∙ ap (λ (t : Bool). orFound (offsetIn (c .stray)) (found t (c .«first_at»))) i in
       g ∙ ap (λ (t : Bool). orFound a (found t (c .from))) j
       ∙ ap (λ (x : Option ℕ). orFound x (found (not (hasVariationSequence (c .value))) (c .from))) p
-      ∙ or-or (offsetIn (c .other)) _ _
+      ∙ or-or (offsetIn (c .stray)) _ _
       ∙ ap₂ (λ (a : Option ℕ) (x : Point). orFound a (orFound (found (not (hasVariationSequence (x .value))) (x .at))
-      (found (not (hasVariationSequence (c .value))) (c .from)))) (h .other) (sym (first-ranged e))
+      (found (not (hasVariationSequence (c .value))) (c .from)))) (h .stray) (sym (first-ranged e))
       ∙ ap₂ (λ (v n : ℕ). orFound (firstNonEntry (r .pieces)) (orFound (found (not (hasVariationSequence (pieceRead r .first .value)))
       (pieceRead r .first .at)) (found (not (hasVariationSequence v)) n))) (h .value) (h .from)
       ∙ sym (other-snoc (r .pieces) (pieceRead r) ∙ ap (orFound (firstNonEntry (r .pieces))) (other-one (pieceRead r)))
 
   pub other-single : {o : Option ℕ} {u : Bool} → c .ranged ≡ false → u ≡ not (hasVariationSequence (c .value))
-      → o ≡ orFound (offsetIn (c .other)) (found u (c .from)) → o ≡ firstNonEntry (r .pieces ++ (pieceRead r ∷ []))
+      → o ≡ orFound (offsetIn (c .stray)) (found u (c .from)) → o ≡ firstNonEntry (r .pieces ++ (pieceRead r ∷ []))
   other-single e j g =
-      g ∙ ap (λ (t : Bool). orFound (offsetIn (c .other)) (found t (c .from))) j
-      ∙ ap (λ (a : Option ℕ). orFound a (found (not (hasVariationSequence (c .value))) (c .from))) (h .other)
+      g ∙ ap (λ (t : Bool). orFound (offsetIn (c .stray)) (found t (c .from))) j
+      ∙ ap (λ (a : Option ℕ). orFound a (found (not (hasVariationSequence (c .value))) (c .from))) (h .stray)
       ∙ ap₂ (λ (v n : ℕ). orFound (firstNonEntry (r .pieces)) (found (not (hasVariationSequence v)) n)) (h .value) (h .from)
       ∙ ap (orFound (firstNonEntry (r .pieces))) (twice (not (hasVariationSequence (r .value))) (r .from))
       ∙ ap (λ (x : Point). orFound (firstNonEntry (r .pieces)) (orFound (found (not (hasVariationSequence (x .value))) (x .at))

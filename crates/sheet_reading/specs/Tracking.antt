@@ -66,8 +66,8 @@ pub record Tracks (c : Cursor) (r : State) : Type 0 where
   pub from : c .from ≡ r .from
   pub count : c .count ≡ r .count
   pub value : c .value ≡ r .value
-  pub down : offsetIn (c .down) ≡ firstDescending (r .pieces)
-  pub other : offsetIn (c .other) ≡ firstNonEntry (r .pieces)
+  pub descending : offsetIn (c .descending) ≡ firstDescending (r .pieces)
+  pub stray : offsetIn (c .stray) ≡ firstNonEntry (r .pieces)
   pub digits : r .count ≤ 6
   pub small : r .value < 16 ^ r .count
 

@@ -17,8 +17,8 @@ pub(crate) struct MaybeOffset {
 }
 
 // What was read of a sheet: the line, from 0 on; whether nothing of it was read; whether a dash was read in the piece, and then the
-// first code point of the range; where the number begins, its digits so far and their value; the first range that runs down; the first
-// code point that is no variation entry.
+// first code point of the range; where the number begins, its digits so far and their value; the start of the first
+// range that runs down (`descending`); the offset of the first code point that is no variation entry (`stray`).
 pub(crate) struct Cursor {
     pub(crate) line: u32,
     pub(crate) fresh: bool,
@@ -28,8 +28,8 @@ pub(crate) struct Cursor {
     pub(crate) from: usize,
     pub(crate) count: u32,
     pub(crate) value: u32,
-    pub(crate) down: MaybeOffset,
-    pub(crate) other: MaybeOffset,
+    pub(crate) descending: MaybeOffset,
+    pub(crate) stray: MaybeOffset,
 }
 
 // The cursor after one more byte, or that the byte cannot follow.
@@ -88,8 +88,8 @@ fn more_digits(c: Cursor, d: u32) -> Cursor
     requires { ⌜ (c .count < 6) × (d < 16) ⌝ }
     ensures { λ x. ⌜ ((r : State) → Tracks c r → Tracks x (moreDigits r d)) ⌝ }
 {
-    let down = c.down;
-    let other = c.other;
+    let descending = c.descending;
+    let stray = c.stray;
     Cursor {
         line: c.line,
         fresh: false,
@@ -99,8 +99,8 @@ fn more_digits(c: Cursor, d: u32) -> Cursor
         from: c.from,
         count: c.count + 1,
         value: (c.value % 0x100000) * 16 + d,
-        down,
-        other,
+        descending,
+        stray,
     }
 }
 
@@ -108,8 +108,8 @@ fn more_digits(c: Cursor, d: u32) -> Cursor
 fn after_dash(c: Cursor, next: usize) -> Cursor
     ensures { λ x. ⌜ ((r : State) → Tracks c r → Tracks x (afterDash r next)) ⌝ }
 {
-    let down = c.down;
-    let other = c.other;
+    let descending = c.descending;
+    let stray = c.stray;
     Cursor {
         line: c.line,
         fresh: false,
@@ -119,8 +119,8 @@ fn after_dash(c: Cursor, next: usize) -> Cursor
         from: next,
         count: 0,
         value: 0,
-        down,
-        other,
+        descending,
+        stray,
     }
 }
 
@@ -128,11 +128,11 @@ fn after_dash(c: Cursor, next: usize) -> Cursor
 fn before_piece(
     line: u32,
     fresh: bool,
-    down: MaybeOffset,
-    other: MaybeOffset,
+    descending: MaybeOffset,
+    stray: MaybeOffset,
     next: usize,
 ) -> Cursor
-    ensures { λ x. ⌜ ((xs : List Piece) → offsetIn down ≡ firstDescending xs → offsetIn other ≡ firstNonEntry xs
+    ensures { λ x. ⌜ ((xs : List Piece) → offsetIn descending ≡ firstDescending xs → offsetIn stray ≡ firstNonEntry xs
         → Tracks x (beforePiece line fresh xs next)) ⌝ }
 {
     Cursor {
@@ -144,8 +144,8 @@ fn before_piece(
         from: next,
         count: 0,
         value: 0,
-        down,
-        other,
+        descending,
+        stray,
     }
 }
 
@@ -153,11 +153,11 @@ fn before_piece(
 fn descending_with(c: Cursor) -> MaybeOffset
     ensures { λ x. ⌜ ((r : State) → Tracks c r → offsetIn x ≡ firstDescending (r .pieces ++ (pieceRead r ∷ []))) ⌝ }
 {
-    let down = c.down;
+    let descending = c.descending;
     if c.ranged {
-        return or_offset(down, c.value < c.first_value, c.first_at);
+        return or_offset(descending, c.value < c.first_value, c.first_at);
     }
-    down
+    descending
 }
 
 // Tests whether a code point is no variation entry.
@@ -171,14 +171,14 @@ fn is_no_entry(v: u32) -> bool
 fn non_entry_with(c: Cursor) -> MaybeOffset
     ensures { λ x. ⌜ ((r : State) → Tracks c r → offsetIn x ≡ firstNonEntry (r .pieces ++ (pieceRead r ∷ []))) ⌝ }
 {
-    let other = c.other;
+    let stray = c.stray;
     let last = is_no_entry(c.value);
     if c.ranged {
         let first = is_no_entry(c.first_value);
-        let earlier = or_offset(other, first, c.first_at);
+        let earlier = or_offset(stray, first, c.first_at);
         return or_offset(earlier, last, c.from);
     }
-    or_offset(other, last, c.from)
+    or_offset(stray, last, c.from)
 }
 
 // Takes a digit.
@@ -197,9 +197,9 @@ fn comma_step(c: Cursor, next: usize) -> Step
     ensures { λ x. ⌜ ((at : ℕ) (r : State) → next ≡ at + 1 → Tracks c r → StepResult (transitionBy at r comma) x) ⌝ }
 {
     if is_allowed(c.count) {
-        let down = descending_with(c);
-        let other = non_entry_with(c);
-        return Step::On(before_piece(c.line, false, down, other, next));
+        let descending = descending_with(c);
+        let stray = non_entry_with(c);
+        return Step::On(before_piece(c.line, false, descending, stray, next));
     }
     Step::Stop
 }
@@ -224,14 +224,14 @@ fn newline_step(c: Cursor, next: usize) -> Step
 {
     let line = c.line + 1;
     if is_allowed(c.count) {
-        let down = descending_with(c);
-        let other = non_entry_with(c);
-        return Step::On(before_piece(line, true, down, other, next));
+        let descending = descending_with(c);
+        let stray = non_entry_with(c);
+        return Step::On(before_piece(line, true, descending, stray, next));
     }
     if c.fresh {
-        let down = c.down;
-        let other = c.other;
-        return Step::On(before_piece(line, true, down, other, next));
+        let descending = c.descending;
+        let stray = c.stray;
+        return Step::On(before_piece(line, true, descending, stray, next));
     }
     Step::Stop
 }

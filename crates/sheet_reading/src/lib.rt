@@ -37,9 +37,9 @@ enum SheetCheck {
 fn stopped_at(c: Cursor, at: usize) -> SheetCheck
     ensures { λ x. ⌜ ((len : ℕ) (r : State) → Tracks c r → x ≡ checkOf len (stopped at r)) ⌝ }
 {
-    let down = c.down;
-    if down.found {
-        return SheetCheck::NotASheet(down.at);
+    let descending = c.descending;
+    if descending.found {
+        return SheetCheck::NotASheet(descending.at);
     }
     SheetCheck::NotASheet(at)
 }
@@ -48,14 +48,14 @@ fn stopped_at(c: Cursor, at: usize) -> SheetCheck
 fn ended_at(c: Cursor, len: usize) -> SheetCheck
     ensures { λ x. ⌜ ((r : State) → Tracks c r → x ≡ checkOf len (reached r)) ⌝ }
 {
-    let down = c.down;
-    if down.found {
-        return SheetCheck::NotASheet(down.at);
+    let descending = c.descending;
+    if descending.found {
+        return SheetCheck::NotASheet(descending.at);
     }
     if c.line == 4 {
-        let other = c.other;
-        if other.found {
-            return SheetCheck::NotAnEntry(other.at);
+        let stray = c.stray;
+        if stray.found {
+            return SheetCheck::NotAnEntry(stray.at);
         }
         return SheetCheck::Formed;
     }

@@ -13,7 +13,7 @@ returns c at r n h = newline-on (c .before .before .before .before .before .befo
 returns-2 : tie.Need-returns-2
 returns-2 c at r n h = newline-empty (c .before .before .before .before .before .before .before .args .c) at r h
     (c .before .before .before .before .before .is-allowed .ensures) (c .before .before .before .before .if1 .left)
-    (c .before .before .before .if2 .taken) n refl (c .before-piece2 .ensures _ (h .down) (h .other))
+    (c .before .before .before .if2 .taken) n refl (c .before-piece2 .ensures _ (h .descending) (h .stray))
 
 returns-3 : tie.Need-returns-3
 returns-3 c at r n h = newline-stop (c .before .before .before .before .args .c) at r h (c .before .before .is-allowed .ensures)
