@@ -62,6 +62,9 @@ pub fn formatted(text: &str, policy: &Policy) -> Option<Vec<u8>> {
     }
 }
 
+/// The bytes of a finding in the table of [`findings`]: ten numbers, without the positions, which the crate does not have.
+pub const FINDING_BYTES: usize = 80;
+
 /// The findings as a table of ten numbers each.
 #[must_use]
 pub fn findings(text: &str, policy: &Policy) -> Vec<u8> {

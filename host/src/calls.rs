@@ -5,7 +5,7 @@
 use std::fmt::{self, Display, Formatter};
 
 use crate::reference::calls::{self, Draft};
-use crate::reference::{characters, kept, policy};
+use crate::reference::{characters, kept, policy, sheet};
 
 /// The bytes of a policy.
 pub const POLICY_BYTES: usize = 192;
@@ -13,6 +13,8 @@ pub const POLICY_BYTES: usize = 192;
 pub const FINDING_BYTES: usize = 112;
 /// The bytes of an item in a table.
 pub const ITEM_BYTES: usize = 64;
+/// No sheet that is written has more bytes.
+pub const SHEET_ROOM: usize = 9916;
 
 /// The functions of `include/tilghorz.h`, each with its slices.
 pub trait Calls {
@@ -41,6 +43,10 @@ pub trait Calls {
     fn feed_end(&self, feed: &mut [u8], out: &mut [u8]) -> u64;
     /// `tilghorz_feed_totals`.
     fn feed_totals(&self, feed: &[u8], totals: &mut [u8]) -> u64;
+    /// `tilghorz_read_sheet`.
+    fn read_sheet(&self, sheet: &[u8], out: &mut [u8]) -> u64;
+    /// `tilghorz_write_sheet`.
+    fn write_sheet(&self, policy: &[u8], out: &mut [u8]) -> u64;
     /// `tilghorz_default_policy`.
     fn default_policy(&self, out: &mut [u8]) -> u64;
     /// `tilghorz_variation_entry`.
@@ -50,7 +56,7 @@ pub trait Calls {
 /// An answer: the number in a word's top 8 bits, and the value in its low 56.
 #[derive(Debug, Clone, Copy, PartialEq, Eq)]
 pub struct Answer {
-    /// 0 done, 1 to 10 a refusal, 255 nothing to do.
+    /// 0 done, 1 to 12 a refusal, 255 nothing to do.
     pub number: u8,
     /// What the table of refusals says is returned, or what was written.
     pub value: u64,
@@ -143,6 +149,14 @@ impl Calls for Reference {
 
     fn feed_totals(&self, feed: &[u8], totals: &mut [u8]) -> u64 {
         kept::totals(feed, totals).word()
+    }
+
+    fn read_sheet(&self, sheet: &[u8], out: &mut [u8]) -> u64 {
+        write(&sheet::read(sheet), out)
+    }
+
+    fn write_sheet(&self, policy: &[u8], out: &mut [u8]) -> u64 {
+        write(&sheet::write(policy), out)
     }
 
     fn default_policy(&self, out: &mut [u8]) -> u64 {

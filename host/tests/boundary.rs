@@ -43,6 +43,12 @@ fn faults_are_reported_with_a_reduced_text() {
         (Fault::RoomByNeed, "feeds"),
         (Fault::RefusedFeedChanges, "feeds"),
         (Fault::RefusedPieceWrites, "feeds"),
+        (Fault::LastEnd, "sheets"),
+        (Fault::DownUnclosed, "sheets"),
+        (Fault::RoomBeforeSheet, "sheets"),
+        (Fault::RefusedSheetWrites, "sheets"),
+        (Fault::ByteAfterPolicy, "sheets"),
+        (Fault::SheetLength, "sheets"),
     ] {
         let (is_same, text) = printed(&Faulty::new(&Reference, fault));
         assert!(!is_same, "{fault:?}");
@@ -91,6 +97,14 @@ impl Calls for WholeWords {
 
     fn feed_totals(&self, feed: &[u8], totals: &mut [u8]) -> u64 {
         Reference.feed_totals(feed, totals)
+    }
+
+    fn read_sheet(&self, sheet: &[u8], out: &mut [u8]) -> u64 {
+        Reference.read_sheet(sheet, out)
+    }
+
+    fn write_sheet(&self, policy: &[u8], out: &mut [u8]) -> u64 {
+        Reference.write_sheet(policy, out)
     }
 
     fn default_policy(&self, out: &mut [u8]) -> u64 {

@@ -24,6 +24,7 @@ const SHORT: Options = Options {
     seconds: 60,
     seed: 1,
     length: 2,
+    sheets: 4,
     limits: false,
     published: false,
 };
@@ -54,6 +55,7 @@ fn the_reference_has_no_difference_from_itself() {
         "repaired",
         "lists",
         "feeds",
+        "sheets",
     ];
     for kind in kinds {
         assert!(text.lines().any(|line| line.starts_with(kind)), "{text}");
@@ -188,13 +190,14 @@ fn parsed(arguments: &str) -> Result<Command, String> {
 #[test]
 fn arguments_are_read() {
     let command = parsed(
-        "--cases 5 --seconds 6 --seed 7 --length 2 --without-limits --without-published --fault beginning",
+        "--cases 5 --seconds 6 --seed 7 --length 2 --sheets 3 --without-limits --without-published --fault beginning",
     );
     let options = Options {
         cases: 5,
         seconds: 6,
         seed: 7,
         length: 2,
+        sheets: 3,
         limits: false,
         published: false,
     };
@@ -227,8 +230,9 @@ fn arguments_are_read() {
 #[test]
 fn a_fault_that_is_not_reported_is_told() {
     // Texts of no character, and nothing drawn: too little to find most faults.
-    let command = parsed("--cases 0 --length 0 --without-limits --without-published --faults")
-        .expect("a command");
+    let command =
+        parsed("--cases 0 --length 0 --sheets 0 --without-limits --without-published --faults")
+            .expect("a command");
     let mut out = Vec::new();
     let are_reported = command.execute(&Reference, &mut out).expect("printed");
     let text = String::from_utf8(out).expect("a text");
@@ -244,7 +248,7 @@ fn a_fault_that_is_not_reported_is_told() {
 
 #[test]
 fn a_run_that_tries_nothing_reports_no_fault() {
-    let command = parsed("--seconds 0 --without-limits --without-published --faults");
+    let command = parsed("--seconds 0 --sheets 0 --without-limits --without-published --faults");
     let mut out = Vec::new();
     let are_reported = command
         .expect("a command")

@@ -4,7 +4,7 @@
 use std::fs;
 use std::path::Path;
 
-use tilghorz_comparison::calls::{FINDING_BYTES, ITEM_BYTES, POLICY_BYTES};
+use tilghorz_comparison::calls::{FINDING_BYTES, ITEM_BYTES, POLICY_BYTES, SHEET_ROOM};
 use tilghorz_comparison::reference::feed::TOTALS_BYTES;
 
 /// A function: its name, its parameters with name and kind, and the kind of its answer.
@@ -200,6 +200,7 @@ fn the_sizes_agree_with_the_header() {
         ("ITEM_BYTES", ITEM_BYTES),
         ("FEED_BYTES", feed_bytes()),
         ("TOTALS_BYTES", TOTALS_BYTES),
+        ("SHEET_ROOM", SHEET_ROOM),
     ] {
         let mut lines = header.lines();
         let line = lines.find(|line| line.starts_with(&format!("#define TILGHORZ_{name} ")));

@@ -51,6 +51,14 @@ impl Calls for Library {
         sys::feed_totals(feed, totals)
     }
 
+    fn read_sheet(&self, sheet: &[u8], out: &mut [u8]) -> u64 {
+        sys::read_sheet(sheet, out)
+    }
+
+    fn write_sheet(&self, policy: &[u8], out: &mut [u8]) -> u64 {
+        sys::write_sheet(policy, out)
+    }
+
     fn default_policy(&self, out: &mut [u8]) -> u64 {
         sys::default_policy(out)
     }

@@ -4,7 +4,7 @@
 //!
 //! ```text
 //! cargo run --offline --release --package compare                             # about two minutes
-//! cargo run --offline --release --package compare -- --faults --length 2 --cases 1000 --without-published
+//! cargo run --offline --release --package compare -- --faults --length 2 --sheets 4 --cases 1000 --without-published
 //! cargo run --offline --release --package compare -- --seconds 3600 --cases 100000000 --length 5 --seed 2
 //! ```
 //!

@@ -60,15 +60,18 @@ pub fn run(calls: &dyn Calls, options: &Options, out: &mut dyn Write) -> io::Res
     writeln!(out, "seed {}", options.seed)?;
     let start = Instant::now();
     let mut boundary = Boundary::new(calls, options.seed);
-    let kinds: [(&str, Kind<'_>, u64); 8] = [
+    let kinds: [(&str, Kind<'_>, u64); 11] = [
         ("sizes", Boundary::sizes, 1),
         ("policies", Boundary::policies, 1),
         ("decisions", Boundary::decisions, 1),
         ("default policy", Boundary::default_policy, 1),
         ("one memory", Boundary::one_memory, 1),
         ("feeds", Boundary::feeds, 1),
+        ("sheets", Boundary::sheets, 1),
         ("drawn", Boundary::drawn, options.cases),
+        ("drawn sheets", Boundary::drawn_sheets, options.cases),
         ("limits", Boundary::limits, options.limits.into()),
+        ("long sheets", Boundary::long_sheets, options.limits.into()),
     ];
     for (name, kind, times) in kinds {
         let before = boundary.made;

@@ -141,7 +141,7 @@ impl Boundary<'_> {
     }
 
     /// The spots that are tried: the whole of an allocation, its end, and a drawn one.
-    fn spots(&mut self) -> [Spot; 3] {
+    pub(super) fn spots(&mut self) -> [Spot; 3] {
         let before = 1 + self.random.below(16);
         [Spot::EXACT, Spot::at_the_end(before), self.spot()]
     }

@@ -8,6 +8,7 @@
 //! | [`case`] | makes a call with each slice at its place, and compares answer, output, and all that stands around |
 //! | [`cases`] | makes the cases: sizes, lengths of policies and decisions, and drawn ones |
 //! | [`feeds`] | makes the calls on feeds |
+//! | [`sheets`] | makes the calls on sheets |
 //! | [`command`] | the command line of the program `boundary` |
 //!
 //! An input that is read past its end gives another answer where the bytes after it count. Where it stands at the end
@@ -18,3 +19,4 @@ pub mod cases;
 pub mod command;
 pub mod feeds;
 pub mod placed;
+pub mod sheets;

@@ -3,8 +3,8 @@
 use crate::Random;
 
 /// What can stand around an input: nothing; what would go on with its last character; what would belong to its last
-/// item, as E007F, which can make its tags complete; a policy's unused bits; decisions.
-const AROUND: [&[u8]; 9] = [
+/// item, as E007F, which can make its tags complete; a policy's unused bits; decisions; what would go on with a sheet.
+const AROUND: [&[u8]; 11] = [
     b"",
     b"\x80\xBF\x80",
     b"\xEF\xB8\x8F",
@@ -14,6 +14,8 @@ const AROUND: [&[u8]; 9] = [
     b"1",
     b"\xFF\xFF\xFF\xFF\xFF\xFF\xFF\xFF",
     b"\x00\x01\x00\x02",
+    b"\n\n\n\n",
+    b",30\n",
 ];
 
 /// Where an input stands in its allocation: how many bytes are before it, and which bytes are after it. If there are

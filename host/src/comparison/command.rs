@@ -11,12 +11,13 @@ use crate::calls::Calls;
 
 /// How the program is called.
 pub const USAGE: &str = "\
-usage: compare [--cases N] [--seconds S] [--seed N] [--length N] [--without-limits] [--without-published]
-               [--programs FORMAT REPORT] [--fault NAME | --faults]
+usage: compare [--cases N] [--seconds S] [--seed N] [--length N] [--sheets N] [--without-limits]
+               [--without-published] [--programs FORMAT REPORT] [--fault NAME | --faults]
   --cases N            at most N drawn texts, damaged ones and lists of calls each
   --seconds S          begin no further case after S seconds; a kind of which no case was begun fails the run
   --seed N             the seed of what is drawn
   --length N           try every text of up to N characters, one of each kind
+  --sheets N           try every sheet of up to N tokens, of up to 6 of them bytes out of 9, and of up to N - 2 bytes out of 21
   --without-limits     leave out the texts around the limits
   --without-published  leave out the texts of Unicode's lists
   --programs ..        compare the two programs at these paths too
@@ -62,6 +63,7 @@ impl Command {
                 "--seconds" => options.seconds = number(&name, &value()?)?,
                 "--seed" => options.seed = number(&name, &value()?)?,
                 "--length" => options.length = number(&name, &value()?)?,
+                "--sheets" => options.sheets = number(&name, &value()?)?,
                 "--without-limits" => options.limits = false,
                 "--without-published" => options.published = false,
                 "--programs" => {

@@ -103,10 +103,60 @@ pub enum Fault {
     TotalsWithoutHeld,
     /// After the end the totals are zeros.
     NoTotalsAfterEnd,
+    /// A code point of three digits is taken.
+    ThreeDigits,
+    /// A code point of seven digits is taken, if the first is 0.
+    SeventhDigit,
+    /// Digits in lower case are taken.
+    SmallDigits,
+    /// Blanks are passed over.
+    Blanks,
+    /// The last line need not be ended.
+    LastEnd,
+    /// What follows the four lines is passed over.
+    FifthLine,
+    /// A line may end with a comma.
+    LastComma,
+    /// A range that runs down is taken as the same range the other way round.
+    RangeTurned,
+    /// A range includes only its two ends.
+    EndsAlone,
+    /// Of a line only the last piece counts.
+    LastPiece,
+    /// The second and the third line of a sheet change places.
+    LineOrder,
+    /// The offset of what does not follow the form is one too great.
+    SheetOffset,
+    /// A range that runs down is refused at its start, also if nothing closes it.
+    DownUnclosed,
+    /// A range that runs down is refused only if the rest follows the form.
+    DownAfterForm,
+    /// A code point that is no entry is refused before the form of what follows.
+    EntryBeforeForm,
+    /// The end of a range that is no entry is told by the offset of the range.
+    EndAtStart,
+    /// The room is tested before the sheet.
+    RoomBeforeSheet,
+    /// The form of a sheet is tested before its length.
+    SheetBeforeLimit,
+    /// A refused sheet writes a byte.
+    RefusedSheetWrites,
+    /// The byte after the policy of a sheet is changed.
+    ByteAfterPolicy,
+    /// Neighbouring entries are written one by one.
+    Unjoined,
+    /// Only entries whose code points follow each other are joined.
+    CodePointsJoined,
+    /// A code point is written in at least four digits.
+    FourDigits,
+    /// The length wanted for a sheet is one too long.
+    SheetLength,
+    /// The sheet of a policy with an unused bit is written.
+    SheetOfUnusedBit,
 }
 
 /// The faults with their names.
-pub const FAULTS: [(&str, Fault); 50] = [
+pub const FAULTS: [(&str, Fault); 75] = [
     ("keycap-rule", Fault::KeycapRule),
     ("finding-span", Fault::FindingSpan),
     ("item-span", Fault::ItemSpan),
@@ -157,4 +207,29 @@ pub const FAULTS: [(&str, Fault); 50] = [
     ("takes-after-end", Fault::TakesAfterEnd),
     ("totals-without-held", Fault::TotalsWithoutHeld),
     ("no-totals-after-end", Fault::NoTotalsAfterEnd),
+    ("three-digits", Fault::ThreeDigits),
+    ("seventh-digit", Fault::SeventhDigit),
+    ("small-digits", Fault::SmallDigits),
+    ("blanks", Fault::Blanks),
+    ("last-end", Fault::LastEnd),
+    ("fifth-line", Fault::FifthLine),
+    ("last-comma", Fault::LastComma),
+    ("range-turned", Fault::RangeTurned),
+    ("ends-alone", Fault::EndsAlone),
+    ("last-piece", Fault::LastPiece),
+    ("line-order", Fault::LineOrder),
+    ("sheet-offset", Fault::SheetOffset),
+    ("down-unclosed", Fault::DownUnclosed),
+    ("down-after-form", Fault::DownAfterForm),
+    ("entry-before-form", Fault::EntryBeforeForm),
+    ("end-at-start", Fault::EndAtStart),
+    ("room-before-sheet", Fault::RoomBeforeSheet),
+    ("sheet-before-limit", Fault::SheetBeforeLimit),
+    ("refused-sheet-writes", Fault::RefusedSheetWrites),
+    ("byte-after-policy", Fault::ByteAfterPolicy),
+    ("unjoined", Fault::Unjoined),
+    ("code-points-joined", Fault::CodePointsJoined),
+    ("four-digits", Fault::FourDigits),
+    ("sheet-length", Fault::SheetLength),
+    ("sheet-of-unused-bit", Fault::SheetOfUnusedBit),
 ];

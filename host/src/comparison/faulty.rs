@@ -5,6 +5,7 @@ use std::iter::repeat_n;
 
 use super::faults::Fault;
 use super::faulty_feed::FaultyFeed;
+use super::faulty_sheet::FaultySheet;
 use crate::calls::{Answer, Calls, FINDING_BYTES, ITEM_BYTES};
 use crate::reference::calls::LONGEST_TEXT;
 use crate::reference::characters::LAST_TAG;
@@ -17,6 +18,7 @@ pub struct Faulty<'a> {
     has_mended: Cell<bool>,
     last_mended: RefCell<Vec<u8>>,
     feed: FaultyFeed<'a>,
+    sheet: FaultySheet<'a>,
 }
 
 impl<'a> Faulty<'a> {
@@ -29,6 +31,7 @@ impl<'a> Faulty<'a> {
             has_mended: Cell::new(false),
             last_mended: RefCell::new(Vec::new()),
             feed: FaultyFeed::new(calls, fault),
+            sheet: FaultySheet::new(calls, fault),
         }
     }
 
@@ -320,6 +323,14 @@ impl Calls for Faulty<'_> {
 
     fn feed_totals(&self, feed: &[u8], totals: &mut [u8]) -> u64 {
         self.feed.totals(feed, totals).word()
+    }
+
+    fn read_sheet(&self, sheet: &[u8], out: &mut [u8]) -> u64 {
+        self.sheet.read(sheet, out).word()
+    }
+
+    fn write_sheet(&self, policy: &[u8], out: &mut [u8]) -> u64 {
+        self.sheet.write(policy, out).word()
     }
 
     fn default_policy(&self, out: &mut [u8]) -> u64 {

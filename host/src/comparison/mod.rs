@@ -11,19 +11,22 @@
 //! | [`feed_case`] | compares a list of calls on a feed |
 //! | [`feed_lists`] | makes such lists: threads cut in every way and at random, with refused calls between |
 //! | [`feed_states`] | makes calls on bytes that are no feed |
+//! | [`sheet_case`] | compares reading one sheet, and writing the sheet of one policy |
+//! | [`sheets`] | makes sheets: every short one, drawn, damaged and long ones |
 //! | [`texts`], [`policies`] | make the texts and policies: exhaustive, random, damaged |
 //! | [`limits`] | makes texts around the limits |
 //! | [`published`] | takes texts from Unicode's lists of emoji |
 //! | [`reduce`] | makes a text or a list with a difference smaller |
 //! | [`run`], [`report`] | runs all of it, within bounds, and reports the first difference |
 //! | [`programs`] | compares the two programs |
-//! | [`faults`], [`faulty`], [`faulty_feed`] | faults that are planted into calls, which a run must report |
+//! | [`faults`], [`faulty`], [`faulty_feed`], [`faulty_sheet`] | faults that are planted into calls, which a run must report |
 //! | [`command`] | the command line of the program |
 
 pub mod command;
 pub mod faults;
 pub mod faulty;
 pub mod faulty_feed;
+pub mod faulty_sheet;
 pub mod feed_case;
 pub mod feed_lists;
 pub mod feed_states;
@@ -37,6 +40,8 @@ pub mod reduce;
 pub mod repair_case;
 pub mod report;
 pub mod run;
+pub mod sheet_case;
+pub mod sheets;
 pub mod tables;
 pub mod text_case;
 pub mod texts;

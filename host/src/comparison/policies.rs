@@ -82,7 +82,8 @@ pub fn refused(random: &mut Random) -> Policy {
 }
 
 /// The bytes of the policy whose sets, by their number, hold entries, by theirs.
-fn of_sets(mut holds: impl FnMut(usize, usize) -> bool) -> Vec<u8> {
+#[must_use]
+pub fn of_sets(mut holds: impl FnMut(usize, usize) -> bool) -> Vec<u8> {
     let mut bytes = vec![0; policy::bytes()];
     for set in 0..4 {
         for entry in 0..entries() {

@@ -16,6 +16,7 @@ use crate::reference::characters;
 use crate::reference::repair::repaired;
 
 mod feeds;
+mod sheets;
 
 /// The bounds of a run.
 #[derive(Debug, Clone, Copy, PartialEq, Eq)]
@@ -28,6 +29,8 @@ pub struct Options {
     pub seed: u64,
     /// The length in characters up to which every text is tried.
     pub length: usize,
+    /// The number of tokens up to which every sheet is tried.
+    pub sheets: usize,
     /// Whether texts around the limits are tried.
     pub limits: bool,
     /// Whether the texts of Unicode's lists are tried, where these are installed.
@@ -41,6 +44,7 @@ impl Default for Options {
             seconds: 90,
             seed: 1,
             length: 4,
+            sheets: 6,
             limits: true,
             published: true,
         }
@@ -112,6 +116,7 @@ impl<'a> Run<'a> {
     fn all(&mut self) -> Result<(), Stop> {
         writeln!(self.out, "seed {}", self.options.seed)?;
         self.tables()?;
+        self.sheets()?;
         if self.options.published {
             self.published()?;
         }
@@ -281,7 +286,7 @@ impl<'a> Run<'a> {
         self.told("every text", texts, &what)
     }
 
-    /// Drawn texts, damaged ones, the same taken in, lists of mending calls and of calls on feeds, in turns.
+    /// Drawn texts, damaged ones, the same taken in, lists of mending calls and of calls on feeds, and sheets, in turns.
     fn drawn(&mut self) -> Result<(), Stop> {
         let mut cases = 0;
         let mut calls = 0;
@@ -297,6 +302,7 @@ impl<'a> Run<'a> {
                 feed_calls += self.drawn_feed(&mut random)?;
                 feeds += 1;
             }
+            self.drawn_sheets(&mut random)?;
             cases += 1;
         }
         if cases == 0 && self.options.cases > 0 {
@@ -308,6 +314,8 @@ impl<'a> Run<'a> {
         self.told("repaired", cases, "texts, and the calls after it")?;
         let what = format!("lists of mending calls, {calls} calls");
         self.told("lists", cases, &what)?;
+        let what = "drawn sheets, damaged ones, and policies each";
+        self.told("sheets", cases, what)?;
         let what = format!("drawn threads and bytes that are no feed, {feed_calls} calls");
         self.told("feeds", feeds, &what)
     }
@@ -374,6 +382,7 @@ impl<'a> Run<'a> {
             }
         }
         texts += self.feeds_around_limit()?;
+        texts += self.sheets_around_limit()?;
         let text = limits::sparse(LONGEST_FIRST_TEXT);
         let policy = Policy::default_policy();
         let list = list_case::drawn(&mut random, &text, &policy);

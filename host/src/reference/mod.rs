@@ -19,6 +19,7 @@
 //! | [`book`] | a list of mending calls |
 //! | [`feed`] | a thread that comes in pieces |
 //! | [`kept`] | feeds in lent bytes |
+//! | [`sheet`] | policy sheets: their form, their meaning, and the sheet that is written |
 //! | [`programs`] | what the two programs write |
 
 pub mod book;
@@ -32,4 +33,5 @@ pub mod positions;
 pub mod programs;
 pub mod repair;
 pub mod rules;
+pub mod sheet;
 pub mod utf8;

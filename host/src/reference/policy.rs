@@ -63,6 +63,17 @@ impl Policy {
         })
     }
 
+    /// The words of the four character sets: "`prefer_bare` ordinary, `prefer_bare` keycap, then `bare_as_text` likewise".
+    #[must_use]
+    pub fn sets(&self) -> [&[u64]; 4] {
+        [
+            &self.prefer_bare.ordinary,
+            &self.prefer_bare.keycap,
+            &self.bare_as_text.ordinary,
+            &self.bare_as_text.keycap,
+        ]
+    }
+
     /// The rule for the variation entry of this number, before a keycap or not.
     #[must_use]
     pub fn singleton_rule(&self, entry: u16, before_keycap: bool) -> SingletonRule {

@@ -419,12 +419,13 @@ fn policy(mut words: Words) -> Result<Policy, String> {
     let action = words
         .text("policy")
         .map_err(|_| "the policy command is missing: print, compare or write")?;
-    let (mut edits, mut files) = (Vec::new(), Vec::new());
+    let (mut edits, mut files, mut members) = (Vec::new(), Vec::new(), false);
     while let Some(word) = words.next()? {
         match word {
             Word::Name(name) => files.push(PolicyFile(Some(name.into()))),
             Word::Option(option) => match (action.as_str(), option.as_str()) {
                 ("write", "--add" | "--take") => edits.push(edit(&mut words, &option)?),
+                ("print", "--members") => members = true,
                 _ => return unknown(&option),
             },
         }
@@ -436,6 +437,7 @@ fn policy(mut words: Words) -> Result<Policy, String> {
     let mut files = files.into_iter();
     let first = files.next();
     match action.as_str() {
+        "print" if members => Ok(Policy::Members(first.unwrap_or_default())),
         "print" => Ok(Policy::Print(first.unwrap_or_default())),
         "compare" => {
             let first = first.ok_or("compare: a file is missing")?;

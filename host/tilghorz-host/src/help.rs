@@ -95,7 +95,8 @@ Formats texts. Without an option one text is written to standard output; on a re
                  at once; an unfinished character and a last base wait for what comes next. The text ends with standard
                  input, or at SIGINT, SIGTERM or SIGHUP, and then the rest is written. On a refusal, what is formatted
                  before the damaged place has been written
-  --policy FILE  the policy: 192 bytes, as `tilghorz-host policy write` writes them; else the default one
+  --policy FILE  the policy: a sheet, or the 192 bytes of `tilghorz-host policy write`: tilghorz-host help policy. Else
+                 it is the default policy
 
 More OPTIONS: --exclude, --include, --no-ignore, --binary, --jobs, --quiet, --verbose: tilghorz-host help folders.
 
@@ -198,14 +199,21 @@ More OPTIONS: --exclude, --include, --no-ignore, --binary, --jobs, --quiet, --ve
 ";
 
 const POLICY: &str = "\
-usage: tilghorz-host policy print [FILE]
+usage: tilghorz-host policy print [--members] [FILE]
        tilghorz-host policy compare FILE [FILE]
        tilghorz-host policy write [--add SET CONTEXT CODE] [--take SET CONTEXT CODE] .. [FILE]
 
-A policy is a file of 192 bytes. Without FILE, and as the second of compare, it is the default policy.
+A policy is a sheet, which is a text, or a file of 192 bytes. A file with a byte 00 is taken for the bytes, any other
+for a sheet. Without FILE, and as the second of compare, it is the default policy.
 
-  print      the members of the four sets, by their code points
+A sheet has four lines, each ended by a line feed: prefer_bare ordinary, prefer_bare keycap, bare_as_text ordinary,
+bare_as_text keycap. A line has code points and ranges, such as 2764 or 30-39, with a comma between and no blanks; it
+may be empty. A code point has two or four to six digits, 0 to 9 and A to F, and must have a variation sequence. A
+range includes only the code points inside it that have one. What is wrong with a sheet is told with line and column.
+
+  print      the sheet: ascending, with ranges joined; equal policies have equal sheets
+  --members  the members of the four sets instead, each by its code point, and their number
   compare    a line for each base and context with two rules; status 1 if there is one
-  write      the bytes, to standard output, with members added and taken. SET is prefer_bare or bare_as_text, CONTEXT
-             is ordinary or keycap, CODE is a code point, such as 2764
+  write      the 192 bytes, to standard output, with members added and taken. SET is prefer_bare or bare_as_text,
+             CONTEXT is ordinary or keycap, CODE is a code point, such as 2764
 ";

@@ -22,6 +22,7 @@ mod repair;
 mod replace;
 mod report;
 mod rewriting;
+mod sheet;
 mod show;
 mod source;
 mod system;

@@ -1,12 +1,12 @@
 //! `tilghorz-host policy`, and the policies that the other commands read.
 
-use std::fs::File;
-use std::io::{self, Read, Write};
+use std::io::{self, Write};
 use std::path::PathBuf;
 
 use tilghorz::{Context, KeySet, variation_entries};
 
 use crate::console::{Console, Status};
+use crate::sheet::explanation;
 use crate::source::Source;
 
 /// The file of a policy; without one it is the default policy.
@@ -16,8 +16,10 @@ pub struct PolicyFile(pub Option<PathBuf>);
 /// The command.
 #[derive(Debug, PartialEq, Eq)]
 pub enum Policy {
-    /// Prints the members.
+    /// Prints the sheet.
     Print(PolicyFile),
+    /// Prints the members, with their numbers.
+    Members(PolicyFile),
     /// Prints what differs.
     Compare(PolicyFile, PolicyFile),
     /// Writes the bytes, after these edits.
@@ -38,23 +40,30 @@ pub struct Edit {
 }
 
 impl PolicyFile {
-    /// Reads the policy, or says why it is none.
+    /// Reads the policy, or says why it is none. A file with a byte 00 is a stored policy: each has such bytes, since its
+    /// unused bits fill whole bytes. Any other file is a sheet.
     pub fn read_or_complain(&self, console: &mut Console) -> Option<tilghorz::Policy> {
         let Some(path) = &self.0 else {
             return Some(tilghorz::Policy::default());
         };
         let source = Source::File(path.clone());
-        let most = tilghorz::sys::POLICY_BYTES as u64 + 1;
-        let mut bytes = Vec::new();
-        let read = File::open(path).and_then(|file| file.take(most).read_to_end(&mut bytes));
-        if let Err(error) = read {
-            console.complain(&format_args!("{source}: {error}"));
-            return None;
-        }
-        let policy = tilghorz::Policy::from_bytes(&bytes);
-        policy
-            .inspect_err(|refusal| console.complain(&source.refused(*refusal, &bytes)))
-            .ok()
+        let bytes = match source.read() {
+            Ok(text) => text.bytes,
+            Err(error) => {
+                console.complain(&format_args!("{source}: {error}"));
+                return None;
+            }
+        };
+        let policy = if bytes.contains(&0) {
+            tilghorz::Policy::from_bytes(&bytes)
+        } else {
+            tilghorz::Policy::from_sheet(&bytes)
+        };
+        let refused = |refusal: &tilghorz::Refusal| {
+            let message = source.refused(*refusal, &bytes);
+            console.complain(&(message + &explanation(&bytes, *refusal)));
+        };
+        policy.inspect_err(refused).ok()
     }
 }
 
@@ -64,7 +73,11 @@ impl Policy {
         match self {
             Self::Print(file) => match file.read_or_complain(console) {
                 None => Ok(Status::Fault),
-                Some(policy) => print(&policy, &mut console.out),
+                Some(policy) => console.print(&policy.to_string()),
+            },
+            Self::Members(file) => match file.read_or_complain(console) {
+                None => Ok(Status::Fault),
+                Some(policy) => members(&policy, &mut console.out),
             },
             Self::Compare(first, second) => {
                 let policies = (
@@ -105,7 +118,7 @@ impl Edit {
 }
 
 /// Prints the four sets, each with its members.
-fn print(policy: &tilghorz::Policy, out: &mut impl Write) -> io::Result<Status> {
+fn members(policy: &tilghorz::Policy, out: &mut impl Write) -> io::Result<Status> {
     const COLUMNS: usize = 16;
     for set in KeySet::ALL {
         for context in Context::ALL {

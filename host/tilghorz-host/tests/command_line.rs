@@ -142,6 +142,10 @@ fn wrong_command_lines_are_told_on_standard_error() {
             "policy: --add: unknown option",
         ),
         (
+            &["policy", "write", "--members"],
+            "policy: --members: unknown option",
+        ),
+        (
             &["policy", "write", "--add", "all", "ordinary", "31"],
             "the set is neither",
         ),

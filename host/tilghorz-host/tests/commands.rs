@@ -175,7 +175,7 @@ fn policies_are_written_printed_compared_and_used() {
     let ran = folder.run(&["policy", "compare", "default", "own"]);
     let lines = "0031 keycap: BareToText, TextToBare\n2764 ordinary: BareToText, BareToEmoji\n";
     assert_eq!((ran.status, ran.text()), (1, lines));
-    let ran = folder.run(&["policy", "print", "own"]);
+    let ran = folder.run(&["policy", "print", "--members", "own"]);
     let mut lines = ran.text().lines();
     assert!(lines.any(|line| line.starts_with("prefer_bare keycap: 1 of ")));
     assert_eq!(lines.next(), Some(" 0031"));

@@ -175,7 +175,7 @@ fn room_for(text: &[u8]) -> usize {
 }
 
 /// The front of a buffer.
-fn front(mut buffer: Vec<u8>, len: usize) -> Vec<u8> {
+pub(crate) fn front(mut buffer: Vec<u8>, len: usize) -> Vec<u8> {
     buffer.truncate(len);
     buffer.shrink_to_fit();
     buffer
@@ -191,7 +191,7 @@ fn table<R: Row>(call: impl Fn(&mut [u8]) -> u64) -> Result<Table<R>, Refusal> {
 
 /// Makes a call with a buffer of `room` bytes. If this buffer is too short, it makes the call once more, with the room
 /// that the refusal asks for. The refusal counts places of `place` bytes.
-fn with_room<T>(
+pub(crate) fn with_room<T>(
     room: usize,
     place: usize,
     call: impl Fn(&mut [u8]) -> Result<T, Refusal>,

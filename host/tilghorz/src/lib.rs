@@ -30,7 +30,8 @@
 //! - [`repair`] takes damaged text in, which the others refuse; [`repair_into`] writes to the caller's buffer.
 //! - [`Feed`] formats a thread that comes in pieces; [`FeedWriter`] and [`FeedReader`] do it between a writer or a
 //!   reader and another.
-//! - [`Policy`] is the default one, one from bytes, or one with members added and taken.
+//! - [`Policy`] is the default one, one from bytes, one from a text that is a policy sheet, or one with members added and
+//!   taken. It is written as a sheet.
 //! - [`sys`] has the C functions as they cross. It is the only module with unsafe code.
 //!
 //! "Document 01" in comments is the specification, "The selector formatter: records from byte to sealed text";

@@ -1,9 +1,11 @@
-//! Policies: document 01, "Key set and policy".
+//! Policies: document 01, "Key set and policy". Policy sheets: document 02, (vi).
 
 use std::error::Error;
 use std::fmt::{self, Debug, Display, Formatter};
+use std::str::FromStr;
 use std::sync::LazyLock;
 
+use crate::calls::{front, with_room};
 use crate::{Refusal, answer, sys};
 
 /// The bytes of a character set: a policy is four.
@@ -20,6 +22,23 @@ const SET_BYTES: usize = sys::POLICY_BYTES / 4;
 /// policy.take(KeySet::BareAsText, '\u{2764}', Context::Ordinary).expect("an entry");
 /// assert_eq!(&*tilghorz::format(heart, &policy)?, "\u{2764}\u{FE0F}".as_bytes());
 /// # Ok::<(), tilghorz::Refusal>(())
+/// ```
+///
+/// As a text it is a policy sheet: a line for each of the four sets, with code points and ranges of them. The lines are
+/// `prefer_bare` ordinary, `prefer_bare` keycap, `bare_as_text` ordinary and `bare_as_text` keycap. A code point has two or
+/// four to six upper-case hexadecimal digits. A range includes only the variation entries inside it. The pieces of a line
+/// may come in any sequence and overlap; what is written has one form for each policy.
+///
+/// ```
+/// use tilghorz::{Context, KeySet, Policy, Refusal};
+///
+/// let policy: Policy = "30-39\n\n2764,A9,30-32,31-39\n\n".parse()?;
+/// assert!(policy.contains(KeySet::BareAsText, '\u{2764}', Context::Ordinary));
+/// assert_eq!(policy.to_string(), "30-39\n\n30-A9,2764\n\n");
+///
+/// assert_eq!("39-30\n\n\n\n".parse::<Policy>(), Err(Refusal::NotASheet { offset: 0 }));
+/// assert_eq!("30,41\n\n\n\n".parse::<Policy>(), Err(Refusal::NotAnEntry { offset: 3 }));
+/// # Ok::<(), Refusal>(())
 /// ```
 #[derive(Clone, PartialEq, Eq, Hash)]
 pub struct Policy {
@@ -121,6 +140,39 @@ impl Policy {
         &self.bytes
     }
 
+    /// The policy of a sheet, in bytes.
+    ///
+    /// # Errors
+    /// Refusals 1, 11 and 12.
+    pub fn from_sheet(sheet: &[u8]) -> Result<Self, Refusal> {
+        let mut bytes = [0; sys::POLICY_BYTES];
+        let written = answer::read_done(sys::read_sheet(sheet, &mut bytes))?;
+        assert_eq!(
+            written,
+            bytes.len(),
+            "the linked library has another length of a policy"
+        );
+        Ok(Self { bytes })
+    }
+
+    /// Its sheet, in bytes. They are ASCII.
+    #[must_use]
+    pub fn to_sheet(&self) -> Vec<u8> {
+        match with_room(sys::SHEET_ROOM, 1, |out| self.write_sheet_into(out)) {
+            Ok((len, out)) => front(out, len),
+            Err(refusal) => panic!("the linked library refuses its own policy: {refusal}"),
+        }
+    }
+
+    /// Writes its sheet into the caller's buffer, and gives the length of the sheet. [`sys::SHEET_ROOM`] bytes are always
+    /// enough room. What is after the sheet stays as it was.
+    ///
+    /// # Errors
+    /// Refusal 8; the buffer is then as it was.
+    pub fn write_sheet_into(&self, out: &mut [u8]) -> Result<usize, Refusal> {
+        answer::read_done(sys::write_sheet(&self.bytes, out))
+    }
+
     /// Whether a key set holds a base in a context. It holds no character that is no variation entry.
     #[must_use]
     pub fn contains(&self, set: KeySet, character: char, context: Context) -> bool {
@@ -173,6 +225,22 @@ impl Policy {
                 (true, true) => SingletonRule::TextToBare,
             },
         )
+    }
+}
+
+impl FromStr for Policy {
+    type Err = Refusal;
+
+    /// The policy of a sheet.
+    fn from_str(sheet: &str) -> Result<Self, Refusal> {
+        Self::from_sheet(sheet.as_bytes())
+    }
+}
+
+impl Display for Policy {
+    /// Its sheet.
+    fn fmt(&self, out: &mut Formatter<'_>) -> fmt::Result {
+        out.write_str(&String::from_utf8_lossy(&self.to_sheet()))
     }
 }
 

@@ -8,7 +8,7 @@ use crate::sys::POLICY_BYTES;
 /// Why a call was turned back. It then wrote to no buffer.
 ///
 /// The tests come in the order of the numbers, each only in calls that take the thing. A call on a feed tests 9 and 10
-/// first.
+/// first, and reading a sheet tests 11 and 12 before 8.
 #[derive(Debug, Clone, Copy, PartialEq, Eq, Hash)]
 pub enum Refusal {
     /// 1: the text is over 16,777,216 bytes.
@@ -46,6 +46,17 @@ pub enum Refusal {
     FeedEnded,
     /// 10: the thread ends inside a character.
     UnfinishedCharacter,
+    /// 11: the bytes do not follow the form of a policy sheet.
+    NotASheet {
+        /// The offset of the first byte such that no sheet begins with the bytes up to it, or the length of a sheet that
+        /// breaks off, or the start of a range that runs down; the smallest of these.
+        offset: usize,
+    },
+    /// 12: a code point of a policy sheet is no variation entry.
+    NotAnEntry {
+        /// The offset of the first such code point.
+        offset: usize,
+    },
 }
 
 impl Refusal {
@@ -62,6 +73,8 @@ impl Refusal {
             8 => Self::OutputTooShort { wanted: value },
             9 => Self::FeedEnded,
             10 => Self::UnfinishedCharacter,
+            11 => Self::NotASheet { offset: value },
+            12 => Self::NotAnEntry { offset: value },
             _ => return None,
         })
     }
@@ -80,6 +93,8 @@ impl Refusal {
             Self::OutputTooShort { .. } => 8,
             Self::FeedEnded => 9,
             Self::UnfinishedCharacter => 10,
+            Self::NotASheet { .. } => 11,
+            Self::NotAnEntry { .. } => 12,
         }
     }
 
@@ -98,6 +113,7 @@ impl Refusal {
             }
             Self::BadDecision { index } => Some(index),
             Self::TableTooShort { places } => Some(places),
+            Self::NotASheet { offset } | Self::NotAnEntry { offset } => Some(offset),
         }
     }
 }
@@ -134,6 +150,8 @@ impl Display for Refusal {
             }
             Self::FeedEnded => write!(out, "the feed has ended"),
             Self::UnfinishedCharacter => write!(out, "the thread ends inside a character"),
+            Self::NotASheet { offset } => write!(out, "not a policy sheet at byte {offset}"),
+            Self::NotAnEntry { offset } => write!(out, "no variation entry at byte {offset}"),
         }
     }
 }
@@ -148,7 +166,7 @@ mod tests {
     fn number_and_value_tell_the_refusal() {
         for number in 0..=u8::MAX {
             let Some(refusal) = Refusal::of_row(number.into(), 5) else {
-                assert!(!(1..=10).contains(&number));
+                assert!(!(1..=12).contains(&number));
                 continue;
             };
             assert_eq!(refusal.number(), number);

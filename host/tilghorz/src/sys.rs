@@ -19,6 +19,8 @@ pub const ITEM_BYTES: usize = 64;
 pub const FEED_BYTES: usize = 312;
 /// The bytes of the totals of a feed.
 pub const TOTALS_BYTES: usize = 64;
+/// No sheet that is written has more bytes.
+pub const SHEET_ROOM: usize = 9916;
 
 unsafe extern "C" {
     fn tilghorz_format(
@@ -70,6 +72,14 @@ unsafe extern "C" {
         feed_len: usize,
         totals: *mut u8,
         totals_len: usize,
+    ) -> u64;
+    fn tilghorz_read_sheet(sheet: *const u8, sheet_len: usize, out: *mut u8, out_len: usize)
+    -> u64;
+    fn tilghorz_write_sheet(
+        policy: *const u8,
+        policy_len: usize,
+        out: *mut u8,
+        out_len: usize,
     ) -> u64;
     fn tilghorz_default_policy(out: *mut u8, out_len: usize) -> u64;
     fn tilghorz_variation_entry(index: u64) -> u64;
@@ -176,6 +186,20 @@ pub fn feed_end(feed: &mut [u8], out: &mut [u8]) -> u64 {
 pub fn feed_totals(feed: &[u8], totals: &mut [u8]) -> u64 {
     // SAFETY: as the head of this file says.
     unsafe { tilghorz_feed_totals(feed.as_ptr(), feed.len(), totals.as_mut_ptr(), totals.len()) }
+}
+
+/// `tilghorz_read_sheet`: writes the policy of a sheet.
+#[must_use]
+pub fn read_sheet(sheet: &[u8], out: &mut [u8]) -> u64 {
+    // SAFETY: as the head of this file says.
+    unsafe { tilghorz_read_sheet(sheet.as_ptr(), sheet.len(), out.as_mut_ptr(), out.len()) }
+}
+
+/// `tilghorz_write_sheet`: writes the sheet of a policy.
+#[must_use]
+pub fn write_sheet(policy: &[u8], out: &mut [u8]) -> u64 {
+    // SAFETY: as the head of this file says.
+    unsafe { tilghorz_write_sheet(policy.as_ptr(), policy.len(), out.as_mut_ptr(), out.len()) }
 }
 
 /// `tilghorz_default_policy`: writes the default policy.
