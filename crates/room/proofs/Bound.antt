@@ -20,7 +20,6 @@ use Rattle.policy.specs.declared.Policy.{Policy}
 use Rattle.policy.specs.declared.SingletonRule.{SingletonRule}
 use Rattle.policy.proofs.Claims.{ascii-bases-bare}
 use Rattle.scanner.specs.Classes.{classOf}
-use Rattle.scanner.specs.Spans.{width}
 use Rattle.scanner.specs.declared.char_class.Class.{Class}
 use Rattle.scanner.specs.declared.char_class.Class.the-variants.{
   Selector as selector,

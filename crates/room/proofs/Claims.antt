@@ -62,7 +62,7 @@ use Rattle.analysis.specs.Rules.{
 use Rattle.formatter.specs.Format.{format, formatItems, formatted, sameBytes}
 use Rattle.formatter.specs.Intake.{firstTests, intakeRefusal}
 use Rattle.formatter.proofs.Formatting.{format-is, formatTests}
-use Rattle.room.specs.Room.{defaultRoom, theDefault, theEmpty}
+use Rattle.room.specs.Room.{defaultRoom}
 use Rattle.room.specs.Theorems.{
   CopyrightSignReaches,
   CopyrightSignsReach,
@@ -103,7 +103,7 @@ room-is-enough text policy out a e h =
     format-is policy text out a ∙ ap (λ (fits : Bool). formatTests (sameBytes F text) fits F out) (le-leb (length F) (length out) f)
 
 pub copyright-sign-reaches : CopyrightSignReaches
-unfolding CopyrightSignReaches theDefault format formatItems formatted sameBytes firstTests intakeRefusal policyRefusal littleEndian number
+unfolding CopyrightSignReaches format formatItems formatted sameBytes firstTests intakeRefusal policyRefusal littleEndian number
     wordBytes chars encode encodeAll foldChars foldStep readChar readFour utf8-1 utf8-2 utf8-3 utf8-4 validUpTo asSelector fromSelector
     isSelector inRanges indexOf member next hasVariationSequence isEmoji isEmojiDefault isEmojiModifier isEmojiModifierBase
     isEmojiPresentation isRi isTag variationSequenceIndex emojiModifierBases emojiModifiers emojiPresentationRanges emojiRanges riRanges
@@ -115,7 +115,7 @@ unfolding CopyrightSignReaches theDefault format formatItems formatted sameBytes
 copyright-sign-reaches = (refl, refl)
 
 pub digit-reaches-four : DigitReachesFour
-unfolding DigitReachesFour theEmpty format formatItems formatted sameBytes firstTests intakeRefusal policyRefusal littleEndian number
+unfolding DigitReachesFour format formatItems formatted sameBytes firstTests intakeRefusal policyRefusal littleEndian number
     wordBytes chars encode encodeAll foldChars foldStep readChar readFour utf8-1 utf8-2 utf8-3 utf8-4 validUpTo asSelector fromSelector
     isSelector inRanges indexOf member next hasVariationSequence isEmoji isEmojiDefault isEmojiModifier isEmojiModifierBase
     isEmojiPresentation isRi isTag variationSequenceIndex emojiModifierBases emojiModifiers emojiPresentationRanges emojiRanges riRanges

@@ -1,15 +1,15 @@
 -- Texts of copyright signs alone take all of the room.
 use mathlib.Core.Path.{_≡_, refl, ap, sym, _∙_}
-use mathlib.Core.Bool.{Bool, true, _&&_}
-use mathlib.Core.List.{List, [], _∷_, _++_, append-nil}
-use Prim.Native.Nat.{ℕ, zero, suc, _+_, _*_}
+use mathlib.Core.Bool.{true}
+use mathlib.Core.List.{List, []}
+use Prim.Native.Nat.{ℕ, zero, suc, _*_}
 use native.Mathlib.Omega.{arith}
 use lib.ListN.{length, replicate}
 use Rattle.base.specs.Bits.{one}
 use Rattle.base.specs.Words.{bytesOf, littleEndian, number, wordBytes}
 use Rattle.utf8.specs.Rfc3629.{allScalar, chars, encode, encodeAll, isScalar}
 use Rattle.utf8.proofs.Texts.{chars-encodeAll-alone}
-use Rattle.unicode.specs.Presentation.{asSelector, fromSelector, isSelector}
+use Rattle.unicode.specs.Presentation.{fromSelector, isSelector}
 use Rattle.unicode.specs.declared.presentation.FromSelector.the-variants.{NoSelector}
 use Rattle.unicode.specs.declared.presentation.Presentation.{Presentation}
 use Rattle.unicode.specs.Tables.{inRanges, indexOf, member, next}
@@ -31,11 +31,11 @@ use Rattle.policy.specs.Policy.{holdsBase, ruleOf, singletonRule}
 use Rattle.policy.specs.PolicyBytes.{keyWords, policyBytes, policyOf, policyWords, wordsFrom}
 use Rattle.policy.specs.declared.Policy.{Policy}
 use Rattle.scanner.specs.Classes.{classOf}
-use Rattle.scanner.specs.Spans.{size, width}
+use Rattle.scanner.specs.Spans.{width}
 use Rattle.scanner.proofs.Bytes.{size-width}
 use Rattle.analysis.specs.Analysis.{following}
 use Rattle.analysis.specs.CellView.{formatCells}
-use Rattle.analysis.specs.Cells.{Cell, addChar, cells, split}
+use Rattle.analysis.specs.Cells.{Cell, addChar, split}
 use Rattle.analysis.specs.Rules.{
   byFirst,
   byKeycap,
@@ -59,7 +59,7 @@ use Rattle.room.proofs.Lengths.{length-out, lengthOut, slotAt}
 
 -- The bytes of the default policy encode it.
 pub default-read : policyOf theDefault ≡ defaultPolicy
-unfolding theDefault policyOf policyBytes policyWords keyWords bytesOf wordBytes littleEndian number wordsFrom wordCount entryCount
+unfolding policyOf policyBytes policyWords keyWords bytesOf wordBytes littleEndian number wordsFrom wordCount entryCount
     variationEntries defaultPolicy preferBare preferBareKeycap bareAsText bareAsTextKeycap
 default-read = refl
 

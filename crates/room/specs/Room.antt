@@ -15,7 +15,7 @@ unfoldable pub defaultRoom : ℕ → ℕ
 defaultRoom n = 5 * n / 2
 
 -- The bytes of the default policy.
-unfoldable pub theDefault : List ℕ
+abbrev pub theDefault : List ℕ
 theDefault = policyBytes defaultPolicy
 
 -- "a text of the one character A9, the copyright sign"
@@ -34,5 +34,5 @@ abbrev pub emptyPolicy : Policy
 emptyPolicy = record { «prefer_bare» = noKeys; «bare_as_text» = noKeys }
 
 -- The bytes of the empty policy.
-unfoldable pub theEmpty : List ℕ
+abbrev pub theEmpty : List ℕ
 theEmpty = policyBytes emptyPolicy

@@ -9,8 +9,9 @@ use tilghorz::{
     Counts, Finding, Formatted, Item, ItemKind, LONGEST_TEXT, Policy, Presentation, Refusal,
 };
 
-/// The greatest number of bytes that a program reads.
-const LONGEST_MESSAGE: usize = 12_288;
+/// The greatest number of bytes that the program `format` reads, and that the program `report` reads.
+const LONGEST_TO_FORMAT: usize = 16_384;
+const LONGEST_TO_REPORT: usize = 12_288;
 
 /// What becomes of a text under the default policy.
 fn formatted(text: &str) -> Cow<'_, str> {
@@ -280,20 +281,22 @@ fn the_stored_runs_of_the_proved_programs_are_met() {
         runs += 1;
         let stored = |extension| fs::read(path.with_extension(extension)).expect("a stored run");
         let message = stored("in");
-        if message.len() > LONGEST_MESSAGE {
+        if message.len() <= LONGEST_TO_REPORT {
+            assert!(
+                report(&message, &policy) == stored("report"),
+                "{}",
+                path.display()
+            );
+        }
+        if message.len() > LONGEST_TO_FORMAT {
             continue;
         }
-        let mut buffer = vec![0; 4 * message.len()];
+        let mut buffer = vec![0; 5 * message.len() / 2];
         let filed = match tilghorz::format_into(&message, &policy, &mut buffer) {
             Ok(formatted) => tilghorz::filed(&message, &buffer, formatted).to_vec(),
             Err(refusal) => refusal_line(refusal),
         };
         assert!(filed == stored("format"), "{}", path.display());
-        assert!(
-            report(&message, &policy) == stored("report"),
-            "{}",
-            path.display()
-        );
     }
     assert!(runs > 5, "{runs} stored runs");
 }
