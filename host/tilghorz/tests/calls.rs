@@ -253,6 +253,34 @@ fn results_of_any_length_find_room() {
     );
 }
 
+/// Document 02, (vii): under the default policy five halves of the text's length are enough, and the copyright sign takes
+/// all of them. Under the empty policy a digit takes four times its length.
+#[test]
+fn the_room_of_a_formatted_text_is_reached() {
+    let default = Policy::default();
+    assert!(default.is_default());
+    let sign = "\u{A9}".as_bytes();
+    let mut out = [0; 5];
+    assert_eq!(
+        tilghorz::format_into(sign, &default, &mut out),
+        Ok(Formatted::Changed { len: 5 })
+    );
+    assert_eq!(
+        tilghorz::format_into(sign, &default, &mut out[..4]),
+        Err(Refusal::OutputTooShort { wanted: 5 })
+    );
+    let empty = Policy::from_bytes(&vec![0; default.as_bytes().len()]).expect("a policy");
+    assert!(!empty.is_default());
+    assert_eq!(
+        *tilghorz::format(b"1", &empty).expect("a text"),
+        *"1\u{FE0F}".as_bytes()
+    );
+    assert_eq!(
+        tilghorz::format_into(b"1", &empty, &mut [0; 3]),
+        Err(Refusal::OutputTooShort { wanted: 4 })
+    );
+}
+
 #[test]
 fn the_filed_text_is_the_message_or_the_front_of_the_buffer() {
     let (message, buffer) = (&b"message"[..], &b"buffer"[..]);
