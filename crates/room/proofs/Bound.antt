@@ -19,7 +19,6 @@ use Rattle.policy.specs.Theorems.{AsciiBasesBare}
 use Rattle.policy.specs.declared.Policy.{Policy}
 use Rattle.policy.specs.declared.SingletonRule.{SingletonRule}
 use Rattle.policy.proofs.Claims.{ascii-bases-bare}
-use Rattle.scanner.specs.Classes.{classOf}
 use Rattle.scanner.specs.declared.char_class.Class.{Class}
 use Rattle.scanner.specs.declared.char_class.Class.the-variants.{
   Selector as selector,
@@ -86,42 +85,48 @@ module _ (policy : List ℕ) (b : asciiKeysBare policy ≡ true) where
     pub bound : 2 * lengthOut p xs ≤ 5 * lengthIn xs
     pub spare : spares (following xs) ≡ true → 2 * lengthOut p xs + 3 ≤ 5 * lengthIn xs
 
+  -- A character without a variation entry gets no selector.
   no-entry-slot : (x : Cell) (xs : List Cell) → hasVariationSequence (x .char) ≡ false → slotAt p x xs ≡ 0
   unfolding rule1
   no-entry-slot x xs e = ap (λ (o : Outcome). slotLength (o .slot)) (outcome-no-entry p (x .char) (following xs) (x .after) e)
 
-  entry-spares : (c : ℕ) → hasVariationSequence c ≡ true → spares (classOf c) ≡ false
-  unfolding spares
-  entry-spares c e = ap spares (entry-class c e)
+  no-entry-bounded : (x : Cell) (xs : List Cell) → hasVariationSequence (x .char) ≡ false → Bounded xs → Bounded (x ∷ xs)
+  no-entry-bounded x xs e h =
+      let n = no-entry-slot x xs e in
+      record { bound = omega (arith, h .bound, width-some (x .char)); spare = λ _. omega (arith, h .bound, width-some (x .char)) }
+
+  -- An entry is neither 20E3 nor a tag.
+  entry-bounded : (x : Cell) (xs : List Cell) → hasVariationSequence (x .char) ≡ true
+      → 2 * lengthOut p (x ∷ xs) ≤ 5 * lengthIn (x ∷ xs) → Bounded (x ∷ xs)
+  unfolding following spares
+  entry-bounded x xs e h = record {
+    bound = h;
+    spare = λ m. absurd (true≢false (sym m ∙ ap spares (entry-class (x .char) e)));
+  }
+
+  -- The bound at an entry: by the bytes of its selectors, by its own bytes if it is not ASCII, by the bytes to spare of the next
+  -- character, or since it stays bare.
+  entry-bound : (x : Cell) (xs : List Cell) → hasVariationSequence (x .char) ≡ true → Bounded xs
+      → (s : List Presentation) → x .after ≡ s → (a : Bool) → isAscii (x .char) ≡ a → (k : Bool) → spares (following xs) ≡ k
+      → 2 * lengthOut p (x ∷ xs) ≤ 5 * lengthIn (x ∷ xs)
+  entry-bound x xs e h (q ∷ s) t a f k g =
+      omega (arith, h .bound, width-some (x .char), slot-few (outcomeAt p x xs .slot), ap length t)
+  entry-bound x xs e h [] t false f k g = omega (arith, h .bound, two-bytes (x .char) f, slot-few (outcomeAt p x xs .slot))
+  entry-bound x xs e h [] t true f true g = omega (arith, h .spare g, width-some (x .char), slot-few (outcomeAt p x xs .slot))
+  entry-bound x xs e h [] t true f false g =
+      let z : slotAt p x xs ≡ 0 = ap (λ (s : List Presentation). slotLength (outcome p (x .char) (following xs) s .slot)) t
+      ∙ ap slotLength (ascii-bare (x .char) (following xs) e f g) in
+      omega (arith, h .bound)
 
   bounded : (xs : List Cell) → Bounded xs
   unfolding following spares
   bounded [] = record { bound = omega arith; spare = λ e. absurd (true≢false (sym e)) }
-  bounded (x ∷ xs) =
-      go (bounded xs) (hasVariationSequence (x .char)) refl (isAscii (x .char)) refl (spares (following xs)) refl (x .after) refl
+  bounded (x ∷ xs) = go (bounded xs) (hasVariationSequence (x .char)) refl
     where
-      go : Bounded xs → (v : Bool) → hasVariationSequence (x .char) ≡ v → (a : Bool) → isAscii (x .char) ≡ a
-          → (k : Bool) → spares (following xs) ≡ k → (s : List Presentation) → x .after ≡ s → Bounded (x ∷ xs)
-      go h false e a f k g s t =
-          let n = no-entry-slot x xs e in
-          record { bound = omega (arith, h .bound, width-some (x .char)); spare = λ _. omega (arith, h .bound, width-some (x .char)) }
-      go h true e a f k g (q ∷ s) t =
-          record {
-            bound = omega (arith, h .bound, width-some (x .char), slot-few (outcomeAt p x xs .slot), ap length t);
-            spare = λ m. absurd (true≢false (sym m ∙ entry-spares (x .char) e));
-          }
-      go h true e false f k g [] t = record {
-        bound = omega (arith, h .bound, two-bytes (x .char) f, slot-few (outcomeAt p x xs .slot));
-        spare = λ m. absurd (true≢false (sym m ∙ entry-spares (x .char) e));
-      }
-      go h true e true f true g [] t = record {
-        bound = omega (arith, h .spare g, width-some (x .char), slot-few (outcomeAt p x xs .slot));
-        spare = λ m. absurd (true≢false (sym m ∙ entry-spares (x .char) e));
-      }
-      go h true e true f false g [] t =
-          let z : slotAt p x xs ≡ 0 = ap (λ (s : List Presentation). slotLength (outcome p (x .char) (following xs) s .slot)) t
-          ∙ ap slotLength (ascii-bare (x .char) (following xs) e f g) in
-          record { bound = omega (arith, h .bound); spare = λ m. absurd (true≢false (sym m ∙ entry-spares (x .char) e)) }
+      go : Bounded xs → (v : Bool) → hasVariationSequence (x .char) ≡ v → Bounded (x ∷ xs)
+      go h false e = no-entry-bounded x xs e h
+      go h true e =
+          entry-bounded x xs e (entry-bound x xs e h (x .after) refl (isAscii (x .char)) refl (spares (following xs)) refl)
 
   -- The bound for the formatted characters of a text, and for the formatted text.
   pub format-bound : (text : List ℕ) → 2 * length (encodeAll (formatCells p (chars text))) ≤ 5 * length text

@@ -1,6 +1,5 @@
 -- `formatting::format_text` meets its contract.
 use mathlib.Core.Path.{sym}
-use native.Mathlib.Omega.{arith}
 use borrow.Author.Needs.{needs}
 use borrow.Author.Tests.{not-false, not-true}
 use Rattle.base.proofs.Answering.{ends-as}
