@@ -13,7 +13,7 @@ int main(void)
 {
     const char *text = "1\xEF\xB8\x8E \xE2\x9D\xA4";
     uint8_t policy[TILGHORZ_POLICY_BYTES];
-    uint8_t out[64]; /* four times the length of the text is always enough */
+    uint8_t out[64]; /* 5/2 times the length of the text is enough under the default policy, and 4 times under any */
     uint64_t word;
 
     tilghorz_default_policy(policy, sizeof policy);

@@ -97,7 +97,7 @@ extern "C" {
 #define TILGHORZ_NOTHING_TO_DO 255
 
 /* Formats a text under a policy. Numbers: 1, 2, 3, 8, and 255 if the text needs no change. Value: the number of bytes written, at
- * most 4 times the length of the text. */
+ * most 4 times the length of the text, and under the default policy at most 5/2 times. */
 uint64_t tilghorz_format(const uint8_t *text, size_t text_len, const uint8_t *policy, size_t policy_len, uint8_t *out, size_t out_len);
 
 /* Lists the findings of a text in text order. Numbers: 1, 2, 3, 7. Value: the number of rows written. A row is fourteen numbers of 8

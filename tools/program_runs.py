@@ -25,7 +25,11 @@ import tempfile
 
 ROOT = pathlib.Path(__file__).resolve().parent.parent
 PROGRAMS = ("format", "report")
-LIMIT = 12288
+
+# The most bytes that each program reads, and the most that findings_table reads.
+LIMITS = {"format": 16384, "report": 12288}
+TABLE_LIMIT = 12288
+
 PIECE = 1000
 SECONDS = 60
 
@@ -79,8 +83,10 @@ def inputs():
     return {
         "empty": b"",
         "unchanged": "Meet at \u231a 9, \u261d\ufe0e\U0001f3fb, \u2764\ufe0f.\n".encode(),
-        "copyright_signs": "\u00a9".encode() * (LIMIT // 2),
-        "too_long": b"a" * (LIMIT + 1),
+        "copyright_signs": "\u00a9".encode() * (LIMITS["report"] // 2),
+        "report_too_long": b"a" * (LIMITS["report"] + 1),
+        "format_full": "\u00a9".encode() * (LIMITS["format"] // 2),
+        "too_long": b"a" * (LIMITS["format"] + 1),
         "damaged": "caf\u00e9 \u2764 ".encode() + b"\xe2\x9d" + " \u2764".encode(),
         "reads_refused": b"refused 1\n",
         "thread": thread.encode(),
@@ -186,7 +192,7 @@ def in_messages(texts):
     """The texts as lines of messages, each message with as many lines as fit, and the number of its lines."""
     message, count = b"", 0
     for text in texts:
-        if len(message) + len(text) + 1 > LIMIT:
+        if len(message) + len(text) + 1 > TABLE_LIMIT:
             yield message, count
             message, count = b"", 0
         message, count = message + text + b"\n", count + 1
@@ -228,13 +234,13 @@ def wrong_examples(root):
             yield f"README.md: {command}: its output is {answer.stdout.decode()!r}"
 
 
-def is_refused(text):
-    """Whether the programs refuse a text, because it is too long or not well-formed."""
+def is_refused(program, text):
+    """Whether a program refuses a text, because it is too long or not well-formed."""
     try:
         text.decode()
     except UnicodeDecodeError:
         return True
-    return len(text) > LIMIT
+    return len(text) > LIMITS[program]
 
 
 def wrong_statuses(root, folder):
@@ -243,7 +249,7 @@ def wrong_statuses(root, folder):
         for name in stored(folder):
             text = (folder / f"{name}.in").read_bytes()
             answer = subprocess.run([root / "tilghorz", program], input=text, capture_output=True, timeout=SECONDS, check=False)
-            wanted = 3 if is_refused(text) else 0
+            wanted = 3 if is_refused(program, text) else 0
             if answer.returncode != wanted:
                 yield f"./tilghorz {program} {name}: exit status {answer.returncode}, expected {wanted}"
             if answer.stdout != (folder / f"{name}.{program}").read_bytes():

@@ -94,14 +94,15 @@ class Runs(unittest.TestCase):
         root = self.runs.parent
         self.store("a", b"refused 1\n", b"refused 1\n", b"total\n")
         self.store("b", b"\xff", b"refused 3 0\n", b"refused 3 0\n")
-        self.store("c", b"a" * 12289, b"refused 1\n", b"refused 1\n")
+        self.store("c", b"a" * 16385, b"refused 1\n", b"refused 1\n")
+        self.store("d", b"a" * 12289, b"a" * 12289, b"refused 1\n")
         wrapper = root / "tilghorz"
         lines = """#!/bin/sh
 cat > "$0.text"
-for name in a b c; do cmp -s "$0.text" "$(dirname "$0")/runs/$name.in" && cat "$(dirname "$0")/runs/$name.$1"; done
-cmp -s "$0.text" "$(dirname "$0")/runs/a.in" || exit 3
+for name in a b c d; do cmp -s "$0.text" "$(dirname "$0")/runs/$name.in" && cat "$(dirname "$0")/runs/$name.$1"; done
+cmp -s "$0.text" "$(dirname "$0")/runs/a.in" || test "$1$(wc -c < "$0.text")" = format12289 || exit 3
 """
-        for text, wrong in ((lines, 0), (lines.replace("exit 3", "exit 0"), 4), (lines.replace(" || exit 3", "; exit 3"), 2), (lines.replace("cat \"$(", "echo \"$("), 6)):
+        for text, wrong in ((lines, 0), (lines.replace("exit 3", "exit 0"), 5), (lines.replace(" || exit 3", "; exit 3"), 3), (lines.replace("cat \"$(", "echo \"$("), 8)):
             wrapper.write_text(text, encoding="utf-8")
             wrapper.chmod(0o755)
             self.assertEqual(len(list(program_runs.wrong_statuses(root, self.runs))), wrong)
@@ -135,9 +136,12 @@ class Examples(unittest.TestCase):
 class Files(unittest.TestCase):
     def test_the_inputs(self):
         made = program_runs.inputs()
-        self.assertEqual(len(made["copyright_signs"]), program_runs.LIMIT)
-        self.assertEqual(len(made["too_long"]), program_runs.LIMIT + 1)
-        self.assertLessEqual(len(made["thread"]), program_runs.LIMIT)
+        format_limit, report_limit = program_runs.LIMITS["format"], program_runs.LIMITS["report"]
+        self.assertEqual(len(made["copyright_signs"]), report_limit)
+        self.assertEqual(len(made["report_too_long"]), report_limit + 1)
+        self.assertEqual(len(made["format_full"]), format_limit)
+        self.assertEqual(len(made["too_long"]), format_limit + 1)
+        self.assertLessEqual(len(made["thread"]), report_limit)
 
     def test_another_file(self):
         with tempfile.TemporaryDirectory() as name:

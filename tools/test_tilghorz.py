@@ -134,14 +134,14 @@ class Tilghorz(unittest.TestCase):
         self.assertTrue(self.is_built_anew())
 
     def test_a_refusal_has_a_status(self):
-        selectors = "\ufe0f".encode() * 5000
+        selectors = "\ufe0f".encode() * 6000
         for lines, text, status in (
             ("cat", b"refused 1\n", 0),
             ("cat", b"refused 3 9\n", 0),
             ("cat", b"refused to answer\0\n", 0),
             ("cat", b"", 0),
-            ("echo refused 1", b"a" * 12289, 3),
-            ("cat", b"refused " * 1536, 0),
+            ("echo refused 1", b"a" * 16385, 3),
+            ("cat", b"refused " * 2048, 0),
             ("echo refused 1", b"refused 1\n" + selectors, 3),
             ("echo refused 3 9", b"cut off: \xe2\x9d", 3),
             ("echo refused 3 0", b"\xef\xb8", 3),

@@ -62,7 +62,7 @@ pub fn formatted(text: &str, policy: &Policy) -> Option<Vec<u8>> {
     }
 }
 
-/// The bytes of a finding in the table of [`findings`]: ten numbers, without the positions, which the crate does not have.
+/// The bytes of a finding as the crate has it: ten numbers, without positions in characters and UTF-16 units.
 pub const FINDING_BYTES: usize = 80;
 
 /// The findings as a table of ten numbers each.

@@ -6,7 +6,7 @@ use std::path::{Path, PathBuf};
 
 use evfmt::Policy;
 use tilghorz_comparison::beside;
-use tilghorz_comparison::reference::programs::LONGEST_INPUT;
+use tilghorz_comparison::reference::programs::LONGEST_TO_FORMAT;
 
 /// The inputs of the stored runs.
 fn inputs() -> Vec<PathBuf> {
@@ -34,7 +34,7 @@ fn the_stored_formatted_texts_are_the_crates() {
         let Ok(text) = str::from_utf8(&input) else {
             continue;
         };
-        if input.len() <= LONGEST_INPUT {
+        if input.len() <= LONGEST_TO_FORMAT {
             let expected = beside::formatted(text, &Policy::default()).unwrap_or(input.clone());
             assert!(
                 bytes(&path.with_extension("format")) == expected,

@@ -1,5 +1,5 @@
 -- The output of the program for a message, `outputOf` (document 01, "Programs": "One writes the formatted text"); and the answer of
--- formatting into a buffer of four times the message's length. This answer is the one of `format`, and it is never refusal 8.
+-- formatting into a buffer of five halves of the message's length. This answer is the one of `format`, and it is never refusal 8.
 use mathlib.Core.Path.{_≡_}
 use mathlib.Core.List.{List}
 use mathlib.Core.Option.{none, some}
@@ -14,9 +14,9 @@ use Rattle.message_io.specs.Lines.{programOutput}
 use Rattle.formatter.specs.declared.FormatAnswer.{FormatAnswer}
 use Rattle.formatter.specs.declared.FormatAnswer.the-variants.{Changed, Refused, Unchanged}
 
--- "Programs read at most 12,288 bytes under the default policy; more gives `refused 1`"
+-- Document 02, (vii): "The formatting program then reads up to 16,384 bytes with an output of 40,960, and refuses more by 1."
 abbrev pub messageLimit : ℕ
-messageLimit = 12288
+messageLimit = 16384
 
 -- The bytes of the default policy.
 abbrev pub policy : List ℕ

@@ -17,14 +17,14 @@ use message_io::Message;
 use message_io::line::LINE_ROOM;
 use policy::POLICY_BYTES;
 
-// "Programs read at most 12,288 bytes under the default policy; more gives `refused 1`."
-const MESSAGE_LIMIT: usize = 12_288;
+// "The formatting program then reads up to 16,384 bytes with an output of 40,960, and refuses more by 1" (document 02, vii).
+const MESSAGE_LIMIT: usize = 16_384;
 
 // The buffer is one byte longer than the limit, so that the program notices a longer message.
 const MESSAGE_ROOM: usize = MESSAGE_LIMIT + 1;
 
-// "Formatted text is at most 4 times the input."
-const OUTPUT_ROOM: usize = 4 * MESSAGE_LIMIT;
+// Under the default policy a formatted text has at most five halves of the message's bytes (crate room, FiveHalves).
+const OUTPUT_ROOM: usize = 40_960;
 
 // The bytes to write: the message itself, or the first `len` bytes of the buffer.
 struct Output {
@@ -43,10 +43,10 @@ fn put_refusal(out: &mut [u8], refusal: Refusal) -> usize
     len
 }
 
-// Formats a message under the default policy, into a buffer that is long enough for every formatted text. So refusal 8
-// is no answer.
+// Formats a message under the default policy, into a buffer that is long enough for every formatted text under this
+// policy. So refusal 8 is no answer.
 fn format_message(message: &[u8], out: &mut [u8]) -> FormatAnswer
-    requires { ⌜ 4 * length (now message) ≤ length (now out) ⌝ }
+    requires { ⌜ 5 * length (now message) ≤ 2 * length (now out) ⌝ }
     ensures { λ r. ⌜ FormatsMessage (now (message .entry)) (now (out .entry)) r (now (out .exit)) ⌝ }
 {
     let mut policy = [0u8; POLICY_BYTES];
@@ -56,7 +56,7 @@ fn format_message(message: &[u8], out: &mut [u8]) -> FormatAnswer
 
 // Returns the output for a message: its filed text, or the line of a refusal.
 fn output_of(message: &[u8], out: &mut [u8]) -> Output
-    requires { ⌜ 4 * messageLimit ≤ length (now out) ⌝ }
+    requires { ⌜ 5 * messageLimit ≤ 2 * length (now out) ⌝ }
     ensures { λ r. ⌜ filedText (now (message .entry)) (now (out .exit)) (r .«in_buffer») (r .len) ≡ outputOf (now (message .entry)) ⌝ }
 {
     if MESSAGE_LIMIT < message.len() {

@@ -4,7 +4,7 @@
 ghost use mathlib.Core.Path.{_≡_};
 ghost use mathlib.Core.Bool.{true, false};
 ghost use mathlib.Core.List.{[], _∷_, _++_};
-ghost use Prim.Native.Nat.{_+_, _*_, _-_, _≤_, _<_};
+ghost use Prim.Native.Nat.{_+_, _-_, _≤_, _<_};
 ghost use lib.Dec.{leb};
 ghost use lib.ListN.{drop, length, take};
 ghost use Rattle.base.specs.Answers.{EndsAs};
@@ -21,6 +21,8 @@ use base::Refusal;
 use base::TEXT_LIMIT;
 use formatter::FormatAnswer;
 use formatter::intake::first_tests;
+use policy::policy_bytes::ascii_keys_bare;
+use room::default_room;
 use scanner::selectors::SELECTOR_BYTES;
 use text_pass::Change;
 use text_pass::next_change;
@@ -176,10 +178,11 @@ fn valid_after(text: &[u8], change: Change) -> usize
     end + utf8::valid_up_to(&text[end..])
 }
 
-// Formats a text into an output that has room for every formatted text of its length. The caller knows the first change. Before the
-// function writes, it looks for the second one: most messages have none, and then the search has tested the rest of the text too.
+// Formats a text into an output that has room for the formatted text. The caller knows the first change. Before the function writes, it
+// looks for the second one: most messages have none, and then the search has tested the rest of the text too.
 fn format_at_once(text: &[u8], policy: &[u8], first: Change, out: &mut [u8]) -> FormatAnswer
-    requires { ⌜ FirstChange (now text) (now policy) first × (4 * length (now text) ≤ length (now out)) ⌝ }
+    requires { ⌜ FirstChange (now text) (now policy) first
+        × (length (formattedFrom (policyOf (now policy)) (now text) 0) ≤ length (now out)) ⌝ }
     ensures { λ r. ⌜ record { answer = r; buffer = now (out .exit) }
         ≡ format (now (text .entry)) (now (policy .entry)) (now (out .entry)) ⌝ }
 {
@@ -193,6 +196,22 @@ fn format_at_once(text: &[u8], policy: &[u8], first: Change, out: &mut [u8]) -> 
     FormatAnswer::Changed {
         len: put_changes(text, policy, end, second, out, to),
     }
+}
+
+// Whether a room is surely enough for the formatted text, by the length of the text, which is within the limit. Four times this length is
+// always enough; five halves of it are enough if the policy keeps the ASCII bases bare, as the default policy does. If the answer is
+// false, the formatted text may still fit.
+fn surely_fits(text: &[u8], policy: &[u8], room: usize) -> bool
+    requires { ⌜ length (now text) ≤ textLimit ⌝ }
+    ensures { λ r. ⌜ (r ≡ true → length (formattedFrom (policyOf (now (policy .entry))) (now (text .entry)) 0) ≤ room) ⌝ }
+{
+    if text.len() <= room / MOST_TIMES {
+        return true;
+    }
+    if room < default_room(text.len()) {
+        return false;
+    }
+    ascii_keys_bare(policy)
 }
 
 // Formats a text: writes the formatted text at the front of the output, if it differs from the text and fits.
@@ -210,7 +229,7 @@ pub fn format_text(text: &[u8], policy: &[u8], out: &mut [u8]) -> FormatAnswer
         }
         return FormatAnswer::Unchanged;
     }
-    if out.len() / MOST_TIMES < text.len() {
+    if !surely_fits(text, policy, out.len()) {
         return format_measured(text, policy, first, out);
     }
     format_at_once(text, policy, first, out)

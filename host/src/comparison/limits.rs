@@ -1,20 +1,23 @@
-//! Texts around the limits: what a program reads, what a list starts from, and what a call takes.
+//! Texts around the limits: what each program reads, what a list starts from, and what a call takes.
 
 use super::policies::{Policy, refused};
 use crate::Random;
 use crate::reference::book::LONGEST_FIRST_TEXT;
 use crate::reference::calls::LONGEST_TEXT;
 use crate::reference::policy;
-use crate::reference::programs::LONGEST_INPUT;
+use crate::reference::programs::{LONGEST_TO_FORMAT, LONGEST_TO_REPORT};
 
 /// The lengths in bytes that texts are made of, around each limit.
 #[must_use]
 pub fn lengths() -> Vec<usize> {
     let around = |limit: usize| [limit + 1, limit, limit - 1];
-    [LONGEST_TEXT, LONGEST_FIRST_TEXT, LONGEST_INPUT]
-        .into_iter()
-        .flat_map(around)
-        .collect()
+    let limits = [
+        LONGEST_TEXT,
+        LONGEST_FIRST_TEXT,
+        LONGEST_TO_FORMAT,
+        LONGEST_TO_REPORT,
+    ];
+    limits.into_iter().flat_map(around).collect()
 }
 
 /// A text of this length with a finding at its front, in its middle and at its end.

@@ -9,7 +9,7 @@ use super::limits::sparse;
 use super::reduce::reduced_text;
 use super::texts::Alphabet;
 use crate::Random;
-use crate::reference::programs::{LONGEST_INPUT, formatted, report};
+use crate::reference::programs::{LONGEST_TO_FORMAT, LONGEST_TO_REPORT, formatted, report};
 
 /// How many drawn texts, and as many damaged ones, a program is run on.
 const DRAWN: usize = 150;
@@ -24,7 +24,7 @@ pub struct Programs {
 }
 
 impl Programs {
-    /// Runs both on drawn texts, damaged ones, and texts around the limit. True if there was no difference; the first
+    /// Runs both on drawn texts, damaged ones, and texts around the two limits. True if there was no difference; the first
     /// one is printed.
     pub fn compare(&self, seed: u64, out: &mut dyn Write) -> io::Result<bool> {
         let inputs = inputs(seed);
@@ -72,7 +72,7 @@ pub fn written(path: &Path, input: &[u8]) -> io::Result<Vec<u8>> {
     Ok(child.wait_with_output()?.stdout)
 }
 
-/// The inputs: the worked example, none, drawn and damaged ones, and those around the limit.
+/// The inputs: the worked example, none, drawn and damaged ones, and those around the two limits.
 fn inputs(seed: u64) -> Vec<Vec<u8>> {
     let mut random = Random::from_seed(seed);
     let alphabet = Alphabet::new();
@@ -81,7 +81,8 @@ fn inputs(seed: u64) -> Vec<Vec<u8>> {
         inputs.push(alphabet.drawn(&mut random));
         inputs.push(alphabet.damaged(&mut random));
     }
-    for length in [LONGEST_INPUT - 1, LONGEST_INPUT, LONGEST_INPUT + 1] {
+    let around = |limit: usize| limit - 1..=limit + 1;
+    for length in around(LONGEST_TO_REPORT).chain(around(LONGEST_TO_FORMAT)) {
         inputs.push(sparse(length));
         inputs.push("\u{A9}".repeat(length / 2).into_bytes());
         inputs.push(vec![0xFF; length]);

@@ -8,6 +8,7 @@ use crate::beside;
 use crate::calls::{Calls, FINDING_BYTES, ITEM_BYTES};
 use crate::reference::book::Book;
 use crate::reference::calls::{self, Draft, LONGEST_TEXT};
+use crate::reference::policy::default_policy;
 
 /// The most bytes of a table that is lent. Where it would be longer, the refusal alone is compared.
 const LONGEST_TABLE: usize = 32 << 20;
@@ -25,7 +26,8 @@ pub fn check(calls: &dyn Calls, text: &[u8], policy: &Policy) -> Result<(), Diff
     if let Some((text, policy)) = for_the_crate(text, policy) {
         check_reference(text, policy, &format, &list, &scan)?;
     }
-    for room in rooms(&format, 1, text) {
+    check_bound(&format, text, bytes)?;
+    for room in rooms(&format, 1, text).into_iter().chain(halves(text)) {
         lend(
             || "format".into(),
             &format,
@@ -131,6 +133,29 @@ fn rooms(draft: &Draft, more: usize, text: &[u8]) -> Vec<usize> {
             0,
         ],
     }
+}
+
+/// Five halves of the text's length, and one byte less: under the default policy formatting takes one pass from this room
+/// on.
+fn halves(text: &[u8]) -> Vec<usize> {
+    match 5 * text.len() / 2 {
+        0 => Vec::new(),
+        _ if is_long(text) => Vec::new(),
+        room => vec![room - 1, room],
+    }
+}
+
+/// Holds the reading to document 02, (vii): "under the default policy twice the formatted length is at most five times
+/// the input length".
+fn check_bound(format: &Draft, text: &[u8], policy: &[u8]) -> Result<(), Difference> {
+    if policy != default_policy() || 2 * format.wanted() <= 5 * text.len() {
+        return Ok(());
+    }
+    Err(Difference {
+        call: "format, by the bound under the default policy".to_owned(),
+        expected: format!("at most {} bytes", 5 * text.len() / 2),
+        found: format!("{} bytes", format.wanted()),
+    })
 }
 
 /// Whether the text has fewer calls.

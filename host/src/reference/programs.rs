@@ -1,4 +1,5 @@
-//! What the two programs write: document 01, "Programs read at most 12,288 bytes under the default policy".
+//! What the two programs write: document 01, "Programs read at most 12,288 bytes under the default policy"; document 02, (vii):
+//! "The formatting program then reads up to 16,384 bytes", and "The report program keeps its limit".
 
 use std::fmt::Write;
 
@@ -9,13 +10,16 @@ use super::items::items;
 use super::policy::default_policy;
 use super::rules::{Counts, finding};
 
-/// The most bytes that a program reads.
-pub const LONGEST_INPUT: usize = 12_288;
+/// The most bytes that the program that formats reads.
+pub const LONGEST_TO_FORMAT: usize = 16_384;
+
+/// The most bytes that the report reads.
+pub const LONGEST_TO_REPORT: usize = 12_288;
 
 /// What the program that formats writes.
 #[must_use]
 pub fn formatted(input: &[u8]) -> Vec<u8> {
-    if input.len() > LONGEST_INPUT {
+    if input.len() > LONGEST_TO_FORMAT {
         return refused(Answer::new(1, 0));
     }
     match format(input, default_policy()) {
@@ -28,7 +32,7 @@ pub fn formatted(input: &[u8]) -> Vec<u8> {
 /// What the report writes: a line for each finding, and the totals.
 #[must_use]
 pub fn report(input: &[u8]) -> Vec<u8> {
-    if input.len() > LONGEST_INPUT {
+    if input.len() > LONGEST_TO_REPORT {
         return refused(Answer::new(1, 0));
     }
     let policy = match accept(input, default_policy()) {

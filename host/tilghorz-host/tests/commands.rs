@@ -201,6 +201,7 @@ fn the_stored_runs_of_the_proved_programs_are_met() {
         "copyright_signs",
         "damaged",
         "empty",
+        "format_full",
         "reads_refused",
         "thread",
         "unchanged",
@@ -208,8 +209,11 @@ fn the_stored_runs_of_the_proved_programs_are_met() {
         let read = |extension| {
             fs::read(stored.join(name).with_extension(extension)).expect("a stored run")
         };
-        let ran = folder.run_with(&["report"], &read("in"));
-        assert!(ran.out == read("report"), "{name}");
+        // The program `report` refuses this one.
+        if name != "format_full" {
+            let ran = folder.run_with(&["report"], &read("in"));
+            assert!(ran.out == read("report"), "{name}");
+        }
         let ran = folder.run_with(&["format"], &read("in"));
         if ran.status == 0 {
             assert!(ran.out == read("format"), "{name}");

@@ -58,15 +58,16 @@ impl Presentation {
 /// # Errors
 /// Refusals 1 and 3.
 pub fn format<'a>(text: &'a [u8], policy: &Policy) -> Result<Cow<'a, [u8]>, Refusal> {
-    let (formatted, out) = with_room(room_for(text), 1, |out| format_into(text, policy, out))?;
+    let room = formatted_room(text, policy);
+    let (formatted, out) = with_room(room, 1, |out| format_into(text, policy, out))?;
     Ok(match formatted {
         Formatted::Unchanged => Cow::Borrowed(text),
         Formatted::Changed { len } => Cow::Owned(front(out, len)),
     })
 }
 
-/// Formats into the caller's buffer. Four times the text's length is always enough room. What is after the formatted
-/// text stays as it was.
+/// Formats into the caller's buffer. Four times the text's length is always enough room; under the default policy five
+/// halves of it are. What is after the formatted text stays as it was.
 ///
 /// # Errors
 /// Refusals 1, 3 and 8; the buffer is then as it was.
@@ -141,7 +142,7 @@ pub fn mend(
         .iter()
         .map(|decision| decision.decision())
         .collect();
-    let mended = with_room(room_for(text), 1, |out| {
+    let mended = with_room(any_room(text), 1, |out| {
         mend_into(text, policy, offset, &decisions, out)
     });
     mended.map(|(len, out)| front(out, len))
@@ -168,9 +169,19 @@ pub fn mend_into(
     ))
 }
 
-/// Room for the result on a text: "at most 4 times the input". The system gives memory when it is first written to, so
-/// room that is not used costs little.
-fn room_for(text: &[u8]) -> usize {
+/// Room for the formatted text. Under the default policy "twice the formatted length is at most five times the input
+/// length" (document 02, vii): the theorem `FiveHalves` of crates/room.
+fn formatted_room(text: &[u8], policy: &Policy) -> usize {
+    if policy.is_default() {
+        5 * text.len().min(LONGEST_TEXT) / 2
+    } else {
+        any_room(text)
+    }
+}
+
+/// Room for the result on a text under any policy: "at most 4 times the input". The system gives memory when it is first
+/// written to, so room that is not used costs little.
+fn any_room(text: &[u8]) -> usize {
     4 * text.len().min(LONGEST_TEXT)
 }
 

@@ -134,6 +134,13 @@ impl Policy {
         Ok(Self { bytes })
     }
 
+    /// Whether it is the default policy.
+    #[must_use]
+    pub fn is_default(&self) -> bool {
+        static DEFAULT: LazyLock<Policy> = LazyLock::new(Policy::default);
+        *self == *DEFAULT
+    }
+
     /// Its bytes, as they cross.
     #[must_use]
     pub const fn as_bytes(&self) -> &[u8; sys::POLICY_BYTES] {

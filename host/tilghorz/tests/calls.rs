@@ -9,8 +9,9 @@ use tilghorz::{
     Counts, Finding, Formatted, Item, ItemKind, LONGEST_TEXT, Policy, Presentation, Refusal,
 };
 
-/// The greatest number of bytes that a program reads.
-const LONGEST_MESSAGE: usize = 12_288;
+/// The greatest number of bytes that the program `format` reads, and that the program `report` reads.
+const LONGEST_TO_FORMAT: usize = 16_384;
+const LONGEST_TO_REPORT: usize = 12_288;
 
 /// What becomes of a text under the default policy.
 fn formatted(text: &str) -> Cow<'_, str> {
@@ -252,6 +253,34 @@ fn results_of_any_length_find_room() {
     );
 }
 
+/// Document 02, (vii): under the default policy five halves of the text's length are enough, and the copyright sign takes
+/// all of them. Under the empty policy a digit takes four times its length.
+#[test]
+fn the_room_of_a_formatted_text_is_reached() {
+    let default = Policy::default();
+    assert!(default.is_default());
+    let sign = "\u{A9}".as_bytes();
+    let mut out = [0; 5];
+    assert_eq!(
+        tilghorz::format_into(sign, &default, &mut out),
+        Ok(Formatted::Changed { len: 5 })
+    );
+    assert_eq!(
+        tilghorz::format_into(sign, &default, &mut out[..4]),
+        Err(Refusal::OutputTooShort { wanted: 5 })
+    );
+    let empty = Policy::from_bytes(&vec![0; default.as_bytes().len()]).expect("a policy");
+    assert!(!empty.is_default());
+    assert_eq!(
+        *tilghorz::format(b"1", &empty).expect("a text"),
+        *"1\u{FE0F}".as_bytes()
+    );
+    assert_eq!(
+        tilghorz::format_into(b"1", &empty, &mut [0; 3]),
+        Err(Refusal::OutputTooShort { wanted: 4 })
+    );
+}
+
 #[test]
 fn the_filed_text_is_the_message_or_the_front_of_the_buffer() {
     let (message, buffer) = (&b"message"[..], &b"buffer"[..]);
@@ -280,20 +309,22 @@ fn the_stored_runs_of_the_proved_programs_are_met() {
         runs += 1;
         let stored = |extension| fs::read(path.with_extension(extension)).expect("a stored run");
         let message = stored("in");
-        if message.len() > LONGEST_MESSAGE {
+        if message.len() <= LONGEST_TO_REPORT {
+            assert!(
+                report(&message, &policy) == stored("report"),
+                "{}",
+                path.display()
+            );
+        }
+        if message.len() > LONGEST_TO_FORMAT {
             continue;
         }
-        let mut buffer = vec![0; 4 * message.len()];
+        let mut buffer = vec![0; 5 * message.len() / 2];
         let filed = match tilghorz::format_into(&message, &policy, &mut buffer) {
             Ok(formatted) => tilghorz::filed(&message, &buffer, formatted).to_vec(),
             Err(refusal) => refusal_line(refusal),
         };
         assert!(filed == stored("format"), "{}", path.display());
-        assert!(
-            report(&message, &policy) == stored("report"),
-            "{}",
-            path.display()
-        );
     }
     assert!(runs > 5, "{runs} stored runs");
 }

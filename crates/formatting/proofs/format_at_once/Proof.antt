@@ -14,7 +14,6 @@ use Rattle.formatting.proofs.Surveying.{
   change-room,
   first-counted,
   first-inside,
-  four-times-at,
   passed,
   second-inside,
   second-valid,
@@ -45,7 +44,7 @@ put-change-requires c κs =
     let p = s .args .policy .now in
     let f = s .pre .0 .is-next in
     let h = passed (policyOf p) t (omega arith) f in
-    let w = begin (formattedFrom (policyOf p) t 0) 0 (s .args .out .now) (omega (arith, four-times-at (policyOf p) t 0, s .pre .1)) in
+    let w = begin (formattedFrom (policyOf p) t 0) 0 (s .args .out .now) (omega (arith, s .pre .1)) in
     (omega arith, omega (arith, h .after, h .inside), change-room (policyOf p) t w h)
 
 put-changes-requires : tie.Need-put-changes-requires
@@ -55,7 +54,7 @@ put-changes-requires c κs =
     let p = s .args .policy .now in
     let f = s .pre .0 .is-next in
     let h = passed (policyOf p) t (omega arith) f in
-    let b = begin (formattedFrom (policyOf p) t 0) 0 (s .args .out .now) (omega (arith, four-times-at (policyOf p) t 0, s .pre .1)) in
+    let b = begin (formattedFrom (policyOf p) t 0) 0 (s .args .out .now) (omega (arith, s .pre .1)) in
     let w = change-put (policyOf p) t b h (c .before .before .before .put-change .ensures) in (
       first-inside (policyOf p) t f,
       c .before .before .before .before .before .before .before .next-change .ensures,
@@ -77,7 +76,7 @@ returns-2 c =
     (c .before .before .before .before .before .before .before .before .before .valid-after .ensures))
     (c .before .before .before .before .before .before .before .before .if1 .left) in
     format-written p t a (s .args .out .now) _ _ _ (first-counted (policyOf p) t f (s .pre .0 .is-present)) (omega (arith, w .ends))
-    (omega (arith, w .ends, four-times-at (policyOf p) t 0, s .pre .1)) w
+    (omega (arith, w .ends, s .pre .1)) w
 
 pub format-at-once-spec : {M : Type 1} → statement M
 format-at-once-spec =

@@ -1,6 +1,5 @@
 -- `formatting::format_text` meets its contract.
 use mathlib.Core.Path.{sym}
-use native.Mathlib.Omega.{arith}
 use borrow.Author.Needs.{needs}
 use borrow.Author.Tests.{not-false, not-true}
 use Rattle.base.proofs.Answering.{ends-as}
@@ -45,18 +44,24 @@ returns-3 c =
     ends-as (format-unchanged p t (all-well-formed t p (f .0) (f .1) (first-end (policyOf p) t n m) (c .if2 .left)) (x .out .now)
     (first-none (policyOf p) t n m))
 
+surely-fits-requires : tie.Need-surely-fits-requires
+surely-fits-requires c κs =
+    let x = c .before .before .before .before .before .before .before .before .before .args in
+    let h = c .before .before .before in
+    first-passed (x .text .now) (x .policy .now) (h .before .before .first-tests .ensures) (h .enum-told .given .1) .0
+
 format-measured-requires : tie.Need-format-measured-requires
 format-measured-requires c κs =
-    let x = c .before .before .before .before .before .before .before .before .before .before .before .args in
+    let x = c .before .before .before .before .before .before .before .before .before .before .before .before .args in
     let t = x .text .now in
     let p = x .policy .now in
-    let h = c .before .before .before .before .before in
+    let h = c .before .before .before .before .before .before in
     let f = first-passed t p (h .before .before .first-tests .ensures) (h .enum-told .given .1) in
     record {
       short = f .0;
       is-policy = f .1;
-      is-next = c .before .before .before .before .next-change .ensures;
-      is-present = not-false _ (c .before .before .if1 .left);
+      is-next = c .before .before .before .before .before .next-change .ensures;
+      is-present = not-false _ (c .before .before .before .if1 .left);
     }
 
 returns-4 : tie.Need-returns-4
@@ -64,18 +69,18 @@ returns-4 c = ends-as (c .before .before .format-measured .ensures)
 
 format-at-once-requires : tie.Need-format-at-once-requires
 format-at-once-requires c κs =
-    let x = c .before .before .before .before .before .before .before .before .before .before .before .args in
+    let x = c .before .before .before .before .before .before .before .before .before .before .before .before .args in
     let t = x .text .now in
     let p = x .policy .now in
-    let h = c .before .before .before .before .before in
+    let h = c .before .before .before .before .before .before in
     let f = first-passed t p (h .before .before .first-tests .ensures) (h .enum-told .given .1) in (
       record {
         short = f .0;
         is-policy = f .1;
-        is-next = c .before .before .before .before .next-change .ensures;
-        is-present = not-false _ (c .before .before .if1 .left);
+        is-next = c .before .before .before .before .before .next-change .ensures;
+        is-present = not-false _ (c .before .before .before .if1 .left);
       },
-      omega (arith, c .before .if3 .left),
+      c .before .before .surely-fits .ensures (not-false _ (c .before .if3 .left)),
     )
 
 returns-5 : tie.Need-returns-5
@@ -92,6 +97,7 @@ format-text-spec =
     (λ c κs. search needs)
     returns-2
     returns-3
+    surely-fits-requires
     format-measured-requires
     (λ c. search needs)
     returns-4
