@@ -1,0 +1,65 @@
+-- What is claimed of the flips that tip a text. Each statement is proved in proofs/Claims.antt.
+use mathlib.Core.Path.{_≡_}
+use mathlib.Core.Bool.{Bool, true, false}
+use mathlib.Core.List.{List, [], _∷_, List·Memᴰ}
+use Prim.Native.Nat.{ℕ, _<_}
+use Rattle.base.specs.Words.{allBytes}
+use Rattle.utf8.specs.Rfc3629.{chars}
+use Rattle.policy_key_set.specs.Sets.{differ, entryCount}
+use Rattle.policy.specs.Policy.{holdsEntry}
+use Rattle.policy.specs.PolicyBytes.{isPolicy, policyOf}
+use Rattle.analysis.specs.Cells.{cells}
+use Rattle.formatter.specs.Format.{formatted}
+use Rattle.membership_flips.specs.Flips.{Membership, codePoint, flip, flipped, holds, same, tipping, tips}
+use Rattle.membership_flips.specs.Uses.{matters, occurs}
+
+-- ---- a flip
+
+-- "A flip of one membership leaves the other 1,415 as they are", and that one is the other way round.
+unfoldable pub FlipsOne : Type 0
+FlipsOne =
+    (policy : List ℕ) (m n : Membership) → m .entry < entryCount
+    → holds (flip m (policyOf policy)) n ≡ differ (holds (policyOf policy) n) (same m n)
+
+-- A policy with one membership flipped is a policy, and its bytes are read back as that policy.
+unfoldable pub FlippedIsPolicy : Type 0
+FlippedIsPolicy =
+    (policy : List ℕ) (m : Membership) → m .entry < entryCount → isPolicy policy ≡ true → allBytes policy ≡ true
+    → (isPolicy (flipped m policy) ≡ true) × (policyOf (flipped m policy) ≡ flip m (policyOf policy))
+
+-- ---- the list
+
+-- "smallest code point first, then ordinary before keycap, then `prefer_bare` before `bare_as_text`"
+pub data Before (m n : Membership) : Type 0 where
+  smaller-code-point : codePoint m < codePoint n → Before m n
+  ordinary-first : codePoint m ≡ codePoint n → m .keycap ≡ false → n .keycap ≡ true → Before m n
+  prefer-bare-first : codePoint m ≡ codePoint n → m .keycap ≡ n .keycap → m .asText ≡ false → n .asText ≡ true → Before m n
+
+-- "The list goes by": each comes before all later ones, so none is listed twice.
+pub data InOrder : List Membership → Type 0 where
+  no-more : InOrder []
+  and-then : {m : Membership} {l : List Membership} → ((n : Membership) → List·Memᴰ n l → Before m n) → InOrder l → InOrder (m ∷ l)
+
+-- "every variation entry .. whose flip alone alters the formatted text"
+pub record Alters (text policy : List ℕ) (m : Membership) : Type 0 where
+  pub entry : m .entry < entryCount
+  pub alters : formatted text (flipped m policy) ≡ formatted text policy → ⊥
+
+-- "Each such flip appears, and no other does."
+pub record TipsClaim (text policy : List ℕ) : Type 0 where
+  pub each-appears : (m : Membership) → Alters text policy m → List·Memᴰ m (tipping text policy)
+  pub no-other : (m : Membership) → List·Memᴰ m (tipping text policy) → Alters text policy m
+  pub in-order : InOrder (tipping text policy)
+
+unfoldable pub EveryTip : Type 0
+EveryTip = (text policy : List ℕ) → TipsClaim text policy
+
+-- ---- by one pass
+
+-- A flip tips a text where it matters for what occurs among the text's cells.
+unfoldable pub TipsByUse : Type 0
+TipsByUse =
+    (text policy : List ℕ) (m : Membership) → m .entry < entryCount → allBytes policy ≡ true
+    → tips text policy m
+    ≡ matters (m .asText) (holdsEntry (policyOf policy .«prefer_bare») (m .entry) (m .keycap)) (holdsEntry (policyOf policy .«bare_as_text») (m .entry) (m .keycap))
+    (occurs (codePoint m) (m .keycap) (cells (chars text)))
