@@ -63,12 +63,17 @@ eight-below bs e =
 
 word-below : (n at : ℕ) (bs : List ℕ) → allBytes bs ≡ true → (k : ℕ) → getD (wordsFrom n at bs) k 0 < 2 ^ 64
 word-below n at bs e k = ⊎-elim
-    (λ (h : n ≤ k). let l : length (wordsFrom n at bs) ≤ k = rw (length-wordsFrom n at bs) h in rw (List·getD-eq-default (wordsFrom n at bs) 0 {n = k} l) (omega arith))
+    (λ (h : n ≤ k). let l : length (wordsFrom n at bs) ≤ k = rw (length-wordsFrom n at bs) h in rw
+    (List·getD-eq-default (wordsFrom n at bs) 0 {n = k} l) (omega arith))
     (λ (h : k < n). rw (getD-wordsFrom n at bs k h) (eight-below (drop (at + k * 8) bs) (allBytes-drop (at + k * 8) bs e)))
     (le-or-lt n k)
 
 set-value : (k : ℕ) (bs : List ℕ) → allBytes bs ≡ true → SetValue (setOf k bs .bits)
-set-value k bs e = record { word-count = length-wordsFrom wordCount (k * (wordCount * 8)) bs; words = word-below wordCount (k * (wordCount * 8)) bs e }
+set-value k bs e = record {
+  word-count = length-wordsFrom wordCount (k * (wordCount * 8)) bs;
+  words = word-below wordCount
+      (k * (wordCount * 8)) bs e;
+}
 
 policy-value : (bs : List ℕ) → allBytes bs ≡ true → PolicyValue (policyOf bs)
 unfolding policyOf
@@ -92,8 +97,10 @@ module _ (i : ℕ) where
         word-count = length-set ws (i / 64) w ∙ v .word-count;
         words = λ k. ⊎-elim
             (λ (e : k ≡ i / 64). ⊎-elim
-            (λ (h : length ws ≤ k). let l : length (set ws (i / 64) w) ≤ k = rw (length-set ws (i / 64) w) h in rw (List·getD-eq-default (set ws (i / 64) w) 0 {n = k} l) (omega arith))
-            (λ (h : k < length ws). subst (λ (z : ℕ). z < 2 ^ 64) (sym (ap (λ (z : ℕ). getD (set ws (i / 64) w) z 0) e ∙ getD-set-same ws (i / 64) w 0 (omega arith))) new)
+            (λ (h : length ws ≤ k). let l : length (set ws (i / 64) w) ≤ k = rw (length-set ws (i / 64) w) h in rw
+            (List·getD-eq-default (set ws (i / 64) w) 0 {n = k} l) (omega arith))
+            (λ (h : k < length ws). subst (λ (z : ℕ). z < 2 ^ 64)
+            (sym (ap (λ (z : ℕ). getD (set ws (i / 64) w) z 0) e ∙ getD-set-same ws (i / 64) w 0 (omega arith))) new)
             (le-or-lt (length ws) k))
             (λ (e : k ≡ i / 64 → ⊥). rw (getD-set-other ws (i / 64) k w 0 e) (v .words k))
             (decide k (i / 64));
@@ -101,10 +108,35 @@ module _ (i : ℕ) where
 
   flip-policy : (a k : Bool) (p : Policy) → PolicyValue p → PolicyValue (flipIn a i k p)
   unfolding flipIn flipKey
-  flip-policy false false p v = record { prefer-bare = flip-value (p .«prefer_bare» .chars .bits) (v .prefer-bare); prefer-bare-keycap = v .prefer-bare-keycap; bare-as-text = v .bare-as-text; bare-as-text-keycap = v .bare-as-text-keycap }
-  flip-policy false true p v = record { prefer-bare = v .prefer-bare; prefer-bare-keycap = flip-value (p .«prefer_bare» .«keycap_chars» .bits) (v .prefer-bare-keycap); bare-as-text = v .bare-as-text; bare-as-text-keycap = v .bare-as-text-keycap }
-  flip-policy true false p v = record { prefer-bare = v .prefer-bare; prefer-bare-keycap = v .prefer-bare-keycap; bare-as-text = flip-value (p .«bare_as_text» .chars .bits) (v .bare-as-text); bare-as-text-keycap = v .bare-as-text-keycap }
-  flip-policy true true p v = record { prefer-bare = v .prefer-bare; prefer-bare-keycap = v .prefer-bare-keycap; bare-as-text = v .bare-as-text; bare-as-text-keycap = flip-value (p .«bare_as_text» .«keycap_chars» .bits) (v .bare-as-text-keycap) }
+  flip-policy false false p v = record {
+    prefer-bare = flip-value (p .«prefer_bare» .chars .bits) (v .prefer-bare);
+    prefer-bare-keycap = v
+        .prefer-bare-keycap;
+    bare-as-text = v .bare-as-text;
+    bare-as-text-keycap = v .bare-as-text-keycap;
+  }
+  flip-policy false true p v = record {
+    prefer-bare = v .prefer-bare;
+    prefer-bare-keycap = flip-value
+        (p .«prefer_bare» .«keycap_chars» .bits) (v .prefer-bare-keycap);
+    bare-as-text = v .bare-as-text;
+    bare-as-text-keycap = v
+        .bare-as-text-keycap;
+  }
+  flip-policy true false p v = record {
+    prefer-bare = v .prefer-bare;
+    prefer-bare-keycap = v .prefer-bare-keycap;
+    bare-as-text = flip-value
+        (p .«bare_as_text» .chars .bits) (v .bare-as-text);
+    bare-as-text-keycap = v .bare-as-text-keycap;
+  }
+  flip-policy true true p v = record {
+    prefer-bare = v .prefer-bare;
+    prefer-bare-keycap = v .prefer-bare-keycap;
+    bare-as-text = v
+        .bare-as-text;
+    bare-as-text-keycap = flip-value (p .«bare_as_text» .«keycap_chars» .bits) (v .bare-as-text-keycap);
+  }
 
   module _ (b : i < entryCount) where
     -- A flip of an entry leaves the unused bits 0.
@@ -114,8 +146,10 @@ module _ (i : ℕ) where
         ⊎-elim
         (λ (g : entryCount ≤ k).
         let f : eqb i k ≡ false = ne-eqb i k (λ (z : i ≡ k). omega arith) in
-        let m : member k (flipBit i ws) ≡ member k ws = member-flip i k ws (omega (arith, entry-count)) ∙ ap (differ (member k ws)) f ∙ same-as (member k ws) in
-        ap (λ (x : Bool). ltb k entryCount || not x) m ∙ all-below (wordCount * 64) (λ (j : ℕ). ltb j entryCount || not (member j ws)) e k h)
+        let m : member k (flipBit i ws) ≡ member k ws = member-flip i k ws (omega (arith, entry-count)) ∙ ap (differ (member k ws)) f
+        ∙ same-as (member k ws) in
+        ap (λ (x : Bool). ltb k entryCount || not x) m ∙ all-below (wordCount * 64) (λ (j : ℕ). ltb j entryCount || not (member j ws)) e k
+        h)
         (λ (g : k < entryCount). ap (λ (x : Bool). x || not (member k (flipBit i ws))) (lt-ltb k entryCount g))
         (le-or-lt entryCount k))
       where
@@ -139,7 +173,8 @@ module _ (i : ℕ) where
         four w x y z c d e f = cc
 
         go : (a k : Bool) → noUnusedBit (p .«prefer_bare» .chars .bits) ≡ true → noUnusedBit (p .«prefer_bare» .«keycap_chars» .bits) ≡ true
-            → noUnusedBit (p .«bare_as_text» .chars .bits) ≡ true → noUnusedBit (p .«bare_as_text» .«keycap_chars» .bits) ≡ true → noUnusedBits (flipIn a i k p) ≡ true
+            → noUnusedBit (p .«bare_as_text» .chars .bits) ≡ true → noUnusedBit (p .«bare_as_text» .«keycap_chars» .bits) ≡ true
+            → noUnusedBits (flipIn a i k p) ≡ true
         go false false c d e f = four _ _ _ _ (flip-unused (p .«prefer_bare» .chars .bits) (s .first) c) d e f
         go false true c d e f = four _ _ _ _ c (flip-unused (p .«prefer_bare» .«keycap_chars» .bits) (s .second) d) e f
         go true false c d e f = four _ _ _ _ c d (flip-unused (p .«bare_as_text» .chars .bits) (s .third) e) f
@@ -147,13 +182,16 @@ module _ (i : ℕ) where
 
 pub flipped-read : (policy : List ℕ) (m : Membership) → allBytes policy ≡ true → policyOf (flipped m policy) ≡ flip m (policyOf policy)
 unfolding ReadWritten
-flipped-read policy m e = read-written (flip m (policyOf policy)) (flip-policy (m .entry) (m .asText) (m .keycap) (policyOf policy) (policy-value policy e)) .0
+flipped-read policy m e = read-written (flip m (policyOf policy))
+    (flip-policy (m .entry) (m .asText) (m .keycap) (policyOf policy) (policy-value policy e)) .0
 
-pub flipped-accepted : (policy : List ℕ) (m : Membership) → m .entry < entryCount → isPolicy policy ≡ true → allBytes policy ≡ true → isPolicy (flipped m policy) ≡ true
+pub flipped-accepted : (policy : List ℕ) (m : Membership) → m .entry < entryCount → isPolicy policy ≡ true → allBytes policy ≡ true
+    → isPolicy (flipped m policy) ≡ true
 unfolding ReadWritten isPolicy
 flipped-accepted policy m b a e =
     read-written (flip m (policyOf policy)) (flip-policy (m .entry) (m .asText) (m .keycap) (policyOf policy) (policy-value policy e)) .1
-    ∙ flip-clean (m .entry) b (m .asText) (m .keycap) (policyOf policy) (six-words-of policy) (both-true (eqb (length policy) (4 * (wordCount * 8))) (noUnusedBits (policyOf policy)) a .1)
+    ∙ flip-clean (m .entry) b (m .asText) (m .keycap) (policyOf policy) (six-words-of policy)
+    (both-true (eqb (length policy) (4 * (wordCount * 8))) (noUnusedBits (policyOf policy)) a .1)
 
 -- ---- characters
 
@@ -169,14 +207,16 @@ unfolding allScalar strip
 scalar-strip [] = refl
 scalar-strip (c ∷ t) = go (isSelector c) refl (scalar-strip t)
   where
-    go : (b : Bool) → isSelector c ≡ b → allScalar t ≡ allScalar (strip t) → isScalar c && allScalar t ≡ allScalar (cond b (strip t) (c ∷ strip t))
+    go : (b : Bool) → isSelector c ≡ b → allScalar t ≡ allScalar (strip t) → isScalar c && allScalar t
+        ≡ allScalar (cond b (strip t) (c ∷ strip t))
     go true e h = ap (λ (a : Bool). a && allScalar t) (selector-scalar c e) ∙ h
     go false e h = ap (λ (a : Bool). isScalar c && a) h
 
 format-scalar : (p : Policy) (text : List ℕ) → allScalar (formatCells p (chars text)) ≡ true
 unfolding formatCells
 format-scalar p text =
-    scalar-strip (render p (cells (chars text)) []) ∙ ap allScalar (strip-render p (chars text) []) ∙ sym (scalar-strip (chars text)) ∙ chars-allScalar text
+    scalar-strip (render p (cells (chars text)) []) ∙ ap allScalar (strip-render p (chars text) []) ∙ sym (scalar-strip (chars text))
+    ∙ chars-allScalar text
 
 -- ---- the bridge
 
@@ -208,7 +248,8 @@ module _ (text policy : List ℕ) (m : Membership) (b : m .entry < entryCount) (
   same-text f = new-text ∙ ap (λ (xs : List Cell). encodeAll (unsplit xs)) f ∙ sym old-text
 
   abbrev U : Bool
-  U = matters (m .asText) (holdsEntry (p .«prefer_bare») (m .entry) (m .keycap)) (holdsEntry (p .«bare_as_text») (m .entry) (m .keycap)) (occurs (codePoint m) (m .keycap) (cells (chars text)))
+  U = matters (m .asText) (holdsEntry (p .«prefer_bare») (m .entry) (m .keycap)) (holdsEntry (p .«bare_as_text») (m .entry) (m .keycap))
+      (occurs (codePoint m) (m .keycap) (cells (chars text)))
 
   pub tips-by-use : tips text policy m ≡ U
   unfolding tips
@@ -223,6 +264,8 @@ module _ (text policy : List ℕ) (m : Membership) (b : m .entry < entryCount) (
       go : (s u : Bool) → sameBytes F′ F ≡ s → U ≡ u → not s ≡ u
       go true false f g = refl
       go false true f g = refl
-      go true true f g = absurd (renew-differs p (six-words-of policy) (m .entry) b (m .keycap) (m .asText) (cells (chars text)) g (same-cells (same-true F′ F f)))
+      go true true f g = absurd (renew-differs p (six-words-of policy) (m .entry) b (m .keycap) (m .asText) (cells (chars text)) g
+          (same-cells (same-true F′ F f)))
       go false false f g =
-          absurd (false≢true (sym f ∙ ap (λ (l : List ℕ). sameBytes l F) (same-text (renew-same p (six-words-of policy) (m .entry) b (m .keycap) (m .asText) (cells (chars text)) g)) ∙ same-self F))
+          absurd (false≢true (sym f ∙ ap (λ (l : List ℕ). sameBytes l F)
+          (same-text (renew-same p (six-words-of policy) (m .entry) b (m .keycap) (m .asText) (cells (chars text)) g)) ∙ same-self F))

@@ -13,7 +13,8 @@ use Rattle.membership_flips.specs.Flips.{Membership, flipped, membership
 use Rattle.membership_flips.specs.Theorems.{Alters, EveryTip, FlippedIsPolicy, FlipsOne, TipsByUse}
 use Rattle.membership_flips.proofs.Bridge.{flipped-accepted, flipped-read, tips-by-use}
 use Rattle.membership_flips.proofs.Flipping.{flips-one}
-use Rattle.membership_flips.proofs.Order.{every-membership, memberships-ordered, no-other-membership, passed-those, those-ordered, those-passed}
+use Rattle.membership_flips.proofs.Order.{every-membership, memberships-ordered, no-other-membership, passed-those}
+use Rattle.membership_flips.proofs.Order.{those-ordered, those-passed}
 
 pub flips-one-only : FlipsOne
 unfolding FlipsOne
@@ -23,11 +24,14 @@ pub flipped-is-policy : FlippedIsPolicy
 unfolding FlippedIsPolicy
 flipped-is-policy policy m b a e = (flipped-accepted policy m b a e, flipped-read policy m e)
 
-tips-where : (text policy : List ℕ) (m : Membership) → (formatted text (flipped m policy) ≡ formatted text policy → ⊥) → tips text policy m ≡ true
+tips-where : (text policy : List ℕ) (m : Membership) → (formatted text (flipped m policy) ≡ formatted text policy → ⊥) → tips text policy m
+    ≡ true
 unfolding tips
-tips-where text policy m n = ap not (fails (sameBytes (formatted text (flipped m policy)) (formatted text policy)) (λ e. n (same-true (formatted text (flipped m policy)) (formatted text policy) e)))
+tips-where text policy m n = ap not (fails (sameBytes (formatted text (flipped m policy)) (formatted text policy))
+    (λ e. n (same-true (formatted text (flipped m policy)) (formatted text policy) e)))
 
-where-tips : (text policy : List ℕ) (m : Membership) → tips text policy m ≡ true → formatted text (flipped m policy) ≡ formatted text policy → ⊥
+where-tips : (text policy : List ℕ) (m : Membership) → tips text policy m ≡ true → formatted text (flipped m policy) ≡ formatted text policy
+    → ⊥
 unfolding tips
 where-tips text policy m t e =
     false≢true (sym (ap not (ap (λ (l : List ℕ). sameBytes l (formatted text policy)) e ∙ same-self (formatted text policy))) ∙ t)
@@ -35,7 +39,8 @@ where-tips text policy m t e =
 pub every-tip : EveryTip
 unfolding EveryTip tipping
 every-tip text policy = record {
-  each-appears = λ m a. those-passed (tips text policy) m memberships (every-membership m (a .entry)) (tips-where text policy m (a .alters));
+  each-appears = λ m a. those-passed (tips text policy) m memberships (every-membership m (a .entry))
+      (tips-where text policy m (a .alters));
   no-other = λ m x.
       let w = passed-those (tips text policy) m memberships x in
       record { entry = no-other-membership m (w .1); alters = where-tips text policy m (w .0) };

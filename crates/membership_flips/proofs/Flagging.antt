@@ -87,7 +87,8 @@ unfolding flagIndex
 flag-room i k f h = omega (arith, digit-few k, number-few f)
 
 -- Two indices are the same where entry, domain and selector are, and only there.
-flag-same : (i j : ℕ) (k l : Bool) (f g : FromSelector) → eqb (flagIndex i k f) (flagIndex j l g) ≡ (eqb i j && (Bool·beq k l && sameFirst g f))
+flag-same : (i j : ℕ) (k l : Bool) (f g : FromSelector) → eqb (flagIndex i k f) (flagIndex j l g)
+    ≡ (eqb i j && (Bool·beq k l && sameFirst g f))
 unfolding flagIndex
 flag-same i j k l f g =
     same-test (eqb (flagIndex i k f) (flagIndex j l g)) (eqb i j && (Bool·beq k l && sameFirst g f))
@@ -123,7 +124,8 @@ flag-set flags i j k l f g n h = ⊎-elim
     ∙ ap (λ (z : ℕ). not (eqb z 0)) (getD-set-same flags (flagIndex i k f) 1 0 (omega (arith, flag-room i k f h)))
     ∙ sym (ap (λ (z : Bool). old || z) (sym (flag-same i j k l f g) ∙ eq-eqb (flagIndex i k f) (flagIndex j l g) e) ∙ or-yes old))
     (λ (e : flagIndex i k f ≡ flagIndex j l g → ⊥).
-    ap (λ (z : ℕ). not (eqb z 0)) (getD-set-other flags (flagIndex i k f) (flagIndex j l g) 1 0 (λ (z : flagIndex j l g ≡ flagIndex i k f). e (sym z)))
+    ap (λ (z : ℕ). not (eqb z 0)) (getD-set-other flags (flagIndex i k f) (flagIndex j l g) 1 0
+    (λ (z : flagIndex j l g ≡ flagIndex i k f). e (sym z)))
     ∙ sym (ap (λ (z : Bool). old || z) (sym (flag-same i j k l f g) ∙ ne-eqb (flagIndex i k f) (flagIndex j l g) e) ∙ or-no old))
     (decide (flagIndex i k f) (flagIndex j l g))
   where
@@ -131,7 +133,8 @@ flag-set flags i j k l f g n h = ⊎-elim
     old = not (eqb (getD flags (flagIndex j l g) 0) 0)
 
 flag-withEntry : (t flags : List ℕ) (i j : ℕ) (l : Bool) (g : FromSelector) → length flags ≡ 2124 → i < 354
-    → flagged (withEntry t i flags) j l g ≡ (flagged flags j l g || ((eqb i j && judgedIn l (following (cells t))) && sameFirst g (firstAsked (leading t))))
+    → flagged (withEntry t i flags) j l g ≡ (flagged flags j l g
+    || ((eqb i j && judgedIn l (following (cells t))) && sameFirst g (firstAsked (leading t))))
 unfolding withEntry isJudged judgedIn
 flag-withEntry t flags i j l g n h = go (byModifier k) (byTags k)
   where
@@ -153,7 +156,8 @@ flag-withEntry t flags i j l g n h = go (byModifier k) (byTags k)
         ≡ (flagged flags j l g || ((eqb i j && (not m && (not s && Bool·beq (byKeycap k) l))) && sameFirst g f))
     go true s = none (flagged flags j l g) (eqb i j)
     go false true = none (flagged flags j l g) (eqb i j)
-    go false false = flag-set flags i j (byKeycap k) l f g n h ∙ ap (λ (z : Bool). flagged flags j l g || z) (regroup (eqb i j) (Bool·beq (byKeycap k) l) (sameFirst g f))
+    go false false = flag-set flags i j (byKeycap k) l f g n h
+        ∙ ap (λ (z : Bool). flagged flags j l g || z) (regroup (eqb i j) (Bool·beq (byKeycap k) l) (sameFirst g f))
 
 -- ---- one character more
 
@@ -164,7 +168,8 @@ abbrev C : ℕ → ℕ
 C i = getD variationEntries i 0
 
 -- A character without an entry occurs nowhere.
-pub occurs-plain : (v : ℕ) (t : List ℕ) → variationSequenceIndex v ≡ Index.NoEntry → (j : ℕ) → j < entryCount → (l : Bool) (g : FromSelector)
+pub occurs-plain : (v : ℕ) (t : List ℕ) → variationSequenceIndex v ≡ Index.NoEntry → (j : ℕ) → j < entryCount
+    → (l : Bool) (g : FromSelector)
     → occurs (C j) l (cells (v ∷ t)) g ≡ occurs (C j) l (cells t) g
 unfolding split addChar occurs
 occurs-plain v t e j h l g = go (fromSelector v)
@@ -177,7 +182,8 @@ occurs-plain v t e j h l g = go (fromSelector v)
 
 -- An entry occurs as it stands there.
 occurs-entry : (v i : ℕ) (t : List ℕ) → variationSequenceIndex v ≡ Index.At i → (j : ℕ) → j < entryCount → (l : Bool) (g : FromSelector)
-    → occurs (C j) l (cells (v ∷ t)) g ≡ ((eqb i j && judgedIn l (following (cells t))) && sameFirst g (firstAsked (leading t)) || occurs (C j) l (cells t) g)
+    → occurs (C j) l (cells (v ∷ t)) g ≡ ((eqb i j && judgedIn l (following (cells t))) && sameFirst g (firstAsked (leading t)) || occurs
+    (C j) l (cells t) g)
 unfolding occurs
 occurs-entry v i t e j h l g =
     ap (λ (a : List Presentation × List Cell). occurs (C j) l (a .1) g) (split-char v t (entry-no-selector v i e))
@@ -211,12 +217,14 @@ pub with-entry-length : (t flags : List ℕ) (i : ℕ) → length (withEntry t i
 unfolding withEntry
 with-entry-length t flags i = go (isJudged (following (cells t)))
   where
-    go : (b : Bool) → length (cond b (set flags (flagIndex i (byKeycap (following (cells t))) (firstAsked (leading t))) 1) flags) ≡ length flags
+    go : (b : Bool) → length (cond b (set flags (flagIndex i (byKeycap (following (cells t))) (firstAsked (leading t))) 1) flags)
+        ≡ length flags
     go true = length-set flags (flagIndex i (byKeycap (following (cells t))) (firstAsked (leading t))) 1
     go false = refl
 
 module _ {text flags : List ℕ} {at : ℕ} (s : FlagsUpTo text flags at) where
-  pub flags-on : {v w : ℕ} {flags′ : List ℕ} → Step text at v w → flags′ ≡ withChar (variationSequenceIndex v) (chars (drop (at + w) text)) flags → FlagsUpTo text flags′ (at + w)
+  pub flags-on : {v w : ℕ} {flags′ : List ℕ} → Step text at v w → flags′
+      ≡ withChar (variationSequenceIndex v) (chars (drop (at + w) text)) flags → FlagsUpTo text flags′ (at + w)
   flags-on {v} {w} {flags′} k e = go (variationSequenceIndex v) refl
     where
       T : List ℕ
@@ -228,7 +236,8 @@ module _ {text flags : List ℕ} {at : ℕ} (s : FlagsUpTo text flags at) where
       valid′ : validUpTo text ≡ at + w + validUpTo (drop (at + w) text)
       valid′ = omega (arith, s .valid, k .validUpTo-on)
 
-      whole : (i : ℕ) → i < entryCount → (l : Bool) (f : FromSelector) → (flagged flags i l f || occurs (C i) l (cells (v ∷ T)) f) ≡ occurs (C i) l (cells (chars text)) f
+      whole : (i : ℕ) → i < entryCount → (l : Bool) (f : FromSelector) → (flagged flags i l f || occurs (C i) l (cells (v ∷ T)) f)
+          ≡ occurs (C i) l (cells (chars text)) f
       whole i h l f = ap (λ (t : List ℕ). flagged flags i l f || occurs (C i) l (cells t) f) (sym (k .chars-on)) ∙ s .sees i h l f
 
       go : (r : VariationSequenceIndex) → variationSequenceIndex v ≡ r → FlagsUpTo text flags′ (at + w)
@@ -241,7 +250,8 @@ module _ {text flags : List ℕ} {at : ℕ} (s : FlagsUpTo text flags at) where
             sees = λ j h l f.
                 ap (λ (x : List ℕ). flagged x j l f || occurs (C j) l (cells T) f) now
                 ∙ ap (λ (b : Bool). b || occurs (C j) l (cells T) f) (flag-withEntry T flags i j l f (s .many) small)
-                ∙ or-assoc (flagged flags j l f) ((eqb i j && judgedIn l (following (cells T))) && sameFirst f (firstAsked (leading T))) (occurs (C j) l (cells T) f)
+                ∙ or-assoc (flagged flags j l f) ((eqb i j && judgedIn l (following (cells T))) && sameFirst f (firstAsked (leading T)))
+                (occurs (C j) l (cells T) f)
                 ∙ ap (λ (b : Bool). flagged flags j l f || b) (sym (occurs-entry v i T g j h l f)) ∙ whole j h l f;
             valid = valid′;
           }
@@ -269,7 +279,8 @@ module _ {text flags : List ℕ} {at : ℕ} (s : FlagsUpTo text flags at) where
   unfolding split occurs
   flags-end k = (
     (λ i h l f.
-        sym (or-no (flagged flags i l f)) ∙ ap (λ (t : List ℕ). flagged flags i l f || occurs (C i) l (cells t) f) (sym (k .chars-none)) ∙ s .sees i h l f),
+        sym (or-no (flagged flags i l f)) ∙ ap (λ (t : List ℕ). flagged flags i l f || occurs (C i) l (cells t) f) (sym (k .chars-none))
+        ∙ s .sees i h l f),
     omega (arith, s .valid, k .validUpTo-zero),
   )
 
@@ -279,25 +290,31 @@ module _ (text : List ℕ) (after i : ℕ) (flags : List ℕ) where
   abbrev B : List ℕ
   B = chars (drop after text)
 
-  pub next-class : {end : ℕ} {next : Class} → end ≡ after + size width (selectorsAt B) → next ≡ classInFront (chars (drop end text)) → next ≡ following (cells B)
+  pub next-class : {end : ℕ} {next : Class} → end ≡ after + size width (selectorsAt B) → next ≡ classInFront (chars (drop end text)) → next
+      ≡ following (cells B)
   next-class {end} e h = h ∙ follows (policyOf []) text 0 after end (e ∙ selectors-end text after)
 
   module _ {next : Class} (n : next ≡ following (cells B)) {judged : Bool} (j : judged ≡ isJudged next) where
     pub entry-not-judged : judged ≡ false → flags ≡ withEntry B i flags
     unfolding withEntry
-    entry-not-judged e = sym (ap (λ (b : Bool). cond b (set flags (flagIndex i (byKeycap (following (cells B))) (firstAsked (leading B))) 1) flags) (ap isJudged (sym n) ∙ sym j ∙ e))
+    entry-not-judged e = sym (ap (λ (b : Bool). cond b (set flags (flagIndex i (byKeycap (following (cells B))) (firstAsked (leading B))) 1)
+        flags) (ap isJudged (sym n) ∙ sym j ∙ e))
 
-    pub entry-judged : judged ≡ true → {first : FromSelector} → first ≡ firstSelector B → {k : Bool} → k ≡ byKeycap next → {at : ℕ} → at ≡ flagIndex i k first → set flags at 1 ≡ withEntry B i flags
+    pub entry-judged : judged ≡ true → {first : FromSelector} → first ≡ firstSelector B → {k : Bool} → k ≡ byKeycap next → {at : ℕ} → at
+        ≡ flagIndex i k first → set flags at 1 ≡ withEntry B i flags
     unfolding withEntry
     entry-judged e f g h =
         ap (λ (n : ℕ). set flags n 1) (h ∙ ap₂ (flagIndex i) (g ∙ ap byKeycap n) (f ∙ first-leads B))
-        ∙ sym (ap (λ (b : Bool). cond b (set flags (flagIndex i (byKeycap (following (cells B))) (firstAsked (leading B))) 1) flags) (ap isJudged (sym n) ∙ sym j ∙ e))
+        ∙ sym (ap (λ (b : Bool). cond b (set flags (flagIndex i (byKeycap (following (cells B))) (firstAsked (leading B))) 1) flags)
+        (ap isJudged (sym n) ∙ sym j ∙ e))
 
-  pub with-entry-char : (v : ℕ) → variationSequenceIndex v ≡ Index.At i → {flags′ : List ℕ} → flags′ ≡ withEntry B i flags → flags′ ≡ withChar (variationSequenceIndex v) B flags
+  pub with-entry-char : (v : ℕ) → variationSequenceIndex v ≡ Index.At i → {flags′ : List ℕ} → flags′ ≡ withEntry B i flags → flags′
+      ≡ withChar (variationSequenceIndex v) B flags
   with-entry-char v e h = h ∙ ap (λ (r : VariationSequenceIndex). withChar r B flags) (sym e)
 
 pub entry-small : (v i : ℕ) → variationSequenceIndex v ≡ Index.At i → i < 354
 entry-small v i e = omega (arith, index-has-place v i e .0, entry-count)
 
-pub with-no-entry : (v : ℕ) (t flags : List ℕ) → variationSequenceIndex v ≡ Index.NoEntry → flags ≡ withChar (variationSequenceIndex v) t flags
+pub with-no-entry : (v : ℕ) (t flags : List ℕ) → variationSequenceIndex v ≡ Index.NoEntry → flags
+    ≡ withChar (variationSequenceIndex v) t flags
 with-no-entry v t flags e = ap (λ (r : VariationSequenceIndex). withChar r t flags) (sym e)

@@ -39,7 +39,8 @@ member-flip i j ws h = ⊎-elim at-word other-word (decide (j / 64) (i / 64))
         (λ (f : i ≡ j → ⊥). ne-eqb (j % 64) (i % 64) (λ g. f (omega arith)) ∙ sym (ne-eqb i j f))
         (decide i j)
 
-    at-word : j / 64 ≡ i / 64 → one (j % 64) (getD (set ws (i / 64) (bitXor w (2 ^ (i % 64)))) (j / 64) 0) ≡ differ (one (j % 64) (getD ws (j / 64) 0)) (eqb i j)
+    at-word : j / 64 ≡ i / 64 → one (j % 64) (getD (set ws (i / 64) (bitXor w (2 ^ (i % 64)))) (j / 64) 0)
+        ≡ differ (one (j % 64) (getD ws (j / 64) 0)) (eqb i j)
     at-word e =
         ap (λ (k : ℕ). one (j % 64) (getD (set ws (i / 64) (bitXor w (2 ^ (i % 64)))) k 0)) e
         ∙ ap (one (j % 64)) (getD-set-same ws (i / 64) (bitXor w (2 ^ (i % 64))) 0 h)
@@ -47,7 +48,8 @@ member-flip i j ws h = ⊎-elim at-word other-word (decide (j / 64) (i / 64))
         ∙ ap (λ (b : Bool). differ (one (j % 64) w) b) (power-one (j % 64) (i % 64) ∙ same-bit e)
         ∙ ap (λ (k : ℕ). differ (one (j % 64) (getD ws k 0)) (eqb i j)) (sym e)
 
-    other-word : (j / 64 ≡ i / 64 → ⊥) → one (j % 64) (getD (set ws (i / 64) (bitXor w (2 ^ (i % 64)))) (j / 64) 0) ≡ differ (one (j % 64) (getD ws (j / 64) 0)) (eqb i j)
+    other-word : (j / 64 ≡ i / 64 → ⊥) → one (j % 64) (getD (set ws (i / 64) (bitXor w (2 ^ (i % 64)))) (j / 64) 0)
+        ≡ differ (one (j % 64) (getD ws (j / 64) 0)) (eqb i j)
     other-word n =
         ap (one (j % 64)) (getD-set-other ws (i / 64) (j / 64) (bitXor w (2 ^ (i % 64))) 0 n)
         ∙ sym (differ-false (one (j % 64) (getD ws (j / 64) 0)))
@@ -74,17 +76,20 @@ goes x e f y h g = g ∙ ap (differ x) (sym (and-so e h ∙ and-yes e))
 module _ (s : PolicyKeySet) (i : ℕ) (h : i / 64 < length (s .chars .bits)) (g : i / 64 < length (s .«keycap_chars» .bits)) where
   key-flip : (k : Bool) (j : ℕ) (l : Bool) → holdsEntry (flipKey i k s) j l ≡ differ (holdsEntry s j l) (eqb i j && Bool·beq k l)
   unfolding holdsEntry flipKey
-  key-flip false j false = goes (member j (s .chars .bits)) (eqb i j) true (member j (flipBit i (s .chars .bits))) refl (member-flip i j (s .chars .bits) h)
+  key-flip false j false = goes (member j (s .chars .bits)) (eqb i j) true (member j (flipBit i (s .chars .bits))) refl
+      (member-flip i j (s .chars .bits) h)
   key-flip false j true = stays (member j (s .«keycap_chars» .bits)) (eqb i j) false refl
   key-flip true j false = stays (member j (s .chars .bits)) (eqb i j) false refl
-  key-flip true j true = goes (member j (s .«keycap_chars» .bits)) (eqb i j) true (member j (flipBit i (s .«keycap_chars» .bits))) refl (member-flip i j (s .«keycap_chars» .bits) g)
+  key-flip true j true = goes (member j (s .«keycap_chars» .bits)) (eqb i j) true (member j (flipBit i (s .«keycap_chars» .bits))) refl
+      (member-flip i j (s .«keycap_chars» .bits) g)
 
 module _ (p : Policy) (n : SixWordSets p) (i : ℕ) (b : i < entryCount) where
   in-words : {l : ℕ} → l ≡ 6 → i / 64 < l
   in-words e = omega (arith, entry-count)
 
   pub prefer-flip : (a k : Bool) (j : ℕ) (l : Bool)
-      → holdsEntry (flipIn a i k p .«prefer_bare») j l ≡ differ (holdsEntry (p .«prefer_bare») j l) (eqb i j && (Bool·beq k l && Bool·beq a false))
+      → holdsEntry (flipIn a i k p .«prefer_bare») j l ≡ differ (holdsEntry (p .«prefer_bare») j l)
+      (eqb i j && (Bool·beq k l && Bool·beq a false))
   unfolding flipIn
   prefer-flip false k j l =
       key-flip (p .«prefer_bare») i (in-words (n .first)) (in-words (n .second)) k j l
@@ -92,7 +97,8 @@ module _ (p : Policy) (n : SixWordSets p) (i : ℕ) (b : i < entryCount) where
   prefer-flip true k j l = stays (holdsEntry (p .«prefer_bare») j l) (eqb i j) (Bool·beq k l && false) (and-no (Bool·beq k l))
 
   pub text-flip : (a k : Bool) (j : ℕ) (l : Bool)
-      → holdsEntry (flipIn a i k p .«bare_as_text») j l ≡ differ (holdsEntry (p .«bare_as_text») j l) (eqb i j && (Bool·beq k l && Bool·beq a true))
+      → holdsEntry (flipIn a i k p .«bare_as_text») j l ≡ differ (holdsEntry (p .«bare_as_text») j l)
+      (eqb i j && (Bool·beq k l && Bool·beq a true))
   unfolding flipIn
   text-flip true k j l =
       key-flip (p .«bare_as_text») i (in-words (n .third)) (in-words (n .fourth)) k j l
@@ -105,6 +111,7 @@ module _ (p : Policy) (n : SixWordSets p) (i : ℕ) (b : i < entryCount) where
   set-flip a k true j l = text-flip a k j l
 
 -- Of all memberships just the flipped one is the other way round.
-pub flips-one : (p : Policy) → SixWordSets p → (m n : Membership) → m .entry < entryCount → holds (flip m p) n ≡ differ (holds p n) (same m n)
+pub flips-one : (p : Policy) → SixWordSets p → (m n : Membership) → m .entry < entryCount → holds (flip m p) n
+    ≡ differ (holds p n) (same m n)
 unfolding holds same
 flips-one p six m n b = set-flip p six (m .entry) b (m .asText) (m .keycap) (n .asText) (n .entry) (n .keycap)

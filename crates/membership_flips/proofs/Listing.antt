@@ -32,7 +32,8 @@ use Rattle.base.proofs.Numbers.{length-bytesOf}
 use Rattle.formatter.specs.Intake.{intakeRefusal}
 use Rattle.base.specs.Tables.{fillTable, rowsBytes}
 use Rattle.base.specs.declared.ListAnswer.the-variants.{Refused}
-use Rattle.membership_flips.specs.Flips.{Membership, andFour, codePoint, digit, listTips, memberships, membershipsFrom, those, tipNumbers, tipping, tips}
+use Rattle.membership_flips.specs.Flips.{Membership, digit, listTips, memberships, membershipsFrom}
+use Rattle.membership_flips.specs.Flips.{those, tipNumbers, tipping, tips}
 use Rattle.membership_flips.specs.Pass.{FlagsTell, flagged, mattersFor, membershipAt, numbered, tipTest}
 use Rattle.membership_flips.specs.Uses.{matters}
 use Rattle.membership_flips.proofs.Bridge.{tips-by-use}
@@ -40,7 +41,8 @@ use Rattle.membership_flips.proofs.Order.{no-other-membership}
 
 -- ---- the test by the rule
 
-for-rule : (a b t : Bool) (s : FromSelector → Bool) → mattersFor (ruleOf b t) a (s NoSelector) (s (Selector Text)) (s (Selector Emoji)) ≡ matters a b t s
+for-rule : (a b t : Bool) (s : FromSelector → Bool) → mattersFor (ruleOf b t) a (s NoSelector) (s (Selector Text)) (s (Selector Emoji))
+    ≡ matters a b t s
 unfolding ruleOf matters
 for-rule false false false s = refl
 for-rule false false true s = refl
@@ -57,7 +59,8 @@ pub tip-is : (p : Policy) (i : ℕ) (k a : Bool) (s : FromSelector → Bool) {r 
 unfolding entryRule
 tip-is p i k a s {r} {bare} {text} {emoji} e f g h =
     ap₂ (λ (x : SingletonRule) (y : Bool). mattersFor x a y text emoji) e f
-    ∙ ap₂ (λ (y z : Bool). mattersFor (ruleOf (holdsEntry (p .«prefer_bare») i k) (holdsEntry (p .«bare_as_text») i k)) a (s NoSelector) y z) g h
+    ∙ ap₂ (λ (y z : Bool). mattersFor (ruleOf (holdsEntry (p .«prefer_bare») i k) (holdsEntry (p .«bare_as_text») i k)) a (s NoSelector) y
+    z) g h
     ∙ for-rule a (holdsEntry (p .«prefer_bare») i k) (holdsEntry (p .«bare_as_text») i k) s
 
 matters-same : (a b t : Bool) {r s : FromSelector → Bool} → ((f : FromSelector) → r f ≡ s f) → matters a b t r ≡ matters a b t s
@@ -69,7 +72,8 @@ matters-same true true t h = ap₂ (λ (x y : Bool). x || y) (h (Selector Text))
 
 -- ---- the memberships by number
 
-made : {i j : ℕ} {k l a b : Bool} → i ≡ j → k ≡ l → a ≡ b → _≡_ {A = Membership} (record { entry = i; keycap = k; asText = a }) (record { entry = j; keycap = l; asText = b })
+made : {i j : ℕ} {k l a b : Bool} → i ≡ j → k ≡ l → a ≡ b → _≡_ {A = Membership} (record { entry = i; keycap = k; asText = a })
+    (record { entry = j; keycap = l; asText = b })
 made e f g = cc
 
 at-number : (n i : ℕ) (k a : Bool) → n ≡ 4 * i + (2 * digit k + digit a) → record { entry = i; keycap = k; asText = a } ≡ membershipAt n
@@ -78,7 +82,8 @@ at-number n i false true e = made (omega arith) (sym (ne-eqb (n / 2 % 2) 1 (λ z
 at-number n i true false e = made (omega arith) (sym (eq-eqb (n / 2 % 2) 1 (omega arith))) (sym (ne-eqb (n % 2) 1 (λ z. omega arith)))
 at-number n i true true e = made (omega arith) (sym (eq-eqb (n / 2 % 2) 1 (omega arith))) (sym (eq-eqb (n % 2) 1 (omega arith)))
 
-four-more : {a b c d w x y z : Membership} {l r : List Membership} → a ≡ w → b ≡ x → c ≡ y → d ≡ z → l ≡ r → a ∷ b ∷ c ∷ d ∷ l ≡ w ∷ x ∷ y ∷ z ∷ r
+four-more : {a b c d w x y z : Membership} {l r : List Membership} → a ≡ w → b ≡ x → c ≡ y → d ≡ z → l ≡ r → a ∷ b ∷ c ∷ d ∷ l
+    ≡ w ∷ x ∷ y ∷ z ∷ r
 four-more e f g h k = cc
 
 from-numbered : (k i n : ℕ) → n ≡ 4 * i → membershipsFrom k i ≡ numbered (4 * k) n
@@ -86,7 +91,8 @@ unfolding membershipsFrom numbered
 from-numbered zero i n e = refl
 from-numbered (suc k) i n e =
     let c : 4 * suc k ≡ suc (suc (suc (suc (4 * k)))) = omega arith in
-    four-more (at-number n i false false (omega arith)) (at-number (suc n) i false true (omega arith)) (at-number (suc (suc n)) i true false (omega arith)) (at-number (suc (suc (suc n))) i true true (omega arith))
+    four-more (at-number n i false false (omega arith)) (at-number (suc n) i false true (omega arith))
+    (at-number (suc (suc n)) i true false (omega arith)) (at-number (suc (suc (suc n))) i true true (omega arith))
     (from-numbered k (suc i) (suc (suc (suc (suc n)))) (omega arith))
     ∙ ap (λ (m : ℕ). numbered m n) (sym c)
 
@@ -102,14 +108,36 @@ those-same f g [] h = refl
 those-same f g (x ∷ l) h =
     ap₂ (λ (b : Bool) (r : List _). cond b (x ∷ r) r) (h x (List·Memᴰ·head refl)) (those-same f g l (λ y m. h y (List·Memᴰ·tail m)))
 
+those-fewer : {A : Type 0} (f : A → Bool) (l : List A) → length (those f l) ≤ length l
+unfolding those
+those-fewer f [] = omega arith
+those-fewer f (x ∷ l) = go (f x) (those-fewer f l)
+  where
+    go : (b : Bool) → length (those f l) ≤ length l → length (cond b (x ∷ those f l) (those f l)) ≤ suc (length l)
+    go true h = omega arith
+    go false h = omega arith
+
+length-numbered : (k n : ℕ) → length (numbered k n) ≡ k
+unfolding numbered
+length-numbered zero n = refl
+length-numbered (suc k) n = ap suc (length-numbered k (suc n))
+
+-- There are no more flips that tip a text than memberships.
+pub few-tips : (text policy : List ℕ) → length (tipping text policy) ≤ 1416
+unfolding tipping
+few-tips text policy =
+    omega (arith, those-fewer (tips text policy) memberships, ap length by-number, length-numbered 1416 0)
+
 -- The test by the flags passes for the flips that tip the text, and for no other.
-pub flags-tell : (text policy flags : List ℕ) → FlagsTell text flags → allBytes policy ≡ true → those (tipTest policy flags) (numbered 1416 0) ≡ tipping text policy
+pub flags-tell : (text policy flags : List ℕ) → FlagsTell text flags → allBytes policy ≡ true
+    → those (tipTest policy flags) (numbered 1416 0) ≡ tipping text policy
 unfolding tipping tipTest
 flags-tell text policy flags s e =
     ap (those (tipTest policy flags)) (sym by-number)
     ∙ those-same (tipTest policy flags) (tips text policy) memberships (λ m x.
     let b = no-other-membership m x in
-    matters-same (m .asText) (holdsEntry (policyOf policy .«prefer_bare») (m .entry) (m .keycap)) (holdsEntry (policyOf policy .«bare_as_text») (m .entry) (m .keycap)) (s (m .entry) b (m .keycap))
+    matters-same (m .asText) (holdsEntry (policyOf policy .«prefer_bare») (m .entry) (m .keycap))
+    (holdsEntry (policyOf policy .«bare_as_text») (m .entry) (m .keycap)) (s (m .entry) b (m .keycap))
     ∙ sym (tips-by-use text policy m b e))
 
 module _ {A : Type 0} (test : A → Bool) (f : A) (l : List A) where
@@ -121,11 +149,13 @@ module _ {A : Type 0} (test : A → Bool) (f : A) (l : List A) where
       go true g h = ap (λ (b : Bool). length (cond b (f ∷ those test l) (those test l))) g ∙ omega arith
       go false g h = ap (λ (b : Bool). length (cond b (f ∷ those test l) (those test l))) g ∙ omega arith
 
-  write-one : (numbers : A → List ℕ) {a : Bool} → a ≡ test f → rowsBytes numbers (those test (f ∷ l)) ≡ cond a (bytesOf (numbers f)) [] ++ rowsBytes numbers (those test l)
+  write-one : (numbers : A → List ℕ) {a : Bool} → a ≡ test f → rowsBytes numbers (those test (f ∷ l))
+      ≡ cond a (bytesOf (numbers f)) [] ++ rowsBytes numbers (those test l)
   unfolding those rowsBytes
   write-one numbers {a} e = go a (sym e)
     where
-      go : (b : Bool) → test f ≡ b → rowsBytes numbers (cond (test f) (f ∷ those test l) (those test l)) ≡ cond b (bytesOf (numbers f)) [] ++ rowsBytes numbers (those test l)
+      go : (b : Bool) → test f ≡ b → rowsBytes numbers (cond (test f) (f ∷ those test l) (those test l))
+          ≡ cond b (bytesOf (numbers f)) [] ++ rowsBytes numbers (those test l)
       go true g = ap (λ (b : Bool). rowsBytes numbers (cond b (f ∷ those test l) (those test l))) g
       go false g = ap (λ (b : Bool). rowsBytes numbers (cond b (f ∷ those test l) (those test l))) g
 
@@ -140,12 +170,16 @@ module _ (test : Membership → Bool) where
       let e : 1416 - n ≡ suc (1416 - (n + 1)) = omega arith in
       ap (λ (k : ℕ). numbered k n) e ∙ ap (λ (m : ℕ). membershipAt n ∷ numbered (1416 - (n + 1)) m) (sym (add-one n))
 
-  pub count-on : (n : ℕ) → n < 1416 → {a : Bool} {x : ℕ} → a ≡ test (membershipAt n) → x ≡ cond a 1 0 → length (tippingFrom n) ≡ x + length (tippingFrom (n + 1))
-  count-on n h e f = ap (λ (l : List Membership). length (those test l)) (one-number n h) ∙ count-one test (membershipAt n) (numbered (1416 - (n + 1)) (n + 1)) e f
+  pub count-on : (n : ℕ) → n < 1416 → {a : Bool} {x : ℕ} → a ≡ test (membershipAt n) → x ≡ cond a 1 0 → length (tippingFrom n)
+      ≡ x + length (tippingFrom (n + 1))
+  count-on n h e f = ap (λ (l : List Membership). length (those test l)) (one-number n h)
+      ∙ count-one test (membershipAt n) (numbered (1416 - (n + 1)) (n + 1)) e f
 
   pub write-on : (n : ℕ) → n < 1416 → {a : Bool} → a ≡ test (membershipAt n)
-      → rowsBytes tipNumbers (tippingFrom n) ≡ cond a (bytesOf (tipNumbers (membershipAt n))) [] ++ rowsBytes tipNumbers (tippingFrom (n + 1))
-  write-on n h e = ap (λ (l : List Membership). rowsBytes tipNumbers (those test l)) (one-number n h) ∙ write-one test (membershipAt n) (numbered (1416 - (n + 1)) (n + 1)) tipNumbers e
+      → rowsBytes tipNumbers (tippingFrom n) ≡ cond a (bytesOf (tipNumbers (membershipAt n))) [] ++ rowsBytes tipNumbers
+      (tippingFrom (n + 1))
+  write-on n h e = ap (λ (l : List Membership). rowsBytes tipNumbers (those test l)) (one-number n h)
+      ∙ write-one test (membershipAt n) (numbered (1416 - (n + 1)) (n + 1)) tipNumbers e
 
   pub none-from : (n : ℕ) → 1416 ≤ n → tippingFrom n ≡ []
   unfolding those numbered
@@ -166,7 +200,8 @@ pub numbers-are : (n : ℕ) {c : ℕ} → c ≡ getD variationEntries (n / 4) 0 
 unfolding tipNumbers
 numbers-are n {c} e =
     ap (λ (x : ℕ). x ∷ n / 2 % 2 ∷ n % 2 ∷ []) e
-    ∙ ap₂ (λ (x y : ℕ). getD variationEntries (n / 4) 0 ∷ x ∷ y ∷ []) (digit-two (n / 2 % 2) (omega arith)) (digit-two (n % 2) (omega arith))
+    ∙ ap₂ (λ (x y : ℕ). getD variationEntries (n / 4) 0 ∷ x ∷ y ∷ []) (digit-two (n / 2 % 2) (omega arith))
+    (digit-two (n % 2) (omega arith))
 
 pub entry-there : (i : ℕ) → i < 354 → variationEntry i ≡ Entry.Char (getD variationEntries i 0)
 unfolding variationEntry
@@ -181,15 +216,19 @@ put-yes {o} {o′} {xs} {s} {r} e p = subst (λ (b : Bool). PutAt o s (cond b xs
 -- ---- the call
 
 module _ (text policy table : List ℕ) where
-  pub tips-refused : (r : Refusal) → intakeRefusal text policy ≡ some r → record { answer = Refused r; buffer = table } ≡ listTips text policy table
+  pub tips-refused : (r : Refusal) → intakeRefusal text policy ≡ some r → record { answer = Refused r; buffer = table }
+      ≡ listTips text policy table
   unfolding listTips
-  tips-refused r e = sym (ap (λ (x : Option Refusal). orElse x (λ (r : Refusal). unwritten (Refused r) table) (fillTable tipNumbers 24 (tipping text policy) table)) e)
+  tips-refused r e = sym (ap (λ (x : Option Refusal). orElse x (λ (r : Refusal). unwritten (Refused r) table)
+      (fillTable tipNumbers 24 (tipping text policy) table)) e)
 
-  pub tips-passed : intakeRefusal text policy ≡ none → {l : List Membership} → l ≡ tipping text policy → fillTable tipNumbers 24 l table ≡ listTips text policy table
+  pub tips-passed : intakeRefusal text policy ≡ none → {l : List Membership} → l ≡ tipping text policy → fillTable tipNumbers 24 l table
+      ≡ listTips text policy table
   unfolding listTips
   tips-passed e f =
       ap (λ (l : List Membership). fillTable tipNumbers 24 l table) f
-      ∙ sym (ap (λ (x : Option Refusal). orElse x (λ (r : Refusal). unwritten (Refused r) table) (fillTable tipNumbers 24 (tipping text policy) table)) e)
+      ∙ sym (ap (λ (x : Option Refusal). orElse x (λ (r : Refusal). unwritten (Refused r) table)
+      (fillTable tipNumbers 24 (tipping text policy) table)) e)
 
 pub entry-is : (i : ℕ) → i < 354 → {c : ℕ} → variationEntry i ≡ Entry.Char c → c ≡ getD variationEntries i 0
 entry-is i h e = same (sym e ∙ entry-there i h)

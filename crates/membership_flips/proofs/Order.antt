@@ -23,16 +23,19 @@ module _ {A : Type 0} (test : A → Bool) where
   those-passed x [] m e = absurd (List·Memᴰ·not-nil m)
   those-passed x (y ∷ l) m e = go (test y) refl (those-passed x l)
     where
-      go : (b : Bool) → test y ≡ b → (List·Memᴰ x l → test x ≡ true → List·Memᴰ x (those test l)) → List·Memᴰ x (cond b (y ∷ those test l) (those test l))
+      go : (b : Bool) → test y ≡ b → (List·Memᴰ x l → test x ≡ true → List·Memᴰ x (those test l))
+          → List·Memᴰ x (cond b (y ∷ those test l) (those test l))
       go true f h = ⊎-elim (λ (g : x ≡ y). List·Memᴰ·head g) (λ (n : List·Memᴰ x l). List·Memᴰ·tail (h n e)) (List·Memᴰ·cases-cons m)
-      go false f h = ⊎-elim (λ (g : x ≡ y). absurd (false≢true (sym f ∙ ap test (sym g) ∙ e))) (λ (n : List·Memᴰ x l). h n e) (List·Memᴰ·cases-cons m)
+      go false f h = ⊎-elim (λ (g : x ≡ y). absurd (false≢true (sym f ∙ ap test (sym g) ∙ e))) (λ (n : List·Memᴰ x l). h n e)
+          (List·Memᴰ·cases-cons m)
 
   pub passed-those : (x : A) (l : List A) → List·Memᴰ x (those test l) → (test x ≡ true) × List·Memᴰ x l
   unfolding those
   passed-those x [] m = absurd (List·Memᴰ·not-nil m)
   passed-those x (y ∷ l) m = go (test y) refl (passed-those x l) m
     where
-      go : (b : Bool) → test y ≡ b → (List·Memᴰ x (those test l) → (test x ≡ true) × List·Memᴰ x l) → List·Memᴰ x (cond b (y ∷ those test l) (those test l)) → (test x ≡ true) × List·Memᴰ x (y ∷ l)
+      go : (b : Bool) → test y ≡ b → (List·Memᴰ x (those test l) → (test x ≡ true) × List·Memᴰ x l)
+          → List·Memᴰ x (cond b (y ∷ those test l) (those test l)) → (test x ≡ true) × List·Memᴰ x (y ∷ l)
       go true f h n = ⊎-elim
           (λ (g : x ≡ y). (ap test g ∙ f, List·Memᴰ·head g))
           (λ (k : List·Memᴰ x (those test l)). (h k .0, List·Memᴰ·tail (h k .1)))
@@ -61,7 +64,8 @@ unfolding membershipsFrom
 all-from zero i m g h = absurd (omega arith)
 all-from (suc n) i m g h = ⊎-elim
     (λ (e : m .entry ≡ i). Memᴰ·cast (moved e) (of-four i (m .keycap) (m .asText) (membershipsFrom n (suc i))))
-    (λ (e : m .entry ≡ i → ⊥). List·Memᴰ·tail (List·Memᴰ·tail (List·Memᴰ·tail (List·Memᴰ·tail (all-from n (suc i) m (later e) (omega arith))))))
+    (λ (e : m .entry ≡ i → ⊥). List·Memᴰ·tail (List·Memᴰ·tail
+    (List·Memᴰ·tail (List·Memᴰ·tail (all-from n (suc i) m (later e) (omega arith))))))
     (decide (m .entry) i)
   where
     moved : m .entry ≡ i → m ≡ record { entry = i; keycap = m .keycap; asText = m .asText }
@@ -98,15 +102,21 @@ module _ (i n : ℕ) (h : i + suc n ≤ length variationEntries) where
 
   four-ordered : InOrder (membershipsFrom n (suc i)) → InOrder (andFour i (membershipsFrom n (suc i)))
   four-ordered o =
-      and-then (λ m x. ⊎-elim (to-text m false) (λ (x : List·Memᴰ m _). ⊎-elim (to-keycap m false false) (λ (x : List·Memᴰ m _). ⊎-elim (to-keycap m false true) (rest false false m) (List·Memᴰ·cases-cons x)) (List·Memᴰ·cases-cons x)) (List·Memᴰ·cases-cons x))
-      (and-then (λ m x. ⊎-elim (to-keycap m true false) (λ (x : List·Memᴰ m _). ⊎-elim (to-keycap m true true) (rest false true m) (List·Memᴰ·cases-cons x)) (List·Memᴰ·cases-cons x))
+      and-then (λ m x. ⊎-elim (to-text m false) (λ (x : List·Memᴰ m _). ⊎-elim (to-keycap m false false)
+      (λ (x : List·Memᴰ m _). ⊎-elim (to-keycap m false true) (rest false false m) (List·Memᴰ·cases-cons x)) (List·Memᴰ·cases-cons x))
+      (List·Memᴰ·cases-cons x))
+      (and-then (λ m x. ⊎-elim (to-keycap m true false) (λ (x : List·Memᴰ m _). ⊎-elim (to-keycap m true true) (rest false true m)
+      (List·Memᴰ·cases-cons x)) (List·Memᴰ·cases-cons x))
       (and-then (λ m x. ⊎-elim (to-text m true) (rest true false m) (List·Memᴰ·cases-cons x))
       (and-then (λ m x. rest true true m x) o)))
     where
-      to-text : (m : Membership) (k : Bool) → m ≡ record { entry = i; keycap = k; asText = true } → Before (record { entry = i; keycap = k; asText = false }) m
-      to-text m k e = prefer-bare-first (ap codePoint (sym e)) (ap (λ (x : Membership). x .keycap) (sym e)) refl (ap (λ (x : Membership). x .asText) e)
+      to-text : (m : Membership) (k : Bool) → m ≡ record { entry = i; keycap = k; asText = true }
+          → Before (record { entry = i; keycap = k; asText = false }) m
+      to-text m k e = prefer-bare-first (ap codePoint (sym e)) (ap (λ (x : Membership). x .keycap) (sym e)) refl
+          (ap (λ (x : Membership). x .asText) e)
 
-      to-keycap : (m : Membership) (a b : Bool) → m ≡ record { entry = i; keycap = true; asText = b } → Before (record { entry = i; keycap = false; asText = a }) m
+      to-keycap : (m : Membership) (a b : Bool) → m ≡ record { entry = i; keycap = true; asText = b }
+          → Before (record { entry = i; keycap = false; asText = a }) m
       to-keycap m a b e = ordinary-first (ap codePoint (sym e)) refl (ap (λ (x : Membership). x .keycap) e)
 
 from-ordered : (n i : ℕ) → i + n ≤ length variationEntries → InOrder (membershipsFrom n i)

@@ -29,7 +29,16 @@ use Rattle.policy.proofs.ByEntry.{rule-by-entry}
 use Rattle.policy.proofs.Claims.{rule-without-entry}
 use Rattle.policy.proofs.RoundTrips.{SixWordSets}
 use Rattle.scanner.specs.declared.char_class.Class.{Class}
-use Rattle.scanner.specs.declared.char_class.Class.the-variants.{Selector as selector, Link as link, Ri as ri, Modifier as modifier, Emoji as emoji, Keycap as keycap, Tag as tag, Other as other}
+use Rattle.scanner.specs.declared.char_class.Class.the-variants.{
+  Emoji as emoji,
+  Keycap as keycap,
+  Link as link,
+  Modifier as modifier,
+  Other as other,
+  Ri as ri,
+  Selector as selector,
+  Tag as tag,
+}
 use Rattle.analysis.specs.Analysis.{chosen, following, outcomeAt, remaining, renew}
 use Rattle.analysis.specs.Cells.{Cell}
 use Rattle.analysis.specs.Rules.{byKeycap, byModifier, byTags, firstAsked, isBareSide, outcome, rule6, withoutSelector}
@@ -80,7 +89,8 @@ flipRule false b t = ruleOf (not b) t
 flipRule true b t = ruleOf b (not t)
 
 rule-tip : (a b t : Bool) (s : List Presentation)
-    → sameFirst (inSlot (rule6 (flipRule a b t) s .slot)) (inSlot (rule6 (ruleOf b t) s .slot)) ≡ not (matters a b t (λ (f : FromSelector). sameFirst f (firstAsked s)))
+    → sameFirst (inSlot (rule6 (flipRule a b t) s .slot)) (inSlot (rule6 (ruleOf b t) s .slot))
+    ≡ not (matters a b t (λ (f : FromSelector). sameFirst f (firstAsked s)))
 unfolding matters firstAsked rule6 ruleOf isBareSide withoutSelector
 rule-tip false false false [] = refl
 rule-tip false false false (Text ∷ s) = refl
@@ -194,9 +204,12 @@ nothing-seen false b true e = false≢true e
 nothing-seen true false t e = false≢true e
 nothing-seen true true t e = false≢true e
 
-flipped-rule : (a b t x y : Bool) (e : Bool) → e ≡ true → x ≡ differ b (e && Bool·beq a false) → y ≡ differ t (e && Bool·beq a true) → ruleOf x y ≡ flipRule a b t
-flipped-rule false b t x y e h f g = ap₂ ruleOf (f ∙ ap (λ (z : Bool). differ b (z && true)) h ∙ differ-not b) (g ∙ ap (λ (z : Bool). differ t (z && false)) h ∙ differ-same t)
-flipped-rule true b t x y e h f g = ap₂ ruleOf (f ∙ ap (λ (z : Bool). differ b (z && false)) h ∙ differ-same b) (g ∙ ap (λ (z : Bool). differ t (z && true)) h ∙ differ-not t)
+flipped-rule : (a b t x y : Bool) (e : Bool) → e ≡ true → x ≡ differ b (e && Bool·beq a false) → y ≡ differ t (e && Bool·beq a true)
+    → ruleOf x y ≡ flipRule a b t
+flipped-rule false b t x y e h f g = ap₂ ruleOf (f ∙ ap (λ (z : Bool). differ b (z && true)) h ∙ differ-not b)
+    (g ∙ ap (λ (z : Bool). differ t (z && false)) h ∙ differ-same t)
+flipped-rule true b t x y e h f g = ap₂ ruleOf (f ∙ ap (λ (z : Bool). differ b (z && false)) h ∙ differ-same b)
+    (g ∙ ap (λ (z : Bool). differ t (z && true)) h ∙ differ-not t)
 
 module _ (p : Policy) (six : SixWordSets p) (i : ℕ) (h : i < entryCount) (k a : Bool) where
   abbrev q : Policy
@@ -224,8 +237,10 @@ module _ (p : Policy) (six : SixWordSets p) (i : ℕ) (h : i < entryCount) (k a 
           n (sym (index-has-place c j e .1) ∙ ap (λ (z : ℕ). getD variationEntries z 0) (sym (eqb-true i j (u .0))))
           (sym (beq-so k l (both-true (Bool·beq k l) x (u .1) .0)))) in
           rule-by-entry q c j l e
-          ∙ ap₂ ruleOf (prefer-flip p six i h a k j l ∙ ap (differ (holdsEntry (p .«prefer_bare») j l)) (no (Bool·beq a false)) ∙ differ-same (holdsEntry (p .«prefer_bare») j l))
-          (text-flip p six i h a k j l ∙ ap (differ (holdsEntry (p .«bare_as_text») j l)) (no (Bool·beq a true)) ∙ differ-same (holdsEntry (p .«bare_as_text») j l))
+          ∙ ap₂ ruleOf (prefer-flip p six i h a k j l ∙ ap (differ (holdsEntry (p .«prefer_bare») j l)) (no (Bool·beq a false))
+          ∙ differ-same (holdsEntry (p .«prefer_bare») j l))
+          (text-flip p six i h a k j l ∙ ap (differ (holdsEntry (p .«bare_as_text») j l)) (no (Bool·beq a true))
+          ∙ differ-same (holdsEntry (p .«bare_as_text») j l))
           ∙ sym (rule-by-entry p c j l e)
       go Index.NoEntry e =
           let w = has-index c ∙ ap isAt e in
@@ -253,7 +268,8 @@ module _ (p : Policy) (six : SixWordSets p) (i : ℕ) (h : i < entryCount) (k a 
   unfolding judgedIn
   cell-tip c n s = go (eqb c C && judgedIn k n) refl
     where
-      here : eqb c C && judgedIn k n ≡ true → sameFirst (inSlot (outcome q c n s .slot)) (inSlot (outcome p c n s .slot)) ≡ not (matters a B T (λ (f : FromSelector). sameFirst f (firstAsked s)))
+      here : eqb c C && judgedIn k n ≡ true → sameFirst (inSlot (outcome q c n s .slot)) (inSlot (outcome p c n s .slot))
+          ≡ not (matters a B T (λ (f : FromSelector). sameFirst f (firstAsked s)))
       here e =
           let u = both-true (eqb c C) (judgedIn k n) e in
           let v = both-true (not (byModifier n)) (not (byTags n) && Bool·beq (byKeycap n) k) (u .1) in
@@ -263,8 +279,10 @@ module _ (p : Policy) (six : SixWordSets p) (i : ℕ) (h : i < entryCount) (k a 
           let has : hasVariationSequence c ≡ true = has-entry c i (ap variationSequenceIndex at ∙ place-has-index i h) in
           let m = not-modifier n (not-so (byModifier n) (v .0)) in
           let t = not-tag n (not-so (byTags n) (w .0)) in
-          let new : outcome q c n s ≡ rule6 (flipRule a B T) s = by-policy q c n s has m t ∙ ap (λ (r : SingletonRule). rule6 r s) (ap₂ (singletonRule q) at dom ∙ rule-here) in
-          let old : outcome p c n s ≡ rule6 (ruleOf B T) s = by-policy p c n s has m t ∙ ap (λ (r : SingletonRule). rule6 r s) (ap₂ (singletonRule p) at dom ∙ rule-before) in
+          let new : outcome q c n s ≡ rule6 (flipRule a B T) s = by-policy q c n s has m t
+          ∙ ap (λ (r : SingletonRule). rule6 r s) (ap₂ (singletonRule q) at dom ∙ rule-here) in
+          let old : outcome p c n s ≡ rule6 (ruleOf B T) s = by-policy p c n s has m t
+          ∙ ap (λ (r : SingletonRule). rule6 r s) (ap₂ (singletonRule p) at dom ∙ rule-before) in
           ap₂ (λ (x y : Outcome). sameFirst (inSlot (x .slot)) (inSlot (y .slot))) new old ∙ rule-tip a B T s
 
       there : eqb c C && judgedIn k n ≡ false → outcome q c n s ≡ outcome p c n s
@@ -276,10 +294,12 @@ module _ (p : Policy) (six : SixWordSets p) (i : ℕ) (h : i < entryCount) (k a 
           ∙ e)))
 
       go : (g : Bool) → eqb c C && judgedIn k n ≡ g
-          → sameFirst (inSlot (outcome q c n s .slot)) (inSlot (outcome p c n s .slot)) ≡ not ((eqb c C && judgedIn k n) && matters a B T (λ (f : FromSelector). sameFirst f (firstAsked s)))
+          → sameFirst (inSlot (outcome q c n s .slot)) (inSlot (outcome p c n s .slot))
+          ≡ not ((eqb c C && judgedIn k n) && matters a B T (λ (f : FromSelector). sameFirst f (firstAsked s)))
       go true e = here e ∙ ap (λ (g : Bool). not (g && matters a B T (λ (f : FromSelector). sameFirst f (firstAsked s)))) (sym e)
       go false e =
-          ap (λ (x : Outcome). sameFirst (inSlot (x .slot)) (inSlot (outcome p c n s .slot))) (there e) ∙ first-self (inSlot (outcome p c n s .slot))
+          ap (λ (x : Outcome). sameFirst (inSlot (x .slot)) (inSlot (outcome p c n s .slot))) (there e)
+          ∙ first-self (inSlot (outcome p c n s .slot))
           ∙ ap (λ (g : Bool). not (g && matters a B T (λ (f : FromSelector). sameFirst f (firstAsked s)))) (sym e)
 
 -- ---- all cells
@@ -312,8 +332,11 @@ module _ (p : Policy) (six : SixWordSets p) (i : ℕ) (h : i < entryCount) (k a 
       → M (x ∷ xs) ≡ (not (sameFirst (inSlot (outcomeAt (flipIn a i k p) x xs .slot)) (inSlot (outcomeAt p x xs .slot))) || M xs)
   unfolding occurs
   step x xs =
-      matters-step a (B p six i h k a) (T p six i h k a) (eqb (x .char) (C p six i h k a) && judgedIn k (following xs)) (λ (f : FromSelector). sameFirst f (firstAsked (x .after))) (occurs (C p six i h k a) k xs)
-      ∙ ap (λ (b : Bool). b || M xs) (sym (ap not (cell-tip p six i h k a (x .char) (following xs) (x .after)) ∙ not-not ((eqb (x .char) (C p six i h k a) && judgedIn k (following xs)) && matters a (B p six i h k a) (T p six i h k a) (λ (f : FromSelector). sameFirst f (firstAsked (x .after))))))
+      matters-step a (B p six i h k a) (T p six i h k a) (eqb (x .char) (C p six i h k a) && judgedIn k (following xs))
+      (λ (f : FromSelector). sameFirst f (firstAsked (x .after))) (occurs (C p six i h k a) k xs)
+      ∙ ap (λ (b : Bool). b || M xs) (sym (ap not (cell-tip p six i h k a (x .char) (following xs) (x .after))
+      ∙ not-not ((eqb (x .char) (C p six i h k a) && judgedIn k (following xs)) && matters a (B p six i h k a) (T p six i h k a)
+      (λ (f : FromSelector). sameFirst f (firstAsked (x .after))))))
 
   pub renew-same : (xs : List Cell) → M xs ≡ false → renew (flipIn a i k p) xs [] ≡ renew p xs []
   unfolding renew
@@ -323,7 +346,8 @@ module _ (p : Policy) (six : SixWordSets p) (i : ℕ) (h : i < entryCount) (k a 
       let o′ = inSlot (outcomeAt p x xs .slot) in
       let u = both-false (not (sameFirst o o′)) (M xs) (sym (step x xs) ∙ e) in
       renew-cons (flipIn a i k p) x xs
-      ∙ ap₂ (λ (f : FromSelector) (r : List Cell). record { char = x .char; after = run f } ∷ r) (first-so o o′ (so-not (sameFirst o o′) (u .0))) (renew-same xs (u .1))
+      ∙ ap₂ (λ (f : FromSelector) (r : List Cell). record { char = x .char; after = run f } ∷ r)
+      (first-so o o′ (so-not (sameFirst o o′) (u .0))) (renew-same xs (u .1))
       ∙ sym (renew-cons p x xs)
 
   pub renew-differs : (xs : List Cell) → M xs ≡ true → renew (flipIn a i k p) xs [] ≡ renew p xs [] → ⊥
@@ -335,6 +359,7 @@ module _ (p : Policy) (six : SixWordSets p) (i : ℕ) (h : i < entryCount) (k a 
       let g = sym (renew-cons (flipIn a i k p) x xs) ∙ f ∙ renew-cons p x xs in
       let one : o ≡ o′ = sym (first-run o) ∙ ap firstAfter g ∙ first-run o′ in
       ⊎-elim
-      (λ (w : not (sameFirst o o′) ≡ true). true≢false (sym (ap (λ (z : FromSelector). sameFirst z o′) one ∙ first-self o′) ∙ not-so (sameFirst o o′) w))
+      (λ (w : not (sameFirst o o′) ≡ true). true≢false (sym (ap (λ (z : FromSelector). sameFirst z o′) one ∙ first-self o′)
+      ∙ not-so (sameFirst o o′) w))
       (λ (w : M xs ≡ true). renew-differs xs w (ap tailOf g))
       (either-true (not (sameFirst o o′)) (M xs) (sym (step x xs) ∙ e))

@@ -73,7 +73,8 @@ unfoldable pub numbered : ℕ → ℕ → List Membership
 numbered zero n = []
 numbered (suc k) n = membershipAt n ∷ numbered k (suc n)
 
--- A flip matters, by the policy's rule for the entry, by the set, and by whether the entry occurs bare, with FE0E first and with FE0F first.
+-- A flip matters, by the policy's rule for the entry, by the set, and by whether the entry occurs bare, with FE0E first, and with FE0F
+-- first.
 abbrev pub mattersFor : SingletonRule → Bool → Bool → Bool → Bool → Bool
 mattersFor BareToEmoji asText bare text emoji = cond asText bare (bare || emoji)
 mattersFor BareToText asText bare text emoji = cond asText bare (bare || text)

@@ -61,5 +61,6 @@ unfoldable pub TipsByUse : Type 0
 TipsByUse =
     (text policy : List ℕ) (m : Membership) → m .entry < entryCount → allBytes policy ≡ true
     → tips text policy m
-    ≡ matters (m .asText) (holdsEntry (policyOf policy .«prefer_bare») (m .entry) (m .keycap)) (holdsEntry (policyOf policy .«bare_as_text») (m .entry) (m .keycap))
+    ≡ matters (m .asText) (holdsEntry (policyOf policy .«prefer_bare») (m .entry) (m .keycap))
+    (holdsEntry (policyOf policy .«bare_as_text») (m .entry) (m .keycap))
     (occurs (codePoint m) (m .keycap) (cells (chars text)))

@@ -66,8 +66,8 @@ fn one_if(passed: bool) -> usize
     if passed { 1 } else { 0 }
 }
 
-// Whether a flip in `bare_as_text`, or in `prefer_bare`, alters the text, by the policy's rule for the entry and by how the text uses it: bare,
-// with FE0E first, with FE0F first.
+// Whether a flip in `bare_as_text`, or in `prefer_bare`, alters the text, by the policy's rule for the entry and by how the text uses it:
+// bare, with FE0E first, with FE0F first.
 fn matters_for(rule: SingletonRule, as_text: bool, bare: bool, text: bool, emoji: bool) -> bool
     ensures { λ r. ⌜ r ≡ mattersFor rule «as_text» bare text emoji ⌝ }
 {

@@ -1,5 +1,5 @@
-// Characters that have no variation entry by their first bytes. The pass over a text skips them without a lookup in the tables. `skip_plain`
-// meets `NoEntryBetween` of specs/Pass.antt. It leaves the test of what is well-formed to `utf8::char_len`.
+// Characters that have no variation entry by their first bytes. The pass over a text skips them without a lookup in the tables.
+// `skip_plain` meets `NoEntryBetween` of specs/Pass.antt. It leaves the test of what is well-formed to `utf8::char_len`.
 ghost use mathlib.Core.Path.{_≡_};
 ghost use mathlib.Core.Bool.{true};
 ghost use Prim.Native.Nat.{ℕ, _<_, _≤_};
@@ -10,8 +10,8 @@ ghost use Rattle.scanner.specs.Classes.{classOf};
 ghost use Rattle.scanner.specs.declared.char_class.Class.the-variants.{Other as other};
 ghost use Rattle.membership_flips.specs.Pass.{NoEntryBetween};
 
-// Whether a byte is an ASCII character without a variation entry: all but #, * and the digits. The second test is true of the letters and of
-// the blank alike, so that the processor predicts it well.
+// Whether a byte is an ASCII character without a variation entry: all but #, * and the digits. The second test is true of the letters and
+// of the blank alike, so the processor predicts it well.
 fn is_ascii_plain(byte: u8) -> bool
     ensures { λ r. ⌜ (r ≡ true → (byte ≤ 0x7F) × (classOf byte ≡ other)) ⌝ }
 {

@@ -26,7 +26,8 @@ loop-again : tie.Need-loop-again Inv-loop μ-loop
 loop-again c =
     let x = c .before .before .before .before .before .before .args in
     let l = c .before .before .before .loop in
-    let e = count-on (tipTest (x .policy .now) (x .flags .now)) (l .n) (omega (arith, c .before .before .loop-test .taken)) (c .before .is-tip .ensures) (c .one-if .ensures .0) in
+    let e = count-on (tipTest (x .policy .now) (x .flags .now)) (l .n) (omega (arith, c .before .before .loop-test .taken))
+    (c .before .is-tip .ensures) (c .one-if .ensures .0) in
     let k = c .one-if .ensures .1 in
     (omega arith, omega (arith, l .inv .1), omega (arith, l .inv .2))
 
@@ -37,4 +38,16 @@ returns c =
     omega (arith, l .inv .2, ap length (none-from (tipTest (x .policy .now) (x .flags .now)) (l .n) (omega (arith, c .loop-test .left))))
 
 pub count-tips-spec : {M : Type 1} → statement M
-count-tips-spec = tie.close (tie.spec Inv-loop μ-loop loop-holds is-tip-requires (λ c κs. search needs) (λ c. omega arith) (λ c. omega arith) (λ c. omega arith) loop-again returns)
+count-tips-spec =
+    tie.close
+    (tie.spec
+    Inv-loop
+    μ-loop
+    loop-holds
+    is-tip-requires
+    (λ c κs. search needs)
+    (λ c. omega arith)
+    (λ c. omega arith)
+    (λ c. omega arith)
+    loop-again
+    returns)

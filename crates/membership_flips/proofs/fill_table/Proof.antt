@@ -11,17 +11,24 @@ use Rattle.membership_flips.proofs.fill_table.Tie as tie
 returns : tie.Need-returns
 returns c =
     let x = c .before .before .before .before .before .args in
-    rows-refused tipNumbers 24 length-tip (omega arith) (those (tipTest (x .policy .now) (x .flags .now)) (numbered 1416 0)) (x .table .now) (c .before .count-tips .ensures) (omega (arith, c .if1 .taken))
+    rows-refused tipNumbers 24 length-tip (omega arith) (those (tipTest (x .policy .now) (x .flags .now)) (numbered 1416 0)) (x .table .now)
+    (c .before .count-tips .ensures) (omega (arith, c .if1 .taken))
 
 put-tips-requires : tie.Need-put-tips-requires
 put-tips-requires c κs =
-    let x = c .before .before .before .before .before .before .args in
-    (c .before .before .before .before .before .before .pre, rows-room tipNumbers 24 length-tip (omega arith) (those (tipTest (x .policy .now) (x .flags .now)) (numbered 1416 0)) (x .table .now) (c .before .before .count-tips .ensures) (omega (arith, c .before .if1 .left)))
+    let x = c .before .before .before .before .before .before .args in (
+      c .before .before .before .before .before .before .pre,
+      rows-room tipNumbers 24 length-tip (omega arith)
+          (those (tipTest (x .policy .now) (x .flags .now)) (numbered 1416 0)) (x .table .now) (c .before .before .count-tips .ensures)
+          (omega (arith, c .before .if1 .left)),
+    )
 
 returns-2 : tie.Need-returns-2
 returns-2 c =
     let x = c .before .before .before .before .before .before .before .before .before .args in
-    rows-written tipNumbers 24 length-tip (omega arith) (those (tipTest (x .policy .now) (x .flags .now)) (numbered 1416 0)) (x .table .now) (c .before .before .before .before .before .count-tips .ensures) (omega (arith, c .before .before .before .before .if1 .left)) (c .before .before .put-tips .ensures)
+    rows-written tipNumbers 24 length-tip (omega arith) (those (tipTest (x .policy .now) (x .flags .now)) (numbered 1416 0)) (x .table .now)
+    (c .before .before .before .before .before .count-tips .ensures) (omega (arith, c .before .before .before .before .if1 .left))
+    (c .before .before .put-tips .ensures)
 
 pub fill-table-spec : {M : Type 1} → statement M
 fill-table-spec = tie.close (tie.spec (λ c κs. search needs) returns put-tips-requires (λ c. search needs) returns-2)

@@ -17,7 +17,16 @@ returns c =
     let n = x .n in
     c .matters-for .ensures
     ∙ tip-is (policyOf (x .policy .now)) (n / 4) (eqb (n / 2 % 2) 1) (eqb (n % 2) 1) (flagged (x .flags .now) (n / 4) (eqb (n / 2 % 2) 1))
-    (c .before .before .before .before .rule-at .ensures) (c .before .before .before .is-flagged .ensures) (c .before .before .is-flagged2 .ensures) (c .before .is-flagged3 .ensures)
+    (c .before .before .before .before .rule-at .ensures) (c .before .before .before .is-flagged .ensures)
+    (c .before .before .is-flagged2 .ensures) (c .before .is-flagged3 .ensures)
 
 pub is-tip-spec : {M : Type 1} → statement M
-is-tip-spec = tie.close (tie.spec (λ c κs. search needs) (λ c κs. search needs) (λ c κs. search needs) (λ c κs. search needs) (λ c κs. search needs) returns)
+is-tip-spec =
+    tie.close
+    (tie.spec
+    (λ c κs. search needs)
+    (λ c κs. search needs)
+    (λ c κs. search needs)
+    (λ c κs. search needs)
+    (λ c κs. search needs)
+    returns)

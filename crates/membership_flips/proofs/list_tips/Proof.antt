@@ -32,7 +32,8 @@ returns-2 c =
     let p = x .policy .now in
     let f = first-passed t p (told .before .before .first-tests .ensures) (told .enum-told .given .1) in
     let n = c .before .before .flag-uses in
-    ends-as (tips-refused t p (x .table .now) (NotWellFormed (n .result)) (not-well-formed t p (f .0) (f .1) (n .ensures .1) (c .if1 .taken)))
+    ends-as (tips-refused t p (x .table .now) (NotWellFormed (n .result))
+    (not-well-formed t p (f .0) (f .1) (n .ensures .1) (c .if1 .taken)))
 
 returns-3 : tie.Need-returns-3
 returns-3 c =

@@ -17,15 +17,19 @@ use Rattle.membership_flips.proofs.put_tips.Tie as tie
 
 abbrev Inv-loop : tie.InvT-loop
 Inv-loop policy flags table₀ at₀ n₀ table at n =
-    (n ≤ 1416) × Writing (rowsBytes tipNumbers (tippingFrom (tipTest policy flags) 0)) 0 table₀ (rowsBytes tipNumbers (tippingFrom (tipTest policy flags) n)) table at
+    (n ≤ 1416) × Writing (rowsBytes tipNumbers (tippingFrom (tipTest policy flags) 0)) 0 table₀
+    (rowsBytes tipNumbers (tippingFrom (tipTest policy flags) n)) table at
 
 abbrev μ-loop : tie.MeasureT-loop
 μ-loop policy flags table₀ at₀ n₀ table at n = 1416 - n
 
 loop-holds : tie.Need-loop-holds Inv-loop μ-loop
 loop-holds c =
-    let x = c .before .before .before .args in
-    (omega arith, begin (rowsBytes tipNumbers (tippingFrom (tipTest (x .policy .now) (x .flags .now)) 0)) 0 (x .table .now) (omega (arith, c .before .before .before .pre .1)))
+    let x = c .before .before .before .args in (
+      omega arith,
+      begin (rowsBytes tipNumbers (tippingFrom (tipTest (x .policy .now) (x .flags .now)) 0)) 0 (x .table .now)
+          (omega (arith, c .before .before .before .pre .1)),
+    )
 
 is-tip-requires : tie.Need-is-tip-requires Inv-loop μ-loop
 is-tip-requires c κs = (omega arith, c .before .before .before .before .before .pre .0)
@@ -38,8 +42,16 @@ put-tip-requires c κs =
       omega (arith, c .before .before .loop-test .taken),
       λ w.
           let s = write-on q (l .n) (omega (arith, c .before .before .loop-test .taken)) (c .before .is-tip .ensures) in
-          let r = room (rowsBytes tipNumbers (tippingFrom q 0)) 0 (x .table .now) (rowsBytes tipNumbers (tippingFrom q (l .n))) (cond (c .before .is-tip .result) (bytesOf (tipNumbers (membershipAt (l .n)))) []) (rowsBytes tipNumbers (tippingFrom q (l .n + 1))) (l .inv .1) s in
-          omega (arith, r, length-tip (membershipAt (l .n)), ap (λ (b : Bool). length (cond b (bytesOf (tipNumbers (membershipAt (l .n)))) [])) w),
+          let r = room (rowsBytes tipNumbers (tippingFrom q 0)) 0 (x .table .now) (rowsBytes tipNumbers (tippingFrom q (l .n)))
+          (cond (c .before .is-tip .result) (bytesOf (tipNumbers (membershipAt (l .n)))) [])
+          (rowsBytes tipNumbers (tippingFrom q (l .n + 1))) (l .inv .1) s in
+          omega (
+            arith,
+            r,
+            length-tip (membershipAt (l .n)),
+            ap
+                (λ (b : Bool). length (cond b (bytesOf (tipNumbers (membershipAt (l .n)))) [])) w,
+          ),
     )
 
 loop-again : tie.Need-loop-again Inv-loop μ-loop
@@ -48,8 +60,10 @@ loop-again c =
     let l = c .before .before .before .before .before .before .loop in
     let q = tipTest (x .policy .now) (x .flags .now) in (
       omega (arith, c .before .before .before .before .before .loop-test .taken),
-      put (rowsBytes tipNumbers (tippingFrom q 0)) 0 (x .table .now) (rowsBytes tipNumbers (tippingFrom q (l .n))) (rowsBytes tipNumbers (tippingFrom q (l .n + 1))) (l .inv .1) (c .before .before .put-tip .ensures)
-          (write-on q (l .n) (omega (arith, c .before .before .before .before .before .loop-test .taken)) (c .before .before .before .before .is-tip .ensures)),
+      put (rowsBytes tipNumbers (tippingFrom q 0)) 0 (x .table .now) (rowsBytes tipNumbers (tippingFrom q (l .n)))
+          (rowsBytes tipNumbers (tippingFrom q (l .n + 1))) (l .inv .1) (c .before .before .put-tip .ensures)
+          (write-on q (l .n) (omega (arith, c .before .before .before .before .before .loop-test .taken))
+          (c .before .before .before .before .is-tip .ensures)),
     )
 
 same-length : tie.Need-same-length Inv-loop μ-loop
@@ -61,7 +75,20 @@ returns c =
     let x = c .before .before .before .before .before .args in
     let l = c .before .loop in
     let q = tipTest (x .policy .now) (x .flags .now) in
-    finish (rowsBytes tipNumbers (tippingFrom q 0)) 0 (x .table .now) (rowsBytes tipNumbers (tippingFrom q (l .n))) (l .inv .1) (ap (λ (m : List Membership). rowsBytes tipNumbers m) (none-from q (l .n) (omega (arith, c .loop-test .left))))
+    finish (rowsBytes tipNumbers (tippingFrom q 0)) 0 (x .table .now) (rowsBytes tipNumbers (tippingFrom q (l .n))) (l .inv .1)
+    (ap (λ (m : List Membership). rowsBytes tipNumbers m) (none-from q (l .n) (omega (arith, c .loop-test .left))))
 
 pub put-tips-spec : {M : Type 1} → statement M
-put-tips-spec = tie.close (tie.spec Inv-loop μ-loop loop-holds is-tip-requires put-tip-requires (λ c. omega arith) (λ c. omega arith) loop-again same-length returns)
+put-tips-spec =
+    tie.close
+    (tie.spec
+    Inv-loop
+    μ-loop
+    loop-holds
+    is-tip-requires
+    put-tip-requires
+    (λ c. omega arith)
+    (λ c. omega arith)
+    loop-again
+    same-length
+    returns)

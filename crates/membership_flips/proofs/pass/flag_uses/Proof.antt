@@ -1,5 +1,5 @@
--- `membership_flips::pass::flag_uses` meets its contract. The loop's invariant: the flags, with what occurs from `at` on, say what occurs in
--- the whole text. The measure is the number of bytes after `at`.
+-- `membership_flips::pass::flag_uses` meets its contract. The loop's invariant: the flags, with what occurs from `at` on, say what
+-- occurs in the whole text. The measure is the number of bytes after `at`.
 use Prim.Native.Nat.{_-_}
 use native.Mathlib.Omega.{arith}
 use borrow.Author.Needs.{needs}

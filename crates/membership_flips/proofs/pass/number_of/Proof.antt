@@ -6,4 +6,13 @@ use Rattle.membership_flips.proofs.pass.number_of.Tie as tie
 
 pub number-of-spec : {M : Type 1} → statement M
 unfolding selectorNumber
-number-of-spec = tie.close (tie.spec (λ c. search needs) (λ c. search needs) (λ c. search needs) (λ c. search needs) (λ c. search needs) (λ c. search needs) (λ c. search needs))
+number-of-spec =
+    tie.close
+    (tie.spec
+    (λ c. search needs)
+    (λ c. search needs)
+    (λ c. search needs)
+    (λ c. search needs)
+    (λ c. search needs)
+    (λ c. search needs)
+    (λ c. search needs))

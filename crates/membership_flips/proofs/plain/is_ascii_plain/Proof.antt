@@ -26,7 +26,8 @@ returns-4 c = λ e. absurd (true≢false (sym e))
 returns-5 : tie.Need-returns-5
 returns-5 c = λ e. (
   omega arith,
-  ascii-other _ (omega arith) (c .if4 .left) (λ x. true≢false (sym (eq-eqb _ 0x2A x) ∙ not-true _ e)) (λ d f. omega (arith, c .before .if3 .left)),
+  ascii-other _ (omega arith) (c .if4 .left) (λ x. true≢false (sym (eq-eqb _ 0x2A x) ∙ not-true _ e))
+      (λ d f. omega (arith, c .before .if3 .left)),
 )
 
 pub is-ascii-plain-spec : {M : Type 1} → statement M

@@ -1,5 +1,5 @@
--- `membership_flips::plain::skip_ascii` meets its contract. The loop's invariant: no character up to `at` has a variation entry. The measure
--- is the number of bytes after `at`.
+-- `membership_flips::plain::skip_ascii` meets its contract. The loop's invariant: no character up to `at` has a variation entry. The
+-- measure is the number of bytes after `at`.
 use Prim.Native.Nat.{_-_}
 use native.Mathlib.Omega.{arith}
 use borrow.Author.Needs.{needs}

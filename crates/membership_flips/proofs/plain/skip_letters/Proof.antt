@@ -1,5 +1,5 @@
--- `membership_flips::plain::skip_letters` meets its contract. The loop's invariant: no character up to `at` has a variation entry. The measure is the number of
--- bytes after `at`.
+-- `membership_flips::plain::skip_letters` meets its contract. The loop's invariant: no character up to `at` has a variation entry. The
+-- measure is the number of bytes after `at`.
 use borrow.Author.Tests.{not-false}
 use Rattle.utf8.proofs.Places.{step}
 use Rattle.utf8.proofs.Packed.{len-reads}

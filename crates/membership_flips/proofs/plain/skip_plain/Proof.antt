@@ -1,5 +1,5 @@
--- `membership_flips::plain::skip_plain` meets its contract. The loop's invariant: no character up to `at` has a variation entry. The measure
--- is the number of bytes after `at`.
+-- `membership_flips::plain::skip_plain` meets its contract. The loop's invariant: no character up to `at` has a variation entry. The
+-- measure is the number of bytes after `at`.
 use Prim.Native.Nat.{_-_}
 use native.Mathlib.Omega.{arith}
 use borrow.Author.Needs.{needs}
@@ -29,7 +29,8 @@ loop-less c =
 
 loop-again : tie.Need-loop-again Inv-loop μ-loop
 loop-again c =
-    none-on (none-on (c .before .before .before .before .loop .inv) (c .before .before .skip-ascii .ensures)) (c .before .skip-letters .ensures)
+    none-on (none-on (c .before .before .before .before .loop .inv) (c .before .before .skip-ascii .ensures))
+    (c .before .skip-letters .ensures)
 
 returns-2 : tie.Need-returns-2 Inv-loop μ-loop
 returns-2 c = c .before .loop .inv
