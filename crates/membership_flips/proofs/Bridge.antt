@@ -1,9 +1,9 @@
 -- From the bytes of a text and a policy to the cells under the two policies, and back.
-use mathlib.Core.Path.{_≡_, refl, ap, ap₂, subst, sym, _∙_}
-use mathlib.Core.Logic.{_⊎_, inl, inr, ⊎-elim}
+use mathlib.Core.Path.{_≡_, refl, ap, subst, sym, _∙_}
+use mathlib.Core.Logic.{⊎-elim}
 use mathlib.Core.Bool.{Bool, true, false, _&&_, _||_, cond, false≢true, not}
 use mathlib.Core.List.{List, [], _∷_}
-use Prim.Native.Nat.{ℕ, zero, suc, _+_, _*_, _/_, _%_, _^_, _<_, _≤_}
+use Prim.Native.Nat.{ℕ, _+_, _*_, _/_, _%_, _^_, _<_, _≤_}
 use native.Mathlib.Nat.{pow-le-pow-right, pow-succ'}
 use native.Mathlib.Omega.{arith}
 use lib.Bits.{bitXor, xor-lt}
@@ -17,15 +17,13 @@ use Rattle.base.proofs.Words.{allBytes-drop, allBytes-take}
 use Rattle.utf8.specs.Rfc3629.{allScalar, chars, encodeAll, isScalar}
 use Rattle.utf8.proofs.Texts.{chars-allScalar, chars-encodeAll-alone}
 use Rattle.unicode.specs.Presentation.{isSelector}
-use Rattle.unicode.specs.UnicodeData.{variationEntries}
 use Rattle.unicode.specs.declared.presentation.Presentation.{Presentation}
 use Rattle.policy_key_set.specs.Sets.{differ, entryCount, member, wordCount}
-use Rattle.policy_key_set.specs.declared.PolicyKeySet.{PolicyKeySet}
 use Rattle.policy_key_set.proofs.Below.{all-below, below-all}
 use Rattle.policy_key_set.proofs.Entries.{entry-count}
 use Rattle.policy_key_set.proofs.Members.{decide}
 use Rattle.policy.specs.Policy.{holdsEntry}
-use Rattle.policy.specs.PolicyBytes.{PolicyValue, SetValue, isPolicy, noUnusedBit, noUnusedBits, policyBytes, policyOf, setOf, wordsFrom}
+use Rattle.policy.specs.PolicyBytes.{PolicyValue, SetValue, isPolicy, noUnusedBit, noUnusedBits, policyOf, setOf, wordsFrom}
 use Rattle.policy.specs.Theorems.{ReadWritten}
 use Rattle.policy.specs.declared.Policy.{Policy}
 use Rattle.policy.proofs.Bytes.{getD-wordsFrom, length-wordsFrom}

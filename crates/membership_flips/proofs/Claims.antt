@@ -1,16 +1,15 @@
 -- The proofs of what specs/Theorems.antt claims.
-use mathlib.Core.Path.{_≡_, refl, ap, sym, _∙_}
-use mathlib.Core.Bool.{Bool, true, false, false≢true, not}
-use mathlib.Core.List.{List, List·Memᴰ}
-use Prim.Native.Nat.{ℕ, _<_}
+use mathlib.Core.Path.{_≡_, ap, sym, _∙_}
+use mathlib.Core.Bool.{true, false≢true, not}
+use mathlib.Core.List.{List}
+use Prim.Native.Nat.{ℕ}
 use Rattle.base.proofs.Tests.{fails}
-use Rattle.policy_key_set.specs.Sets.{entryCount}
 use Rattle.policy.specs.PolicyBytes.{policyOf}
 use Rattle.policy.proofs.RoundTrips.{six-words-of}
 use Rattle.formatter.specs.Format.{formatted, sameBytes}
 use Rattle.formatter.proofs.Formatting.{same-self, same-true}
 use Rattle.membership_flips.specs.Flips.{Membership, flipped, memberships, tipping, tips}
-use Rattle.membership_flips.specs.Theorems.{Alters, EveryTip, FlippedIsPolicy, FlipsOne, TipsByUse}
+use Rattle.membership_flips.specs.Theorems.{EveryTip, FlippedIsPolicy, FlipsOne, TipsByUse}
 use Rattle.membership_flips.proofs.Bridge.{flipped-accepted, flipped-read, tips-by-use}
 use Rattle.membership_flips.proofs.Flipping.{flips-one}
 use Rattle.membership_flips.proofs.Order.{every-membership, memberships-ordered, no-other-membership, passed-those}

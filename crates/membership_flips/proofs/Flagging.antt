@@ -1,15 +1,15 @@
 -- The flags after the pass say what occurs in the text.
-use mathlib.Core.Path.{_≡_, refl, ap, ap₂, subst, sym, _∙_}
-use mathlib.Core.Logic.{_⊎_, inl, inr, ⊎-elim}
-use mathlib.Core.Bool.{Bool, true, false, Bool·beq, _&&_, _||_, cond, not, false≢true, true≢false}
+use mathlib.Core.Path.{_≡_, refl, ap, ap₂, sym, _∙_}
+use mathlib.Core.Logic.{⊎-elim}
+use mathlib.Core.Bool.{Bool, true, false, Bool·beq, _&&_, _||_, cond, not, false≢true}
 use mathlib.Core.List.{List, [], _∷_}
-use Prim.Native.Nat.{ℕ, _+_, _*_, _-_, _/_, _%_, _<_, _≤_}
+use Prim.Native.Nat.{ℕ, _+_, _<_, _≤_}
 use native.Mathlib.Omega.{arith}
 use lib.Dec.{eqb}
 use lib.ListN.{drop, getD, length, length-set, set}
 use lib.Seq.{getD-set-other, getD-set-same}
 use borrow.Author.Tests.{eq-eqb, eqb-true, ne-eqb}
-use Rattle.base.proofs.Tests.{and-both, beq-so, both-true, fails, same-test, so-beq}
+use Rattle.base.proofs.Tests.{and-both, beq-so, both-true, same-test, so-beq}
 use Rattle.utf8.specs.Rfc3629.{chars, validUpTo}
 use Rattle.utf8.proofs.Places.{Step, Stop}
 use Rattle.unicode.specs.Presentation.{fromSelector}

@@ -1,15 +1,15 @@
 -- What a flip does to the memberships of a policy, and that the flipped policy is one.
-use mathlib.Core.Path.{_≡_, refl, ap, ap₂, sym, _∙_}
-use mathlib.Core.Logic.{_⊎_, inl, inr, ⊎-elim}
-use mathlib.Core.Bool.{Bool, true, false, Bool·beq, _&&_, cond, not, and-false}
-use mathlib.Core.List.{List, [], _∷_}
-use Prim.Native.Nat.{ℕ, _+_, _*_, _/_, _%_, _^_, _<_, _≤_}
+use mathlib.Core.Path.{_≡_, refl, ap, sym, _∙_}
+use mathlib.Core.Logic.{⊎-elim}
+use mathlib.Core.Bool.{Bool, true, false, Bool·beq, _&&_}
+use mathlib.Core.List.{List}
+use Prim.Native.Nat.{ℕ, _/_, _%_, _^_, _<_}
 use native.Mathlib.Omega.{arith}
-use lib.Bits.{bitXor, xor-lt}
+use lib.Bits.{bitXor}
 use lib.Dec.{eqb}
-use lib.ListN.{getD, length, length-set, set}
+use lib.ListN.{getD, length, set}
 use lib.Seq.{getD-set-other, getD-set-same}
-use borrow.Author.Tests.{eq-eqb, eqb-true, ne-eqb}
+use borrow.Author.Tests.{eq-eqb, ne-eqb}
 use Rattle.base.specs.Bits.{one}
 use Rattle.policy_key_set.specs.Sets.{differ, entryCount, member}
 use Rattle.policy_key_set.proofs.Bits.{power-one, xor-one}

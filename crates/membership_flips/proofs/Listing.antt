@@ -1,6 +1,6 @@
 -- The memberships by number, the test by the flags, and the table after the call.
 use mathlib.Core.Path.{_≡_, refl, ap, ap₂, subst, sym, _∙_}
-use mathlib.Core.Bool.{Bool, true, false, _&&_, _||_, cond, not}
+use mathlib.Core.Bool.{Bool, true, false, _||_, cond}
 use mathlib.Core.List.{List, [], _∷_, _++_, List·Memᴰ, List·Memᴰ·head, List·Memᴰ·tail}
 use mathlib.Core.Option.{Option, none, some}
 use Prim.Native.Nat.{ℕ, zero, suc, _+_, _*_, _-_, _/_, _%_, _<_, _≤_}
@@ -14,7 +14,6 @@ use Rattle.base.specs.Refusals.{orElse, unwritten}
 use Rattle.base.specs.Words.{allBytes}
 use Rattle.base.specs.declared.Refusal.{Refusal}
 use Rattle.unicode.specs.UnicodeData.{variationEntries}
-use Rattle.unicode.specs.declared.VariationEntry.{VariationEntry}
 use Rattle.unicode.specs.declared.VariationEntry.the-variants as Entry
 use Rattle.unicode.specs.Unicode.{variationEntry}
 use Rattle.unicode.proofs.Ascent.{entry-in}
@@ -34,7 +33,7 @@ use Rattle.base.specs.Tables.{fillTable, rowsBytes}
 use Rattle.base.specs.declared.ListAnswer.the-variants.{Refused}
 use Rattle.membership_flips.specs.Flips.{Membership, digit, listTips, memberships, membershipsFrom}
 use Rattle.membership_flips.specs.Flips.{those, tipNumbers, tipping, tips}
-use Rattle.membership_flips.specs.Pass.{FlagsTell, flagged, mattersFor, membershipAt, numbered, tipTest}
+use Rattle.membership_flips.specs.Pass.{FlagsTell, mattersFor, membershipAt, numbered, tipTest}
 use Rattle.membership_flips.specs.Uses.{matters}
 use Rattle.membership_flips.proofs.Bridge.{tips-by-use}
 use Rattle.membership_flips.proofs.Order.{no-other-membership}

@@ -1,10 +1,9 @@
 -- A flip alters the cells that are written where it matters for what occurs among them, and only there.
 use mathlib.Core.Path.{_≡_, refl, ap, ap₂, sym, _∙_}
-use mathlib.Core.Logic.{_≢_, _⊎_, inl, inr, ⊎-elim}
-use mathlib.Core.Bool.{Bool, true, false, Bool·beq, _&&_, _||_, cond, false≢true, not, true≢false}
+use mathlib.Core.Logic.{_≢_, ⊎-elim}
+use mathlib.Core.Bool.{Bool, true, false, Bool·beq, _&&_, _||_, false≢true, not, true≢false}
 use mathlib.Core.List.{List, [], _∷_}
 use Prim.Native.Nat.{ℕ, _<_}
-use native.Mathlib.Omega.{arith}
 use lib.Dec.{eqb}
 use lib.ListN.{getD}
 use borrow.Author.Tests.{eq-eqb, eqb-true}
@@ -39,7 +38,7 @@ use Rattle.scanner.specs.declared.char_class.Class.the-variants.{
   Selector as selector,
   Tag as tag,
 }
-use Rattle.analysis.specs.Analysis.{chosen, following, outcomeAt, remaining, renew}
+use Rattle.analysis.specs.Analysis.{chosen, following, outcomeAt, renew}
 use Rattle.analysis.specs.Cells.{Cell}
 use Rattle.analysis.specs.Rules.{byKeycap, byModifier, byTags, firstAsked, isBareSide, outcome, rule6, withoutSelector}
 use Rattle.analysis.specs.declared.singleton.Outcome.{Outcome}

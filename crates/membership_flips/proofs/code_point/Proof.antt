@@ -1,7 +1,5 @@
 -- `membership_flips::code_point` meets its contract.
-use mathlib.Core.Path.{_≡_, sym, _∙_}
-use Prim.Native.Nat.{ℕ}
-use native.Mathlib.Omega.{arith}
+use mathlib.Core.Path.{sym, _∙_}
 use borrow.Author.Needs.{needs}
 use Rattle.membership_flips.proofs.Listing.{entry-is, no-entry-not}
 use Rattle.membership_flips.proofs.code_point.Statement.{statement}

@@ -1,6 +1,5 @@
 -- `membership_flips::is_tip` meets its contract.
 use mathlib.Core.Path.{_∙_}
-use native.Mathlib.Omega.{arith}
 use borrow.Author.Needs.{needs}
 use Prim.Native.Nat.{_/_, _%_}
 use lib.Dec.{eqb}

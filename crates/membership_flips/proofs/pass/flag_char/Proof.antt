@@ -1,6 +1,5 @@
 -- `membership_flips::pass::flag_char` meets its contract.
 use mathlib.Core.Path.{sym, _∙_}
-use native.Mathlib.Omega.{arith}
 use borrow.Author.Needs.{needs}
 use Rattle.membership_flips.proofs.Flagging.{entry-small, with-entry-char, with-no-entry}
 use Rattle.membership_flips.proofs.pass.flag_char.Statement.{statement}

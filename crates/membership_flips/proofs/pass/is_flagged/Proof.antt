@@ -1,5 +1,4 @@
 -- `membership_flips::pass::is_flagged` meets its contract.
-use native.Mathlib.Omega.{arith}
 use borrow.Author.Needs.{needs}
 use mathlib.Core.Path.{ap}
 use mathlib.Core.Bool.{not}
