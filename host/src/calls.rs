@@ -5,7 +5,7 @@
 use std::fmt::{self, Display, Formatter};
 
 use crate::reference::calls::{self, Draft};
-use crate::reference::{characters, kept, policy};
+use crate::reference::{characters, kept, policy, tips};
 
 /// The bytes of a policy.
 pub const POLICY_BYTES: usize = 192;
@@ -13,6 +13,8 @@ pub const POLICY_BYTES: usize = 192;
 pub const FINDING_BYTES: usize = 112;
 /// The bytes of an item in a table.
 pub const ITEM_BYTES: usize = 64;
+/// The bytes of a membership in a table.
+pub const TIP_BYTES: usize = 24;
 
 /// The functions of `include/tilghorz.h`, each with its slices.
 pub trait Calls {
@@ -41,6 +43,8 @@ pub trait Calls {
     fn feed_end(&self, feed: &mut [u8], out: &mut [u8]) -> u64;
     /// `tilghorz_feed_totals`.
     fn feed_totals(&self, feed: &[u8], totals: &mut [u8]) -> u64;
+    /// `tilghorz_tips`.
+    fn tips(&self, text: &[u8], policy: &[u8], table: &mut [u8]) -> u64;
     /// `tilghorz_default_policy`.
     fn default_policy(&self, out: &mut [u8]) -> u64;
     /// `tilghorz_variation_entry`.
@@ -143,6 +147,10 @@ impl Calls for Reference {
 
     fn feed_totals(&self, feed: &[u8], totals: &mut [u8]) -> u64 {
         kept::totals(feed, totals).word()
+    }
+
+    fn tips(&self, text: &[u8], policy: &[u8], table: &mut [u8]) -> u64 {
+        write(&tips::list(text, policy), table)
     }
 
     fn default_policy(&self, out: &mut [u8]) -> u64 {

@@ -103,10 +103,18 @@ pub enum Fault {
     TotalsWithoutHeld,
     /// After the end the totals are zeros.
     NoTotalsAfterEnd,
+    /// A base before 20E3 counts for the ordinary memberships.
+    TipKeycapAsOrdinary,
+    /// A base before a tag counts for its memberships.
+    TipBeforeTag,
+    /// The first two memberships of the list are exchanged.
+    TipOrder,
+    /// The last membership of the list is not told.
+    TipMissing,
 }
 
 /// The faults with their names.
-pub const FAULTS: [(&str, Fault); 50] = [
+pub const FAULTS: [(&str, Fault); 54] = [
     ("keycap-rule", Fault::KeycapRule),
     ("finding-span", Fault::FindingSpan),
     ("item-span", Fault::ItemSpan),
@@ -157,4 +165,8 @@ pub const FAULTS: [(&str, Fault); 50] = [
     ("takes-after-end", Fault::TakesAfterEnd),
     ("totals-without-held", Fault::TotalsWithoutHeld),
     ("no-totals-after-end", Fault::NoTotalsAfterEnd),
+    ("tip-keycap-as-ordinary", Fault::TipKeycapAsOrdinary),
+    ("tip-before-tag", Fault::TipBeforeTag),
+    ("tip-order", Fault::TipOrder),
+    ("tip-missing", Fault::TipMissing),
 ];

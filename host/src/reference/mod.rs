@@ -19,6 +19,7 @@
 //! | [`book`] | a list of mending calls |
 //! | [`feed`] | a thread that comes in pieces |
 //! | [`kept`] | feeds in lent bytes |
+//! | [`tips`] | the single memberships whose flip alters the formatted text |
 //! | [`programs`] | what the two programs write |
 
 pub mod book;
@@ -32,4 +33,5 @@ pub mod positions;
 pub mod programs;
 pub mod repair;
 pub mod rules;
+pub mod tips;
 pub mod utf8;
