@@ -54,6 +54,7 @@ fn the_reference_has_no_difference_from_itself() {
         "repaired",
         "lists",
         "feeds",
+        "tips",
     ];
     for kind in kinds {
         assert!(text.lines().any(|line| line.starts_with(kind)), "{text}");

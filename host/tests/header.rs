@@ -4,7 +4,7 @@
 use std::fs;
 use std::path::Path;
 
-use tilghorz_comparison::calls::{FINDING_BYTES, ITEM_BYTES, POLICY_BYTES};
+use tilghorz_comparison::calls::{FINDING_BYTES, ITEM_BYTES, POLICY_BYTES, TIP_BYTES};
 use tilghorz_comparison::reference::feed::TOTALS_BYTES;
 
 /// A function: its name, its parameters with name and kind, and the kind of its answer.
@@ -196,6 +196,7 @@ fn the_sizes_agree_with_the_header() {
         ("POLICY_BYTES", POLICY_BYTES),
         ("FINDING_BYTES", FINDING_BYTES),
         ("ITEM_BYTES", ITEM_BYTES),
+        ("TIP_BYTES", TIP_BYTES),
         ("FEED_BYTES", feed_bytes()),
         ("TOTALS_BYTES", TOTALS_BYTES),
     ] {

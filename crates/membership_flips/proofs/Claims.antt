@@ -12,8 +12,8 @@ use Rattle.membership_flips.specs.Flips.{Membership, flipped, membership
 use Rattle.membership_flips.specs.Theorems.{EveryTip, FlippedIsPolicy, FlipsOne, TipsByUse}
 use Rattle.membership_flips.proofs.Bridge.{flipped-accepted, flipped-read, tips-by-use}
 use Rattle.membership_flips.proofs.Flipping.{flips-one}
-use Rattle.membership_flips.proofs.Order.{every-membership, memberships-ordered, no-other-membership, passed-those}
-use Rattle.membership_flips.proofs.Order.{those-ordered, those-passed}
+use Rattle.membership_flips.proofs.Order.{every-membership, memberships-ordered, no-other-membership, filtered-passes}
+use Rattle.membership_flips.proofs.Order.{filtered-ordered, passing-filtered}
 
 pub flips-one-only : FlipsOne
 unfolding FlipsOne
@@ -38,12 +38,12 @@ where-tips text policy m t e =
 pub every-tip : EveryTip
 unfolding EveryTip tipping
 every-tip text policy = record {
-  each-appears = λ m a. those-passed (tips text policy) m memberships (every-membership m (a .entry))
+  each-appears = λ m a. passing-filtered (tips text policy) m memberships (every-membership m (a .entry))
       (tips-where text policy m (a .alters));
   no-other = λ m x.
-      let w = passed-those (tips text policy) m memberships x in
+      let w = filtered-passes (tips text policy) m memberships x in
       record { entry = no-other-membership m (w .1); alters = where-tips text policy m (w .0) };
-  in-order = those-ordered (tips text policy) memberships-ordered;
+  in-order = filtered-ordered (tips text policy) memberships-ordered;
 }
 
 pub tips-by-uses : TipsByUse

@@ -132,11 +132,11 @@ flag-set flags i j k l f g n h = ⊎-elim
     old : Bool
     old = not (eqb (getD flags (flagIndex j l g) 0) 0)
 
-flag-withEntry : (t flags : List ℕ) (i j : ℕ) (l : Bool) (g : FromSelector) → length flags ≡ 2124 → i < 354
+flag-with-entry : (t flags : List ℕ) (i j : ℕ) (l : Bool) (g : FromSelector) → length flags ≡ 2124 → i < 354
     → flagged (withEntry t i flags) j l g ≡ (flagged flags j l g
     || ((eqb i j && judgedIn l (following (cells t))) && sameFirst g (firstAsked (leading t))))
 unfolding withEntry isJudged judgedIn
-flag-withEntry t flags i j l g n h = go (byModifier k) (byTags k)
+flag-with-entry t flags i j l g n h = go (byModifier k) (byTags k)
   where
     k : Class
     k = following (cells t)
@@ -249,7 +249,7 @@ module _ {text flags : List ℕ} {at : ℕ} (s : FlagsUpTo text flags at) where
             many = ap length now ∙ with-entry-length T flags i ∙ s .many;
             sees = λ j h l f.
                 ap (λ (x : List ℕ). flagged x j l f || occurs (C j) l (cells T) f) now
-                ∙ ap (λ (b : Bool). b || occurs (C j) l (cells T) f) (flag-withEntry T flags i j l f (s .many) small)
+                ∙ ap (λ (b : Bool). b || occurs (C j) l (cells T) f) (flag-with-entry T flags i j l f (s .many) small)
                 ∙ or-assoc (flagged flags j l f) ((eqb i j && judgedIn l (following (cells T))) && sameFirst f (firstAsked (leading T)))
                 (occurs (C j) l (cells T) f)
                 ∙ ap (λ (b : Bool). flagged flags j l f || b) (sym (occurs-entry v i T g j h l f)) ∙ whole j h l f;

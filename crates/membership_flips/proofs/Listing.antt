@@ -32,7 +32,7 @@ use Rattle.formatter.specs.Intake.{intakeRefusal}
 use Rattle.base.specs.Tables.{fillTable, rowsBytes}
 use Rattle.base.specs.declared.ListAnswer.the-variants.{Refused}
 use Rattle.membership_flips.specs.Flips.{Membership, digit, listTips, memberships, membershipsFrom}
-use Rattle.membership_flips.specs.Flips.{those, tipNumbers, tipping, tips}
+use Rattle.membership_flips.specs.Flips.{filtered, tipNumbers, tipping, tips}
 use Rattle.membership_flips.specs.Pass.{FlagsTell, mattersFor, membershipAt, numbered, tipTest}
 use Rattle.membership_flips.specs.Uses.{matters}
 use Rattle.membership_flips.proofs.Bridge.{tips-by-use}
@@ -101,18 +101,18 @@ by-number = from-numbered entryCount 0 0 refl ∙ ap (λ (m : ℕ). numbered (4 
 
 -- ---- those that pass
 
-those-same : {A : Type 0} (f g : A → Bool) (l : List A) → ((x : A) → List·Memᴰ x l → f x ≡ g x) → those f l ≡ those g l
-unfolding those
-those-same f g [] h = refl
-those-same f g (x ∷ l) h =
-    ap₂ (λ (b : Bool) (r : List _). cond b (x ∷ r) r) (h x (List·Memᴰ·head refl)) (those-same f g l (λ y m. h y (List·Memᴰ·tail m)))
+filtered-same : {A : Type 0} (f g : A → Bool) (l : List A) → ((x : A) → List·Memᴰ x l → f x ≡ g x) → filtered f l ≡ filtered g l
+unfolding filtered
+filtered-same f g [] h = refl
+filtered-same f g (x ∷ l) h =
+    ap₂ (λ (b : Bool) (r : List _). cond b (x ∷ r) r) (h x (List·Memᴰ·head refl)) (filtered-same f g l (λ y m. h y (List·Memᴰ·tail m)))
 
-those-fewer : {A : Type 0} (f : A → Bool) (l : List A) → length (those f l) ≤ length l
-unfolding those
-those-fewer f [] = omega arith
-those-fewer f (x ∷ l) = go (f x) (those-fewer f l)
+filtered-fewer : {A : Type 0} (f : A → Bool) (l : List A) → length (filtered f l) ≤ length l
+unfolding filtered
+filtered-fewer f [] = omega arith
+filtered-fewer f (x ∷ l) = go (f x) (filtered-fewer f l)
   where
-    go : (b : Bool) → length (those f l) ≤ length l → length (cond b (x ∷ those f l) (those f l)) ≤ suc (length l)
+    go : (b : Bool) → length (filtered f l) ≤ length l → length (cond b (x ∷ filtered f l) (filtered f l)) ≤ suc (length l)
     go true h = omega arith
     go false h = omega arith
 
@@ -125,43 +125,43 @@ length-numbered (suc k) n = ap suc (length-numbered k (suc n))
 pub few-tips : (text policy : List ℕ) → length (tipping text policy) ≤ 1416
 unfolding tipping
 few-tips text policy =
-    omega (arith, those-fewer (tips text policy) memberships, ap length by-number, length-numbered 1416 0)
+    omega (arith, filtered-fewer (tips text policy) memberships, ap length by-number, length-numbered 1416 0)
 
 -- The test by the flags passes for the flips that tip the text, and for no other.
 pub flags-tell : (text policy flags : List ℕ) → FlagsTell text flags → allBytes policy ≡ true
-    → those (tipTest policy flags) (numbered 1416 0) ≡ tipping text policy
+    → filtered (tipTest policy flags) (numbered 1416 0) ≡ tipping text policy
 unfolding tipping tipTest
 flags-tell text policy flags s e =
-    ap (those (tipTest policy flags)) (sym by-number)
-    ∙ those-same (tipTest policy flags) (tips text policy) memberships (λ m x.
+    ap (filtered (tipTest policy flags)) (sym by-number)
+    ∙ filtered-same (tipTest policy flags) (tips text policy) memberships (λ m x.
     let b = no-other-membership m x in
     matters-same (m .asText) (holdsEntry (policyOf policy .«prefer_bare») (m .entry) (m .keycap))
     (holdsEntry (policyOf policy .«bare_as_text») (m .entry) (m .keycap)) (s (m .entry) b (m .keycap))
     ∙ sym (tips-by-use text policy m b e))
 
 module _ {A : Type 0} (test : A → Bool) (f : A) (l : List A) where
-  count-one : {a : Bool} {n : ℕ} → a ≡ test f → n ≡ cond a 1 0 → length (those test (f ∷ l)) ≡ n + length (those test l)
-  unfolding those
+  count-one : {a : Bool} {n : ℕ} → a ≡ test f → n ≡ cond a 1 0 → length (filtered test (f ∷ l)) ≡ n + length (filtered test l)
+  unfolding filtered
   count-one {a} {n} e h = go a (sym e) h
     where
-      go : (b : Bool) → test f ≡ b → n ≡ cond b 1 0 → length (cond (test f) (f ∷ those test l) (those test l)) ≡ n + length (those test l)
-      go true g h = ap (λ (b : Bool). length (cond b (f ∷ those test l) (those test l))) g ∙ omega arith
-      go false g h = ap (λ (b : Bool). length (cond b (f ∷ those test l) (those test l))) g ∙ omega arith
+      go : (b : Bool) → test f ≡ b → n ≡ cond b 1 0 → length (cond (test f) (f ∷ filtered test l) (filtered test l)) ≡ n + length (filtered test l)
+      go true g h = ap (λ (b : Bool). length (cond b (f ∷ filtered test l) (filtered test l))) g ∙ omega arith
+      go false g h = ap (λ (b : Bool). length (cond b (f ∷ filtered test l) (filtered test l))) g ∙ omega arith
 
-  write-one : (numbers : A → List ℕ) {a : Bool} → a ≡ test f → rowsBytes numbers (those test (f ∷ l))
-      ≡ cond a (bytesOf (numbers f)) [] ++ rowsBytes numbers (those test l)
-  unfolding those rowsBytes
+  write-one : (numbers : A → List ℕ) {a : Bool} → a ≡ test f → rowsBytes numbers (filtered test (f ∷ l))
+      ≡ cond a (bytesOf (numbers f)) [] ++ rowsBytes numbers (filtered test l)
+  unfolding filtered rowsBytes
   write-one numbers {a} e = go a (sym e)
     where
-      go : (b : Bool) → test f ≡ b → rowsBytes numbers (cond (test f) (f ∷ those test l) (those test l))
-          ≡ cond b (bytesOf (numbers f)) [] ++ rowsBytes numbers (those test l)
-      go true g = ap (λ (b : Bool). rowsBytes numbers (cond b (f ∷ those test l) (those test l))) g
-      go false g = ap (λ (b : Bool). rowsBytes numbers (cond b (f ∷ those test l) (those test l))) g
+      go : (b : Bool) → test f ≡ b → rowsBytes numbers (cond (test f) (f ∷ filtered test l) (filtered test l))
+          ≡ cond b (bytesOf (numbers f)) [] ++ rowsBytes numbers (filtered test l)
+      go true g = ap (λ (b : Bool). rowsBytes numbers (cond b (f ∷ filtered test l) (filtered test l))) g
+      go false g = ap (λ (b : Bool). rowsBytes numbers (cond b (f ∷ filtered test l) (filtered test l))) g
 
 module _ (test : Membership → Bool) where
   -- Those among the memberships from a number on.
   abbrev pub tippingFrom : ℕ → List Membership
-  tippingFrom n = those test (numbered (1416 - n) n)
+  tippingFrom n = filtered test (numbered (1416 - n) n)
 
   one-number : (n : ℕ) → n < 1416 → numbered (1416 - n) n ≡ membershipAt n ∷ numbered (1416 - (n + 1)) (n + 1)
   unfolding numbered
@@ -171,18 +171,18 @@ module _ (test : Membership → Bool) where
 
   pub count-on : (n : ℕ) → n < 1416 → {a : Bool} {x : ℕ} → a ≡ test (membershipAt n) → x ≡ cond a 1 0 → length (tippingFrom n)
       ≡ x + length (tippingFrom (n + 1))
-  count-on n h e f = ap (λ (l : List Membership). length (those test l)) (one-number n h)
+  count-on n h e f = ap (λ (l : List Membership). length (filtered test l)) (one-number n h)
       ∙ count-one test (membershipAt n) (numbered (1416 - (n + 1)) (n + 1)) e f
 
   pub write-on : (n : ℕ) → n < 1416 → {a : Bool} → a ≡ test (membershipAt n)
       → rowsBytes tipNumbers (tippingFrom n) ≡ cond a (bytesOf (tipNumbers (membershipAt n))) [] ++ rowsBytes tipNumbers
       (tippingFrom (n + 1))
-  write-on n h e = ap (λ (l : List Membership). rowsBytes tipNumbers (those test l)) (one-number n h)
+  write-on n h e = ap (λ (l : List Membership). rowsBytes tipNumbers (filtered test l)) (one-number n h)
       ∙ write-one test (membershipAt n) (numbered (1416 - (n + 1)) (n + 1)) tipNumbers e
 
   pub none-from : (n : ℕ) → 1416 ≤ n → tippingFrom n ≡ []
-  unfolding those numbered
-  none-from n h = let e : 1416 - n ≡ 0 = omega arith in ap (λ (k : ℕ). those test (numbered k n)) e
+  unfolding filtered numbered
+  none-from n h = let e : 1416 - n ≡ 0 = omega arith in ap (λ (k : ℕ). filtered test (numbered k n)) e
 
 -- ---- rows
 

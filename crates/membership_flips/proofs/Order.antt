@@ -12,43 +12,43 @@ use Rattle.unicode.proofs.Ascent.{ascending-lt}
 use Rattle.unicode.proofs.InOrder.{variation-entries-ascend}
 use Rattle.policy_key_set.specs.Sets.{entryCount}
 use Rattle.policy_key_set.proofs.Members.{decide}
-use Rattle.membership_flips.specs.Flips.{Membership, andFour, codePoint, memberships, membershipsFrom, those}
+use Rattle.membership_flips.specs.Flips.{Membership, andFour, codePoint, memberships, membershipsFrom, filtered}
 use Rattle.membership_flips.specs.Theorems.{Before, InOrder, and-then, no-more, ordinary-first, prefer-bare-first, smaller-code-point}
 
 -- ---- what passes a test
 
 module _ {A : Type 0} (test : A → Bool) where
-  pub those-passed : (x : A) (l : List A) → List·Memᴰ x l → test x ≡ true → List·Memᴰ x (those test l)
-  unfolding those
-  those-passed x [] m e = absurd (List·Memᴰ·not-nil m)
-  those-passed x (y ∷ l) m e = go (test y) refl (those-passed x l)
+  pub passing-filtered : (x : A) (l : List A) → List·Memᴰ x l → test x ≡ true → List·Memᴰ x (filtered test l)
+  unfolding filtered
+  passing-filtered x [] m e = absurd (List·Memᴰ·not-nil m)
+  passing-filtered x (y ∷ l) m e = go (test y) refl (passing-filtered x l)
     where
-      go : (b : Bool) → test y ≡ b → (List·Memᴰ x l → test x ≡ true → List·Memᴰ x (those test l))
-          → List·Memᴰ x (cond b (y ∷ those test l) (those test l))
+      go : (b : Bool) → test y ≡ b → (List·Memᴰ x l → test x ≡ true → List·Memᴰ x (filtered test l))
+          → List·Memᴰ x (cond b (y ∷ filtered test l) (filtered test l))
       go true f h = ⊎-elim (λ (g : x ≡ y). List·Memᴰ·head g) (λ (n : List·Memᴰ x l). List·Memᴰ·tail (h n e)) (List·Memᴰ·cases-cons m)
       go false f h = ⊎-elim (λ (g : x ≡ y). absurd (false≢true (sym f ∙ ap test (sym g) ∙ e))) (λ (n : List·Memᴰ x l). h n e)
           (List·Memᴰ·cases-cons m)
 
-  pub passed-those : (x : A) (l : List A) → List·Memᴰ x (those test l) → (test x ≡ true) × List·Memᴰ x l
-  unfolding those
-  passed-those x [] m = absurd (List·Memᴰ·not-nil m)
-  passed-those x (y ∷ l) m = go (test y) refl (passed-those x l) m
+  pub filtered-passes : (x : A) (l : List A) → List·Memᴰ x (filtered test l) → (test x ≡ true) × List·Memᴰ x l
+  unfolding filtered
+  filtered-passes x [] m = absurd (List·Memᴰ·not-nil m)
+  filtered-passes x (y ∷ l) m = go (test y) refl (filtered-passes x l) m
     where
-      go : (b : Bool) → test y ≡ b → (List·Memᴰ x (those test l) → (test x ≡ true) × List·Memᴰ x l)
-          → List·Memᴰ x (cond b (y ∷ those test l) (those test l)) → (test x ≡ true) × List·Memᴰ x (y ∷ l)
+      go : (b : Bool) → test y ≡ b → (List·Memᴰ x (filtered test l) → (test x ≡ true) × List·Memᴰ x l)
+          → List·Memᴰ x (cond b (y ∷ filtered test l) (filtered test l)) → (test x ≡ true) × List·Memᴰ x (y ∷ l)
       go true f h n = ⊎-elim
           (λ (g : x ≡ y). (ap test g ∙ f, List·Memᴰ·head g))
-          (λ (k : List·Memᴰ x (those test l)). (h k .0, List·Memᴰ·tail (h k .1)))
+          (λ (k : List·Memᴰ x (filtered test l)). (h k .0, List·Memᴰ·tail (h k .1)))
           (List·Memᴰ·cases-cons n)
       go false f h n = (h n .0, List·Memᴰ·tail (h n .1))
 
-pub those-ordered : (test : Membership → Bool) {l : List Membership} → InOrder l → InOrder (those test l)
-unfolding those
-those-ordered test no-more = no-more
-those-ordered test (and-then {m} {l} before o) = go (test m) (those-ordered test o)
+pub filtered-ordered : (test : Membership → Bool) {l : List Membership} → InOrder l → InOrder (filtered test l)
+unfolding filtered
+filtered-ordered test no-more = no-more
+filtered-ordered test (and-then {m} {l} before o) = go (test m) (filtered-ordered test o)
   where
-    go : (b : Bool) → InOrder (those test l) → InOrder (cond b (m ∷ those test l) (those test l))
-    go true h = and-then (λ n k. before n (passed-those test n l k .1)) h
+    go : (b : Bool) → InOrder (filtered test l) → InOrder (cond b (m ∷ filtered test l) (filtered test l))
+    go true h = and-then (λ n k. before n (filtered-passes test n l k .1)) h
     go false h = h
 
 -- ---- every membership

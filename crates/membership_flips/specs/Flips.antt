@@ -93,14 +93,14 @@ membershipsFrom (suc n) i = andFour i (membershipsFrom n (suc i))
 unfoldable pub memberships : List Membership
 memberships = membershipsFrom entryCount 0
 
--- Those of a list that pass a test.
-unfoldable pub those : {A : Type 0} → (A → Bool) → List A → List A
-those test [] = []
-those test (x ∷ xs) = cond (test x) (x ∷ those test xs) (those test xs)
+-- The elements of a list that pass a test.
+unfoldable pub filtered : {A : Type 0} → (A → Bool) → List A → List A
+filtered test [] = []
+filtered test (x ∷ xs) = cond (test x) (x ∷ filtered test xs) (filtered test xs)
 
 -- "Each such flip appears, and no other does", in the order of the list.
 unfoldable pub tipping : List ℕ → List ℕ → List Membership
-tipping text policy = those (tips text policy) memberships
+tipping text policy = filtered (tips text policy) memberships
 
 -- ---- the call
 

@@ -14,7 +14,7 @@ ghost use Rattle.base.specs.Output.{PutAt};
 ghost use Rattle.base.specs.Tables.{fillTable, rowsBytes};
 ghost use Rattle.base.specs.Words.{bytesOf};
 ghost use Rattle.unicode.specs.UnicodeData.{variationEntries};
-ghost use Rattle.membership_flips.specs.Flips.{listTips, those, tipNumbers};
+ghost use Rattle.membership_flips.specs.Flips.{listTips, filtered, tipNumbers};
 ghost use Rattle.membership_flips.specs.Pass.{mattersFor, membershipAt, numbered, tipTest};
 use base::Check;
 use base::ListAnswer;
@@ -107,7 +107,7 @@ fn is_tip(policy: &[u8], flags: &[u8], n: usize) -> bool
 // Counts the memberships whose flip alters the text.
 fn count_tips(policy: &[u8], flags: &[u8]) -> usize
     requires { ⌜ length (now flags) ≡ 2124 ⌝ }
-    ensures { λ r. ⌜ r ≡ length (those (tipTest (now (policy .entry)) (now (flags .entry))) (numbered 1416 0)) ⌝ }
+    ensures { λ r. ⌜ r ≡ length (filtered (tipTest (now (policy .entry)) (now (flags .entry))) (numbered 1416 0)) ⌝ }
 {
     let mut count = 0;
     let mut n = 0;
@@ -152,9 +152,9 @@ fn put_tip(table: &mut [u8], start: usize, wanted: bool, n: usize) -> usize
 // Puts the rows of the memberships whose flip alters the text, for which the table has room, and returns where the last one ends.
 fn put_tips(policy: &[u8], flags: &[u8], table: &mut [u8]) -> usize
     requires { ⌜ (length (now flags) ≡ 2124)
-        × (length (rowsBytes tipNumbers (those (tipTest (now policy) (now flags)) (numbered 1416 0))) ≤ length (now table)) ⌝ }
+        × (length (rowsBytes tipNumbers (filtered (tipTest (now policy) (now flags)) (numbered 1416 0))) ≤ length (now table)) ⌝ }
     ensures { λ r. ⌜ PutAt (now (table .entry)) 0
-        (rowsBytes tipNumbers (those (tipTest (now (policy .entry)) (now (flags .entry))) (numbered 1416 0))) (now (table .exit)) r ⌝ }
+        (rowsBytes tipNumbers (filtered (tipTest (now (policy .entry)) (now (flags .entry))) (numbered 1416 0))) (now (table .exit)) r ⌝ }
 {
     let mut at = 0;
     let mut n = 0;
@@ -170,7 +170,7 @@ fn put_tips(policy: &[u8], flags: &[u8], table: &mut [u8]) -> usize
 fn fill_table(policy: &[u8], flags: &[u8], table: &mut [u8]) -> ListAnswer
     requires { ⌜ length (now flags) ≡ 2124 ⌝ }
     ensures { λ r. ⌜ record { answer = r; buffer = now (table .exit) }
-        ≡ fillTable tipNumbers 24 (those (tipTest (now (policy .entry)) (now (flags .entry))) (numbered 1416 0)) (now (table .entry)) ⌝ }
+        ≡ fillTable tipNumbers 24 (filtered (tipTest (now (policy .entry)) (now (flags .entry))) (numbered 1416 0)) (now (table .entry)) ⌝ }
 {
     let findings = count_tips(policy, flags);
     if table.len() / TIP_BYTES < findings {

@@ -133,6 +133,10 @@ fn wrong_command_lines_are_told_on_standard_error() {
         (&["policy"], "policy: the policy command is missing"),
         (&["policy", "show"], "policy: unknown policy command show"),
         (
+            &["policy", "tips", "--check"],
+            "policy: --check: unknown option",
+        ),
+        (
             &["policy", "print", "a", "b"],
             "policy: print: too many files",
         ),

@@ -1,7 +1,7 @@
 -- `membership_flips::fill_table` meets its contract.
 use native.Mathlib.Omega.{arith}
 use borrow.Author.Needs.{needs}
-use Rattle.membership_flips.specs.Flips.{those, tipNumbers}
+use Rattle.membership_flips.specs.Flips.{filtered, tipNumbers}
 use Rattle.membership_flips.specs.Pass.{numbered, tipTest}
 use Rattle.base.proofs.TableBytes.{rows-refused, rows-room, rows-written}
 use Rattle.membership_flips.proofs.Listing.{length-tip}
@@ -11,7 +11,7 @@ use Rattle.membership_flips.proofs.fill_table.Tie as tie
 returns : tie.Need-returns
 returns c =
     let x = c .before .before .before .before .before .args in
-    rows-refused tipNumbers 24 length-tip (omega arith) (those (tipTest (x .policy .now) (x .flags .now)) (numbered 1416 0)) (x .table .now)
+    rows-refused tipNumbers 24 length-tip (omega arith) (filtered (tipTest (x .policy .now) (x .flags .now)) (numbered 1416 0)) (x .table .now)
     (c .before .count-tips .ensures) (omega (arith, c .if1 .taken))
 
 put-tips-requires : tie.Need-put-tips-requires
@@ -19,14 +19,14 @@ put-tips-requires c κs =
     let x = c .before .before .before .before .before .before .args in (
       c .before .before .before .before .before .before .pre,
       rows-room tipNumbers 24 length-tip (omega arith)
-          (those (tipTest (x .policy .now) (x .flags .now)) (numbered 1416 0)) (x .table .now) (c .before .before .count-tips .ensures)
+          (filtered (tipTest (x .policy .now) (x .flags .now)) (numbered 1416 0)) (x .table .now) (c .before .before .count-tips .ensures)
           (omega (arith, c .before .if1 .left)),
     )
 
 returns-2 : tie.Need-returns-2
 returns-2 c =
     let x = c .before .before .before .before .before .before .before .before .before .args in
-    rows-written tipNumbers 24 length-tip (omega arith) (those (tipTest (x .policy .now) (x .flags .now)) (numbered 1416 0)) (x .table .now)
+    rows-written tipNumbers 24 length-tip (omega arith) (filtered (tipTest (x .policy .now) (x .flags .now)) (numbered 1416 0)) (x .table .now)
     (c .before .before .before .before .before .count-tips .ensures) (omega (arith, c .before .before .before .before .if1 .left))
     (c .before .before .put-tips .ensures)
 
