@@ -89,6 +89,9 @@ pub fn tips(text: &str, policy: &Policy) -> Vec<u8> {
     table
 }
 
+/// The bytes of a finding as the crate has it: ten numbers, without positions in characters and UTF-16 units.
+pub const FINDING_BYTES: usize = 80;
+
 /// The findings as a table of ten numbers each.
 #[must_use]
 pub fn findings(text: &str, policy: &Policy) -> Vec<u8> {

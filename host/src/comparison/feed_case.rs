@@ -5,7 +5,7 @@ use std::fmt::{self, Display, Formatter};
 use super::lent::{Difference, MARGIN, hexadecimal, lend, lend_feed, pattern, same};
 use super::policies::Policy;
 use crate::beside;
-use crate::calls::{Answer, Calls, FINDING_BYTES};
+use crate::calls::{Answer, Calls};
 use crate::reference::calls::Draft;
 use crate::reference::feed::{self, Feed, TOTALS_BYTES, room, totals_bytes};
 use crate::reference::policy::default_policy;
@@ -220,7 +220,7 @@ impl Thread<'_> {
 /// The sums of the crate's counts.
 fn crate_totals(text: &str, policy: &evfmt::Policy) -> Counts {
     let mut totals = Counts::default();
-    for row in beside::findings(text, policy).chunks(FINDING_BYTES) {
+    for row in beside::findings(text, policy).chunks(beside::FINDING_BYTES) {
         for (total, bytes) in totals.iter_mut().zip(row[16..].chunks(8)) {
             let number = bytes.iter().rev();
             *total += number.fold(0, |number, &byte| number << 8 | u64::from(byte));

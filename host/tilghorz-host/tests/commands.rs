@@ -232,7 +232,10 @@ fn tips_are_counted_over_texts() {
     let lines = "2 --add prefer_bare ordinary 2764\n2 --take bare_as_text ordinary 2764\n\
                  1 --take prefer_bare ordinary 0031\n1 --take bare_as_text ordinary 0031\n";
     assert_eq!((many.status, many.text()), (0, lines));
-    assert_eq!(many.err, "3 files: 2 that a flip alters, 1 that none alters\n");
+    assert_eq!(
+        many.err,
+        "3 files: 2 that a flip alters, 1 that none alters\n"
+    );
     let json = folder.run_with(&["policy", "tips", "--json"], "\u{2764}".as_bytes());
     let object = "[{\"code_point\":\"2764\",\"context\":\"ordinary\",\"set\":\"prefer_bare\",\"held\":false,\"texts\":1},\
                   {\"code_point\":\"2764\",\"context\":\"ordinary\",\"set\":\"bare_as_text\",\"held\":true,\"texts\":1}]\n";
