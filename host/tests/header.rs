@@ -158,12 +158,13 @@ fn the_header_declares_twelve_functions() {
         "tilghorz_feed_piece",
         "tilghorz_feed_end",
         "tilghorz_feed_totals",
+        "tilghorz_tips",
         "tilghorz_default_policy",
         "tilghorz_variation_entry",
     ];
     assert_eq!(names, expected);
     let numbers: Vec<usize> = functions.iter().map(|of| of.parameters.len()).collect();
-    assert_eq!(numbers, [6, 6, 9, 4, 4, 4, 6, 4, 4, 2, 1]);
+    assert_eq!(numbers, [6, 6, 9, 4, 4, 4, 6, 4, 4, 6, 2, 1]);
 }
 
 #[test]
