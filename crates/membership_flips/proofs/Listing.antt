@@ -144,7 +144,8 @@ module _ {A : Type 0} (test : A → Bool) (f : A) (l : List A) where
   unfolding filtered
   count-one {a} {n} e h = go a (sym e) h
     where
-      go : (b : Bool) → test f ≡ b → n ≡ cond b 1 0 → length (cond (test f) (f ∷ filtered test l) (filtered test l)) ≡ n + length (filtered test l)
+      go : (b : Bool) → test f ≡ b → n ≡ cond b 1 0
+          → length (cond (test f) (f ∷ filtered test l) (filtered test l)) ≡ n + length (filtered test l)
       go true g h = ap (λ (b : Bool). length (cond b (f ∷ filtered test l) (filtered test l))) g ∙ omega arith
       go false g h = ap (λ (b : Bool). length (cond b (f ∷ filtered test l) (filtered test l))) g ∙ omega arith
 

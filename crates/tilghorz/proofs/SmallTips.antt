@@ -26,7 +26,7 @@ tips-small text policy table =
     T = tipping text policy
 
     go : (b : Bool) → length T ≤ 1416
-        → listRow (cond b (written (Listed (length T)) (rowsBytes tipNumbers T) table) (unwritten (Refused (TableTooShort (length T))) table)
-        .answer) .value ≤ most
+        → listRow (cond b (written (Listed (length T)) (rowsBytes tipNumbers T) table)
+        (unwritten (Refused (TableTooShort (length T))) table) .answer) .value ≤ most
     go true h = omega arith
     go false h = omega arith
