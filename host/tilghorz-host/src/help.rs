@@ -209,8 +209,8 @@ A policy is a file of 192 bytes. Without FILE, and as the second of compare, it 
   compare    a line for each base and context with two rules; status 1 if there is one
   write      the bytes, to standard output, with members added and taken. SET is prefer_bare or bare_as_text, CONTEXT
              is ordinary or keycap, CODE is a code point, such as 2764
-  tips       the memberships whose flip alone alters a formatted text, over all FILES: a line for each, with the number of
-             the texts that it alters and the flip as an option of write. The largest numbers are first; equal ones are
+  tips       the memberships whose flip alone alters a formatted text, over all FILES: a line for each, with the number
+             of texts that it alters, and the flip as an option of write. The largest numbers are first; equal ones are
              by code point, ordinary before keycap, prefer_bare before bare_as_text. With --json a JSON array instead.
              FILES and OPTIONS are as in report: tilghorz-host help folders
 ";

@@ -23,7 +23,7 @@ fn help_and_version_go_to_standard_output() {
         (&["help", "policy"], "usage: tilghorz-host policy "),
         (
             &["help", "folders"],
-            "usage: tilghorz-host format|report|show|repair ",
+            "usage: tilghorz-host format|report|show|repair|policy tips ",
         ),
         (&["help", "help"], "Puts the emoji selectors"),
         (&["help", "version"], "Puts the emoji selectors"),

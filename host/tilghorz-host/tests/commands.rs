@@ -234,7 +234,7 @@ fn tips_are_counted_over_texts() {
     assert_eq!((many.status, many.text()), (0, lines));
     assert_eq!(
         many.err,
-        "3 files: 2 that a flip alters, 1 that none alters\n"
+        "tilghorz-host: 3 files: 2 that a flip alters, 1 that none alters\n"
     );
     let json = folder.run_with(&["policy", "tips", "--json"], "\u{2764}".as_bytes());
     let object = "[{\"code_point\":\"2764\",\"context\":\"ordinary\",\"set\":\"prefer_bare\",\"held\":false,\"texts\":1},\
