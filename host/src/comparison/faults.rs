@@ -165,7 +165,7 @@ pub const FAULTS: [(&str, Fault); 54] = [
     ("takes-after-end", Fault::TakesAfterEnd),
     ("totals-without-held", Fault::TotalsWithoutHeld),
     ("no-totals-after-end", Fault::NoTotalsAfterEnd),
-    ("tip-keycap-as-ordinary", Fault::TipKeycapAsOrdinary),
+    ("tip-keycap", Fault::TipKeycapAsOrdinary),
     ("tip-before-tag", Fault::TipBeforeTag),
     ("tip-order", Fault::TipOrder),
     ("tip-missing", Fault::TipMissing),
