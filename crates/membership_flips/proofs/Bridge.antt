@@ -69,8 +69,7 @@ word-below n at bs e k = ⊎-elim
 set-value : (k : ℕ) (bs : List ℕ) → allBytes bs ≡ true → SetValue (setOf k bs .bits)
 set-value k bs e = record {
   word-count = length-wordsFrom wordCount (k * (wordCount * 8)) bs;
-  words = word-below wordCount
-      (k * (wordCount * 8)) bs e;
+  words = word-below wordCount (k * (wordCount * 8)) bs e;
 }
 
 policy-value : (bs : List ℕ) → allBytes bs ≡ true → PolicyValue (policyOf bs)
@@ -108,31 +107,26 @@ module _ (i : ℕ) where
   unfolding flipIn flipKey
   flip-policy false false p v = record {
     prefer-bare = flip-value (p .«prefer_bare» .chars .bits) (v .prefer-bare);
-    prefer-bare-keycap = v
-        .prefer-bare-keycap;
+    prefer-bare-keycap = v .prefer-bare-keycap;
     bare-as-text = v .bare-as-text;
     bare-as-text-keycap = v .bare-as-text-keycap;
   }
   flip-policy false true p v = record {
     prefer-bare = v .prefer-bare;
-    prefer-bare-keycap = flip-value
-        (p .«prefer_bare» .«keycap_chars» .bits) (v .prefer-bare-keycap);
+    prefer-bare-keycap = flip-value (p .«prefer_bare» .«keycap_chars» .bits) (v .prefer-bare-keycap);
     bare-as-text = v .bare-as-text;
-    bare-as-text-keycap = v
-        .bare-as-text-keycap;
+    bare-as-text-keycap = v .bare-as-text-keycap;
   }
   flip-policy true false p v = record {
     prefer-bare = v .prefer-bare;
     prefer-bare-keycap = v .prefer-bare-keycap;
-    bare-as-text = flip-value
-        (p .«bare_as_text» .chars .bits) (v .bare-as-text);
+    bare-as-text = flip-value (p .«bare_as_text» .chars .bits) (v .bare-as-text);
     bare-as-text-keycap = v .bare-as-text-keycap;
   }
   flip-policy true true p v = record {
     prefer-bare = v .prefer-bare;
     prefer-bare-keycap = v .prefer-bare-keycap;
-    bare-as-text = v
-        .bare-as-text;
+    bare-as-text = v .bare-as-text;
     bare-as-text-keycap = flip-value (p .«bare_as_text» .«keycap_chars» .bits) (v .bare-as-text-keycap);
   }
 

@@ -34,10 +34,10 @@ use unicode::presentation::Presentation;
 const MEMBERSHIPS: usize = 1416;
 
 // How many numbers a row has.
-pub const TIP_NUMBERS: usize = 3;
+const TIP_NUMBERS: usize = 3;
 
 // How many bytes a row has.
-pub const TIP_BYTES: usize = TIP_NUMBERS * WORD_BYTES;
+const TIP_BYTES: usize = TIP_NUMBERS * WORD_BYTES;
 
 // Whether one of two tests passed.
 fn either(a: bool, b: bool) -> bool

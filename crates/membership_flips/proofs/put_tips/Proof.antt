@@ -48,8 +48,7 @@ put-tip-requires c κs =
             arith,
             r,
             length-tip (membershipAt (l .n)),
-            ap
-                (λ (b : Bool). length (cond b (bytesOf (tipNumbers (membershipAt (l .n)))) [])) w,
+            ap (λ (b : Bool). length (cond b (bytesOf (tipNumbers (membershipAt (l .n)))) [])) w,
           ),
     )
 

@@ -21,8 +21,7 @@ slice-write-flags : tie.Need-slice-write-flags
 slice-write-flags c = omega (
   arith,
   c .flag-index .ensures .1,
-  c .before .before .before .before .before .before .before .before .before
-      .pre .1,
+  c .before .before .before .before .before .before .before .before .before .pre .1,
 )
 
 returns-2 : tie.Need-returns-2

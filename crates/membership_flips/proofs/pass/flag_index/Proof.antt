@@ -9,8 +9,7 @@ returns : tie.Need-returns
 unfolding flagIndex
 returns c = (
   omega (arith, c .before .digit-of .ensures .0, c .number-of .ensures .0),
-  omega
-      (arith, c .before .before .pre, c .before .digit-of .ensures .1, c .number-of .ensures .1),
+  omega (arith, c .before .before .pre, c .before .digit-of .ensures .1, c .number-of .ensures .1),
 )
 
 pub flag-index-spec : {M : Type 1} → statement M

@@ -34,8 +34,7 @@ returns-5 c =
     (c .before .before .before .if3 .left)
     (λ _. (
       λ y. c .if5 .left (c .before .byte-at .ensures ∙ y),
-      λ y. true≢false
-          (sym (eq-eqb _ 0x8A (c .before .byte-at .ensures ∙ y)) ∙ not-true _ f),
+      λ y. true≢false (sym (eq-eqb _ 0x8A (c .before .byte-at .ensures ∙ y)) ∙ not-true _ f),
     ))
 
 returns-6 : tie.Need-returns-6
