@@ -9,8 +9,9 @@ use Rattle.policy.proofs.RoundTrips.{six-words-of}
 use Rattle.formatter.specs.Format.{formatted, sameBytes}
 use Rattle.formatter.proofs.Formatting.{same-self, same-true}
 use Rattle.membership_flips.specs.Flips.{Membership, flipped, memberships, tipping, tips}
-use Rattle.membership_flips.specs.Theorems.{EveryTip, FlippedIsPolicy, FlipsOne, TipsByUse}
+use Rattle.membership_flips.specs.Theorems.{EveryTip, FlippedIsPolicy, FlipsOne, TipExamples, TipsByUse}
 use Rattle.membership_flips.proofs.Bridge.{flipped-accepted, flipped-read, tips-by-use}
+use Rattle.membership_flips.proofs.Examples.{tip-examples}
 use Rattle.membership_flips.proofs.Flipping.{flips-one}
 use Rattle.membership_flips.proofs.Order.{every-membership, memberships-ordered, no-other-membership, filtered-passes}
 use Rattle.membership_flips.proofs.Order.{filtered-ordered, passing-filtered}
@@ -49,3 +50,6 @@ every-tip text policy = record {
 pub tips-by-uses : TipsByUse
 unfolding TipsByUse
 tips-by-uses text policy m b e = tips-by-use text policy m b e
+
+pub examples : TipExamples
+examples = tip-examples

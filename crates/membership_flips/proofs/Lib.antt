@@ -6,4 +6,5 @@ pub mod Bridge
 pub mod Flagging
 pub mod Skipping
 pub mod Listing
+pub mod Examples
 pub mod Claims

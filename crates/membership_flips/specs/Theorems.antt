@@ -1,16 +1,17 @@
 -- What is claimed of the flips that tip a text. Each statement is proved in proofs/Claims.antt.
 use mathlib.Core.Path.{_≡_}
-use mathlib.Core.Bool.{true, false}
-use mathlib.Core.List.{List, [], _∷_, List·Memᴰ}
+use mathlib.Core.Bool.{Bool, true, false}
+use mathlib.Core.List.{List, [], _∷_, List·Memᴰ, map}
 use Prim.Native.Nat.{ℕ, _<_}
 use Rattle.base.specs.Words.{allBytes}
-use Rattle.utf8.specs.Rfc3629.{chars}
+use Rattle.utf8.specs.Rfc3629.{chars, encodeAll}
 use Rattle.policy_key_set.specs.Sets.{differ, entryCount}
 use Rattle.policy.specs.Policy.{holdsEntry}
 use Rattle.policy.specs.PolicyBytes.{isPolicy, policyOf}
 use Rattle.analysis.specs.Cells.{cells}
 use Rattle.formatter.specs.Format.{formatted}
-use Rattle.membership_flips.specs.Flips.{Membership, codePoint, flip, flipped, holds, same, tipping, tips}
+use Rattle.formatter.specs.Worked.{theDefault}
+use Rattle.membership_flips.specs.Flips.{Membership, andFour, codePoint, flip, flipped, holds, same, tipping, tips}
 use Rattle.membership_flips.specs.Uses.{matters, occurs}
 
 -- ---- a flip
@@ -64,3 +65,21 @@ TipsByUse =
     ≡ matters (m .asText) (holdsEntry (policyOf policy .«prefer_bare») (m .entry) (m .keycap))
     (holdsEntry (policyOf policy .«bare_as_text») (m .entry) (m .keycap))
     (occurs (codePoint m) (m .keycap) (cells (chars text)))
+
+-- ---- examples
+
+-- Whether the flips of the four memberships of an entry tip a text of these characters under the default policy: ordinary `prefer_bare`,
+-- ordinary `bare_as_text`, keycap `prefer_bare`, keycap `bare_as_text`.
+abbrev pub fourTips : List ℕ → ℕ → List Bool
+fourTips t i = map (tips (encodeAll t) theDefault) (andFour i [])
+
+-- The entries 3 and 150 are the digit 1 and the heart 2764. A bare digit is kept as text. A keycap or a heart without a selector gets FE0E.
+-- Before a tag the policy is not asked. A flip of another entry alters nothing.
+unfoldable pub TipExamples : Type 0
+TipExamples =
+    (fourTips (0x31 ∷ []) 3 ≡ true ∷ false ∷ false ∷ false ∷ [])
+    × (fourTips (0x31 ∷ 0xFE0E ∷ []) 3 ≡ true ∷ true ∷ false ∷ false ∷ [])
+    × (fourTips (0x31 ∷ 0x20E3 ∷ []) 3 ≡ false ∷ false ∷ true ∷ true ∷ [])
+    × (fourTips (0x2764 ∷ []) 150 ≡ true ∷ true ∷ false ∷ false ∷ [])
+    × (fourTips (0x2764 ∷ 0xE0061 ∷ []) 150 ≡ false ∷ false ∷ false ∷ false ∷ [])
+    × (fourTips (0x2764 ∷ []) 3 ≡ false ∷ false ∷ false ∷ false ∷ [])
