@@ -68,6 +68,7 @@ extern "C" {
 #define TILGHORZ_ENTRIES 354         /* variation entries, those of Unicode 15.0 */
 #define TILGHORZ_FINDING_BYTES 112   /* the length of a row of tilghorz_list */
 #define TILGHORZ_ITEM_BYTES 64       /* the length of a row of tilghorz_scan */
+#define TILGHORZ_TIP_BYTES 24        /* the length of a row of tilghorz_tips */
 #define TILGHORZ_FEED_BYTES 312      /* the length of a feed */
 #define TILGHORZ_TOTALS_BYTES 64     /* the length of the totals of tilghorz_feed_totals */
 #define TILGHORZ_SHEET_ROOM 9916     /* no sheet of tilghorz_write_sheet is longer */
@@ -153,6 +154,11 @@ uint64_t tilghorz_read_sheet(const uint8_t *sheet, size_t sheet_len, uint8_t *ou
 /* Writes the sheet of a policy: the code points of a line ascend, each has the fewest digits allowed, and neighbouring entries of the
  * variation table are one range. Numbers: 2, 8. Value: the number of bytes written, at most 9916. Reading the sheet gives the policy. */
 uint64_t tilghorz_write_sheet(const uint8_t *policy, size_t policy_len, uint8_t *out, size_t out_len);
+/* Lists the memberships of a policy whose flip alone alters the formatted text: an entry that is added to one of the four sets, or taken
+ * out of it, while all other memberships stay. Numbers: 1, 2, 3, 7. Value: the number of rows written, at most 1,416. A row is three
+ * numbers of 8 bytes, lowest byte first: the code point of the entry; 0 for ordinary, 1 for keycap; 0 for prefer_bare, 1 for
+ * bare_as_text. The rows are in the order of these numbers. The table has room for as many rows as fit into it whole. */
+uint64_t tilghorz_tips(const uint8_t *text, size_t text_len, const uint8_t *policy, size_t policy_len, uint8_t *table, size_t table_len);
 
 /* Writes the default policy. Number: 8. Value: the number of bytes written. */
 uint64_t tilghorz_default_policy(uint8_t *out, size_t out_len);

@@ -29,6 +29,7 @@ CLAIMED_RECORDS = {
     "RepairCall": "EveryRepairCall",
     "AfterRepair": "EveryAfterRepair",
     "FeedInBytes": "EveryFeedInBytes",
+    "TipsClaim": "EveryTip",
     "NextPiece": "FeedInBytes",
     "NextEnd": "FeedInBytes",
     "ReadCall": "EveryReadCall",

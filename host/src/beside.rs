@@ -62,6 +62,33 @@ pub fn formatted(text: &str, policy: &Policy) -> Option<Vec<u8>> {
     }
 }
 
+/// The memberships whose flip alters the text, as a table of three numbers each. The text is formatted for each of them.
+#[must_use]
+pub fn tips(text: &str, policy: &Policy) -> Vec<u8> {
+    let before = formatted(text, policy);
+    let (prefer_bare, bare_as_text) = policy_sets(policy.clone());
+    let mut table = Vec::new();
+    for &base in VARIATION_ENTRIES {
+        let singles = [
+            PolicyKeySet::singleton(base),
+            PolicyKeySet::singleton_keycap(base),
+        ];
+        for (keycap, single) in singles.into_iter().enumerate() {
+            let flips = [
+                policy.clone().with_prefer_bare(prefer_bare ^ single),
+                policy.clone().with_bare_as_text(bare_as_text ^ single),
+            ];
+            for (set, flipped) in flips.iter().enumerate() {
+                if formatted(text, flipped) != before {
+                    let row = [u64::from(u32::from(base)), keycap as u64, set as u64];
+                    table.extend(row.into_iter().flat_map(u64::to_le_bytes));
+                }
+            }
+        }
+    }
+    table
+}
+
 /// The bytes of a finding as the crate has it: ten numbers, without positions in characters and UTF-16 units.
 pub const FINDING_BYTES: usize = 80;
 

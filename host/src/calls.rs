@@ -5,7 +5,7 @@
 use std::fmt::{self, Display, Formatter};
 
 use crate::reference::calls::{self, Draft};
-use crate::reference::{characters, kept, policy, sheet};
+use crate::reference::{characters, kept, policy, sheet, tips};
 
 /// The bytes of a policy.
 pub const POLICY_BYTES: usize = 192;
@@ -15,6 +15,8 @@ pub const FINDING_BYTES: usize = 112;
 pub const ITEM_BYTES: usize = 64;
 /// No sheet that is written has more bytes.
 pub const SHEET_ROOM: usize = 9916;
+/// The bytes of a membership in a table.
+pub const TIP_BYTES: usize = 24;
 
 /// The functions of `include/tilghorz.h`, each with its slices.
 pub trait Calls {
@@ -47,6 +49,8 @@ pub trait Calls {
     fn read_sheet(&self, sheet: &[u8], out: &mut [u8]) -> u64;
     /// `tilghorz_write_sheet`.
     fn write_sheet(&self, policy: &[u8], out: &mut [u8]) -> u64;
+    /// `tilghorz_tips`.
+    fn tips(&self, text: &[u8], policy: &[u8], table: &mut [u8]) -> u64;
     /// `tilghorz_default_policy`.
     fn default_policy(&self, out: &mut [u8]) -> u64;
     /// `tilghorz_variation_entry`.
@@ -157,6 +161,10 @@ impl Calls for Reference {
 
     fn write_sheet(&self, policy: &[u8], out: &mut [u8]) -> u64 {
         write(&sheet::write(policy), out)
+    }
+
+    fn tips(&self, text: &[u8], policy: &[u8], table: &mut [u8]) -> u64 {
+        write(&tips::list(text, policy), table)
     }
 
     fn default_policy(&self, out: &mut [u8]) -> u64 {

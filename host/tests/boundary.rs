@@ -40,6 +40,7 @@ fn faults_are_reported_with_a_reduced_text() {
         (Fault::LosesCutEnd, "sizes"),
         (Fault::WholeUnwritten, "sizes"),
         (Fault::WantsThreeTimes, "sizes"),
+        (Fault::TipOrder, "sizes"),
         (Fault::RoomByNeed, "feeds"),
         (Fault::RefusedFeedChanges, "feeds"),
         (Fault::RefusedPieceWrites, "feeds"),
@@ -105,6 +106,10 @@ impl Calls for WholeWords {
 
     fn write_sheet(&self, policy: &[u8], out: &mut [u8]) -> u64 {
         Reference.write_sheet(policy, out)
+    }
+
+    fn tips(&self, text: &[u8], policy: &[u8], table: &mut [u8]) -> u64 {
+        Reference.tips(text, policy, table)
     }
 
     fn default_policy(&self, out: &mut [u8]) -> u64 {

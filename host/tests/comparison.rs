@@ -56,6 +56,7 @@ fn the_reference_has_no_difference_from_itself() {
         "lists",
         "feeds",
         "sheets",
+        "tips",
     ];
     for kind in kinds {
         assert!(text.lines().any(|line| line.starts_with(kind)), "{text}");

@@ -4,7 +4,7 @@
 use std::fs;
 use std::path::Path;
 
-use tilghorz_comparison::calls::{FINDING_BYTES, ITEM_BYTES, POLICY_BYTES, SHEET_ROOM};
+use tilghorz_comparison::calls::{FINDING_BYTES, ITEM_BYTES, POLICY_BYTES, SHEET_ROOM, TIP_BYTES};
 use tilghorz_comparison::reference::feed::TOTALS_BYTES;
 
 /// A function: its name, its parameters with name and kind, and the kind of its answer.
@@ -145,7 +145,7 @@ fn trait_functions() -> Vec<Function> {
 }
 
 #[test]
-fn the_header_declares_thirteen_functions() {
+fn the_header_declares_fourteen_functions() {
     let functions = header_functions();
     let names: Vec<&str> = functions.iter().map(|of| of.name.as_str()).collect();
     let expected = [
@@ -160,12 +160,13 @@ fn the_header_declares_thirteen_functions() {
         "tilghorz_feed_totals",
         "tilghorz_read_sheet",
         "tilghorz_write_sheet",
+        "tilghorz_tips",
         "tilghorz_default_policy",
         "tilghorz_variation_entry",
     ];
     assert_eq!(names, expected);
     let numbers: Vec<usize> = functions.iter().map(|of| of.parameters.len()).collect();
-    assert_eq!(numbers, [6, 6, 9, 4, 4, 4, 6, 4, 4, 4, 4, 2, 1]);
+    assert_eq!(numbers, [6, 6, 9, 4, 4, 4, 6, 4, 4, 4, 4, 6, 2, 1]);
 }
 
 #[test]
@@ -198,6 +199,7 @@ fn the_sizes_agree_with_the_header() {
         ("POLICY_BYTES", POLICY_BYTES),
         ("FINDING_BYTES", FINDING_BYTES),
         ("ITEM_BYTES", ITEM_BYTES),
+        ("TIP_BYTES", TIP_BYTES),
         ("FEED_BYTES", feed_bytes()),
         ("TOTALS_BYTES", TOTALS_BYTES),
         ("SHEET_ROOM", SHEET_ROOM),

@@ -6,11 +6,12 @@ use tilghorz_comparison::Random;
 use tilghorz_comparison::calls::{Answer, Calls, POLICY_BYTES, Reference};
 use tilghorz_comparison::comparison::policies::{self, Policy};
 use tilghorz_comparison::comparison::texts::{Alphabet, every_text};
-use tilghorz_comparison::comparison::{list_case, text_case};
+use tilghorz_comparison::comparison::{list_case, text_case, tip_case};
 use tilghorz_comparison::reference::book::Book;
 use tilghorz_comparison::reference::calls::{Draft, filed, format, list, mend, scan};
 use tilghorz_comparison::reference::policy::default_policy;
-use tilghorz_comparison::reference::{characters, policy, programs, repair, utf8};
+use tilghorz_comparison::reference::tips::Membership;
+use tilghorz_comparison::reference::{characters, policy, programs, repair, tips, utf8};
 
 /// The numbers of a table.
 fn numbers(draft: &Draft) -> Vec<u64> {
@@ -313,6 +314,49 @@ fn formatting_again_changes_nothing() {
         }
     }
     assert!(changed > 1_000);
+}
+
+#[test]
+fn a_flip_is_listed_where_it_alters_the_text() {
+    let row = |code_point, keycap, as_text| [code_point, keycap, as_text];
+    for (text, expected) in [
+        ("", vec![]),
+        ("a", vec![]),
+        // Under the default policy 31 is bare as text: only a flip of `prefer_bare` alters it.
+        ("1", vec![row(0x31, 0, 0)]),
+        ("1\u{FE0E}", vec![row(0x31, 0, 0), row(0x31, 0, 1)]),
+        // FE0F stays in both cases, unless bare means emoji.
+        ("1\u{FE0F}", vec![row(0x31, 0, 1)]),
+        ("1\u{20E3}", vec![row(0x31, 1, 0), row(0x31, 1, 1)]),
+        ("\u{2764}", vec![row(0x2764, 0, 0), row(0x2764, 0, 1)]),
+        ("\u{2764}\u{1F3FB}", vec![]),
+        ("\u{2764}\u{E0061}", vec![]),
+        (
+            "\u{2764}1\u{20E3}1",
+            vec![
+                row(0x31, 0, 0),
+                row(0x31, 1, 0),
+                row(0x31, 1, 1),
+                row(0x2764, 0, 0),
+                row(0x2764, 0, 1),
+            ],
+        ),
+    ] {
+        let listed = numbers(&tips::list(text.as_bytes(), default_policy()));
+        assert_eq!(listed, expected.concat(), "{text:?}");
+    }
+}
+
+#[test]
+fn the_flips_are_those_of_the_crate_by_all_memberships() {
+    let mut random = Random::new();
+    let alphabet = Alphabet::new();
+    for _ in 0..20 {
+        let text = alphabet.drawn(&mut random);
+        let policy = policies::drawn(&mut random);
+        assert_eq!(tip_case::check(&Reference, &text, &policy, true), Ok(()));
+    }
+    assert_eq!(Membership::all().count(), 1416);
 }
 
 #[test]

@@ -14,6 +14,7 @@ use Rattle.repair.proofs.Outcomes.{the-call}
 use Rattle.tilghorz.specs.Theorems.{WordsDetermineAnswers, WordsHaveBothValues}
 use Rattle.tilghorz.proofs.SmallFeeds.{begun-small, called-small, totals-small}
 use Rattle.tilghorz.proofs.SmallAnswers.{default-small, entry-small, format-small, items-small, list-small, mend-small}
+use Rattle.tilghorz.proofs.SmallTips.{tips-small}
 use Rattle.base.proofs.Rows.{list-rows, write-rows}
 use Rattle.tilghorz.proofs.AnswerWords.{
   both-values,
@@ -44,6 +45,7 @@ words-determine-answers = (
   words-determine writeRow _ (λ c. omega (arith, totals-small (c .0) (c .1))) (λ i j. write-rows _ _),
   words-determine sheetRow _ (λ c. omega (arith, every-read-call (c .0) (c .1) .small)) (λ i j. sheet-rows _ _),
   words-determine sheetRow _ (λ c. omega (arith, every-write-call (c .0) (c .1) .small)) (λ i j. sheet-rows _ _),
+  words-determine listRow _ (λ c. omega (arith, tips-small (c .0) (c .1) (c .2))) (λ i j. list-rows _ _),
 )
 
 pub words-have-both-values : WordsHaveBothValues

@@ -63,7 +63,7 @@ abbrev pub most : ℕ
 most = 6 * textLimit
 
 -- If the value of the refusal is at most the bound, and that of the answer without a refusal too, so is the value of the answer.
-tested : {R A : Type 0} (row : R → RefusalRow) (refused : Refusal → R) → ((r : Refusal) → row (refused r) ≡ refusalRow r)
+pub tested : {R A : Type 0} (row : R → RefusalRow) (refused : Refusal → R) → ((r : Refusal) → row (refused r) ≡ refusalRow r)
     → (o : Option Refusal) (out : List A) (next : After R A) → ((r : Refusal) → o ≡ some r → refusalRow r .value ≤ most)
     → (o ≡ none → row (next .answer) .value ≤ most)
     → row (orElse o (λ (r : Refusal). unwritten (refused r) out) next .answer) .value ≤ most
@@ -89,7 +89,7 @@ tests-short : (text : List ℕ) (a f : Bool) → leb (length text) textLimit ≡
 tests-short text true f p e = leb-true (length text) textLimit p
 tests-short text false f p e = let z : _≡_ {A = ℕ} 0 1 = cc in absurd (omega arith)
 
-intake-small : (text policy : List ℕ) (r : Refusal) → intakeRefusal text policy ≡ some r → refusalRow r .value ≤ most
+pub intake-small : (text policy : List ℕ) (r : Refusal) → intakeRefusal text policy ≡ some r → refusalRow r .value ≤ most
 intake-small text policy r e =
     tests-small (policyFault policy) (omega (arith, fault-value policy)) text (leb (length text) textLimit) (isPolicy policy)
     (eqb (validUpTo text) (length text)) refl r (sym (intake-is text policy refl refl refl) ∙ e)

@@ -17,6 +17,7 @@ use Rattle.formatter.specs.Format.{formatRow}
 use Rattle.feed.specs.Bytes.{begun, called, eightWords, feedRow, totalsOf}
 use Rattle.feed.specs.Calls as Feed
 use Rattle.policy_sheet.specs.Calls.{readCall, sheetRow, writeCall}
+use Rattle.membership_flips.specs.Flips.{listTips}
 use Rattle.repair.specs.Repair.{repair, repairRow}
 use Rattle.repair.specs.declared.RepairAnswer.the-variants.{Repaired}
 use Rattle.tilghorz.specs.AnswerWord.{word}
@@ -30,7 +31,8 @@ pub record WordsDetermine {I A : Type 0} (row : A → RefusalRow) (answer : I �
   pub value : (i : I) → word (row (answer i)) % 2 ^ 56 ≡ row (answer i) .value
 
 -- The words of each C function determine its answers. In order: formatting, listing findings, mending, listing items, the default policy,
--- a variation entry, repairing, beginning a feed, a piece or an end of a feed, the totals of a feed, reading a sheet, writing a sheet.
+-- a variation entry, repairing, beginning a feed, a piece or an end of a feed, the totals of a feed, reading a sheet, writing a sheet,
+-- listing the flips that tip a text.
 unfoldable pub WordsDetermineAnswers : Type 0
 WordsDetermineAnswers =
     WordsDetermine formatRow (λ (c : List ℕ × List ℕ × List ℕ). format (c .0) (c .1) (c .2) .answer)
@@ -45,6 +47,7 @@ WordsDetermineAnswers =
     × WordsDetermine writeRow (λ (c : List ℕ × List ℕ). answerOf (bytesOf (eightWords (totalsOf (c .0)))) (c .1))
     × WordsDetermine sheetRow (λ (c : List ℕ × List ℕ). readCall (c .0) (c .1) .answer)
     × WordsDetermine sheetRow (λ (c : List ℕ × List ℕ). writeCall (c .0) (c .1) .answer)
+    × WordsDetermine listRow (λ (c : List ℕ × List ℕ × List ℕ). listTips (c .0) (c .1) (c .2) .answer)
 
 -- The word of a repaired text has both values: its low 28 bits are the length of the repaired text, and the 28 bits above them are the
 -- number of replacements.

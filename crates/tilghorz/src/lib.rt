@@ -19,6 +19,7 @@ ghost use Rattle.repair.specs.Repair.{repair, repairRow};
 ghost use Rattle.feed.specs.Bytes.{begun, called, eightWords, feedRow, totalsOf};
 ghost use Rattle.feed.specs.Calls as Calls;
 ghost use Rattle.policy_sheet.specs.Calls.{readCall, sheetRow, writeCall};
+ghost use Rattle.membership_flips.specs.Flips.{listTips};
 ghost use Rattle.tilghorz.specs.AnswerWord.{word};
 ghost use Rattle.unicode.specs.Rows.{entryRow};
 use answer_word::entry_word;
@@ -144,6 +145,16 @@ pub extern "C" fn tilghorz_write_sheet(policy: &[u8], out: &mut [u8]) -> u64
     ensures bytes { λ _. ⌜ now (out .exit) ≡ writeCall (now (policy .entry)) (now (out .entry)) .buffer ⌝ }
 {
     sheet_word(sheet_writing::write_sheet(policy, out))
+}
+
+// Lists the memberships of a policy whose flip alone alters the formatted text. A row is three numbers of 8 bytes each: the code point; 0
+// for ordinary, 1 for keycap; 0 for `prefer_bare`, 1 for `bare_as_text`. It may answer refusals 1, 2, 3 and 7.
+#[no_mangle]
+pub extern "C" fn tilghorz_tips(text: &[u8], policy: &[u8], table: &mut [u8]) -> u64
+    ensures word { λ r. ⌜ r ≡ word (listRow (listTips (now (text .entry)) (now (policy .entry)) (now (table .entry)) .answer)) ⌝ }
+    ensures bytes { λ _. ⌜ now (table .exit) ≡ listTips (now (text .entry)) (now (policy .entry)) (now (table .entry)) .buffer ⌝ }
+{
+    list_word(membership_flips::list_tips(text, policy, table))
 }
 
 // Writes the bytes of the default policy. It may answer refusal 8.

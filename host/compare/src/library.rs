@@ -59,6 +59,10 @@ impl Calls for Library {
         sys::write_sheet(policy, out)
     }
 
+    fn tips(&self, text: &[u8], policy: &[u8], table: &mut [u8]) -> u64 {
+        sys::tips(text, policy, table)
+    }
+
     fn default_policy(&self, out: &mut [u8]) -> u64 {
         sys::default_policy(out)
     }

@@ -7,6 +7,7 @@ use crate::Random;
 use crate::calls::Calls;
 use crate::comparison::lent::{Difference, hexadecimal, lend_between, same};
 use crate::reference::calls::{self, Draft};
+use crate::reference::tips;
 
 /// The call that is made.
 #[derive(Debug, Clone, Copy, PartialEq, Eq)]
@@ -21,6 +22,8 @@ pub enum Call {
     Scan,
     /// `tilghorz_repair`.
     Repair,
+    /// `tilghorz_tips`.
+    Tips,
 }
 
 /// The inputs of a call. One that the call does not take stands there all the same, and must stay as it is.
@@ -102,6 +105,7 @@ impl Case {
             Call::Mend(offset) => calls::mend(text, policy, offset, decisions),
             Call::Scan => calls::scan(text),
             Call::Repair => calls::repair(text),
+            Call::Tips => tips::list(text, policy),
         }
     }
 
@@ -129,6 +133,7 @@ impl Case {
             Call::Mend(offset) => calls.mend(text, policy, offset, decisions, out),
             Call::Scan => calls.scan(text, out),
             Call::Repair => calls.repair(text, out),
+            Call::Tips => calls.tips(text, policy, out),
         })?;
         let are_as_made = placed
             .iter()

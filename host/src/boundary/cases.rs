@@ -6,7 +6,7 @@ use std::collections::BTreeSet;
 use super::case::{Call, Case, Inputs, Layout};
 use super::placed::Spot;
 use crate::Random;
-use crate::calls::{Calls, FINDING_BYTES, ITEM_BYTES, POLICY_BYTES};
+use crate::calls::{Calls, FINDING_BYTES, ITEM_BYTES, POLICY_BYTES, TIP_BYTES};
 use crate::comparison::lent::{Difference, lend_between};
 use crate::comparison::limits::{lengths, sparse};
 use crate::comparison::policies::{self, Policy};
@@ -23,6 +23,15 @@ const SIZES: [usize; 4] = [128, POLICY_BYTES, 256, 1024];
 const POLICIES: usize = 260;
 /// The numbers of decisions up to which each is tried.
 const DECISIONS: usize = 20;
+
+/// The calls on a text alone or with a policy.
+const CALLS: [Call; 5] = [
+    Call::Format,
+    Call::List,
+    Call::Scan,
+    Call::Repair,
+    Call::Tips,
+];
 
 /// Makes calls and counts them.
 pub struct Boundary<'a> {
@@ -158,7 +167,7 @@ impl<'a> Boundary<'a> {
     /// that are exactly full or one byte short. Each slice fills its allocation.
     pub fn limits(&mut self) -> Result<(), Difference> {
         for length in lengths() {
-            for call in [Call::Format, Call::List, Call::Scan, Call::Repair] {
+            for call in CALLS {
                 let inputs = Inputs::new(&sparse(length), &default_policy(), &[]);
                 let case = Case { call, inputs };
                 let draft = case.draft();
@@ -174,7 +183,7 @@ impl<'a> Boundary<'a> {
 
     /// Every call on a text under a policy; mending at the front, at the end, and at the last finding.
     fn all_calls(&mut self, text: &[u8], policy: &[u8]) -> Result<(), Difference> {
-        for call in [Call::Format, Call::List, Call::Scan, Call::Repair] {
+        for call in CALLS {
             self.try_call(call, text, policy, &[])?;
         }
         let book = Book::new(text, policy);
@@ -247,6 +256,7 @@ fn rooms(draft: &Draft, case: &Case) -> BTreeSet<usize> {
         Call::Format | Call::Mend(_) | Call::Repair => 8,
         Call::List => FINDING_BYTES,
         Call::Scan => ITEM_BYTES,
+        Call::Tips => TIP_BYTES,
     };
     let wanted = draft.wanted();
     let mut rooms = BTreeSet::from([0, 1, row]);

@@ -153,10 +153,18 @@ pub enum Fault {
     SheetLength,
     /// The sheet of a policy with an unused bit is written.
     SheetOfUnusedBit,
+    /// A base before 20E3 counts for the ordinary memberships.
+    TipKeycapAsOrdinary,
+    /// A base before a tag counts for its memberships.
+    TipBeforeTag,
+    /// The first two memberships of the list are exchanged.
+    TipOrder,
+    /// The last membership of the list is not told.
+    TipMissing,
 }
 
 /// The faults with their names.
-pub const FAULTS: [(&str, Fault); 75] = [
+pub const FAULTS: [(&str, Fault); 79] = [
     ("keycap-rule", Fault::KeycapRule),
     ("finding-span", Fault::FindingSpan),
     ("item-span", Fault::ItemSpan),
@@ -232,4 +240,8 @@ pub const FAULTS: [(&str, Fault); 75] = [
     ("four-digits", Fault::FourDigits),
     ("sheet-length", Fault::SheetLength),
     ("sheet-of-unused-bit", Fault::SheetOfUnusedBit),
+    ("tip-keycap", Fault::TipKeycapAsOrdinary),
+    ("tip-before-tag", Fault::TipBeforeTag),
+    ("tip-order", Fault::TipOrder),
+    ("tip-missing", Fault::TipMissing),
 ];

@@ -6,7 +6,7 @@ use std::iter::repeat_n;
 use super::faults::Fault;
 use super::faulty_feed::FaultyFeed;
 use super::faulty_sheet::FaultySheet;
-use crate::calls::{Answer, Calls, FINDING_BYTES, ITEM_BYTES};
+use crate::calls::{Answer, Calls, FINDING_BYTES, ITEM_BYTES, TIP_BYTES};
 use crate::reference::calls::LONGEST_TEXT;
 use crate::reference::characters::LAST_TAG;
 use crate::reference::items::{Item, Role, items};
@@ -188,6 +188,14 @@ fn with_other_places(text: &[u8], fault: Fault) -> Vec<u8> {
     out
 }
 
+/// The text with other characters for some, if it is well-formed.
+fn exchanged(text: &[u8], is_taken: impl Fn(char) -> bool, by: &str) -> Vec<u8> {
+    match str::from_utf8(text) {
+        Ok(text) => text.replace(is_taken, by).into_bytes(),
+        Err(_) => text.to_vec(),
+    }
+}
+
 /// Changes a byte, if it is there.
 pub fn flip(bytes: &mut [u8], place: usize) {
     if let Some(byte) = bytes.get_mut(place) {
@@ -307,6 +315,36 @@ impl Calls for Faulty<'_> {
         let (length, number) = (answer.value & 0xFFF_FFFF, answer.value >> 28);
         self.spoil_after(Answer::new(Answer::DONE, length), 1, out);
         self.repair_answer(length, number).word()
+    }
+
+    fn tips(&self, text: &[u8], policy: &[u8], table: &mut [u8]) -> u64 {
+        let word = self.around(text, policy, table, |text, policy, table| {
+            match self.fault {
+                Fault::TipKeycapAsOrdinary => {
+                    let text = exchanged(text, |character| character == '\u{20E3}', "\u{4E2D}");
+                    self.calls.tips(&text, policy, table)
+                }
+                Fault::TipBeforeTag => {
+                    let is_tag = |character| ('\u{E0020}'..='\u{E007F}').contains(&character);
+                    let text = exchanged(text, is_tag, "\u{20000}");
+                    self.calls.tips(&text, policy, table)
+                }
+                _ => self.calls.tips(text, policy, table),
+            }
+        });
+        let mut answer = Answer::of_word(word);
+        self.spoil_after(answer, TIP_BYTES, table);
+        match self.fault {
+            Fault::TipOrder if answer.number == Answer::DONE && answer.value > 1 => {
+                let (first, second) = table[..2 * TIP_BYTES].split_at_mut(TIP_BYTES);
+                first.swap_with_slice(second);
+            }
+            Fault::TipMissing if answer.number == Answer::DONE && answer.value > 0 => {
+                answer.value -= 1;
+            }
+            _ => {}
+        }
+        answer.word()
     }
 
     fn feed_begin(&self, policy: &[u8], feed: &mut [u8]) -> u64 {

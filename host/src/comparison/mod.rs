@@ -7,6 +7,7 @@
 //! | [`tables`] | compares the default policy and the variation entries |
 //! | [`text_case`] | compares all that the calls do to one text under one policy |
 //! | [`list_case`] | compares a list of mending calls with its book |
+//! | [`tip_case`] | compares the memberships that decide one text under one policy |
 //! | [`repair_case`] | compares what taking in does to one damaged text |
 //! | [`feed_case`] | compares a list of calls on a feed |
 //! | [`feed_lists`] | makes such lists: threads cut in every way and at random, with refused calls between |
@@ -45,3 +46,4 @@ pub mod sheets;
 pub mod tables;
 pub mod text_case;
 pub mod texts;
+pub mod tip_case;

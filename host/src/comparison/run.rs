@@ -7,7 +7,7 @@ use super::policies::{self, Policy};
 use super::reduce::{reduced, reduced_text};
 use super::report::{report, text_report};
 use super::texts::{Alphabet, every_text};
-use super::{limits, list_case, published, repair_case, tables, text_case};
+use super::{limits, list_case, published, repair_case, tables, text_case, tip_case};
 use crate::Random;
 use crate::calls::Calls;
 use crate::reference::book::LONGEST_FIRST_TEXT;
@@ -53,6 +53,13 @@ impl Default for Options {
 
 /// In one drawn case of this number a thread is fed too.
 const FEED_IN: u64 = 4;
+
+/// In one drawn case of this number the memberships that decide a text are compared with the crate too.
+const TIPS_BY_CRATE_IN: u64 = 32;
+/// The length in characters up to which the memberships are compared for every text, and up to which with the crate.
+const TIP_LENGTHS: [usize; 2] = [3, 1];
+/// The number of policies under which they are.
+const TIP_POLICIES: usize = 3;
 
 /// Why a run ended early: a difference, told in lines; cases that were asked for and of which none was tried; or a line
 /// that could not be printed.
@@ -125,6 +132,7 @@ impl<'a> Run<'a> {
         }
         self.every_damaged_text()?;
         self.every_feed()?;
+        self.every_tip()?;
         self.drawn()?;
         if self.options.limits {
             self.limits()?;
@@ -191,6 +199,44 @@ impl<'a> Run<'a> {
         let difference = check(&small).unwrap_or(difference);
         let head = text_report(kind, (&small, text.len()));
         Err(Stop::Difference(format!("{head}{difference}")))
+    }
+
+    /// Compares the memberships that decide a text. A text that shows a difference is reduced to a short one.
+    fn tips(
+        &self,
+        kind: &str,
+        text: &[u8],
+        policy: &Policy,
+        by_the_crate: bool,
+    ) -> Result<(), Stop> {
+        let check = |text: &[u8]| tip_case::check(self.calls, text, policy, by_the_crate).err();
+        let Some(difference) = check(text) else {
+            return Ok(());
+        };
+        let small = reduced_text(text, |text| check(text).is_some());
+        let difference = check(&small).unwrap_or(difference);
+        let report = report(kind, (&small, text.len()), policy, &[], &difference);
+        Err(Stop::Difference(report))
+    }
+
+    /// The memberships that decide every short text over one character of each kind.
+    fn every_tip(&mut self) -> Result<(), Stop> {
+        let characters = self.alphabet.one_of_each();
+        let [longest, longest_by_crate] = TIP_LENGTHS;
+        let longest = longest.min(self.options.length);
+        let mut cases = 0;
+        for length in 0..=longest {
+            every_text(&characters, length, |text| {
+                for policy in &self.policies[..TIP_POLICIES] {
+                    let by_the_crate = length <= longest_by_crate;
+                    self.tips("tips", text.as_bytes(), policy, by_the_crate)?;
+                    cases += 1;
+                }
+                Ok::<(), Stop>(())
+            })?;
+        }
+        let what = format!("texts of up to {longest} characters and policies, memberships");
+        self.told("tips", cases, &what)
     }
 
     /// Every text of up to three bytes at the edges of the ranges of Table 3-7, and every text of four bytes over fewer
@@ -297,6 +343,7 @@ impl<'a> Run<'a> {
             self.damaged_text(&mut random)?;
             self.repaired_text(&mut random)?;
             calls += self.drawn_list(&mut random)?;
+            self.drawn_tips(&mut random, cases % TIPS_BY_CRATE_IN == 0)?;
             // A thread has many calls, each with the thread so far formatted anew.
             if cases % FEED_IN == 0 {
                 feed_calls += self.drawn_feed(&mut random)?;
@@ -312,6 +359,9 @@ impl<'a> Run<'a> {
         self.told("random", cases, &format!("texts{stopped}"))?;
         self.told("damaged", cases, "texts or policies")?;
         self.told("repaired", cases, "texts, and the calls after it")?;
+        let what =
+            format!("drawn texts or policies, memberships; one in {TIPS_BY_CRATE_IN} by the crate");
+        self.told("tips", cases, &what)?;
         let what = format!("lists of mending calls, {calls} calls");
         self.told("lists", cases, &what)?;
         let what = "drawn sheets, damaged ones, and policies each";
@@ -356,6 +406,20 @@ impl<'a> Run<'a> {
         self.text("repaired", &text, &policy)
     }
 
+    /// The memberships that decide a drawn text. Of a text that is compared with the crate, text and policy are accepted.
+    fn drawn_tips(&self, random: &mut Random, by_the_crate: bool) -> Result<(), Stop> {
+        let is_damaged = !by_the_crate && random.below(8) == 0;
+        let text = match is_damaged {
+            true => self.alphabet.damaged(random),
+            false => self.alphabet.drawn(random),
+        };
+        let policy = match is_damaged && random.coin() {
+            true => policies::refused(random),
+            false => self.drawn_policy(random),
+        };
+        self.tips("tips", &text, &policy, by_the_crate)
+    }
+
     /// A list of mending calls, and how many they are.
     fn drawn_list(&self, random: &mut Random) -> Result<u64, Stop> {
         let text = self.alphabet.drawn(random);
@@ -380,6 +444,11 @@ impl<'a> Run<'a> {
                 self.repair("limits", &text)?;
                 texts += 1;
             }
+        }
+        for length in [LONGEST_TEXT + 1, LONGEST_TEXT] {
+            let policy = Policy::default_policy();
+            self.tips("limits", &limits::sparse(length), &policy, false)?;
+            texts += 1;
         }
         texts += self.feeds_around_limit()?;
         texts += self.sheets_around_limit()?;

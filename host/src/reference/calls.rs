@@ -57,7 +57,8 @@ impl Draft {
     }
 
     /// A call that writes a table with places of this many bytes.
-    const fn table(bytes: Vec<u8>, place: usize) -> Self {
+    #[must_use]
+    pub const fn table(bytes: Vec<u8>, place: usize) -> Self {
         Self::Writes {
             bytes,
             place,
@@ -238,7 +239,7 @@ pub fn push_finding(
 }
 
 /// Adds numbers to a table.
-fn push_numbers(table: &mut Vec<u8>, numbers: &[u64]) {
+pub fn push_numbers(table: &mut Vec<u8>, numbers: &[u64]) {
     for number in numbers {
         table.extend(number.to_le_bytes());
     }

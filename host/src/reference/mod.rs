@@ -20,6 +20,7 @@
 //! | [`feed`] | a thread that comes in pieces |
 //! | [`kept`] | feeds in lent bytes |
 //! | [`sheet`] | policy sheets: their form, their meaning, and the sheet that is written |
+//! | [`tips`] | the single memberships whose flip alters the formatted text |
 //! | [`programs`] | what the two programs write |
 
 pub mod book;
@@ -34,4 +35,5 @@ pub mod programs;
 pub mod repair;
 pub mod rules;
 pub mod sheet;
+pub mod tips;
 pub mod utf8;

@@ -17,6 +17,7 @@ use crate::report::Report;
 use crate::rewriting::{Mode, Rewriting};
 use crate::show::Show;
 use crate::source::Source;
+use crate::tips::Tips;
 use crate::walk::{Pattern, Selection};
 use crate::words::{Word, Words, unknown};
 use crate::work::Manner;
@@ -418,8 +419,12 @@ fn show(words: Words) -> Result<Show, String> {
 fn policy(mut words: Words) -> Result<Policy, String> {
     let action = words
         .text("policy")
-        .map_err(|_| "the policy command is missing: print, compare or write")?;
+        .map_err(|_| "the policy command is missing: print, compare, write or tips")?;
+    if action == "tips" {
+        return tips(words).map(Policy::Tips);
+    }
     let (mut edits, mut files, mut members) = (Vec::new(), Vec::new(), false);
+    let (mut edits, mut files) = (Vec::new(), Vec::new());
     while let Some(word) = words.next()? {
         match word {
             Word::Name(name) => files.push(PolicyFile(Some(name.into()))),
@@ -446,6 +451,25 @@ fn policy(mut words: Words) -> Result<Policy, String> {
         "write" => Ok(Policy::Write(first.unwrap_or_default(), edits)),
         _ => Err(format!("unknown policy command {action}")),
     }
+}
+
+fn tips(words: Words) -> Result<Tips, String> {
+    let (mut json, mut repairs, mut going) = (false, false, Going::default());
+    let (names, policy) = texts(words, |option, words| {
+        Ok(set(&mut json, "--json", option)
+            || set(&mut repairs, REPAIR, option)
+            || going.take(option, words)?)
+    })?;
+    going.test()?;
+    let Going { selection, manner } = going;
+    Ok(Tips {
+        json,
+        repairs,
+        policy,
+        names,
+        selection,
+        manner,
+    })
 }
 
 /// A member to add or to take.

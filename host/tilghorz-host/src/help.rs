@@ -63,7 +63,7 @@ usage: tilghorz-host COMMAND [OPTIONS] [FILES]
   fix       mend one finding
   show      show the text with its selectors made visible and its findings marked
   repair    write a damaged text with U+FFFD for each bad place, change files in place, or check them
-  policy    print, compare or write policies
+  policy    print, compare or write policies, or list the single memberships that decide texts
   help      show this, or the help of a command: tilghorz-host help format
   version   show the version
 
@@ -125,7 +125,7 @@ More OPTIONS: --exclude, --include, --no-ignore, --binary, --jobs, --quiet, --ve
 ";
 
 const FOLDERS: &str = "\
-usage: tilghorz-host format|report|show|repair [OPTIONS] FOLDER ..
+usage: tilghorz-host format|report|show|repair|policy tips [OPTIONS] FOLDER ..
 
 Of a folder every file is taken, with those of its folders, in the order of their paths. Passed over are: names that
 begin with a full stop, symbolic links, special files, what a .gitignore ignores, what --exclude matches and --include
@@ -202,6 +202,7 @@ const POLICY: &str = "\
 usage: tilghorz-host policy print [--members] [FILE]
        tilghorz-host policy compare FILE [FILE]
        tilghorz-host policy write [--add SET CONTEXT CODE] [--take SET CONTEXT CODE] .. [FILE]
+       tilghorz-host policy tips [--json] [--repair] [--policy FILE] [OPTIONS] [FILES]
 
 A policy is a sheet, which is a text, or a file of 192 bytes. A file with a byte 00 is taken for the bytes, any other
 for a sheet. Without FILE, and as the second of compare, it is the default policy.
@@ -216,4 +217,8 @@ range includes only the code points inside it that have one. What is wrong with 
   compare    a line for each base and context with two rules; status 1 if there is one
   write      the 192 bytes, to standard output, with members added and taken. SET is prefer_bare or bare_as_text,
              CONTEXT is ordinary or keycap, CODE is a code point, such as 2764
+  tips       the memberships whose flip alone alters a formatted text, over all FILES: a line for each, with the number
+             of texts that it alters, and the flip as an option of write. The largest numbers are first; equal ones are
+             by code point, ordinary before keycap, prefer_bare before bare_as_text. With --json a JSON array instead.
+             FILES and OPTIONS are as in report: tilghorz-host help folders
 ";

@@ -2,7 +2,7 @@
 
 use std::fmt::{self, Display, Formatter, Write};
 
-use tilghorz::{Counts, Finding, Item, Refusal};
+use tilghorz::{Counts, Finding, Item, Refusal, Tip};
 
 use crate::report::kind_name;
 
@@ -89,6 +89,33 @@ impl Display for ItemObject<'_> {
             out,
             "{{\"start\":{start},\"end\":{end},\"kind\":\"{kind}\",\"tags_complete\":{tags_complete},\
              \"char_start\":{char_start},\"char_end\":{char_end},\"utf16_start\":{utf16_start},\"utf16_end\":{utf16_end}}}"
+        )
+    }
+}
+
+/// A membership that decides texts, as an object.
+pub struct TipObject<'a> {
+    /// The membership.
+    pub tip: &'a Tip,
+    /// Whether the policy has it.
+    pub is_held: bool,
+    /// In how many texts it decides something.
+    pub texts: usize,
+}
+
+impl Display for TipObject<'_> {
+    fn fmt(&self, out: &mut Formatter<'_>) -> fmt::Result {
+        let Self {
+            tip,
+            is_held,
+            texts,
+        } = self;
+        write!(
+            out,
+            "{{\"code_point\":\"{:04X}\",\"context\":\"{}\",\"set\":\"{}\",\"held\":{is_held},\"texts\":{texts}}}",
+            u32::from(tip.character),
+            tip.context.name(),
+            tip.set.name(),
         )
     }
 }

@@ -27,6 +27,7 @@ mod show;
 mod source;
 mod system;
 mod tally;
+mod tips;
 mod visible;
 mod walk;
 mod words;

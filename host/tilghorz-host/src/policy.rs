@@ -8,6 +8,7 @@ use tilghorz::{Context, KeySet, variation_entries};
 use crate::console::{Console, Status};
 use crate::sheet::explanation;
 use crate::source::Source;
+use crate::tips::Tips;
 
 /// The file of a policy; without one it is the default policy.
 #[derive(Debug, Default, PartialEq, Eq)]
@@ -24,6 +25,8 @@ pub enum Policy {
     Compare(PolicyFile, PolicyFile),
     /// Writes the bytes, after these edits.
     Write(PolicyFile, Vec<Edit>),
+    /// Counts which single membership decides texts.
+    Tips(Tips),
 }
 
 /// A member that is added or taken.
@@ -71,6 +74,7 @@ impl Policy {
     /// Does it.
     pub fn run(&self, console: &mut Console) -> io::Result<Status> {
         match self {
+            Self::Tips(tips) => tips.run(console),
             Self::Print(file) => match file.read_or_complain(console) {
                 None => Ok(Status::Fault),
                 Some(policy) => console.print(&policy.to_string()),

@@ -23,7 +23,7 @@ fn help_and_version_go_to_standard_output() {
         (&["help", "policy"], "usage: tilghorz-host policy "),
         (
             &["help", "folders"],
-            "usage: tilghorz-host format|report|show|repair ",
+            "usage: tilghorz-host format|report|show|repair|policy tips ",
         ),
         (&["help", "help"], "Puts the emoji selectors"),
         (&["help", "version"], "Puts the emoji selectors"),
@@ -132,6 +132,10 @@ fn wrong_command_lines_are_told_on_standard_error() {
         ),
         (&["policy"], "policy: the policy command is missing"),
         (&["policy", "show"], "policy: unknown policy command show"),
+        (
+            &["policy", "tips", "--check"],
+            "policy: --check: unknown option",
+        ),
         (
             &["policy", "print", "a", "b"],
             "policy: print: too many files",

@@ -222,3 +222,37 @@ fn the_stored_runs_of_the_proved_programs_are_met() {
         }
     }
 }
+
+#[test]
+fn tips_are_counted_over_texts() {
+    let folder = Folder::new("tips");
+    folder.write("message", MESSAGE);
+    folder.write("heart", "\u{2764} \u{2764}");
+    folder.write("plain", "nothing here");
+    let one = folder.run(&["policy", "tips", "heart"]);
+    let lines = "1 --add prefer_bare ordinary 2764\n1 --take bare_as_text ordinary 2764\n";
+    assert_eq!((one.status, one.text(), one.err.as_str()), (0, lines, ""));
+    let many = folder.run(&["policy", "tips", "message", "heart", "plain"]);
+    let lines = "2 --add prefer_bare ordinary 2764\n2 --take bare_as_text ordinary 2764\n\
+                 1 --take prefer_bare ordinary 0031\n1 --take bare_as_text ordinary 0031\n";
+    assert_eq!((many.status, many.text()), (0, lines));
+    assert_eq!(
+        many.err,
+        "tilghorz-host: 3 files: 2 that a flip alters, 1 that none alters\n"
+    );
+    let json = folder.run_with(&["policy", "tips", "--json"], "\u{2764}".as_bytes());
+    let object = "[{\"code_point\":\"2764\",\"context\":\"ordinary\",\"set\":\"prefer_bare\",\"held\":false,\"texts\":1},\
+                  {\"code_point\":\"2764\",\"context\":\"ordinary\",\"set\":\"bare_as_text\",\"held\":true,\"texts\":1}]\n";
+    assert_eq!((json.status, json.text()), (0, object));
+    // A flip that is made alters the text.
+    let edits = ["--take", "bare_as_text", "ordinary", "2764"];
+    let own = folder.run(&[&["policy", "write"], &edits[..]].concat());
+    folder.write("own", &own.out);
+    let ran = folder.run(&["format", "--policy", "own", "heart"]);
+    assert_eq!(ran.text(), "\u{2764}\u{FE0F} \u{2764}\u{FE0F}");
+    let refused = folder.run_with(&["policy", "tips"], DAMAGED);
+    assert_eq!((refused.status, refused.text()), (2, ""));
+    assert!(refused.err.contains("refused 3"), "{}", refused.err);
+    let empty = folder.run(&["policy", "tips", "--json", "plain"]);
+    assert_eq!((empty.status, empty.text()), (0, "[]\n"));
+}

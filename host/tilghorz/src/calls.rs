@@ -1,9 +1,10 @@
-//! Formatting, listing and mending: document 01, "Replacement and text". Taking damaged text in: document 02, (ii).
+//! Formatting, listing and mending: document 01, "Replacement and text". Taking damaged text in: document 02, (ii). The
+//! memberships that decide a text: document 02, (viii).
 
 use std::borrow::Cow;
 
 use crate::table::sealed::Read;
-use crate::{Finding, Item, LONGEST_TEXT, Policy, Refusal, Row, Table};
+use crate::{Finding, Item, LONGEST_TEXT, Policy, Refusal, Row, Table, Tip};
 use crate::{answer, sys};
 
 /// The rows that a table has room for at first.
@@ -125,6 +126,29 @@ pub fn findings(text: &[u8], policy: &Policy) -> Result<Table<Finding>, Refusal>
 /// Refusals 1 and 3.
 pub fn items(text: &[u8]) -> Result<Table<Item>, Refusal> {
     table(|table| sys::scan(text, table))
+}
+
+/// The memberships of a policy whose flip alone alters the formatted text: by code point, ordinary before keycap,
+/// `prefer_bare` before `bare_as_text`. It takes one pass over the text, and some microseconds for the memberships.
+///
+/// ```
+/// use tilghorz::{Context, KeySet, Policy};
+///
+/// let policy = Policy::default();
+/// let heart = "\u{2764}".as_bytes();
+/// let tips = tilghorz::tips(heart, &policy)?;
+/// assert_eq!(tips.len(), 2);
+/// for tip in tips.iter() {
+///     assert_eq!((tip.character, tip.context), ('\u{2764}', Context::Ordinary));
+/// }
+/// assert!(tilghorz::tips(b"no emoji", &policy)?.is_empty());
+/// # Ok::<(), tilghorz::Refusal>(())
+/// ```
+///
+/// # Errors
+/// Refusals 1 and 3.
+pub fn tips(text: &[u8], policy: &Policy) -> Result<Table<Tip>, Refusal> {
+    table(|table| sys::tips(text, policy.as_bytes(), table))
 }
 
 /// The whole text with the finding that starts at the offset mended. A finding takes as many decisions as its counts

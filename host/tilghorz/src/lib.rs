@@ -32,6 +32,8 @@
 //!   reader and another.
 //! - [`Policy`] is the default one, one from bytes, one from a text that is a policy sheet, or one with members added and
 //!   taken. It is written as a sheet.
+//! - [`tips`] lists the single memberships of a policy that decide a text, each as a [`Tip`].
+//! - [`Policy`] is the default one, one from bytes, or one with members added and taken.
 //! - [`sys`] has the C functions as they cross. It is the only module with unsafe code.
 //!
 //! "Document 01" in comments is the specification, "The selector formatter: records from byte to sealed text";
@@ -49,10 +51,11 @@ mod policy;
 mod refusal;
 pub mod sys;
 mod table;
+mod tip;
 
 pub use calls::{Formatted, Presentation, Repaired};
 pub use calls::{
-    filed, findings, format, format_into, items, mend, mend_into, repair, repair_into,
+    filed, findings, format, format_into, items, mend, mend_into, repair, repair_into, tips,
 };
 pub use feed::{Feed, FeedReader, FeedWriter};
 pub use finding::{Counts, Finding};
@@ -60,6 +63,7 @@ pub use item::{Item, ItemKind};
 pub use policy::{Context, KeySet, NoEntry, Policy, SingletonRule, variation_entries};
 pub use refusal::Refusal;
 pub use table::{Row, Table};
+pub use tip::Tip;
 
 /// The length of the longest text that is not refused: [`Refusal::TextTooLong`].
 pub const LONGEST_TEXT: usize = 16_777_216;

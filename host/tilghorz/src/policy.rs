@@ -46,7 +46,7 @@ pub struct Policy {
 }
 
 /// One of the two key sets of a policy.
-#[derive(Debug, Clone, Copy, PartialEq, Eq, Hash)]
+#[derive(Debug, Clone, Copy, PartialEq, Eq, PartialOrd, Ord, Hash)]
 pub enum KeySet {
     /// The bases that are best written bare.
     PreferBare,
@@ -55,7 +55,7 @@ pub enum KeySet {
 }
 
 /// Where a base stands.
-#[derive(Debug, Clone, Copy, PartialEq, Eq, Hash)]
+#[derive(Debug, Clone, Copy, PartialEq, Eq, PartialOrd, Ord, Hash)]
 pub enum Context {
     /// Not before 20E3.
     Ordinary,

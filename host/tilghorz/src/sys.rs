@@ -15,6 +15,8 @@ pub const POLICY_BYTES: usize = 192;
 pub const FINDING_BYTES: usize = 112;
 /// The bytes of an item in a table.
 pub const ITEM_BYTES: usize = 64;
+/// The bytes of a membership in a table.
+pub const TIP_BYTES: usize = 24;
 /// The bytes of a feed.
 pub const FEED_BYTES: usize = 312;
 /// The bytes of the totals of a feed.
@@ -80,6 +82,14 @@ unsafe extern "C" {
         policy_len: usize,
         out: *mut u8,
         out_len: usize,
+    ) -> u64;
+    fn tilghorz_tips(
+        text: *const u8,
+        text_len: usize,
+        policy: *const u8,
+        policy_len: usize,
+        table: *mut u8,
+        table_len: usize,
     ) -> u64;
     fn tilghorz_default_policy(out: *mut u8, out_len: usize) -> u64;
     fn tilghorz_variation_entry(index: u64) -> u64;
@@ -200,6 +210,22 @@ pub fn read_sheet(sheet: &[u8], out: &mut [u8]) -> u64 {
 pub fn write_sheet(policy: &[u8], out: &mut [u8]) -> u64 {
     // SAFETY: as the head of this file says.
     unsafe { tilghorz_write_sheet(policy.as_ptr(), policy.len(), out.as_mut_ptr(), out.len()) }
+}
+
+/// `tilghorz_tips`: lists the memberships whose flip alone alters the formatted text.
+#[must_use]
+pub fn tips(text: &[u8], policy: &[u8], table: &mut [u8]) -> u64 {
+    // SAFETY: as the head of this file says.
+    unsafe {
+        tilghorz_tips(
+            text.as_ptr(),
+            text.len(),
+            policy.as_ptr(),
+            policy.len(),
+            table.as_mut_ptr(),
+            table.len(),
+        )
+    }
 }
 
 /// `tilghorz_default_policy`: writes the default policy.

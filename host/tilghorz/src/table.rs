@@ -3,7 +3,7 @@
 use std::fmt::{self, Debug, Formatter};
 use std::marker::PhantomData;
 
-/// A row of a table: [`Finding`](crate::Finding) or [`Item`](crate::Item).
+/// A row of a table: [`Finding`](crate::Finding), [`Item`](crate::Item) or [`Tip`](crate::Tip).
 pub trait Row: sealed::Read {}
 
 pub(crate) mod sealed {
@@ -16,7 +16,7 @@ pub(crate) mod sealed {
     }
 }
 
-/// The rows of a text, in text order. They stay as the library wrote them, and are read when they are asked for: a text
+/// The rows that a call wrote, in its order. They stay as the library wrote them, and are read when they are asked for: a text
 /// of the greatest length may have 16,777,216 of them.
 pub struct Table<R> {
     bytes: Vec<u8>,

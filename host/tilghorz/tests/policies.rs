@@ -3,7 +3,7 @@
 use std::fs;
 use std::path::Path;
 
-use tilghorz::{Context, KeySet, NoEntry, Policy, Refusal, SingletonRule, variation_entries};
+use tilghorz::{Context, KeySet, NoEntry, Policy, Refusal, SingletonRule, Tip, variation_entries};
 
 /// The selectors.
 const TEXT: char = '\u{FE0E}';
@@ -168,4 +168,31 @@ fn bytes_that_are_not_a_policy_are_refused() {
             assert_eq!(Policy::from_bytes(&bytes), Err(Refusal::NotAPolicy));
         }
     }
+}
+
+#[test]
+fn the_memberships_that_decide_a_text_are_those_whose_flip_alters_it() {
+    let text = "1 2\u{FE0E}\u{20E3} \u{2764}\u{FE0F} \u{231A}\u{FE0E}\u{1F3FB} \u{A9}\u{E0061}";
+    let policy = Policy::default();
+    let before = formatted(text, &policy);
+    let mut expected = Vec::new();
+    for &character in variation_entries() {
+        for context in Context::ALL {
+            for set in KeySet::ALL {
+                let mut flipped = policy.clone();
+                let is_in = policy.contains(set, character, context);
+                put(&mut flipped, set, character, context, !is_in);
+                if formatted(text, &flipped) != before {
+                    expected.push(Tip {
+                        character,
+                        context,
+                        set,
+                    });
+                }
+            }
+        }
+    }
+    let tips = tilghorz::tips(text.as_bytes(), &policy).expect("taken");
+    assert_eq!(tips.iter().collect::<Vec<_>>(), expected);
+    assert!(expected.is_sorted() && !expected.is_empty());
 }

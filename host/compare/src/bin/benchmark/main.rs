@@ -7,6 +7,7 @@
 //! cargo run --offline --release --package compare --bin benchmark -- --rounds 31 ascii mixed-48
 //! cargo run --offline --release --package compare --bin benchmark -- --growth      # 64 KiB, 1 MiB and 16 MiB alone
 //! cargo run --offline --release --package compare --bin benchmark -- --repairing   # damaged texts alone
+//! cargo run --offline --release --package compare --bin benchmark -- --tipping     # memberships alone
 //! TILGHORZ_LIBRARY=FOLDER cargo run ..                                             # another libtilghorz.a
 //! ```
 //!
@@ -38,12 +39,13 @@ use work::Work;
 
 /// How the program is called.
 const USAGE: &str = "\
-usage: benchmark [--rounds N] [--growth | --repairing | --feeding] [INPUT ..]
-       benchmark repeat format|list|mend|scan|repair|repair-damaged|feed INPUT BYTES TIMES
+usage: benchmark [--rounds N] [--growth | --repairing | --feeding | --tipping] [INPUT ..]
+       benchmark repeat format|list|mend|scan|tips|repair|repair-damaged|feed INPUT BYTES TIMES
   --rounds N   the rounds of each measurement (15)
   --growth     only the cost at 64 KiB, 1 MiB and 16 MiB
   --repairing  only the table of repairing
   --feeding    only the table of feeding
+  --tipping    only the table of the memberships that decide a text
   repeat       one call of the library, TIMES times, and nothing else: for counts of instructions. feed is a thread in
                pieces of 4 KiB";
 
@@ -54,6 +56,7 @@ enum Tables {
     Growth,
     Repairing,
     Feeding,
+    Tipping,
 }
 
 /// What the program is asked to do.
@@ -97,6 +100,7 @@ fn parse(words: &[&str]) -> Result<Command, String> {
             "--growth" => command.tables = Tables::Growth,
             "--repairing" => command.tables = Tables::Repairing,
             "--feeding" => command.tables = Tables::Feeding,
+            "--tipping" => command.tables = Tables::Tipping,
             _ => command.inputs.push(input(word)?),
         }
     }
@@ -123,6 +127,9 @@ fn run(command: &Command) -> Result<(), String> {
     if is_printed(Tables::Feeding) {
         tables::feeding(inputs, rounds)?;
     }
+    if is_printed(Tables::Tipping) {
+        tables::tipping(inputs, rounds)?;
+    }
     if is_printed(Tables::Growth) {
         tables::growth(inputs, rounds);
     }
@@ -143,6 +150,7 @@ fn repeat(words: &[&str]) -> Result<(), String> {
     }
     let (work, mut buffers) = Work::new(input, &text);
     let mut items = work.item_table();
+    let mut tips = Work::tip_table();
     let mut feeding = Feeding::new(input, &text)?;
     for _ in 0..number(times)? {
         match call {
@@ -150,6 +158,7 @@ fn repeat(words: &[&str]) -> Result<(), String> {
             "list" => work.list(&mut buffers),
             "mend" => work.mend(1, &mut buffers),
             "scan" => work.scan(&mut items),
+            "tips" => work.tips(&mut tips),
             "feed" => feeding.pieces(PIECES[0], |_| ()),
             _ => return Err(format!("{call}: not a call")),
         }

@@ -35,6 +35,11 @@ const FEEDING: &str = "\
 A thread fed in pieces of 4 KiB and of 64 bytes, beside formatting it in one call. ratio: the time of the one call divided
 by that of the pieces; on ascii and mixed 0.5 is wanted for 4 KiB, and 0.2 for 64 bytes.";
 
+/// The text above the table of the memberships that decide a text.
+const TIPPING: &str = "\
+Listing the memberships whose flip alters the text, beside formatting it. ratio: its time divided by that of formatting, by
+the medians and by the best; at most 3 is wanted on mixed, dense, cyrillic and cjk, and 500 MB/s on ascii.";
+
 /// Formatting beside the crate's, the standard library's test of a text, and a copy.
 pub fn formatting(inputs: &[&Input], rounds: usize) -> Result<(), String> {
     println!(
@@ -185,6 +190,33 @@ pub fn feeding(inputs: &[&Input], rounds: usize) -> Result<(), String> {
             whole.best / long.best,
             whole.median / short.median,
             whole.best / short.best,
+        );
+    }
+    Ok(())
+}
+
+/// The memberships that decide a text, beside formatting it.
+pub fn tipping(inputs: &[&Input], rounds: usize) -> Result<(), String> {
+    println!("\n{TIPPING}");
+    println!(
+        "{:<11} {:>15} {:>15} {:>7} {:>7}",
+        "input", "format", "tips", "ratio", "best"
+    );
+    for input in inputs.iter().filter(|input| input.message.is_none()) {
+        let text = input.make(LENGTH);
+        let (work, mut buffers) = Work::new(input, &text);
+        let mut table = Work::tip_table();
+        let [formatted, tips] = interleaved(rounds, |number| match number {
+            0 => work.format(&mut buffers),
+            _ => work.tips(&mut table),
+        });
+        println!(
+            "{:<11} {:>15} {:>15} {:>7.2} {:>7.2}",
+            input.name,
+            speed(text.len(), formatted),
+            speed(text.len(), tips),
+            tips.median / formatted.median,
+            tips.best / formatted.best,
         );
     }
     Ok(())

@@ -5,7 +5,9 @@ use std::hint::black_box;
 use compare::library::Library;
 use evfmt::{Policy, analyze_scan_item, format_text, scan};
 use tilghorz_comparison::beside;
-use tilghorz_comparison::calls::{Answer, Calls, FINDING_BYTES, ITEM_BYTES, POLICY_BYTES};
+use tilghorz_comparison::calls::{
+    Answer, Calls, FINDING_BYTES, ITEM_BYTES, POLICY_BYTES, TIP_BYTES,
+};
 
 use crate::inputs::Input;
 
@@ -168,6 +170,20 @@ impl<'a> Work<'a> {
         let count = |message: &&str| Library.scan(message.as_bytes(), &mut []);
         let items = self.messages.iter().map(count).map(Answer::of_word);
         vec![0xAA; items.map(|answer| answer.value as usize).max().unwrap_or(0) * ITEM_BYTES]
+    }
+
+    /// Lists the memberships that decide the text by the library.
+    pub fn tips(&self, table: &mut [u8]) {
+        for message in &self.messages {
+            let text = black_box(message.as_bytes());
+            black_box(Library.tips(text, &self.policy_bytes, table));
+        }
+    }
+
+    /// A table for all memberships.
+    #[must_use]
+    pub fn tip_table() -> Vec<u8> {
+        vec![0xAA; 4 * evfmt::internals::VARIATION_ENTRIES.len() * TIP_BYTES]
     }
 
     /// Tests the text by the standard library.

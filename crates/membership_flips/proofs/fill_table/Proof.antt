@@ -1,0 +1,39 @@
+-- `membership_flips::fill_table` meets its contract.
+use mathlib.Core.List.{List}
+use Prim.Native.Nat.{ℕ}
+use native.Mathlib.Omega.{arith}
+use borrow.Author.Needs.{needs}
+use Rattle.membership_flips.specs.Flips.{Membership, filtered, tipNumbers}
+use Rattle.membership_flips.specs.Pass.{numbered, tipTest}
+use Rattle.base.proofs.TableBytes.{rows-refused, rows-room, rows-written}
+use Rattle.membership_flips.proofs.Listing.{length-tip}
+use Rattle.membership_flips.proofs.fill_table.Statement.{statement}
+use Rattle.membership_flips.proofs.fill_table.Tie as tie
+
+-- The rows, by the policy and the flags.
+abbrev rows : List ℕ → List ℕ → List Membership
+rows policy flags = filtered (tipTest policy flags) (numbered 1416 0)
+
+returns : tie.Need-returns
+returns c =
+    let x = c .before .before .before .before .before .args in
+    rows-refused tipNumbers 24 length-tip (omega arith) (rows (x .policy .now) (x .flags .now)) (x .table .now)
+    (c .before .count-tips .ensures) (omega (arith, c .if1 .taken))
+
+put-tips-requires : tie.Need-put-tips-requires
+put-tips-requires c κs =
+    let x = c .before .before .before .before .before .before .args in (
+      c .before .before .before .before .before .before .pre,
+      rows-room tipNumbers 24 length-tip (omega arith) (rows (x .policy .now) (x .flags .now)) (x .table .now)
+          (c .before .before .count-tips .ensures) (omega (arith, c .before .if1 .left)),
+    )
+
+returns-2 : tie.Need-returns-2
+returns-2 c =
+    let x = c .before .before .before .before .before .before .before .before .before .args in
+    rows-written tipNumbers 24 length-tip (omega arith) (rows (x .policy .now) (x .flags .now)) (x .table .now)
+    (c .before .before .before .before .before .count-tips .ensures) (omega (arith, c .before .before .before .before .if1 .left))
+    (c .before .before .put-tips .ensures)
+
+pub fill-table-spec : {M : Type 1} → statement M
+fill-table-spec = tie.close (tie.spec (λ c κs. search needs) returns put-tips-requires (λ c. search needs) returns-2)
