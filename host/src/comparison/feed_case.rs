@@ -5,7 +5,7 @@ use std::fmt::{self, Display, Formatter};
 use super::lent::{Difference, MARGIN, hexadecimal, lend, lend_feed, pattern, same};
 use super::policies::Policy;
 use crate::beside;
-use crate::calls::{Answer, Calls, FINDING_BYTES};
+use crate::calls::{Answer, Calls};
 use crate::reference::calls::Draft;
 use crate::reference::feed::{self, Feed, TOTALS_BYTES, room, totals_bytes};
 use crate::reference::policy::default_policy;
@@ -16,6 +16,9 @@ const MOST_BYTES: u64 = 512;
 
 /// The totals of a thread up to this length are held to the crate's after each call, and those of a longer one at the end.
 const SHORT_THREAD: usize = 200;
+
+/// The bytes of a row of the crate's findings: ten numbers, without positions.
+const CRATE_ROW_BYTES: usize = 80;
 
 /// The margins of a feed and of an output.
 const MARGINS: [[usize; 2]; 2] = [[MARGIN; 2]; 2];
@@ -220,7 +223,7 @@ impl Thread<'_> {
 /// The sums of the crate's counts.
 fn crate_totals(text: &str, policy: &evfmt::Policy) -> Counts {
     let mut totals = Counts::default();
-    for row in beside::findings(text, policy).chunks(FINDING_BYTES) {
+    for row in beside::findings(text, policy).chunks(CRATE_ROW_BYTES) {
         for (total, bytes) in totals.iter_mut().zip(row[16..].chunks(8)) {
             let number = bytes.iter().rev();
             *total += number.fold(0, |number, &byte| number << 8 | u64::from(byte));
