@@ -1,4 +1,5 @@
--- The form of a policy sheet: document 02, (vi). A sheet has one state: specs/Theorems.antt, OnlyReading.
+-- The form of a policy sheet (document 02, vi), as types over bytes and what is read of them. By `OnlyReading` of specs/Theorems.antt a
+-- sheet has one reading.
 use mathlib.Core.Path.{_≡_}
 use mathlib.Core.Bool.{Bool, true, false, _||_}
 use mathlib.Core.List.{List, [], _∷_, _++_}

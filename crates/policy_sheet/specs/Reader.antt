@@ -133,7 +133,7 @@ firstNonEntry (x ∷ xs) =
     cond (hasVariationSequence (x .first .value))
     (cond (hasVariationSequence (x .last .value)) (firstNonEntry xs) (some (x .last .at))) (some (x .first .at))
 
--- What state a sheet answers: a policy, or refusal 11 or 12 with its offset.
+-- The result of reading: a policy, or refusal 11 or 12 with its offset.
 pub data SheetReading : Type 0 where
   is-read : Policy → SheetReading
   not-a-sheet : ℕ → SheetReading
@@ -158,6 +158,6 @@ unfoldable pub answerOf : ℕ → RunResult → SheetReading
 answerOf len (stopped n r) = descendingOr (firstDescending (r .pieces)) (not-a-sheet n)
 answerOf len (reached r) = descendingOr (firstDescending (r .pieces)) (cond (eqb (r .line) 4) (readPieces (r .pieces)) (not-a-sheet len))
 
--- The result of reading bytes.
+-- Reading bytes.
 unfoldable pub readSheet : List ℕ → SheetReading
 readSheet s = answerOf (length s) (run 0 start s)

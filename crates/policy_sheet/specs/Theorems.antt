@@ -19,7 +19,7 @@ use Rattle.policy_sheet.specs.Reader.{is-read, not-a-sheet, not-an-entry
 use Rattle.policy_sheet.specs.declared.SheetAnswer.the-variants.{Refused, Written}
 use Rattle.policy_sheet.specs.Writer.{Run, fewestDigits, pointText, runsOf, writeSheet}
 
--- A sheet has one state.
+-- A sheet has one reading: its bytes determine its pieces.
 unfoldable pub OnlyReading : Type 0
 OnlyReading = (s : List ℕ) (xs ys : List Piece) → Sheet s xs → Sheet s ys → xs ≡ ys
 
@@ -34,9 +34,9 @@ SheetsRead =
     (s : List ℕ) (p : Policy)
     → (readSheet s ≡ is-read p) ↔ ((xs : List Piece) × Sheet s xs × Rising xs × AllEntries xs × Means xs p)
 
--- "11, bytes that don't follow this, with the offset of the first byte such that no sheet begins with the bytes up to and including it, or
--- the length if the sheet merely breaks off (a range running down passes this test)"; "A range whose end is below its start is 11, at its
--- start, if a comma or 0A closes it".
+-- A fault of bytes at an offset. "11, bytes that don't follow this, with the offset of the first byte such that no sheet begins with the
+-- bytes up to and including it, or the length if the sheet merely breaks off (a range running down passes this test)"; "A range whose end
+-- is below its start is 11, at its start, if a comma or 0A closes it".
 pub data Fault (s : List ℕ) : ℕ → Type 0 where
   wrong-byte : {n : ℕ} → n < length s → Begins (take n s) → (Begins (take (suc n) s) → ⊥) → Fault s n
   breaks-off : Begins s → (IsSheet s → ⊥) → Fault s (length s)

@@ -173,7 +173,7 @@ pub(crate) fn no_pieces() -> Policy
     }
 }
 
-// States that a word has 64 bits. The compiler knows it of every parameter of this type.
+// States that a word has 64 bits. The prover knows it of every parameter of this type.
 fn is_word(w: u64) -> bool
     ensures { λ r. ⌜ w < 2 ^ 64 ⌝ }
 {
