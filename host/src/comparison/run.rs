@@ -51,7 +51,7 @@ impl Default for Options {
     }
 }
 
-/// In one drawn case of this number a thread is fed too.
+/// In one drawn case of this number a thread is fed too, and sheets are read and written.
 const FEED_IN: u64 = 4;
 
 /// In one drawn case of this number the memberships that decide a text are compared with the crate too.
@@ -348,8 +348,8 @@ impl<'a> Run<'a> {
             if cases % FEED_IN == 0 {
                 feed_calls += self.drawn_feed(&mut random)?;
                 feeds += 1;
+                self.drawn_sheets(&mut random)?;
             }
-            self.drawn_sheets(&mut random)?;
             cases += 1;
         }
         if cases == 0 && self.options.cases > 0 {
@@ -365,7 +365,7 @@ impl<'a> Run<'a> {
         let what = format!("lists of mending calls, {calls} calls");
         self.told("lists", cases, &what)?;
         let what = "drawn sheets, damaged ones, and policies each";
-        self.told("sheets", cases, what)?;
+        self.told("sheets", feeds, what)?;
         let what = format!("drawn threads and bytes that are no feed, {feed_calls} calls");
         self.told("feeds", feeds, &what)
     }

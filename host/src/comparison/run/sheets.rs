@@ -100,4 +100,4 @@ impl Run<'_> {
 }
 
 /// The number of drawn sheets that come before the texts.
-const FIRST_DRAWN: u64 = 2000;
+const FIRST_DRAWN: u64 = 300;
