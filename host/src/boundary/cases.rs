@@ -14,6 +14,7 @@ use crate::comparison::reduce::reduced_text;
 use crate::comparison::texts::Alphabet;
 use crate::reference::book::Book;
 use crate::reference::calls::{self, Draft};
+use crate::reference::tips;
 
 /// The lengths of texts up to which each is tried.
 const SMALL: usize = 72;
@@ -125,11 +126,13 @@ impl<'a> Boundary<'a> {
             let decisions = &memory[..end % 3];
             let (format, list) = (calls::format(text, &memory), calls::list(text, &memory));
             let mend = calls::mend(text, &memory, 0, decisions);
-            self.made += 3;
+            let tips = tips::list(text, &memory);
+            self.made += 4;
             self.lend("format", &format, |out| {
                 self.calls.format(text, &memory, out)
             })?;
             self.lend("list", &list, |out| self.calls.list(text, &memory, out))?;
+            self.lend("tips", &tips, |out| self.calls.tips(text, &memory, out))?;
             self.lend("mend", &mend, |out| {
                 self.calls.mend(text, &memory, 0, decisions, out)
             })?;
