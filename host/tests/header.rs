@@ -4,7 +4,7 @@
 use std::fs;
 use std::path::Path;
 
-use tilghorz_comparison::calls::{FINDING_BYTES, ITEM_BYTES, POLICY_BYTES};
+use tilghorz_comparison::calls::{FINDING_BYTES, ITEM_BYTES, NEAREST_BYTES, POLICY_BYTES};
 use tilghorz_comparison::reference::feed::TOTALS_BYTES;
 
 /// A function: its name, its parameters with name and kind, and the kind of its answer.
@@ -154,6 +154,8 @@ fn the_header_declares_eleven_functions() {
         "tilghorz_mend",
         "tilghorz_scan",
         "tilghorz_repair",
+        "tilghorz_around",
+        "tilghorz_nearest",
         "tilghorz_feed_begin",
         "tilghorz_feed_piece",
         "tilghorz_feed_end",
@@ -163,7 +165,7 @@ fn the_header_declares_eleven_functions() {
     ];
     assert_eq!(names, expected);
     let numbers: Vec<usize> = functions.iter().map(|of| of.parameters.len()).collect();
-    assert_eq!(numbers, [6, 6, 9, 4, 4, 4, 6, 4, 4, 2, 1]);
+    assert_eq!(numbers, [6, 6, 9, 4, 4, 10, 7, 4, 6, 4, 4, 2, 1]);
 }
 
 #[test]
@@ -195,6 +197,7 @@ fn the_sizes_agree_with_the_header() {
     for (name, size) in [
         ("POLICY_BYTES", POLICY_BYTES),
         ("FINDING_BYTES", FINDING_BYTES),
+        ("NEAREST_BYTES", NEAREST_BYTES),
         ("ITEM_BYTES", ITEM_BYTES),
         ("FEED_BYTES", feed_bytes()),
         ("TOTALS_BYTES", TOTALS_BYTES),

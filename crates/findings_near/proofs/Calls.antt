@@ -64,11 +64,11 @@ module _ (text policy : List ℕ) (from to : ℕ) (inner outer : List ℕ) where
       ap (λ (n : ℕ). fillBoth (filter (inside from n) R) (filter (onlyShares from n) R) inner outer) e
 
 -- A small value: a number of findings of a text within the limit.
-few-inside : (text policy : List ℕ) (from to : ℕ) → length (insideOf text policy from to) ≤ length text
+pub few-inside : (text policy : List ℕ) (from to : ℕ) → length (insideOf text policy from to) ≤ length text
 unfolding insideOf
 few-inside text policy from to = few-listed text policy (inside from (stretchEnd text to))
 
-few-sharing : (text policy : List ℕ) (from to : ℕ) → length (sharingOf text policy from to) ≤ length text
+pub few-sharing : (text policy : List ℕ) (from to : ℕ) → length (sharingOf text policy from to) ≤ length text
 unfolding sharingOf
 few-sharing text policy from to = few-listed text policy (onlyShares from (stretchEnd text to))
 

@@ -4,4 +4,5 @@ pub mod AnswerWords
 pub mod FewItems
 pub mod SmallAnswers
 pub mod SmallFeeds
+pub mod SmallNear
 pub mod Claims

@@ -89,7 +89,7 @@ tests-short : (text : List ℕ) (a f : Bool) → leb (length text) textLimit ≡
 tests-short text true f p e = leb-true (length text) textLimit p
 tests-short text false f p e = let z : _≡_ {A = ℕ} 0 1 = cc in absurd (omega arith)
 
-intake-small : (text policy : List ℕ) (r : Refusal) → intakeRefusal text policy ≡ some r → refusalRow r .value ≤ most
+pub intake-small : (text policy : List ℕ) (r : Refusal) → intakeRefusal text policy ≡ some r → refusalRow r .value ≤ most
 intake-small text policy r e =
     tests-small (policyFault policy) (omega (arith, fault-value policy)) text (leb (length text) textLimit) (isPolicy policy)
     (eqb (validUpTo text) (length text)) refl r (sym (intake-is text policy refl refl refl) ∙ e)

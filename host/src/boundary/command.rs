@@ -60,13 +60,14 @@ pub fn run(calls: &dyn Calls, options: &Options, out: &mut dyn Write) -> io::Res
     writeln!(out, "seed {}", options.seed)?;
     let start = Instant::now();
     let mut boundary = Boundary::new(calls, options.seed);
-    let kinds: [(&str, Kind<'_>, u64); 8] = [
+    let kinds: [(&str, Kind<'_>, u64); 9] = [
         ("sizes", Boundary::sizes, 1),
         ("policies", Boundary::policies, 1),
         ("decisions", Boundary::decisions, 1),
         ("default policy", Boundary::default_policy, 1),
         ("one memory", Boundary::one_memory, 1),
         ("feeds", Boundary::feeds, 1),
+        ("near", Boundary::near, 1),
         ("drawn", Boundary::drawn, options.cases),
         ("limits", Boundary::limits, options.limits.into()),
     ];

@@ -8,6 +8,7 @@
 //! | [`case`] | makes a call with each slice at its place, and compares answer, output, and all that stands around |
 //! | [`cases`] | makes the cases: sizes, lengths of policies and decisions, and drawn ones |
 //! | [`feeds`] | makes the calls on feeds |
+//! | [`near`] | makes the calls around a stretch and for the nearest finding |
 //! | [`command`] | the command line of the program `boundary` |
 //!
 //! An input that is read past its end gives another answer where the bytes after it count. Where it stands at the end
@@ -17,4 +18,5 @@ pub mod case;
 pub mod cases;
 pub mod command;
 pub mod feeds;
+pub mod near;
 pub mod placed;

@@ -57,7 +57,7 @@ impl Draft {
     }
 
     /// A call that writes a table with places of this many bytes.
-    const fn table(bytes: Vec<u8>, place: usize) -> Self {
+    pub(super) const fn table(bytes: Vec<u8>, place: usize) -> Self {
         Self::Writes {
             bytes,
             place,
