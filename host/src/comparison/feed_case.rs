@@ -5,7 +5,7 @@ use std::fmt::{self, Display, Formatter};
 use super::lent::{Difference, MARGIN, hexadecimal, lend, lend_feed, pattern, same};
 use super::policies::Policy;
 use crate::beside;
-use crate::calls::{Answer, Calls, FINDING_BYTES};
+use crate::calls::{Answer, Calls};
 use crate::reference::calls::Draft;
 use crate::reference::feed::{self, Feed, TOTALS_BYTES, room, totals_bytes};
 use crate::reference::policy::default_policy;
@@ -217,10 +217,13 @@ impl Thread<'_> {
     }
 }
 
+/// The bytes of a finding as the crate has it: start, end and the eight counts.
+const CRATE_ROW: usize = 80;
+
 /// The sums of the crate's counts.
 fn crate_totals(text: &str, policy: &evfmt::Policy) -> Counts {
     let mut totals = Counts::default();
-    for row in beside::findings(text, policy).chunks(FINDING_BYTES) {
+    for row in beside::findings(text, policy).chunks(CRATE_ROW) {
         for (total, bytes) in totals.iter_mut().zip(row[16..].chunks(8)) {
             let number = bytes.iter().rev();
             *total += number.fold(0, |number, &byte| number << 8 | u64::from(byte));

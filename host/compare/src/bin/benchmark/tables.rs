@@ -2,6 +2,7 @@
 
 use crate::feeding::{Feeding, PIECES};
 use crate::inputs::Input;
+use crate::near::Near;
 use crate::repairing::{BAD_ONE_IN, Repairing};
 use crate::timing::{FEWEST, Times, interleaved};
 use crate::work::Work;
@@ -34,6 +35,12 @@ damaged ones.";
 const FEEDING: &str = "\
 A thread fed in pieces of 4 KiB and of 64 bytes, beside formatting it in one call. ratio: the time of the one call divided
 by that of the pieces; on ascii and mixed 0.5 is wanted for 4 KiB, and 0.2 for 64 bytes.";
+
+/// The text above the table of stretches.
+const NEAR: &str = "\
+The findings around a stretch, and the one nearest to the middle of the text, compared with listing all findings. whole: the
+stretch is the whole text; middle: it is a tenth in the middle. ratios: the time of the call divided by that of the listing, by the
+medians and by the best; at most 1.2 is wanted.";
 
 /// Formatting beside the crate's, the standard library's test of a text, and a copy.
 pub fn formatting(inputs: &[&Input], rounds: usize) -> Result<(), String> {
@@ -185,6 +192,42 @@ pub fn feeding(inputs: &[&Input], rounds: usize) -> Result<(), String> {
             whole.best / long.best,
             whole.median / short.median,
             whole.best / short.best,
+        );
+    }
+    Ok(())
+}
+
+/// Stretches and the nearest finding, beside a listing.
+pub fn near(inputs: &[&Input], rounds: usize) -> Result<(), String> {
+    println!("\n{NEAR}");
+    println!(
+        "{:<11} {:>8} {:>15} {:>13} {:>13} {:>13}",
+        "input", "findings", "list", "whole", "middle", "nearest"
+    );
+    for input in inputs.iter().filter(|input| input.message.is_none()) {
+        let text = input.make(LENGTH);
+        let mut work = Near::new(input, &text);
+        work.compare()?;
+        let [list, whole, middle, nearest] = interleaved(rounds, |number| {
+            match number {
+                0 => work.list(),
+                1 => work.whole(),
+                2 => work.middle(),
+                _ => work.nearest(),
+            };
+        });
+        let ratios = |times: Times| {
+            let (median, best) = (times.median / list.median, times.best / list.best);
+            format!("{median:.2} ({best:.2})")
+        };
+        println!(
+            "{:<11} {:>8} {:>15} {:>13} {:>13} {:>13}",
+            input.name,
+            work.findings,
+            speed(text.len(), list),
+            ratios(whole),
+            ratios(middle),
+            ratios(nearest),
         );
     }
     Ok(())
