@@ -3,18 +3,17 @@ use mathlib.Core.Path.{_≡_, refl, ap, ap₂, subst, sym, _∙_}
 use mathlib.Core.Bool.{Bool, true, false, _&&_, cond, not}
 use mathlib.Core.List.{List, [], _∷_, _++_}
 use mathlib.Core.Option.{Option, none, some}
-use Prim.Native.Nat.{ℕ, _+_, _-_, _/_, _<_, _≤_}
+use Prim.Native.Nat.{ℕ, _+_, _*_, _/_, _<_, _≤_}
 use native.Mathlib.Omega.{arith}
 use lib.Dec.{leb, ltb}
 use lib.ListN.{drop, length}
-use lib.Seq.{sets}
 use borrow.Author.Tests.{le-leb, le-ltb, lt-leb, lt-ltb, ltb-false, ltb-true}
 use Rattle.base.specs.Output.{PutAt}
 use Rattle.base.specs.Tables.{rowsBytes}
 use Rattle.base.specs.Words.{bytesOf}
 use Rattle.base.specs.declared.Refusal.the-variants.{TableTooShort}
 use Rattle.base.proofs.Answering.{answers}
-use Rattle.base.proofs.TableBytes.{rows-room}
+use Rattle.base.proofs.TableBytes.{length-rows, rows-room}
 use Rattle.base.proofs.Writer.{Writing, begin, finish, put, room}
 use Rattle.utf8.specs.Rfc3629.{validUpTo}
 use Rattle.policy.specs.declared.Policy.{Policy}
@@ -207,13 +206,13 @@ module _ (holding sharing : List Finding) (inner outer : List ℕ) {i o : ℕ} (
         lt-leb (length sharing) (length outer / rowBytes) (omega arith),
       )
 
-  pub both-filled : {inner′ outer′ : List ℕ} → i ≤ length inner / rowBytes → o ≤ length outer / rowBytes
-      → inner′ ≡ sets inner 0 (rowsBytes rowNumbers holding) → outer′ ≡ sets outer 0 (rowsBytes rowNumbers sharing)
+  pub both-filled : {inner′ outer′ : List ℕ} {r s : ℕ} → i ≤ length inner / rowBytes → o ≤ length outer / rowBytes
+      → PutAt inner 0 (rowsBytes rowNumbers holding) inner′ r → PutAt outer 0 (rowsBytes rowNumbers sharing) outer′ s
       → record { answer = Listed i o; inner = inner′; outer = outer′ } ≡ fillBoth holding sharing inner outer
   unfolding fillBoth
   both-filled {inner′} {outer′} h k p q =
-      made (ap₂ Listed e f) (front inner (rowsBytes rowNumbers holding) (inner-room h) p)
-      (front outer (rowsBytes rowNumbers sharing) (outer-room k) q)
+      made (ap₂ Listed e f) (front inner (rowsBytes rowNumbers holding) (inner-room h) (p .bytes))
+      (front outer (rowsBytes rowNumbers sharing) (outer-room k) (q .bytes))
       ∙ simp (
         le-leb (length holding) (length inner / rowBytes) (omega arith),
         le-leb (length sharing) (length outer / rowBytes) (omega arith),
@@ -262,7 +261,28 @@ module _ (p : Policy) (text : List ℕ) (test : Finding → Bool) (table₀ : Li
           next-bytes
 
   pub filling-end : (at : ℕ) {table : List ℕ} {to : ℕ} → Filling table at to → filter test (rowsFrom p text at) ≡ []
-      → table ≡ sets table₀ 0 (rowsBytes rowNumbers (filter test (rowsFrom p text 0)))
+      → PutAt table₀ 0 (rowsBytes rowNumbers (filter test (rowsFrom p text 0))) table to
   unfolding rowsBytes
   filling-end at w e = finish (rowsBytes rowNumbers (filter test (rowsFrom p text 0))) 0 table₀
-      (rowsBytes rowNumbers (filter test (rowsFrom p text at))) w (ap (rowsBytes rowNumbers) e) .bytes
+      (rowsBytes rowNumbers (filter test (rowsFrom p text at))) w (ap (rowsBytes rowNumbers) e)
+
+-- ---- where nothing is written
+
+-- No row is written at the front of a table.
+pub none-put : (table : List ℕ) {l : List Finding} → l ≡ [] → PutAt table 0 (rowsBytes rowNumbers l) table 0
+unfolding rowsBytes
+none-put table {l} e = subst (λ (l : List Finding). PutAt table 0 (rowsBytes rowNumbers l) table 0) (sym e)
+    (record { ends = omega arith; bytes = refl })
+
+pub no-rows : (l : List Finding) {n : ℕ} → n ≡ length l → n ≡ 0 → l ≡ []
+no-rows [] e z = refl
+no-rows (f ∷ l) e z = absurd (omega arith)
+
+-- The number of rows, by where they end.
+pub row-number : (l : List Finding) {table after : List ℕ} {r : ℕ} → PutAt table 0 (rowsBytes rowNumbers l) after r
+    → r / rowBytes ≡ length l
+row-number l p = omega (arith, p .ends, length-rows rowNumbers rowBytes length-row l)
+
+-- Two rows fit into a table of their bytes, and so do fewer.
+pub two-fit : (l : List Finding) (table : List ℕ) → length l ≤ 2 → 2 * rowBytes ≤ length table → length l ≤ length table / rowBytes
+two-fit l table h k = omega arith

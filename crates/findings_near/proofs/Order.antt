@@ -80,7 +80,7 @@ module _ (p : Policy) (text : List ℕ) where
   abbrev rows : ℕ → List Item → List Finding
   rows n xs = map (findingRow p text) (found (isFinding p) width n xs)
 
-  starts-from : (xs : List Item) (n : ℕ) (f : Finding) → List·Memᴰ f (rows n xs) → n ≤ f .start
+  pub starts-from : (xs : List Item) (n : ℕ) (f : Finding) → List·Memᴰ f (rows n xs) → n ≤ f .start
   unfolding found findingRow
   starts-from [] n f m = absurd (List·Memᴰ·not-nil m)
   starts-from (x ∷ xs) n f m = go (isFinding p x) (starts-from xs (n + size width (x .chars)) f) m

@@ -169,7 +169,7 @@ module _ (from to : ℕ) (f : Finding) where
   none-on l = fails (onlyShares from to f) (λ e. let h = on-so from to f e .some in omega arith)
 
   -- A finding that starts at the end of the stretch or after it is in neither list.
-  starts-after : f .start < f .end → to ≤ f .start → (inside from to f ≡ false) × (onlyShares from to f ≡ false)
+  pub starts-after : f .start < f .end → to ≤ f .start → (inside from to f ≡ false) × (onlyShares from to f ≡ false)
   starts-after b l = (
     fails (inside from to f) (λ e. let h = in-so from to f e .high in omega arith),
     fails (onlyShares from to f) (λ e. let h = on-so from to f e .low in omega arith),

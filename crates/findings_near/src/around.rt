@@ -1,15 +1,19 @@
-// The findings around a stretch of bytes (document 02, ix). One pass from finding to finding (crate text_pass) counts both lists up to the
-// end of the stretch, and the rest of the text is tested for UTF-8 alone. If both tables have room, a second pass up to the end of the
-// stretch writes both lists. `findings_around` equals `listAround` of specs/Around.antt.
+// The findings around a stretch of bytes (document 02, ix). Where both tables surely have room, one pass over the text (crate text_pass)
+// tests it and says how many findings there are at most, and a second pass up to the end of the stretch writes both lists. Else the lists
+// are counted first, from finding to finding. The text after the stretch is tested for UTF-8 alone. `findings_around` equals `listAround`
+// of specs/Around.antt.
 ghost use mathlib.Core.Path.{_≡_};
-ghost use mathlib.Core.Bool.{_&&_, cond};
-ghost use Prim.Native.Nat.{_+_, _≤_};
+ghost use mathlib.Core.Bool.{true, _&&_, cond};
+ghost use mathlib.Core.List.{[]};
+ghost use Prim.Native.Nat.{_+_, _*_, _/_, _≤_};
 ghost use lib.Dec.{ltb};
 ghost use lib.ListN.{drop, length};
-ghost use lib.Seq.{sets};
+ghost use Rattle.base.specs.Output.{PutAt};
+ghost use Rattle.base.specs.Refusals.{textLimit};
 ghost use Rattle.base.specs.Tables.{rowsBytes};
 ghost use Rattle.utf8.specs.Rfc3629.{validUpTo};
-ghost use Rattle.formatter.specs.List.{rowNumbers};
+ghost use Rattle.policy.specs.PolicyBytes.{isPolicy};
+ghost use Rattle.formatter.specs.List.{rowBytes, rowNumbers};
 ghost use Rattle.findings_near.specs.Around.{
   EndsAround,
   fillBoth,
@@ -33,11 +37,27 @@ use positions::TextCount;
 use text_pass::findings::FindingSpan;
 use text_pass::findings::next_finding;
 
+// The bytes of a table that has room for every list of findings that only share a byte with a stretch: there are at most two.
+const MOST_SHARING_BYTES: usize = 2 * ROW_BYTES;
+
 // How many findings lie inside a stretch, how many only share a byte with it, and the length of the longest well-formed beginning.
 struct AroundCount {
     inside: usize,
     sharing: usize,
     valid_up_to: usize,
+}
+
+// How many findings start before a stretch, how many start in it, and the length of the longest well-formed beginning.
+struct MostAround {
+    earlier: usize,
+    starting: usize,
+    valid_up_to: usize,
+}
+
+// Where the rows of the two tables end.
+struct RowEnds {
+    inner: usize,
+    outer: usize,
 }
 
 // The end of a stretch that is cut at the end of the text.
@@ -132,14 +152,40 @@ fn count_around(text: &[u8], policy: &[u8], from: usize, to: usize) -> AroundCou
     }
 }
 
-// Writes the rows of both lists into the tables, which have room for them.
-fn put_both(text: &[u8], policy: &[u8], from: usize, to: usize, inner: &mut [u8], outer: &mut [u8])
+// Counts the findings that start before a stretch, and those that start in it. Their own counts are not made.
+fn most_around(text: &[u8], policy: &[u8], from: usize, to: usize) -> MostAround
+    ensures most { λ r. ⌜ length (filter (inside from to) (listed (now (text .entry)) (now (policy .entry)))) ≤ r .starting ⌝ }
+    ensures none { λ r. ⌜ (r .earlier ≡ 0 → r .starting ≡ 0
+        → (filter (inside from to) (listed (now (text .entry)) (now (policy .entry))) ≡ [])
+        × (filter (onlyShares from to) (listed (now (text .entry)) (now (policy .entry))) ≡ [])) ⌝ }
+    ensures valid { λ r. ⌜ r .«valid_up_to» ≡ validUpTo (now (text .entry)) ⌝ }
+{
+    let before = next_finding(text, policy, from, 0);
+    let within = next_finding(text, policy, to, before.start);
+    let valid_up_to = well_formed_end(text, within.start);
+    MostAround {
+        earlier: before.passed,
+        starting: within.passed,
+        valid_up_to,
+    }
+}
+
+// Writes the rows of both lists into the tables, which have room for them, and says where they end.
+fn put_both(
+    text: &[u8],
+    policy: &[u8],
+    from: usize,
+    to: usize,
+    inner: &mut [u8],
+    outer: &mut [u8],
+) -> RowEnds
     requires { ⌜ (length (rowsBytes rowNumbers (filter (inside from to) (listed (now text) (now policy)))) ≤ length (now inner))
         × (length (rowsBytes rowNumbers (filter (onlyShares from to) (listed (now text) (now policy)))) ≤ length (now outer)) ⌝ }
-    ensures inside { λ _. ⌜ now (inner .exit) ≡ sets (now (inner .entry)) 0
-        (rowsBytes rowNumbers (filter (inside from to) (listed (now (text .entry)) (now (policy .entry))))) ⌝ }
-    ensures sharing { λ _. ⌜ now (outer .exit) ≡ sets (now (outer .entry)) 0
-        (rowsBytes rowNumbers (filter (onlyShares from to) (listed (now (text .entry)) (now (policy .entry))))) ⌝ }
+    ensures inside { λ r. ⌜ PutAt (now (inner .entry)) 0
+        (rowsBytes rowNumbers (filter (inside from to) (listed (now (text .entry)) (now (policy .entry))))) (now (inner .exit)) (r .inner) ⌝ }
+    ensures sharing { λ r. ⌜ PutAt (now (outer .entry)) 0
+        (rowsBytes rowNumbers (filter (onlyShares from to) (listed (now (text .entry)) (now (policy .entry)))))
+        (now (outer .exit)) (r .outer) ⌝ }
 {
     let mut at = 0;
     let mut before = TextCount { chars: 0, units: 0 };
@@ -149,7 +195,10 @@ fn put_both(text: &[u8], policy: &[u8], from: usize, to: usize, inner: &mut [u8]
         let row = next_row(text, policy, at, before);
         let finding = row.finding;
         if !is_before(row.present, finding.start, to) {
-            return;
+            return RowEnds {
+                inner: inner_to,
+                outer: outer_to,
+            };
         }
         let inside = is_inside(from, to, finding.start, finding.end);
         let sharing = is_sharing(from, to, finding.start, finding.end);
@@ -161,6 +210,16 @@ fn put_both(text: &[u8], policy: &[u8], from: usize, to: usize, inner: &mut [u8]
             units: finding.unit_end,
         };
     }
+}
+
+// Whether both lists are empty, by their numbers of findings.
+fn are_empty(inner_rows: usize, outer_rows: usize) -> bool
+    ensures { λ r. ⌜ (r ≡ true → («inner_rows» ≡ 0) × («outer_rows» ≡ 0)) ⌝ }
+{
+    if inner_rows != 0 {
+        return false;
+    }
+    outer_rows == 0
 }
 
 // Fills both tables, if each has a place for each finding of its list. `inner_rows` and `outer_rows` are the numbers of findings.
@@ -190,11 +249,74 @@ fn fill_tables(
             findings: outer_rows,
         });
     }
+    if are_empty(inner_rows, outer_rows) {
+        return AroundAnswer::Listed {
+            inside: inner_rows,
+            sharing: outer_rows,
+        };
+    }
     put_both(text, policy, from, to, inner, outer);
     AroundAnswer::Listed {
         inside: inner_rows,
         sharing: outer_rows,
     }
+}
+
+// Writes both lists into tables that have room for them. `earlier` and `starting` are the numbers of findings that start before the stretch
+// and in it.
+fn put_listed(
+    text: &[u8],
+    policy: &[u8],
+    from: usize,
+    to: usize,
+    earlier: usize,
+    starting: usize,
+    inner: &mut [u8],
+    outer: &mut [u8],
+) -> AroundAnswer
+    requires { ⌜ (length (filter (inside from to) (listed (now text) (now policy))) ≤ length (now inner) / rowBytes)
+        × (2 * rowBytes ≤ length (now outer)) × (earlier ≡ 0 → starting ≡ 0
+        → (filter (inside from to) (listed (now text) (now policy)) ≡ []) × (filter (onlyShares from to) (listed (now text) (now policy)) ≡ [])) ⌝ }
+    ensures { λ r. ⌜ record { answer = r; inner = now (inner .exit); outer = now (outer .exit) }
+        ≡ fillBoth (filter (inside from to) (listed (now (text .entry)) (now (policy .entry))))
+        (filter (onlyShares from to) (listed (now (text .entry)) (now (policy .entry)))) (now (inner .entry)) (now (outer .entry)) ⌝ }
+{
+    if are_empty(earlier, starting) {
+        return AroundAnswer::Listed {
+            inside: 0,
+            sharing: 0,
+        };
+    }
+    let ends = put_both(text, policy, from, to, inner, outer);
+    AroundAnswer::Listed {
+        inside: ends.inner / ROW_BYTES,
+        sharing: ends.outer / ROW_BYTES,
+    }
+}
+
+// Counts both lists of a text within the limit under a policy, and writes them if both tables have room.
+fn list_counted(
+    text: &[u8],
+    policy: &[u8],
+    from: usize,
+    to: usize,
+    inner: &mut [u8],
+    outer: &mut [u8],
+) -> AroundAnswer
+    requires { ⌜ (length (now text) ≤ textLimit) × (isPolicy (now policy) ≡ true) ⌝ }
+    ensures { λ r. ⌜ EndsAround (listAround (now (text .entry)) (now (policy .entry)) from to (now (inner .entry)) (now (outer .entry))) r
+        (now (inner .exit)) (now (outer .exit)) ⌝ }
+{
+    let end = stretch_end(text, to);
+    let AroundCount {
+        inside,
+        sharing,
+        valid_up_to,
+    } = count_around(text, policy, from, end);
+    if valid_up_to != text.len() {
+        return AroundAnswer::Refused(Refusal::NotWellFormed { valid_up_to });
+    }
+    fill_tables(text, policy, from, end, inside, sharing, inner, outer)
 }
 
 // Lists the findings of a text under a policy that lie inside a stretch, and those that only share a byte with it. The stretch is the bytes
@@ -213,14 +335,20 @@ pub fn findings_around(
     if let Check::Refused(refusal) = first_tests(text, policy) {
         return AroundAnswer::Refused(refusal);
     }
+    if outer.len() < MOST_SHARING_BYTES {
+        return list_counted(text, policy, from, to, inner, outer);
+    }
     let end = stretch_end(text, to);
-    let AroundCount {
-        inside,
-        sharing,
+    let MostAround {
+        earlier,
+        starting,
         valid_up_to,
-    } = count_around(text, policy, from, end);
+    } = most_around(text, policy, from, end);
     if valid_up_to != text.len() {
         return AroundAnswer::Refused(Refusal::NotWellFormed { valid_up_to });
     }
-    fill_tables(text, policy, from, end, inside, sharing, inner, outer)
+    if inner.len() / ROW_BYTES < starting {
+        return list_counted(text, policy, from, to, inner, outer);
+    }
+    put_listed(text, policy, from, end, earlier, starting, inner, outer)
 }

@@ -15,9 +15,9 @@ ghost use Rattle.findings_near.specs.Helpers.{closer, given};
 ghost use Rattle.findings_near.specs.Nearest.{distance, giveNearest, nearest, nearestBytes, nearestRow, writeNearest};
 use crate::NearestAnswer;
 use crate::rows::next_row;
+use crate::rows::no_finding;
 use crate::rows::put_row_if;
 use analysis::types::Finding;
-use analysis::types::NonCanonicality;
 use base::Check;
 use base::Refusal;
 use base::WORD_BYTES;
@@ -72,15 +72,7 @@ fn nearest_in(text: &[u8], policy: &[u8], offset: usize) -> Nearby
     ensures some { λ r. ⌜ (r .found ≡ true → r .finding .start < r .finding .end) ⌝ }
 {
     let mut found = false;
-    let mut best = Finding {
-        start: 0,
-        end: 0,
-        counts: NonCanonicality::empty(),
-        char_start: 0,
-        char_end: 0,
-        unit_start: 0,
-        unit_end: 0,
-    };
+    let mut best = no_finding(0);
     let mut at = 0;
     let mut before = TextCount { chars: 0, units: 0 };
     loop {

@@ -12,6 +12,7 @@ ghost use Rattle.positions.specs.Positions.{AtPosition};
 ghost use Rattle.formatter.specs.List.{rowBytes, rowNumbers};
 ghost use Rattle.findings_near.specs.Helpers.{GivesRow};
 use analysis::types::Finding;
+use analysis::types::NonCanonicality;
 use listing::ROW_BYTES;
 use listing::row_numbers;
 use positions::TextCount;
@@ -26,6 +27,22 @@ pub(crate) struct NextRow {
     pub(crate) finding: Finding,
 }
 
+// An empty finding at an offset: it stands for "no finding".
+pub(crate) fn no_finding(at: usize) -> Finding
+    ensures { λ r. ⌜ r .start ≡ at ⌝ }
+{
+    let counts = NonCanonicality::empty();
+    Finding {
+        start: at,
+        end: at,
+        counts,
+        char_start: 0,
+        char_end: 0,
+        unit_start: 0,
+        unit_end: 0,
+    }
+}
+
 // Finds the next finding from an offset on, with its positions. `before` is the position of the offset.
 pub(crate) fn next_row(text: &[u8], policy: &[u8], at: usize, before: TextCount) -> NextRow
     requires { ⌜ AtPosition (now text) at before ⌝ }
@@ -38,6 +55,10 @@ pub(crate) fn next_row(text: &[u8], policy: &[u8], at: usize, before: TextCount)
         present,
         passed: _,
     } = next_finding(text, policy, 0, at);
+    if !present {
+        let finding = no_finding(start);
+        return NextRow { present, finding };
+    }
     let first = add_counts(before, count_between(text, at, start));
     let last = add_counts(first, count_between(text, start, end));
     let finding = Finding {
