@@ -11,7 +11,8 @@
  * Answers. Each function returns one word. The top 8 bits of the word are a number, the low 56 bits are a value:
  *
  *   number     meaning                                value
- *   0          done                                   bytes or rows written, or the code point; tilghorz_repair has two values
+ *   0          done                                   bytes or rows written, or the code point; tilghorz_repair and
+ *                                                     tilghorz_around have two values
  *   1          text over 16,777,216 bytes             0
  *   2          not a policy                           0
  *   3          text not well-formed                   length of the longest well-formed beginning
@@ -67,6 +68,7 @@ extern "C" {
 #define TILGHORZ_POLICY_BYTES 192    /* the length of a policy */
 #define TILGHORZ_ENTRIES 354         /* variation entries, those of Unicode 15.0 */
 #define TILGHORZ_FINDING_BYTES 112   /* the length of a row of tilghorz_list */
+#define TILGHORZ_NEAREST_BYTES 120   /* the length of the row of tilghorz_nearest */
 #define TILGHORZ_ITEM_BYTES 64       /* the length of a row of tilghorz_scan */
 #define TILGHORZ_TIP_BYTES 24        /* the length of a row of tilghorz_tips */
 #define TILGHORZ_FEED_BYTES 312      /* the length of a feed */
@@ -126,6 +128,21 @@ uint64_t tilghorz_scan(const uint8_t *text, size_t text_len, uint8_t *table, siz
  * chapter 3: the longest run of bytes there that begins a character, or one byte. The limit of refusal 1 is on the text. The result can
  * be longer than this limit, and the other functions then refuse it. */
 uint64_t tilghorz_repair(const uint8_t *text, size_t text_len, uint8_t *out, size_t out_len);
+
+/* Lists the findings that lie wholly inside a stretch of bytes and, in a table of their own, those that only share a byte with it. The
+ * stretch is the bytes from `from` up to, not including, `to`; both may be any numbers. A stretch that reaches past the text is cut at the
+ * end of the text; one that ends before its start is empty; an empty stretch has neither kind of findings. Numbers: 1, 2, 3, 7 with the
+ * number of rows needed by the first table that is too short, `inside` before `sharing`; neither table is written then. Two values: the
+ * number of rows in `inside`, and the number of rows in `sharing`, which is at most 2. A row is as in tilghorz_list. */
+uint64_t tilghorz_around(const uint8_t *text, size_t text_len, const uint8_t *policy, size_t policy_len, uint64_t from, uint64_t to,
+                         uint8_t *inside, size_t inside_len, uint8_t *sharing, size_t sharing_len);
+
+/* Writes the finding that is nearest to an offset, which may be any number: its row as in tilghorz_list, then the distance, 8 bytes, lowest
+ * byte first. The distance is 0 inside the finding, otherwise the difference between the offset and that of its first or its last byte, the
+ * smaller. Of two findings that are equally near it is the earlier. Numbers: 1, 2, 3, 7 with 1, and 255 if the text has no finding,
+ * whatever the length of the row. Value: 1. */
+uint64_t tilghorz_nearest(const uint8_t *text, size_t text_len, const uint8_t *policy, size_t policy_len, uint64_t offset, uint8_t *row,
+                          size_t row_len);
 
 /* Begins a feed under a policy: writes it at the front of the buffer. Numbers: 2, 8. Value: the number of bytes of a feed. The other
  * functions take exactly these bytes. */

@@ -5,12 +5,14 @@
 use std::fmt::{self, Display, Formatter};
 
 use crate::reference::calls::{self, Draft};
-use crate::reference::{characters, kept, policy, sheet, tips};
+use crate::reference::{characters, kept, near, policy, sheet, tips};
 
 /// The bytes of a policy.
 pub const POLICY_BYTES: usize = 192;
 /// The bytes of a finding in a table.
 pub const FINDING_BYTES: usize = 112;
+/// The bytes of the nearest finding and its distance.
+pub const NEAREST_BYTES: usize = 120;
 /// The bytes of an item in a table.
 pub const ITEM_BYTES: usize = 64;
 /// No sheet that is written has more bytes.
@@ -37,6 +39,18 @@ pub trait Calls {
     fn scan(&self, text: &[u8], table: &mut [u8]) -> u64;
     /// `tilghorz_repair`.
     fn repair(&self, text: &[u8], out: &mut [u8]) -> u64;
+    /// `tilghorz_around`.
+    fn around(
+        &self,
+        text: &[u8],
+        policy: &[u8],
+        from: u64,
+        to: u64,
+        inside: &mut [u8],
+        sharing: &mut [u8],
+    ) -> u64;
+    /// `tilghorz_nearest`.
+    fn nearest(&self, text: &[u8], policy: &[u8], offset: u64, row: &mut [u8]) -> u64;
     /// `tilghorz_feed_begin`.
     fn feed_begin(&self, policy: &[u8], feed: &mut [u8]) -> u64;
     /// `tilghorz_feed_piece`.
@@ -137,6 +151,26 @@ impl Calls for Reference {
 
     fn repair(&self, text: &[u8], out: &mut [u8]) -> u64 {
         write(&calls::repair(text), out)
+    }
+
+    fn around(
+        &self,
+        text: &[u8],
+        policy: &[u8],
+        from: u64,
+        to: u64,
+        inside: &mut [u8],
+        sharing: &mut [u8],
+    ) -> u64 {
+        let drafts = near::around(text, policy, from, to);
+        let (answer, written) = drafts.with_rooms([inside.len(), sharing.len()]);
+        inside[..written[0].len()].copy_from_slice(written[0]);
+        sharing[..written[1].len()].copy_from_slice(written[1]);
+        answer.word()
+    }
+
+    fn nearest(&self, text: &[u8], policy: &[u8], offset: u64, row: &mut [u8]) -> u64 {
+        write(&near::nearest(text, policy, offset), row)
     }
 
     fn feed_begin(&self, policy: &[u8], feed: &mut [u8]) -> u64 {

@@ -84,6 +84,22 @@ impl Calls for WholeWords {
         Reference.repair(text, out)
     }
 
+    fn around(
+        &self,
+        text: &[u8],
+        policy: &[u8],
+        from: u64,
+        to: u64,
+        inside: &mut [u8],
+        sharing: &mut [u8],
+    ) -> u64 {
+        Reference.around(text, policy, from, to, inside, sharing)
+    }
+
+    fn nearest(&self, text: &[u8], policy: &[u8], offset: u64, row: &mut [u8]) -> u64 {
+        Reference.nearest(text, policy, offset, row)
+    }
+
     fn feed_begin(&self, policy: &[u8], feed: &mut [u8]) -> u64 {
         Reference.feed_begin(policy, feed)
     }

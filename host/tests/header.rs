@@ -4,7 +4,9 @@
 use std::fs;
 use std::path::Path;
 
-use tilghorz_comparison::calls::{FINDING_BYTES, ITEM_BYTES, POLICY_BYTES, SHEET_ROOM, TIP_BYTES};
+use tilghorz_comparison::calls::{
+    FINDING_BYTES, ITEM_BYTES, NEAREST_BYTES, POLICY_BYTES, SHEET_ROOM, TIP_BYTES,
+};
 use tilghorz_comparison::reference::feed::TOTALS_BYTES;
 
 /// A function: its name, its parameters with name and kind, and the kind of its answer.
@@ -145,7 +147,7 @@ fn trait_functions() -> Vec<Function> {
 }
 
 #[test]
-fn the_header_declares_fourteen_functions() {
+fn the_header_declares_sixteen_functions() {
     let functions = header_functions();
     let names: Vec<&str> = functions.iter().map(|of| of.name.as_str()).collect();
     let expected = [
@@ -154,6 +156,8 @@ fn the_header_declares_fourteen_functions() {
         "tilghorz_mend",
         "tilghorz_scan",
         "tilghorz_repair",
+        "tilghorz_around",
+        "tilghorz_nearest",
         "tilghorz_feed_begin",
         "tilghorz_feed_piece",
         "tilghorz_feed_end",
@@ -166,7 +170,7 @@ fn the_header_declares_fourteen_functions() {
     ];
     assert_eq!(names, expected);
     let numbers: Vec<usize> = functions.iter().map(|of| of.parameters.len()).collect();
-    assert_eq!(numbers, [6, 6, 9, 4, 4, 4, 6, 4, 4, 4, 4, 6, 2, 1]);
+    assert_eq!(numbers, [6, 6, 9, 4, 4, 10, 7, 4, 6, 4, 4, 4, 4, 6, 2, 1]);
 }
 
 #[test]
@@ -198,6 +202,7 @@ fn the_sizes_agree_with_the_header() {
     for (name, size) in [
         ("POLICY_BYTES", POLICY_BYTES),
         ("FINDING_BYTES", FINDING_BYTES),
+        ("NEAREST_BYTES", NEAREST_BYTES),
         ("ITEM_BYTES", ITEM_BYTES),
         ("TIP_BYTES", TIP_BYTES),
         ("FEED_BYTES", feed_bytes()),

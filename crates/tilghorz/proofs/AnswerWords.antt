@@ -14,6 +14,12 @@ use Rattle.formatter.specs.declared.FormatAnswer.the-variants as Format
 use Rattle.feed.specs.Bytes.{feedRow}
 use Rattle.feed.specs.declared.FeedAnswer.{FeedAnswer}
 use Rattle.feed.specs.declared.FeedAnswer.the-variants as Feed
+use Rattle.findings_near.specs.Around.{aroundRow}
+use Rattle.findings_near.specs.Nearest.{nearestRow}
+use Rattle.findings_near.specs.declared.AroundAnswer.{AroundAnswer}
+use Rattle.findings_near.specs.declared.AroundAnswer.the-variants as Around
+use Rattle.findings_near.specs.declared.NearestAnswer.{NearestAnswer}
+use Rattle.findings_near.specs.declared.NearestAnswer.the-variants as Nearest
 use Rattle.analysis.specs.Decisions.{mendRow}
 use Rattle.formatter.specs.Format.{formatRow}
 use Rattle.policy_sheet.specs.Calls.{sheetRow}
@@ -24,7 +30,7 @@ use Rattle.repair.specs.declared.RepairAnswer.{RepairAnswer}
 use Rattle.repair.specs.declared.RepairAnswer.the-variants as Repair
 use Rattle.tilghorz.specs.AnswerWord.{word}
 use Rattle.unicode.specs.Rows.{entryRow}
-use Rattle.tilghorz.specs.Theorems.{WordsDetermine}
+use Rattle.tilghorz.specs.Theorems.{HasBothValues, WordsDetermine}
 
 -- ---- words
 
@@ -90,6 +96,18 @@ sheet-rows (Sheet.Written n) (Sheet.Refused r) e = absurd (omega (arith, num e, 
 sheet-rows (Sheet.Refused r) (Sheet.Written n) e = absurd (omega (arith, num e, refusal-numbers r))
 sheet-rows (Sheet.Refused r) (Sheet.Refused s) e = ap Sheet.Refused (refusals r s e)
 
+pub nearest-rows : (a b : NearestAnswer) → nearestRow a ≡ nearestRow b → a ≡ b
+unfolding nearestRow
+nearest-rows Nearest.Written Nearest.Written e = refl
+nearest-rows Nearest.Written Nearest.NoFinding e = absurd (omega (arith, num e))
+nearest-rows Nearest.Written (Nearest.Refused r) e = absurd (omega (arith, num e, refusal-numbers r))
+nearest-rows Nearest.NoFinding Nearest.Written e = absurd (omega (arith, num e))
+nearest-rows Nearest.NoFinding Nearest.NoFinding e = refl
+nearest-rows Nearest.NoFinding (Nearest.Refused r) e = absurd (omega (arith, num e, refusal-numbers r))
+nearest-rows (Nearest.Refused r) Nearest.Written e = absurd (omega (arith, num e, refusal-numbers r))
+nearest-rows (Nearest.Refused r) Nearest.NoFinding e = absurd (omega (arith, num e, refusal-numbers r))
+nearest-rows (Nearest.Refused r) (Nearest.Refused s) e = ap Nearest.Refused (refusals r s e)
+
 -- ---- two values below 2^28 in one
 
 -- Both values of an answer are below 2^28.
@@ -121,7 +139,7 @@ unfolding repairRow
 both n k h = (omega arith, omega arith)
 
 pub both-values : (a : RepairAnswer) → BothSmall a → (n k : ℕ) → a ≡ Repair.Repaired n k
-    → (n < 2 ^ 28) × (k < 2 ^ 28) × (word (repairRow a) % 2 ^ 28 ≡ n) × (word (repairRow a) / 2 ^ 28 ≡ k)
+    → HasBothValues (word (repairRow a)) n k
 both-values a p n k e =
     let h = p n k e in
     let b = both n k h in (
@@ -130,4 +148,41 @@ both-values a p n k e =
       ap (λ (a : RepairAnswer). word (repairRow a) % 2 ^ 28) e ∙ b .0,
       ap (λ (a : RepairAnswer). word (repairRow a) / 2 ^ 28) e
           ∙ b .1,
+    )
+
+-- The same for the findings around a stretch.
+abbrev pub BothFew : AroundAnswer → Type 0
+BothFew a = (n k : ℕ) → a ≡ Around.Listed n k → (n < 2 ^ 28) × (k < 2 ^ 28)
+
+pub around-rows : (a b : AroundAnswer) → BothFew a → BothFew b → aroundRow a ≡ aroundRow b → a ≡ b
+unfolding aroundRow
+around-rows (Around.Listed n k) (Around.Listed m l) p q e =
+    let x = p n k refl in
+    let y = q m l refl in
+    let f : n ≡ m = omega (arith, val e) in
+    let g : k ≡ l = omega (arith, val e) in
+    ap₂ (λ (i j : ℕ). Around.Listed i j) f g
+around-rows (Around.Listed n k) (Around.Refused r) p q e = absurd (omega (arith, num e, refusal-numbers r))
+around-rows (Around.Refused r) (Around.Listed n k) p q e = absurd (omega (arith, num e, refusal-numbers r))
+around-rows (Around.Refused r) (Around.Refused s) p q e = ap Around.Refused (refusals r s e)
+
+pub around-small : (a : AroundAnswer) → BothFew a → ((r : Refusal) → a ≡ Around.Refused r → refusalRow r .value < 2 ^ 28)
+    → aroundRow a .value < 2 ^ 56
+unfolding aroundRow
+around-small (Around.Listed n k) p q = let x = p n k refl in omega arith
+around-small (Around.Refused r) p q = omega (arith, q r refl)
+
+both-near : (n k : ℕ) → (n < 2 ^ 28) × (k < 2 ^ 28)
+    → (word (aroundRow (Around.Listed n k)) % 2 ^ 28 ≡ n) × (word (aroundRow (Around.Listed n k)) / 2 ^ 28 ≡ k)
+unfolding aroundRow
+both-near n k h = (omega arith, omega arith)
+
+pub both-numbers : (a : AroundAnswer) → BothFew a → (n k : ℕ) → a ≡ Around.Listed n k → HasBothValues (word (aroundRow a)) n k
+both-numbers a p n k e =
+    let h = p n k e in
+    let b = both-near n k h in (
+      h .0,
+      h .1,
+      ap (λ (a : AroundAnswer). word (aroundRow a) % 2 ^ 28) e ∙ b .0,
+      ap (λ (a : AroundAnswer). word (aroundRow a) / 2 ^ 28) e ∙ b .1,
     )

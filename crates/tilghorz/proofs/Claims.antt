@@ -4,6 +4,9 @@ use Rattle.unicode.specs.Unicode.{variationEntry}
 use Rattle.analysis.specs.Decisions.{mendRow}
 use Rattle.base.specs.Answers.{listRow, writeRow}
 use Rattle.feed.specs.Bytes.{feedRow}
+use Rattle.findings_near.specs.Around.{aroundRow}
+use Rattle.findings_near.specs.Nearest.{nearestRow}
+use Rattle.findings_near.proofs.Calls.{around-call}
 use Rattle.formatter.specs.Format.{formatRow}
 use Rattle.unicode.specs.Rows.{entryRow}
 use Rattle.policy_sheet.specs.Calls.{sheetRow}
@@ -13,15 +16,20 @@ use Rattle.repair.specs.Repair.{repairRow}
 use Rattle.repair.proofs.Outcomes.{the-call}
 use Rattle.tilghorz.specs.Theorems.{WordsDetermineAnswers, WordsHaveBothValues}
 use Rattle.tilghorz.proofs.SmallFeeds.{begun-small, called-small, totals-small}
+use Rattle.tilghorz.proofs.SmallNear.{around-refusal, nearest-small}
 use Rattle.tilghorz.proofs.SmallAnswers.{default-small, entry-small, format-small, items-small, list-small, mend-small}
 use Rattle.tilghorz.proofs.SmallTips.{tips-small}
 use Rattle.base.proofs.Rows.{list-rows, write-rows}
 use Rattle.tilghorz.proofs.AnswerWords.{
+  around-rows,
+  around-small,
+  both-numbers,
   both-values,
   entry-rows,
   feed-rows,
   format-rows,
   mend-rows,
+  nearest-rows,
   repair-rows,
   repair-small,
   sheet-rows,
@@ -46,8 +54,17 @@ words-determine-answers = (
   words-determine sheetRow _ (λ c. omega (arith, every-read-call (c .0) (c .1) .small)) (λ i j. sheet-rows _ _),
   words-determine sheetRow _ (λ c. omega (arith, every-write-call (c .0) (c .1) .small)) (λ i j. sheet-rows _ _),
   words-determine listRow _ (λ c. omega (arith, tips-small (c .0) (c .1) (c .2))) (λ i j. list-rows _ _),
+  words-determine aroundRow _
+      (λ c. around-small _ (around-call (c .0) (c .1) (c .2) (c .3) (c .4) (c .5) .small)
+      (around-refusal (c .0) (c .1) (c .2) (c .3) (c .4) (c .5)))
+      (λ i j. around-rows _ _ (around-call (i .0) (i .1) (i .2) (i .3) (i .4) (i .5) .small)
+      (around-call (j .0) (j .1) (j .2) (j .3) (j .4) (j .5) .small)),
+  words-determine nearestRow _ (λ c. omega (arith, nearest-small (c .0) (c .1) (c .2) (c .3))) (λ i j. nearest-rows _ _),
 )
 
 pub words-have-both-values : WordsHaveBothValues
 unfolding WordsHaveBothValues
-words-have-both-values text out = both-values _ (the-call text out .small)
+words-have-both-values = (
+  λ text out. both-values _ (the-call text out .small),
+  λ text policy from to inner outer. both-numbers _ (around-call text policy from to inner outer .small),
+)

@@ -5,4 +5,5 @@ pub mod FewItems
 pub mod SmallAnswers
 pub mod SmallFeeds
 pub mod SmallTips
+pub mod SmallNear
 pub mod Claims

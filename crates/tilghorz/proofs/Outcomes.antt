@@ -6,6 +6,8 @@ use Rattle.base.specs.Answers.{EndsAs}
 use Rattle.base.specs.Refusals.{After, RefusalRow}
 use Rattle.feed.specs.Bytes.{Called, EndsCalled, feedRow}
 use Rattle.feed.specs.declared.FeedAnswer.{FeedAnswer}
+use Rattle.findings_near.specs.Around.{AfterBoth, EndsAround, aroundRow}
+use Rattle.findings_near.specs.declared.AroundAnswer.{AroundAnswer}
 use Rattle.tilghorz.specs.AnswerWord.{word}
 
 pub outcome : {R : Type 0} (row : R → RefusalRow) {r : R} {out : List ℕ} {a : After R ℕ} {w : ℕ} → EndsAs row a r out → w ≡ word (row r)
@@ -16,3 +18,8 @@ outcome row e f = (f ∙ ap word (e .answer .same-row), e .buffer)
 pub feed-outcome : {r : FeedAnswer} {feed out : List ℕ} {a : Called} {w : ℕ} → EndsCalled a r feed out → w ≡ word (feedRow r)
     → (w ≡ word (feedRow (a .answer))) × ((feed ≡ a .feed) × (out ≡ a .out))
 feed-outcome e f = (f ∙ ap word (e .answer .same-row), (e .feed-bytes, e .out-bytes))
+
+-- The same for the call around a stretch, which has two tables.
+pub around-outcome : {r : AroundAnswer} {inner outer : List ℕ} {a : AfterBoth} {w : ℕ} → EndsAround a r inner outer → w ≡ word (aroundRow r)
+    → (w ≡ word (aroundRow (a .answer))) × ((inner ≡ a .inner) × (outer ≡ a .outer))
+around-outcome e f = (f ∙ ap word (e .answer .same-row), (e .inner-table, e .outer-table))

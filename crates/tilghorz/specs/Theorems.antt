@@ -18,6 +18,9 @@ use Rattle.feed.specs.Bytes.{begun, called, eightWords, feedRow, totalsOf}
 use Rattle.feed.specs.Calls as Feed
 use Rattle.policy_sheet.specs.Calls.{readCall, sheetRow, writeCall}
 use Rattle.membership_flips.specs.Flips.{listTips}
+use Rattle.findings_near.specs.Around.{aroundRow, listAround}
+use Rattle.findings_near.specs.Nearest.{giveNearest, nearestRow}
+use Rattle.findings_near.specs.declared.AroundAnswer.the-variants.{Listed}
 use Rattle.repair.specs.Repair.{repair, repairRow}
 use Rattle.repair.specs.declared.RepairAnswer.the-variants.{Repaired}
 use Rattle.tilghorz.specs.AnswerWord.{word}
@@ -32,7 +35,7 @@ pub record WordsDetermine {I A : Type 0} (row : A → RefusalRow) (answer : I �
 
 -- The words of each C function determine its answers. In order: formatting, listing findings, mending, listing items, the default policy,
 -- a variation entry, repairing, beginning a feed, a piece or an end of a feed, the totals of a feed, reading a sheet, writing a sheet,
--- listing the flips that tip a text.
+-- listing the flips that tip a text, the findings around a stretch, the nearest finding.
 unfoldable pub WordsDetermineAnswers : Type 0
 WordsDetermineAnswers =
     WordsDetermine formatRow (λ (c : List ℕ × List ℕ × List ℕ). format (c .0) (c .1) (c .2) .answer)
@@ -48,11 +51,20 @@ WordsDetermineAnswers =
     × WordsDetermine sheetRow (λ (c : List ℕ × List ℕ). readCall (c .0) (c .1) .answer)
     × WordsDetermine sheetRow (λ (c : List ℕ × List ℕ). writeCall (c .0) (c .1) .answer)
     × WordsDetermine listRow (λ (c : List ℕ × List ℕ × List ℕ). listTips (c .0) (c .1) (c .2) .answer)
+    × WordsDetermine aroundRow
+    (λ (c : List ℕ × List ℕ × ℕ × ℕ × List ℕ × List ℕ). listAround (c .0) (c .1) (c .2) (c .3) (c .4) (c .5) .answer)
+    × WordsDetermine nearestRow (λ (c : List ℕ × List ℕ × ℕ × List ℕ). giveNearest (c .0) (c .1) (c .2) (c .3) .answer)
 
--- The word of a repaired text has both values: its low 28 bits are the length of the repaired text, and the 28 bits above them are the
--- number of replacements.
+-- The low 28 bits of a word are the first value, and the bits above them are the second. Both are below 2^28.
+abbrev pub HasBothValues : ℕ → ℕ → ℕ → Type 0
+HasBothValues w first second = (first < 2 ^ 28) × (second < 2 ^ 28) × (w % 2 ^ 28 ≡ first) × (w / 2 ^ 28 ≡ second)
+
+-- A word with two values has both: the length of a repaired text and the number of replacements; the number of findings inside a stretch
+-- and of those that only share a byte with it.
 unfoldable pub WordsHaveBothValues : Type 0
 WordsHaveBothValues =
-    (text out : List ℕ) (len replaced : ℕ) → repair text out .answer ≡ Repaired len replaced
-    → (len < 2 ^ 28) × (replaced < 2 ^ 28) × (word (repairRow (repair text out .answer)) % 2 ^ 28 ≡ len)
-    × (word (repairRow (repair text out .answer)) / 2 ^ 28 ≡ replaced)
+    ((text out : List ℕ) (len replaced : ℕ) → repair text out .answer ≡ Repaired len replaced
+    → HasBothValues (word (repairRow (repair text out .answer))) len replaced)
+    × ((text policy : List ℕ) (from to : ℕ) (inner outer : List ℕ) (inside sharing : ℕ)
+    → listAround text policy from to inner outer .answer ≡ Listed inside sharing
+    → HasBothValues (word (aroundRow (listAround text policy from to inner outer .answer))) inside sharing)

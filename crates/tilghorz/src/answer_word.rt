@@ -6,6 +6,8 @@ ghost use Rattle.analysis.specs.Decisions.{mendRow};
 ghost use Rattle.base.specs.Answers.{listRow, twoValues, writeRow};
 ghost use Rattle.feed.specs.Bytes.{feedRow};
 ghost use Rattle.policy_sheet.specs.Calls.{sheetRow};
+ghost use Rattle.findings_near.specs.Around.{aroundRow};
+ghost use Rattle.findings_near.specs.Nearest.{nearestRow};
 ghost use Rattle.formatter.specs.Format.{formatRow};
 ghost use Rattle.repair.specs.Repair.{repairRow};
 ghost use Rattle.tilghorz.specs.AnswerWord.{word};
@@ -17,6 +19,8 @@ use base::WriteAnswer;
 use base::refusals::refusal_number;
 use base::refusals::refusal_value;
 use feed::FeedAnswer;
+use findings_near::AroundAnswer;
+use findings_near::NearestAnswer;
 use formatter::FormatAnswer;
 use policy_sheet::SheetAnswer;
 use repair::RepairAnswer;
@@ -28,7 +32,7 @@ const VALUES: u64 = 0x100_0000_0000_0000;
 // One more than the largest of two values in a word: each of the two has 28 bits.
 const HALF_VALUES: u64 = 0x1000_0000;
 
-// The number of an answer that says "nothing to do": the text needs no change, or there is no such entry.
+// The number of an answer that says "nothing to do": the text needs no change, or there is no such entry or no finding.
 const NOTHING: u64 = 255;
 
 // The word of a number and a value.
@@ -131,5 +135,26 @@ pub fn sheet_word(answer: SheetAnswer) -> u64
     match answer {
         SheetAnswer::Written { len } => word_of(0, len),
         SheetAnswer::Refused(refusal) => refusal_word(refusal),
+    }
+}
+
+// The word of the answer around a stretch.
+pub fn around_word(answer: AroundAnswer) -> u64
+    ensures { λ r. ⌜ r ≡ word (aroundRow answer) ⌝ }
+{
+    match answer {
+        AroundAnswer::Listed { inside, sharing } => word_of_two(inside, sharing),
+        AroundAnswer::Refused(refusal) => refusal_word(refusal),
+    }
+}
+
+// The word of the answer to the nearest finding.
+pub fn nearest_word(answer: NearestAnswer) -> u64
+    ensures { λ r. ⌜ r ≡ word (nearestRow answer) ⌝ }
+{
+    match answer {
+        NearestAnswer::Written => word_of(0, 1),
+        NearestAnswer::NoFinding => word_of(NOTHING, 0),
+        NearestAnswer::Refused(refusal) => refusal_word(refusal),
     }
 }

@@ -20,13 +20,17 @@ ghost use Rattle.feed.specs.Bytes.{begun, called, eightWords, feedRow, totalsOf
 ghost use Rattle.feed.specs.Calls as Calls;
 ghost use Rattle.policy_sheet.specs.Calls.{readCall, sheetRow, writeCall};
 ghost use Rattle.membership_flips.specs.Flips.{listTips};
+ghost use Rattle.findings_near.specs.Around.{aroundRow, listAround};
+ghost use Rattle.findings_near.specs.Nearest.{giveNearest, nearestRow};
 ghost use Rattle.tilghorz.specs.AnswerWord.{word};
 ghost use Rattle.unicode.specs.Rows.{entryRow};
+use answer_word::around_word;
 use answer_word::entry_word;
 use answer_word::feed_word;
 use answer_word::format_word;
 use answer_word::list_word;
 use answer_word::mend_word;
+use answer_word::nearest_word;
 use answer_word::repair_word;
 use answer_word::sheet_word;
 use answer_word::write_word;
@@ -86,6 +90,46 @@ pub extern "C" fn tilghorz_repair(text: &[u8], out: &mut [u8]) -> u64
     ensures bytes { λ _. ⌜ now (out .exit) ≡ repair (now (text .entry)) (now (out .entry)) .buffer ⌝ }
 {
     repair_word(repair::repair(text, out))
+}
+
+// Lists the findings that lie wholly inside the bytes from `from` up to, not including, `to`, and those that only share a byte with them. It
+// may answer refusals 1, 2, 3 and 7. If it is done, the low 28 bits of the value are the number of rows in the table `inside`, and the bits
+// above them are the number of rows in the table `sharing`.
+#[no_mangle]
+pub extern "C" fn tilghorz_around(
+    text: &[u8],
+    policy: &[u8],
+    from: u64,
+    to: u64,
+    inside: &mut [u8],
+    sharing: &mut [u8],
+) -> u64
+    ensures word { λ r. ⌜ r ≡ word (aroundRow (listAround (now (text .entry)) (now (policy .entry)) from to (now (inside .entry))
+        (now (sharing .entry)) .answer)) ⌝ }
+    ensures first { λ _. ⌜ now (inside .exit) ≡ listAround (now (text .entry)) (now (policy .entry)) from to (now (inside .entry))
+        (now (sharing .entry)) .inner ⌝ }
+    ensures second { λ _. ⌜ now (sharing .exit) ≡ listAround (now (text .entry)) (now (policy .entry)) from to (now (inside .entry))
+        (now (sharing .entry)) .outer ⌝ }
+{
+    around_word(findings_near::around::findings_around(
+        text,
+        policy,
+        from as usize,
+        to as usize,
+        inside,
+        sharing,
+    ))
+}
+
+// Writes the finding that is nearest to an offset: its row, then the distance, 8 bytes each. It may answer "nothing to do", or refusals 1,
+// 2, 3 and 7.
+#[no_mangle]
+pub extern "C" fn tilghorz_nearest(text: &[u8], policy: &[u8], offset: u64, row: &mut [u8]) -> u64
+    ensures word { λ r. ⌜ r ≡ word (nearestRow
+        (giveNearest (now (text .entry)) (now (policy .entry)) offset (now (row .entry)) .answer)) ⌝ }
+    ensures bytes { λ _. ⌜ now (row .exit) ≡ giveNearest (now (text .entry)) (now (policy .entry)) offset (now (row .entry)) .buffer ⌝ }
+{
+    nearest_word(findings_near::nearest::nearest_finding(text, policy, offset as usize, row))
 }
 
 // Begins a feed under a policy in a lent buffer. It may answer the refusals 2 and 8. Its value is the number of bytes of a feed.

@@ -34,6 +34,22 @@ impl Calls for Library {
         sys::repair(text, out)
     }
 
+    fn around(
+        &self,
+        text: &[u8],
+        policy: &[u8],
+        from: u64,
+        to: u64,
+        inside: &mut [u8],
+        sharing: &mut [u8],
+    ) -> u64 {
+        sys::around(text, policy, from, to, inside, sharing)
+    }
+
+    fn nearest(&self, text: &[u8], policy: &[u8], offset: u64, row: &mut [u8]) -> u64 {
+        sys::nearest(text, policy, offset, row)
+    }
+
     fn feed_begin(&self, policy: &[u8], feed: &mut [u8]) -> u64 {
         sys::feed_begin(policy, feed)
     }

@@ -9,6 +9,7 @@
 //! | [`cases`] | makes the cases: sizes, lengths of policies and decisions, and drawn ones |
 //! | [`feeds`] | makes the calls on feeds |
 //! | [`sheets`] | makes the calls on sheets |
+//! | [`near`] | makes the calls around a stretch and for the nearest finding |
 //! | [`command`] | the command line of the program `boundary` |
 //!
 //! An input that is read past its end gives another answer where the bytes after it count. Where it stands at the end
@@ -18,5 +19,6 @@ pub mod case;
 pub mod cases;
 pub mod command;
 pub mod feeds;
+pub mod near;
 pub mod placed;
 pub mod sheets;

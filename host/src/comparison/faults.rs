@@ -161,10 +161,30 @@ pub enum Fault {
     TipOrder,
     /// The last membership of the list is not told.
     TipMissing,
+    /// The distance after a finding is counted from its end, and not from its last byte.
+    LastByteAsEnd,
+    /// A finding that ends where the stretch begins only shares a byte with it.
+    TouchingShares,
+    /// A finding that only shares a byte with the stretch is listed inside it.
+    SharingAsInside,
+    /// An empty stretch within a finding shares a byte with it.
+    EmptyStretchShares,
+    /// A stretch that ends before its start is turned round.
+    StretchTurned,
+    /// Of two tables that are short the second gives the number wanted.
+    SharingTableFirst,
+    /// The first table is written although the second is short.
+    ShortTableWrites,
+    /// Of two findings that are equally near the later is given.
+    LaterOfEquals,
+    /// An offset past the text is cut at its end.
+    OffsetCut,
+    /// A text without a finding gives 7 if the row is short.
+    NoneNeedsRow,
 }
 
 /// The faults with their names.
-pub const FAULTS: [(&str, Fault); 79] = [
+pub const FAULTS: [(&str, Fault); 89] = [
     ("keycap-rule", Fault::KeycapRule),
     ("finding-span", Fault::FindingSpan),
     ("item-span", Fault::ItemSpan),
@@ -244,4 +264,14 @@ pub const FAULTS: [(&str, Fault); 79] = [
     ("tip-before-tag", Fault::TipBeforeTag),
     ("tip-order", Fault::TipOrder),
     ("tip-missing", Fault::TipMissing),
+    ("last-byte-as-end", Fault::LastByteAsEnd),
+    ("touching-shares", Fault::TouchingShares),
+    ("sharing-as-inside", Fault::SharingAsInside),
+    ("empty-stretch-shares", Fault::EmptyStretchShares),
+    ("stretch-turned", Fault::StretchTurned),
+    ("sharing-table-first", Fault::SharingTableFirst),
+    ("short-table-writes", Fault::ShortTableWrites),
+    ("later-of-equals", Fault::LaterOfEquals),
+    ("offset-cut", Fault::OffsetCut),
+    ("none-needs-row", Fault::NoneNeedsRow),
 ];

@@ -5,6 +5,7 @@ use std::iter::repeat_n;
 
 use super::faults::Fault;
 use super::faulty_feed::FaultyFeed;
+use super::faulty_near;
 use super::faulty_sheet::FaultySheet;
 use crate::calls::{Answer, Calls, FINDING_BYTES, ITEM_BYTES, TIP_BYTES};
 use crate::reference::calls::LONGEST_TEXT;
@@ -36,7 +37,7 @@ impl<'a> Faulty<'a> {
     }
 
     /// A call that takes a text, with the faults that can be in any such call.
-    fn around(
+    fn with_text(
         &self,
         text: &[u8],
         policy: &[u8],
@@ -211,7 +212,7 @@ impl Calls for Faulty<'_> {
             let is_taken = !answer.is_refusal() || answer.number == 8;
             return if is_taken { Answer::NOTHING } else { answer }.word();
         }
-        let word = self.around(text, policy, out, |text, policy, out| {
+        let word = self.with_text(text, policy, out, |text, policy, out| {
             self.calls.format(text, policy, out)
         });
         let answer = Answer::of_word(word);
@@ -230,7 +231,7 @@ impl Calls for Faulty<'_> {
     }
 
     fn list(&self, text: &[u8], policy: &[u8], table: &mut [u8]) -> u64 {
-        let word = self.around(text, policy, table, |text, policy, table| {
+        let word = self.with_text(text, policy, table, |text, policy, table| {
             self.calls.list(text, policy, table)
         });
         let answer = Answer::of_word(word);
@@ -261,7 +262,7 @@ impl Calls for Faulty<'_> {
         {
             return answer.word();
         }
-        let word = self.around(text, policy, out, |text, policy, out| {
+        let word = self.with_text(text, policy, out, |text, policy, out| {
             self.calls.mend(text, policy, offset, decisions, out)
         });
         let answer = self.mend_answer(Answer::of_word(word), decisions, out);
@@ -276,7 +277,7 @@ impl Calls for Faulty<'_> {
         if self.fault == Fault::EndsEarly {
             return self.scan_but_one(text, table).word();
         }
-        let word = self.around(text, &[], table, |text, _, table| {
+        let word = self.with_text(text, &[], table, |text, _, table| {
             self.calls.scan(text, table)
         });
         let answer = Answer::of_word(word);
@@ -298,7 +299,7 @@ impl Calls for Faulty<'_> {
     }
 
     fn repair(&self, text: &[u8], out: &mut [u8]) -> u64 {
-        let word = self.around(text, &[], out, |text, _, out| match self.fault {
+        let word = self.with_text(text, &[], out, |text, _, out| match self.fault {
             Fault::ReplacesEachByte
             | Fault::JoinsBadPlaces
             | Fault::SwallowsNextByte
@@ -318,7 +319,7 @@ impl Calls for Faulty<'_> {
     }
 
     fn tips(&self, text: &[u8], policy: &[u8], table: &mut [u8]) -> u64 {
-        let word = self.around(text, policy, table, |text, policy, table| {
+        let word = self.with_text(text, policy, table, |text, policy, table| {
             match self.fault {
                 Fault::TipKeycapAsOrdinary => {
                     let text = exchanged(text, |character| character == '\u{20E3}', "\u{4E2D}");
@@ -345,6 +346,23 @@ impl Calls for Faulty<'_> {
             _ => {}
         }
         answer.word()
+    }
+
+    fn around(
+        &self,
+        text: &[u8],
+        policy: &[u8],
+        from: u64,
+        to: u64,
+        inside: &mut [u8],
+        sharing: &mut [u8],
+    ) -> u64 {
+        let tables = [inside, sharing];
+        faulty_near::around(self.calls, self.fault, (text, policy), (from, to), tables)
+    }
+
+    fn nearest(&self, text: &[u8], policy: &[u8], offset: u64, row: &mut [u8]) -> u64 {
+        faulty_near::nearest(self.calls, self.fault, (text, policy), offset, row)
     }
 
     fn feed_begin(&self, policy: &[u8], feed: &mut [u8]) -> u64 {

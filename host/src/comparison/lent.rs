@@ -5,6 +5,7 @@ use std::sync::LazyLock;
 
 use crate::calls::Answer;
 use crate::reference::calls::Draft;
+use crate::reference::near::Drafts;
 
 /// The bytes before and after a lent buffer that are watched too. They are an odd number, so that the buffer begins at
 /// an odd place.
@@ -118,6 +119,39 @@ pub fn lend_feed(
         same(name, &feed.to_vec(), &changed, |feed| hexadecimal(feed))?;
     }
     Ok(changed)
+}
+
+/// Makes a call that writes to two tables, each between `margins` of bytes, and compares the answer and both tables with
+/// what the drafts say.
+pub fn lend_two(
+    margins: [[usize; 2]; 2],
+    name: impl Fn() -> String,
+    drafts: &Drafts,
+    rooms: [usize; 2],
+    call: impl FnOnce(&mut [u8], &mut [u8]) -> u64,
+) -> Result<(), Difference> {
+    let (answer, written) = drafts.with_rooms(rooms);
+    let [first, second] = margins;
+    let mut buffers = [first, second].map(|_| Vec::new());
+    for ((buffer, [before, after]), room) in buffers.iter_mut().zip(margins).zip(rooms) {
+        *buffer = pattern(before + room + after);
+    }
+    let mut expected = buffers.clone();
+    for ((expected, [before, _]), written) in expected.iter_mut().zip(margins).zip(written) {
+        expected[before..before + written.len()].copy_from_slice(written);
+    }
+    let [inside, sharing] = &mut buffers;
+    let found = Answer::of_word(call(
+        &mut inside[first[0]..first[0] + rooms[0]],
+        &mut sharing[second[0]..second[0] + rooms[1]],
+    ));
+    let name = |what: &str| format!("{}, rooms {rooms:?}{what}", name());
+    same(|| name(""), &answer, &found, Answer::to_string)?;
+    for ((buffer, expected), table) in buffers.iter().zip(&expected).zip(["inside", "sharing"]) {
+        let name = || name(&format!(": the table {table}"));
+        same(name, expected, buffer, |bytes| hexadecimal(bytes))?;
+    }
+    Ok(())
 }
 
 /// What a byte of a buffer with margins is.

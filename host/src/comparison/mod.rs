@@ -9,6 +9,7 @@
 //! | [`list_case`] | compares a list of mending calls with its book |
 //! | [`tip_case`] | compares the memberships that decide one text under one policy |
 //! | [`repair_case`] | compares what taking in does to one damaged text |
+//! | [`near_case`] | compares the findings around a stretch and the nearest finding |
 //! | [`feed_case`] | compares a list of calls on a feed |
 //! | [`feed_lists`] | makes such lists: threads cut in every way and at random, with refused calls between |
 //! | [`feed_states`] | makes calls on bytes that are no feed |
@@ -20,13 +21,14 @@
 //! | [`reduce`] | makes a text or a list with a difference smaller |
 //! | [`run`], [`report`] | runs all of it, within bounds, and reports the first difference |
 //! | [`programs`] | compares the two programs |
-//! | [`faults`], [`faulty`], [`faulty_feed`], [`faulty_sheet`] | faults that are planted into calls, which a run must report |
+//! | [`faults`], [`faulty`], [`faulty_feed`], [`faulty_near`], [`faulty_sheet`] | faults that are planted into calls, which a run must report |
 //! | [`command`] | the command line of the program |
 
 pub mod command;
 pub mod faults;
 pub mod faulty;
 pub mod faulty_feed;
+pub mod faulty_near;
 pub mod faulty_sheet;
 pub mod feed_case;
 pub mod feed_lists;
@@ -34,6 +36,7 @@ pub mod feed_states;
 pub mod lent;
 pub mod limits;
 pub mod list_case;
+pub mod near_case;
 pub mod policies;
 pub mod programs;
 pub mod published;

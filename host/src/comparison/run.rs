@@ -16,6 +16,7 @@ use crate::reference::characters;
 use crate::reference::repair::repaired;
 
 mod feeds;
+mod near;
 mod sheets;
 
 /// The bounds of a run.
@@ -133,6 +134,7 @@ impl<'a> Run<'a> {
         self.every_damaged_text()?;
         self.every_feed()?;
         self.every_tip()?;
+        self.every_near()?;
         self.drawn()?;
         if self.options.limits {
             self.limits()?;
@@ -332,11 +334,12 @@ impl<'a> Run<'a> {
         self.told("every text", texts, &what)
     }
 
-    /// Drawn texts, damaged ones, the same taken in, lists of mending calls and of calls on feeds, and sheets, in turns.
+    /// Drawn texts, damaged ones, the same taken in, lists of mending calls and of calls on feeds, sheets, memberships and
+    /// stretches, in turns.
     fn drawn(&mut self) -> Result<(), Stop> {
         let mut cases = 0;
         let mut calls = 0;
-        let (mut feeds, mut feed_calls) = (0, 0);
+        let (mut feeds, mut feed_calls, mut stretches) = (0, 0, 0);
         while cases < self.options.cases && !self.is_over() {
             let mut random = Random::from_seed(self.options.seed ^ (cases << 20));
             self.drawn_text(&mut random)?;
@@ -344,6 +347,7 @@ impl<'a> Run<'a> {
             self.repaired_text(&mut random)?;
             calls += self.drawn_list(&mut random)?;
             self.drawn_tips(&mut random, cases % TIPS_BY_CRATE_IN == 0)?;
+            stretches += self.drawn_near(&mut random)?;
             // A thread has many calls, each with the thread so far formatted anew.
             if cases % FEED_IN == 0 {
                 feed_calls += self.drawn_feed(&mut random)?;
@@ -366,6 +370,8 @@ impl<'a> Run<'a> {
         self.told("lists", cases, &what)?;
         let what = "drawn sheets, damaged ones, and policies each";
         self.told("sheets", feeds, what)?;
+        let what = format!("texts, {stretches} stretches and offsets");
+        self.told("near", cases, &what)?;
         let what = format!("drawn threads and bytes that are no feed, {feed_calls} calls");
         self.told("feeds", feeds, &what)
     }

@@ -16,6 +16,7 @@
 //! | [`rules`] | counts and replacements |
 //! | [`positions`] | characters and UTF-16 units before an offset |
 //! | [`calls`] | formatting, listing, mending, scanning and repairing, with their refusals |
+//! | [`near`] | the findings around a stretch, and the nearest finding |
 //! | [`book`] | a list of mending calls |
 //! | [`feed`] | a thread that comes in pieces |
 //! | [`kept`] | feeds in lent bytes |
@@ -29,6 +30,7 @@ pub mod characters;
 pub mod feed;
 pub mod items;
 pub mod kept;
+pub mod near;
 pub mod policy;
 pub mod positions;
 pub mod programs;

@@ -10,10 +10,11 @@ use crate::fix::Fix;
 use crate::follow::Follow;
 use crate::format::Format;
 use crate::help::Topic;
+use crate::place::Place;
 use crate::policy::{Edit, Policy, PolicyFile};
 use crate::repair::Repair;
 use crate::replace::InPlace;
-use crate::report::Report;
+use crate::report::{Asked, Report};
 use crate::rewriting::{Mode, Rewriting};
 use crate::show::Show;
 use crate::source::Source;
@@ -329,24 +330,53 @@ fn are_files(names: &[Source]) -> Result<(), String> {
 
 fn report(words: Words) -> Result<Report, String> {
     let (mut json, mut items, mut repairs) = (false, false, false);
+    let (mut at, mut from, mut to) = (None, None, None);
     let mut going = Going::default();
     let (names, policy) = texts(words, |option, words| {
-        Ok(set(&mut json, "--json", option)
-            || set(&mut items, "--items", option)
-            || set(&mut repairs, REPAIR, option)
-            || going.take(option, words)?)
+        let place = match option {
+            "--at" => &mut at,
+            "--from" => &mut from,
+            "--to" => &mut to,
+            _ => {
+                return Ok(set(&mut json, "--json", option)
+                    || set(&mut items, "--items", option)
+                    || set(&mut repairs, REPAIR, option)
+                    || going.take(option, words)?);
+            }
+        };
+        *place = Some(Place::of(option, &words.text(option)?)?);
+        Ok(true)
     })?;
     going.test()?;
     let Going { selection, manner } = going;
     Ok(Report {
         json,
-        items,
+        asked: asked(items, at, from, to)?,
         repairs,
         policy,
         names,
         selection,
         manner,
     })
+}
+
+/// What a report is asked for.
+fn asked(
+    items: bool,
+    at: Option<Place>,
+    from: Option<Place>,
+    to: Option<Place>,
+) -> Result<Asked, String> {
+    let together = |options: &str| Err(format!("{options} cannot be used together"));
+    match (items, at, from.or(to)) {
+        (true, Some(_), _) => together("--items and --at"),
+        (true, _, Some(_)) => together("--items and --from or --to"),
+        (_, Some(_), Some(_)) => together("--at and --from or --to"),
+        (true, None, None) => Ok(Asked::Items),
+        (false, Some(place), None) => Ok(Asked::At(place)),
+        (false, None, Some(_)) => Ok(Asked::Between(from.unwrap_or(Place::Byte(0)), to)),
+        (false, None, None) => Ok(Asked::Findings),
+    }
 }
 
 fn fix(words: Words) -> Result<Fix, String> {

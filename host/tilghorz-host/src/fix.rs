@@ -2,7 +2,7 @@
 
 use std::io::{self, Write};
 
-use tilghorz::{Presentation, Refusal};
+use tilghorz::{Nearest, Presentation, Refusal};
 
 use crate::console::{Console, Status};
 use crate::intake::{self, Purpose};
@@ -52,7 +52,8 @@ impl Fix {
             Ok(mended) => mended,
             Err(refusal) => {
                 console.complain(&intake::refused(&self.source, refusal, &taken));
-                self.advise(refusal, console);
+                let nearest = tilghorz::nearest(&taken.text, &policy, self.at);
+                self.advise(refusal, nearest.ok().flatten(), console);
                 return Ok(Status::Fault);
             }
         };
@@ -82,19 +83,20 @@ impl Fix {
         folders.sync().into_iter().next().map_or(Ok(()), Err)
     }
 
-    /// Says what to do about a refusal.
-    fn advise(&self, refusal: Refusal, console: &mut Console) {
-        match refusal {
-            Refusal::NoFinding => {
-                let option = if self.repairs { " --repair" } else { "" };
+    /// Says what to do about a refusal. The nearest finding is that of the text, if it has one.
+    fn advise(&self, refusal: Refusal, nearest: Option<Nearest>, console: &mut Console) {
+        match (refusal, nearest) {
+            (Refusal::NoFinding, Some(Nearest { finding, .. })) => {
+                let (start, end) = (finding.start, finding.end);
                 console.say(&format_args!(
-                    "try: tilghorz-host report{option}, which lists where findings start"
+                    "the nearest finding is from byte {start} to {end}; try: --at {start}"
                 ));
             }
-            Refusal::WrongNumberOfDecisions { wanted: 0 } => {
+            (Refusal::NoFinding, None) => console.say(&"the text has no finding"),
+            (Refusal::WrongNumberOfDecisions { wanted: 0 }, _) => {
                 console.say(&"use fix without --decide: the finding has no decision")
             }
-            Refusal::WrongNumberOfDecisions { wanted } => {
+            (Refusal::WrongNumberOfDecisions { wanted }, _) => {
                 let decisions = vec!["text"; wanted.min(3)].join(" ");
                 let more = if wanted > 3 { " .." } else { "" };
                 console.say(&format_args!(

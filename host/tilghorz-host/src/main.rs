@@ -17,6 +17,7 @@ mod ignore;
 mod intake;
 mod interrupt;
 mod json;
+mod place;
 mod policy;
 mod repair;
 mod replace;

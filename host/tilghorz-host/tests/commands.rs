@@ -104,6 +104,69 @@ fn report_names_the_counts_in_json() {
 }
 
 #[test]
+fn report_has_the_findings_around_a_stretch() {
+    let folder = Folder::new("around");
+    folder.write("message", format!("Hi\n{MESSAGE}").as_bytes());
+    let report = |arguments: &[&str]| folder.run(&[&["report", "message"], arguments].concat());
+    let (first, second) = ("3 7 0 0 0 0 0 0 1 0", "8 11 0 0 0 0 0 0 0 1");
+    for (arguments, lines) in [
+        (
+            vec!["--from", "3", "--to", "11"],
+            format!("inside {first}\ninside {second}\n"),
+        ),
+        (
+            vec!["--from", "4", "--to", "11"],
+            format!("inside {second}\nsharing {first}\n"),
+        ),
+        (vec!["--to", "2:2"], format!("sharing {first}\n")),
+        (vec!["--from", "2:3"], format!("inside {second}\n")),
+        (vec!["--from", "5", "--to", "5"], String::new()),
+        (vec!["--from", "9", "--to", "4"], String::new()),
+        (vec!["--at", "7"], format!("distance 1: {first}\n")),
+        (vec!["--at", "2:3"], format!("distance 1: {first}\n")),
+        (vec!["--at", "20"], format!("distance 10: {second}\n")),
+    ] {
+        let ran = report(&arguments);
+        assert_eq!(
+            (ran.status, ran.text()),
+            (0, lines.as_str()),
+            "{arguments:?}"
+        );
+    }
+    let ran = report(&["--at", "0", "--json"]);
+    assert!(
+        ran.text().contains("\"nearest\":{\"start\":3,"),
+        "{}",
+        ran.text()
+    );
+    assert!(
+        ran.text().ends_with("},\"distance\":3}\n"),
+        "{}",
+        ran.text()
+    );
+    let ran = report(&["--from", "4", "--json"]);
+    assert!(
+        ran.text().contains("\"inside\":[{\"start\":8,"),
+        "{}",
+        ran.text()
+    );
+    assert!(
+        ran.text().contains("\"sharing\":[{\"start\":3,"),
+        "{}",
+        ran.text()
+    );
+    let ran = report(&["--at", "4:1"]);
+    assert_eq!((ran.status, ran.text()), (2, ""));
+    assert!(
+        ran.err.contains("message: the text has no place 4:1\n"),
+        "{}",
+        ran.err
+    );
+    let ran = folder.run_with(&["report", "--at", "0"], b"plain");
+    assert_eq!((ran.status, ran.text()), (0, "none\n"));
+}
+
+#[test]
 fn fix_mends_one_finding() {
     let folder = Folder::new("fix");
     folder.write("message", MESSAGE);
@@ -126,6 +189,12 @@ fn fix_mends_one_finding() {
     assert!(
         ran.err
             .contains("message: refused 4: no finding starts at this offset\n"),
+        "{}",
+        ran.err
+    );
+    assert!(
+        ran.err
+            .contains("the nearest finding is from byte 0 to 4; try: --at 0\n"),
         "{}",
         ran.err
     );

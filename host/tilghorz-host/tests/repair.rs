@@ -96,7 +96,7 @@ fn offsets_are_those_of_the_repaired_text() {
     let ran = folder.run(&[&fix[..], &["11"]].concat());
     assert_eq!((ran.status, ran.text()), (2, ""));
     let refused = "tilghorz-host: damaged: refused 4: no finding starts at this offset
-try: tilghorz-host report --repair, which lists where findings start
+the nearest finding is from byte 12 to 15; try: --at 12
 ";
     assert_eq!(ran.err, told + refused);
     let ran = folder.run(&[&fix[..], &["12", "--in-place"]].concat());

@@ -1,14 +1,19 @@
 //! Formatting, listing and mending: document 01, "Replacement and text". Taking damaged text in: document 02, (ii). The
-//! memberships that decide a text: document 02, (viii).
+//! memberships that decide a text: document 02, (viii). Findings around the cursor: document 02, (ix).
 
 use std::borrow::Cow;
+use std::ops::Range;
 
+use crate::table::numbers;
 use crate::table::sealed::Read;
 use crate::{Finding, Item, LONGEST_TEXT, Policy, Refusal, Row, Table, Tip};
 use crate::{answer, sys};
 
 /// The rows that a table has room for at first.
 const FIRST_ROWS: usize = 64;
+
+/// The most findings that only share a byte with a stretch: one at its start, and one at its end.
+const MOST_SHARING: usize = 2;
 
 /// How many times as long as the text a repaired one can be: FFFD has three bytes, and a bad place one at least.
 const REPAIR_TIMES: usize = 3;
@@ -32,6 +37,25 @@ pub struct Repaired<'a> {
     pub text: Cow<'a, [u8]>,
     /// The number of replacements.
     pub replaced: usize,
+}
+
+/// The findings around a stretch of bytes.
+#[derive(Debug)]
+pub struct Around {
+    /// Those that lie wholly inside it, in text order.
+    pub inside: Table<Finding>,
+    /// Those that only share a byte with it, in text order: at most two.
+    pub sharing: Table<Finding>,
+}
+
+/// The finding that is nearest to an offset.
+#[derive(Debug, Clone, PartialEq, Eq)]
+pub struct Nearest {
+    /// The finding.
+    pub finding: Finding,
+    /// 0 inside the finding, otherwise the difference between the offset and that of its first or last byte, the
+    /// smaller.
+    pub distance: usize,
 }
 
 /// How a base is shown: what a decision chooses.
@@ -118,6 +142,48 @@ pub fn repair_into(text: &[u8], out: &mut [u8]) -> Result<(usize, usize), Refusa
 /// Refusals 1 and 3.
 pub fn findings(text: &[u8], policy: &Policy) -> Result<Table<Finding>, Refusal> {
     table(|table| sys::list(text, policy.as_bytes(), table))
+}
+
+/// The findings that lie wholly inside a stretch of bytes, and those that only share a byte with it. A stretch that reaches
+/// past the text is cut at its end. An empty stretch has neither, and one that ends before its start is empty.
+///
+/// # Errors
+/// Refusals 1 and 3.
+pub fn around(text: &[u8], policy: &Policy, stretch: Range<usize>) -> Result<Around, Refusal> {
+    let place = sys::FINDING_BYTES;
+    let mut sharing = vec![0; MOST_SHARING * place];
+    let (from, to) = (stretch.start as u64, stretch.end as u64);
+    let mut inside = vec![0; FIRST_ROWS * place];
+    let mut call = |inside: &mut [u8]| {
+        let word = sys::around(text, policy.as_bytes(), from, to, inside, &mut sharing);
+        answer::read_two(word)
+    };
+    let mut rows = call(&mut inside);
+    if let Err(Refusal::TableTooShort { places }) = rows {
+        inside = vec![0; places * place];
+        rows = call(&mut inside);
+    }
+    let (inside_rows, sharing_rows) = rows?;
+    Ok(Around {
+        inside: Table::new(inside, inside_rows),
+        sharing: Table::new(sharing, sharing_rows),
+    })
+}
+
+/// The finding that is nearest to an offset, which may be past the text: the earlier of two that are equally near, or
+/// none if the text has no finding.
+///
+/// # Errors
+/// Refusals 1 and 3.
+pub fn nearest(text: &[u8], policy: &Policy, offset: usize) -> Result<Option<Nearest>, Refusal> {
+    let mut row = [0; sys::NEAREST_BYTES];
+    let word = sys::nearest(text, policy.as_bytes(), offset as u64, &mut row);
+    let found = answer::read(word)?;
+    let (finding, distance) = row.split_at(sys::FINDING_BYTES);
+    Ok(found.map(|_| Nearest {
+        finding: Finding::read(finding),
+        distance: numbers::<1>(distance)[0],
+    }))
 }
 
 /// The items, in text order.

@@ -17,6 +17,11 @@
 //! assert_eq!((first.char_span(), first.utf16_span()), (0..2, 0..2));
 //! assert_eq!(&*tilghorz::mend(text, &policy, 0, &[])?, "1 \u{2764}".as_bytes());
 //!
+//! let around = tilghorz::around(text, &policy, 0..5)?;
+//! assert_eq!((around.inside.len(), around.sharing.len()), (1, 0));
+//! let nearest = tilghorz::nearest(text, &policy, 4)?.expect("a finding");
+//! assert_eq!((nearest.finding.start, nearest.distance), (0, 1));
+//!
 //! let damaged = tilghorz::format(b"good\xFF", &policy);
 //! assert_eq!(damaged, Err(Refusal::NotWellFormed { valid_up_to: 4 }));
 //! let repaired = tilghorz::repair(b"good\xFF")?;
@@ -27,6 +32,8 @@
 //! - [`format()`], [`mend`], [`findings`] and [`items`] allocate what they return; [`format_into`] and [`mend_into`]
 //!   write to the caller's buffer, and [`filed`] says which bytes to keep then.
 //! - A [`Finding`] and an [`Item`] have their start and end in bytes, in characters and in UTF-16 units.
+//! - [`around`] has the findings inside a stretch of bytes and those that only share a byte with it; [`nearest`] has the
+//!   finding nearest to an offset.
 //! - [`repair`] takes damaged text in, which the others refuse; [`repair_into`] writes to the caller's buffer.
 //! - [`Feed`] formats a thread that comes in pieces; [`FeedWriter`] and [`FeedReader`] do it between a writer or a
 //!   reader and another.
@@ -53,9 +60,10 @@ pub mod sys;
 mod table;
 mod tip;
 
-pub use calls::{Formatted, Presentation, Repaired};
+pub use calls::{Around, Formatted, Nearest, Presentation, Repaired};
 pub use calls::{
-    filed, findings, format, format_into, items, mend, mend_into, repair, repair_into, tips,
+    around, filed, findings, format, format_into, items, mend, mend_into, nearest, repair,
+    repair_into, tips,
 };
 pub use feed::{Feed, FeedReader, FeedWriter};
 pub use finding::{Counts, Finding};

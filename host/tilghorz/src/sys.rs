@@ -13,6 +13,8 @@
 pub const POLICY_BYTES: usize = 192;
 /// The bytes of a finding in a table.
 pub const FINDING_BYTES: usize = 112;
+/// The bytes of the nearest finding and its distance.
+pub const NEAREST_BYTES: usize = 120;
 /// The bytes of an item in a table.
 pub const ITEM_BYTES: usize = 64;
 /// The bytes of a membership in a table.
@@ -54,6 +56,27 @@ unsafe extern "C" {
     ) -> u64;
     fn tilghorz_scan(text: *const u8, text_len: usize, table: *mut u8, table_len: usize) -> u64;
     fn tilghorz_repair(text: *const u8, text_len: usize, out: *mut u8, out_len: usize) -> u64;
+    fn tilghorz_around(
+        text: *const u8,
+        text_len: usize,
+        policy: *const u8,
+        policy_len: usize,
+        from: u64,
+        to: u64,
+        inside: *mut u8,
+        inside_len: usize,
+        sharing: *mut u8,
+        sharing_len: usize,
+    ) -> u64;
+    fn tilghorz_nearest(
+        text: *const u8,
+        text_len: usize,
+        policy: *const u8,
+        policy_len: usize,
+        offset: u64,
+        row: *mut u8,
+        row_len: usize,
+    ) -> u64;
     fn tilghorz_feed_begin(
         policy: *const u8,
         policy_len: usize,
@@ -158,6 +181,50 @@ pub fn scan(text: &[u8], table: &mut [u8]) -> u64 {
 pub fn repair(text: &[u8], out: &mut [u8]) -> u64 {
     // SAFETY: as the head of this file says.
     unsafe { tilghorz_repair(text.as_ptr(), text.len(), out.as_mut_ptr(), out.len()) }
+}
+
+/// `tilghorz_around`: lists the findings inside a stretch, and those that only share a byte with it.
+#[must_use]
+pub fn around(
+    text: &[u8],
+    policy: &[u8],
+    from: u64,
+    to: u64,
+    inside: &mut [u8],
+    sharing: &mut [u8],
+) -> u64 {
+    // SAFETY: as the head of this file says.
+    unsafe {
+        tilghorz_around(
+            text.as_ptr(),
+            text.len(),
+            policy.as_ptr(),
+            policy.len(),
+            from,
+            to,
+            inside.as_mut_ptr(),
+            inside.len(),
+            sharing.as_mut_ptr(),
+            sharing.len(),
+        )
+    }
+}
+
+/// `tilghorz_nearest`: writes the finding that is nearest to an offset.
+#[must_use]
+pub fn nearest(text: &[u8], policy: &[u8], offset: u64, row: &mut [u8]) -> u64 {
+    // SAFETY: as the head of this file says.
+    unsafe {
+        tilghorz_nearest(
+            text.as_ptr(),
+            text.len(),
+            policy.as_ptr(),
+            policy.len(),
+            offset,
+            row.as_mut_ptr(),
+            row.len(),
+        )
+    }
 }
 
 /// `tilghorz_feed_begin`: begins a feed under a policy.

@@ -8,6 +8,7 @@
 //! cargo run --offline --release --package compare --bin benchmark -- --growth      # 64 KiB, 1 MiB and 16 MiB alone
 //! cargo run --offline --release --package compare --bin benchmark -- --repairing   # damaged texts alone
 //! cargo run --offline --release --package compare --bin benchmark -- --tipping     # memberships alone
+//! cargo run --offline --release --package compare --bin benchmark -- --near        # stretches and offsets alone
 //! TILGHORZ_LIBRARY=FOLDER cargo run ..                                             # another libtilghorz.a
 //! ```
 //!
@@ -23,6 +24,7 @@
 mod clock;
 mod feeding;
 mod inputs;
+mod near;
 mod repairing;
 mod tables;
 mod timing;
@@ -34,20 +36,22 @@ use std::process::ExitCode;
 
 use feeding::{Feeding, PIECES};
 use inputs::{INPUTS, Input};
+use near::Near;
 use repairing::Repairing;
 use work::Work;
 
 /// How the program is called.
 const USAGE: &str = "\
-usage: benchmark [--rounds N] [--growth | --repairing | --feeding | --tipping] [INPUT ..]
-       benchmark repeat format|list|mend|scan|tips|repair|repair-damaged|feed INPUT BYTES TIMES
+usage: benchmark [--rounds N] [--growth | --repairing | --feeding | --tipping | --near] [INPUT ..]
+       benchmark repeat format|list|mend|scan|tips|repair|repair-damaged|feed|around|nearest INPUT BYTES TIMES
   --rounds N   the rounds of each measurement (15)
   --growth     only the cost at 64 KiB, 1 MiB and 16 MiB
   --repairing  only the table of repairing
   --feeding    only the table of feeding
   --tipping    only the table of the memberships that decide a text
+  --near       only the table of stretches and the nearest finding
   repeat       one call of the library, TIMES times, and nothing else: for counts of instructions. feed is a thread in
-               pieces of 4 KiB";
+               pieces of 4 KiB, around is the whole text";
 
 /// The tables that are printed.
 #[derive(Clone, Copy, PartialEq)]
@@ -57,6 +61,7 @@ enum Tables {
     Repairing,
     Feeding,
     Tipping,
+    Near,
 }
 
 /// What the program is asked to do.
@@ -101,6 +106,7 @@ fn parse(words: &[&str]) -> Result<Command, String> {
             "--repairing" => command.tables = Tables::Repairing,
             "--feeding" => command.tables = Tables::Feeding,
             "--tipping" => command.tables = Tables::Tipping,
+            "--near" => command.tables = Tables::Near,
             _ => command.inputs.push(input(word)?),
         }
     }
@@ -130,6 +136,9 @@ fn run(command: &Command) -> Result<(), String> {
     if is_printed(Tables::Tipping) {
         tables::tipping(inputs, rounds)?;
     }
+    if is_printed(Tables::Near) {
+        tables::near(inputs, rounds)?;
+    }
     if is_printed(Tables::Growth) {
         tables::growth(inputs, rounds);
     }
@@ -152,6 +161,7 @@ fn repeat(words: &[&str]) -> Result<(), String> {
     let mut items = work.item_table();
     let mut tips = Work::tip_table();
     let mut feeding = Feeding::new(input, &text)?;
+    let mut near = Near::new(input, &text);
     for _ in 0..number(times)? {
         match call {
             "format" => work.format(&mut buffers),
@@ -159,6 +169,8 @@ fn repeat(words: &[&str]) -> Result<(), String> {
             "mend" => work.mend(1, &mut buffers),
             "scan" => work.scan(&mut items),
             "tips" => work.tips(&mut tips),
+            "around" => drop(near.whole()),
+            "nearest" => drop(near.nearest()),
             "feed" => feeding.pieces(PIECES[0], |_| ()),
             _ => return Err(format!("{call}: not a call")),
         }

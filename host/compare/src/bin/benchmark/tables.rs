@@ -2,6 +2,7 @@
 
 use crate::feeding::{Feeding, PIECES};
 use crate::inputs::Input;
+use crate::near::Near;
 use crate::repairing::{BAD_ONE_IN, Repairing};
 use crate::timing::{FEWEST, Times, interleaved};
 use crate::work::Work;
@@ -39,6 +40,12 @@ by that of the pieces; on ascii and mixed 0.5 is wanted for 4 KiB, and 0.2 for 6
 const TIPPING: &str = "\
 Listing the memberships whose flip alters the text, beside formatting it. ratio: its time divided by that of formatting, by
 the medians and by the best; at most 3 is wanted on mixed, dense, cyrillic and cjk, and 500 MB/s on ascii.";
+
+/// The text above the table of stretches.
+const NEAR: &str = "\
+The findings around a stretch, and the one nearest to the middle of the text, compared with listing all findings. whole: the
+stretch is the whole text; middle: it is a tenth in the middle. ratios: the time of the call divided by that of the listing, by the
+medians and by the best; at most 1.2 is wanted.";
 
 /// Formatting beside the crate's, the standard library's test of a text, and a copy.
 pub fn formatting(inputs: &[&Input], rounds: usize) -> Result<(), String> {
@@ -217,6 +224,42 @@ pub fn tipping(inputs: &[&Input], rounds: usize) -> Result<(), String> {
             speed(text.len(), tips),
             tips.median / formatted.median,
             tips.best / formatted.best,
+        );
+    }
+    Ok(())
+}
+
+/// Stretches and the nearest finding, beside a listing.
+pub fn near(inputs: &[&Input], rounds: usize) -> Result<(), String> {
+    println!("\n{NEAR}");
+    println!(
+        "{:<11} {:>8} {:>15} {:>13} {:>13} {:>13}",
+        "input", "findings", "list", "whole", "middle", "nearest"
+    );
+    for input in inputs.iter().filter(|input| input.message.is_none()) {
+        let text = input.make(LENGTH);
+        let mut work = Near::new(input, &text);
+        work.compare()?;
+        let [list, whole, middle, nearest] = interleaved(rounds, |number| {
+            match number {
+                0 => work.list(),
+                1 => work.whole(),
+                2 => work.middle(),
+                _ => work.nearest(),
+            };
+        });
+        let ratios = |times: Times| {
+            let (median, best) = (times.median / list.median, times.best / list.best);
+            format!("{median:.2} ({best:.2})")
+        };
+        println!(
+            "{:<11} {:>8} {:>15} {:>13} {:>13} {:>13}",
+            input.name,
+            work.findings,
+            speed(text.len(), list),
+            ratios(whole),
+            ratios(middle),
+            ratios(nearest),
         );
     }
     Ok(())

@@ -1,0 +1,288 @@
+-- The passes around a stretch: the tests by their branches, counting both lists, writing both lists, and the two tables.
+use mathlib.Core.Path.{_≡_, refl, ap, ap₂, subst, sym, _∙_}
+use mathlib.Core.Bool.{Bool, true, false, _&&_, cond, not}
+use mathlib.Core.List.{List, [], _∷_, _++_}
+use mathlib.Core.Option.{Option, none, some}
+use Prim.Native.Nat.{ℕ, _+_, _*_, _/_, _<_, _≤_}
+use native.Mathlib.Omega.{arith}
+use lib.Dec.{leb, ltb}
+use lib.ListN.{drop, length}
+use borrow.Author.Tests.{le-leb, le-ltb, lt-leb, lt-ltb, ltb-false, ltb-true}
+use Rattle.base.specs.Output.{PutAt}
+use Rattle.base.specs.Tables.{rowsBytes}
+use Rattle.base.specs.Words.{bytesOf}
+use Rattle.base.specs.declared.Refusal.the-variants.{TableTooShort}
+use Rattle.base.proofs.Answering.{answers}
+use Rattle.base.proofs.TableBytes.{length-rows, rows-room}
+use Rattle.base.proofs.Writer.{Writing, begin, finish, put, room}
+use Rattle.utf8.specs.Rfc3629.{validUpTo}
+use Rattle.policy.specs.declared.Policy.{Policy}
+use Rattle.positions.specs.Positions.{AtPosition, positionAt}
+use Rattle.analysis.specs.declared.types.Finding.{Finding}
+use Rattle.formatter.specs.List.{rowBytes, rowNumbers}
+use Rattle.formatter.proofs.RowBytes.{length-row}
+use Rattle.findings_near.specs.Around.{
+  AfterBoth,
+  EndsAround,
+  fillBoth,
+  filter,
+  holds,
+  inside,
+  meets,
+  onlyShares,
+  refuses,
+}
+use Rattle.findings_near.specs.Helpers.{IsLast, IsNext, rowsFrom}
+use Rattle.findings_near.specs.declared.AroundAnswer.{AroundAnswer}
+use Rattle.findings_near.specs.declared.AroundAnswer.the-variants.{Listed}
+use Rattle.findings_near.specs.Theorems.{InTextOrder}
+use Rattle.findings_near.proofs.Order.{ordered-from}
+use Rattle.findings_near.proofs.NextRows.{at-own, count-one, front, write-one}
+use Rattle.findings_near.proofs.Stretches.{rest-apart}
+
+-- ---- the tests by their branches
+
+module _ (from to start end : ℕ) where
+  -- What an && is of which one side is false.
+  all-no : (x y : Bool) → false ≡ (x && (false && y))
+  all-no true y = refl
+  all-no false y = refl
+
+  pub empty-holds : to ≤ from → false ≡ holds from to start end
+  unfolding holds
+  empty-holds h = ap (λ (x : Bool). x && (leb from start && leb end to)) (sym (le-ltb from to h))
+
+  pub early-holds : start < from → false ≡ holds from to start end
+  unfolding holds
+  early-holds h = all-no (ltb from to) (leb end to) ∙ ap (λ (x : Bool). ltb from to && (x && leb end to)) (sym (lt-leb from start h))
+
+  pub may-hold : from < to → from ≤ start → leb end to ≡ holds from to start end
+  unfolding holds
+  may-hold g h = sym (ap₂ (λ (x y : Bool). x && (y && leb end to)) (lt-ltb from to g) (le-leb from start h))
+
+  -- The three tests of `meets`, and the fourth.
+  abbrev meetsBy : Bool → Bool → Bool → Bool
+  meetsBy x y z = (x && (y && z)) && not (holds from to start end)
+
+  no-meeting : (x y z w : Bool) → x && (y && z) ≡ false → false ≡ ((x && (y && z)) && w)
+  no-meeting x y z w e = ap (λ (b : Bool). b && w) (sym e)
+
+  and-no : (x y : Bool) → x && (y && false) ≡ false
+  and-no true true = refl
+  and-no true false = refl
+  and-no false y = refl
+
+  pub empty-meets : to ≤ from → false ≡ meets from to start end
+  unfolding meets
+  empty-meets h = ap (λ (x : Bool). meetsBy x (ltb start to) (ltb from end)) (sym (le-ltb from to h))
+
+  pub late-meets : to ≤ start → false ≡ meets from to start end
+  unfolding meets
+  late-meets h =
+      no-meeting (ltb from to) false (ltb from end) (not (holds from to start end)) (sym (all-no (ltb from to) (ltb from end)))
+      ∙ ap (λ (x : Bool). meetsBy (ltb from to) x (ltb from end)) (sym (le-ltb start to h))
+
+  pub early-meets : end ≤ from → false ≡ meets from to start end
+  unfolding meets
+  early-meets h =
+      no-meeting (ltb from to) (ltb start to) false (not (holds from to start end)) (and-no (ltb from to) (ltb start to))
+      ∙ ap (λ (x : Bool). meetsBy (ltb from to) (ltb start to) x) (sym (le-ltb from end h))
+
+  pub may-meet : from < to → start < to → from < end → {b : Bool} → b ≡ holds from to start end → not b ≡ meets from to start end
+  unfolding meets
+  may-meet g h k e =
+      ap not e
+      ∙ sym (ap₂ (λ (x y : Bool). meetsBy x y (ltb from end)) (lt-ltb from to g) (lt-ltb start to h)
+      ∙ ap (λ (x : Bool). meetsBy true true x) (lt-ltb from end k))
+
+-- ---- whether the pass goes on
+
+module _ (start to : ℕ) {present b : Bool} (e : b ≡ (present && ltb start to)) where
+  pub goes-on : b ≡ true → (present ≡ true) × (start < to)
+  goes-on h = go present (sym e ∙ h)
+    where
+      go : (x : Bool) → (x && ltb start to) ≡ true → (x ≡ true) × (start < to)
+      go true f = (refl, ltb-true start to f)
+      go false f = let z : _≡_ {A = ℕ} 0 1 = cc in absurd (omega arith)
+
+  pub stops : b ≡ false → {A : Type 0} → (present ≡ false → A) → (present ≡ true → to ≤ start → A) → A
+  stops h {A} f g = go present (sym e ∙ h) f g
+    where
+      go : (x : Bool) → (x && ltb start to) ≡ false → (x ≡ false → A) → (x ≡ true → to ≤ start → A) → A
+      go true k f g = g refl (ltb-false start to k)
+      go false k f g = f refl
+
+-- ---- where the pass stops
+
+module _ (p : Policy) (text : List ℕ) (from to : ℕ) where
+  -- No finding from the offset on is in either list.
+  pub record NoneLeft (at : ℕ) : Type 0 where
+    pub inner : filter (inside from to) (rowsFrom p text at) ≡ []
+    pub outer : filter (onlyShares from to) (rowsFrom p text at) ≡ []
+
+  pub none-left : {at stop : ℕ} → IsLast p text at stop → NoneLeft at
+  unfolding filter
+  none-left l = record {
+    inner = ap (filter (inside from to)) (l .rows);
+    outer = ap (filter (onlyShares from to)) (l .rows);
+  }
+
+  pub none-reached : {at : ℕ} {f : Finding} → IsNext p text at f → to ≤ f .start → NoneLeft at
+  none-reached {at} {f} n h =
+      let r = n .rows in
+      let a = rest-apart from to (subst-order r) h in
+      record { inner = ap (filter (inside from to)) r ∙ a .0; outer = ap (filter (onlyShares from to)) r ∙ a .1 }
+    where
+      subst-order : rowsFrom p text at ≡ f ∷ rowsFrom p text (f .end) → InTextOrder (f ∷ rowsFrom p text (f .end))
+      subst-order e = subst InTextOrder e (ordered-from p text at)
+
+  -- ---- counting
+
+  pub record Counting (i o at : ℕ) : Type 0 where
+    pub few-inner : i ≤ at
+    pub few-outer : o ≤ at
+    pub in-text : at ≤ length text
+    pub inner-is : i + length (filter (inside from to) (rowsFrom p text at)) ≡ length (filter (inside from to) (rowsFrom p text 0))
+    pub outer-is : o + length (filter (onlyShares from to) (rowsFrom p text at)) ≡ length (filter (onlyShares from to) (rowsFrom p text 0))
+    pub valid : validUpTo text ≡ at + validUpTo (drop at text)
+    pub position : AtPosition text at (positionAt text at)
+
+  pub counting-begin : AtPosition text 0 (positionAt text 0) → Counting 0 0 0
+  counting-begin a = record {
+    few-inner = omega arith;
+    few-outer = omega arith;
+    in-text = omega arith;
+    inner-is = omega arith;
+    outer-is = omega arith;
+    valid = omega arith;
+    position = a;
+  }
+
+  module _ {i o at : ℕ} (s : Counting i o at) where
+    pub counting-on : {f : Finding} → IsNext p text at f → {a b : Bool} {x y : ℕ} → a ≡ inside from to f → (x ≡ cond a 1 0) × (x ≤ 1)
+        → b ≡ onlyShares from to f → (y ≡ cond b 1 0) × (y ≤ 1) → Counting (i + x) (o + y) (f .end)
+    counting-on {f} n {a} {b} {x} {y} e g h k =
+        let l = rowsFrom p text (f .end) in
+        let c = ap (λ (l : List Finding). length (filter (inside from to) l)) (n .rows) ∙ count-one (inside from to) f l e (g .0) in
+        let d = ap (λ (l : List Finding). length (filter (onlyShares from to) l)) (n .rows) ∙ count-one (onlyShares from to) f l h (k .0) in
+        let u = g .1 in
+        let v = k .1 in
+        record {
+          few-inner = omega (arith, s .few-inner, n .on, n .some);
+          few-outer = omega (arith, s .few-outer, n .on, n .some);
+          in-text = n .room;
+          inner-is = omega (arith, s .inner-is);
+          outer-is = omega (arith, s .outer-is);
+          valid = omega (arith, s .valid, n .valid, n .on, n .some);
+          position = at-own (n .after);
+        }
+
+    pub counting-end : NoneLeft at
+        → (i ≡ length (filter (inside from to) (rowsFrom p text 0))) × (o ≡ length (filter (onlyShares from to) (rowsFrom p text 0)))
+    counting-end l =
+        (omega (arith, s .inner-is, ap length (l .inner)), omega (arith, s .outer-is, ap length (l .outer)))
+
+-- ---- the tables
+
+module _ (holding sharing : List Finding) (inner outer : List ℕ) {i o : ℕ} (e : i ≡ length holding) (f : o ≡ length sharing) where
+  pub inner-room : i ≤ length inner / rowBytes → length (rowsBytes rowNumbers holding) ≤ length inner
+  inner-room h = rows-room rowNumbers rowBytes length-row (omega arith) holding inner e h
+
+  pub outer-room : o ≤ length outer / rowBytes → length (rowsBytes rowNumbers sharing) ≤ length outer
+  outer-room h = rows-room rowNumbers rowBytes length-row (omega arith) sharing outer f h
+
+  pub inner-short : length inner / rowBytes < i → refuses inner outer (TableTooShort i) ≡ fillBoth holding sharing inner outer
+  unfolding fillBoth
+  inner-short h =
+      ap (λ (m : ℕ). refuses inner outer (TableTooShort m)) e ∙ simp (lt-leb (length holding) (length inner / rowBytes) (omega arith))
+
+  pub outer-short : i ≤ length inner / rowBytes → length outer / rowBytes < o
+      → refuses inner outer (TableTooShort o) ≡ fillBoth holding sharing inner outer
+  unfolding fillBoth
+  outer-short h k =
+      ap (λ (m : ℕ). refuses inner outer (TableTooShort m)) f
+      ∙ simp (
+        le-leb (length holding) (length inner / rowBytes) (omega arith),
+        lt-leb (length sharing) (length outer / rowBytes) (omega arith),
+      )
+
+  pub both-filled : {inner′ outer′ : List ℕ} {r s : ℕ} → i ≤ length inner / rowBytes → o ≤ length outer / rowBytes
+      → PutAt inner 0 (rowsBytes rowNumbers holding) inner′ r → PutAt outer 0 (rowsBytes rowNumbers sharing) outer′ s
+      → record { answer = Listed i o; inner = inner′; outer = outer′ } ≡ fillBoth holding sharing inner outer
+  unfolding fillBoth
+  both-filled {inner′} {outer′} h k p q =
+      made (ap₂ Listed e f) (front inner (rowsBytes rowNumbers holding) (inner-room h) (p .bytes))
+      (front outer (rowsBytes rowNumbers sharing) (outer-room k) (q .bytes))
+      ∙ simp (
+        le-leb (length holding) (length inner / rowBytes) (omega arith),
+        le-leb (length sharing) (length outer / rowBytes) (omega arith),
+      )
+    where
+      made : {a b : AroundAnswer} {x y z w : List ℕ} → a ≡ b → x ≡ y → z ≡ w
+          → _≡_ {A = AfterBoth} (record { answer = a; inner = x; outer = z }) (record { answer = b; inner = y; outer = w })
+      made g h k = cc
+
+-- The answer and both tables that the definition gives.
+pub ends-around : {said : AfterBoth} {r : AroundAnswer} {inner outer : List ℕ}
+    → _≡_ {A = AfterBoth} (record { answer = r; inner = inner; outer = outer }) said → EndsAround said r inner outer
+ends-around e = record {
+  answer = answers (ap (λ (a : AfterBoth). a .answer) e);
+  inner-table = ap (λ (a : AfterBoth). a .inner) e;
+  outer-table = ap (λ (a : AfterBoth). a .outer) e;
+}
+
+-- ---- writing
+
+module _ (p : Policy) (text : List ℕ) (test : Finding → Bool) (table₀ : List ℕ) where
+  -- The rows of the findings from the offset on that pass the test are still to be written.
+  abbrev pub Filling : List ℕ → ℕ → ℕ → Type 0
+  Filling table at to = Writing (rowsBytes rowNumbers (filter test (rowsFrom p text 0))) 0 table₀
+      (rowsBytes rowNumbers (filter test (rowsFrom p text at))) table to
+
+  pub filling-begin : length (rowsBytes rowNumbers (filter test (rowsFrom p text 0))) ≤ length table₀ → Filling table₀ 0 0
+  filling-begin h = begin (rowsBytes rowNumbers (filter test (rowsFrom p text 0))) 0 table₀ (omega arith)
+
+  module _ {table : List ℕ} {at to : ℕ} (w : Filling table at to) where
+    module _ {f : Finding} (n : IsNext p text at f) {a : Bool} (e : a ≡ test f) where
+      next-bytes : rowsBytes rowNumbers (filter test (rowsFrom p text at))
+          ≡ cond a (bytesOf (rowNumbers f)) [] ++ rowsBytes rowNumbers (filter test (rowsFrom p text (f .end)))
+      next-bytes = ap (λ (l : List Finding). rowsBytes rowNumbers (filter test l)) (n .rows) ∙ write-one test f (rowsFrom p text (f .end)) e
+
+      pub filling-room : a ≡ true → to + rowBytes ≤ length table
+      filling-room g =
+          let r = room (rowsBytes rowNumbers (filter test (rowsFrom p text 0))) 0 table₀
+          (rowsBytes rowNumbers (filter test (rowsFrom p text at))) (cond a (bytesOf (rowNumbers f)) [])
+          (rowsBytes rowNumbers (filter test (rowsFrom p text (f .end)))) w next-bytes in
+          omega (arith, r, length-row f, ap (λ (b : Bool). length (cond b (bytesOf (rowNumbers f)) [])) g)
+
+      pub filling-on : {table′ : List ℕ} {r : ℕ} → PutAt table to (cond a (bytesOf (rowNumbers f)) []) table′ r → Filling table′ (f .end) r
+      filling-on q = put (rowsBytes rowNumbers (filter test (rowsFrom p text 0))) 0 table₀
+          (rowsBytes rowNumbers (filter test (rowsFrom p text at))) (rowsBytes rowNumbers (filter test (rowsFrom p text (f .end)))) w q
+          next-bytes
+
+  pub filling-end : (at : ℕ) {table : List ℕ} {to : ℕ} → Filling table at to → filter test (rowsFrom p text at) ≡ []
+      → PutAt table₀ 0 (rowsBytes rowNumbers (filter test (rowsFrom p text 0))) table to
+  unfolding rowsBytes
+  filling-end at w e = finish (rowsBytes rowNumbers (filter test (rowsFrom p text 0))) 0 table₀
+      (rowsBytes rowNumbers (filter test (rowsFrom p text at))) w (ap (rowsBytes rowNumbers) e)
+
+-- ---- where nothing is written
+
+-- No row is written at the front of a table.
+pub none-put : (table : List ℕ) {l : List Finding} → l ≡ [] → PutAt table 0 (rowsBytes rowNumbers l) table 0
+unfolding rowsBytes
+none-put table {l} e = subst (λ (l : List Finding). PutAt table 0 (rowsBytes rowNumbers l) table 0) (sym e)
+    (record { ends = omega arith; bytes = refl })
+
+pub no-rows : (l : List Finding) {n : ℕ} → n ≡ length l → n ≡ 0 → l ≡ []
+no-rows [] e z = refl
+no-rows (f ∷ l) e z = absurd (omega arith)
+
+-- The number of rows, by where they end.
+pub row-number : (l : List Finding) {table after : List ℕ} {r : ℕ} → PutAt table 0 (rowsBytes rowNumbers l) after r
+    → r / rowBytes ≡ length l
+row-number l p = omega (arith, p .ends, length-rows rowNumbers rowBytes length-row l)
+
+-- Two rows fit into a table of their bytes, and so do fewer.
+pub two-fit : (l : List Finding) (table : List ℕ) → length l ≤ 2 → 2 * rowBytes ≤ length table → length l ≤ length table / rowBytes
+two-fit l table h k = omega arith
