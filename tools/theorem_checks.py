@@ -29,6 +29,11 @@ CLAIMED_RECORDS = {
     "RepairCall": "EveryRepairCall",
     "AfterRepair": "EveryAfterRepair",
     "FeedInBytes": "EveryFeedInBytes",
+    "StretchClaim": "EveryStretch",
+    "AroundCall": "EveryAroundCall",
+    "DistanceClaim": "EveryDistance",
+    "IsNearest": "EveryNearest",
+    "NearestCall": "EveryNearestCall",
     "NextPiece": "FeedInBytes",
     "NextEnd": "FeedInBytes",
 }
