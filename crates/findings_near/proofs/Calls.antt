@@ -1,7 +1,7 @@
 -- The two calls by the refusal of the intake, and the claims on them.
 use mathlib.Core.Path.{_≡_, refl, ap, ap₂, sym, _∙_}
 use mathlib.Core.Bool.{Bool, true, false, cond}
-use mathlib.Core.List.{List, []}
+use mathlib.Core.List.{List}
 use mathlib.Core.Option.{Option, none, some}
 use Prim.Native.Nat.{ℕ, _/_, _^_, _≤_, _<_}
 use native.Mathlib.Omega.{arith}
@@ -31,7 +31,6 @@ use Rattle.findings_near.specs.Around.{
 }
 use Rattle.findings_near.specs.Nearest.{giveNearest, nearest, nearestBytes, writeNearest}
 use Rattle.findings_near.specs.Theorems.{AroundCall, IsNearest, NearestCall}
-use Rattle.findings_near.specs.declared.AroundAnswer.{AroundAnswer}
 use Rattle.findings_near.specs.declared.AroundAnswer.the-variants as Around
 use Rattle.findings_near.specs.declared.NearestAnswer.{NearestAnswer}
 use Rattle.findings_near.specs.declared.NearestAnswer.the-variants as Nearest

@@ -2,7 +2,7 @@
 use mathlib.Core.Path.{_≡_, refl, ap, subst, sym, _∙_}
 use mathlib.Core.Bool.{Bool, true, false, cond}
 use mathlib.Core.List.{List, [], _∷_, _++_, map}
-use Prim.Native.Nat.{ℕ, suc, _+_, _<_, _≤_}
+use Prim.Native.Nat.{ℕ, _+_, _≤_}
 use native.Mathlib.Nat.{zero-add}
 use native.Mathlib.Omega.{arith}
 use lib.ListN.{drop, length}
@@ -10,7 +10,6 @@ use lib.Seq.{sets, sets-eq}
 use Rattle.base.specs.Output.{PutAt}
 use Rattle.base.specs.Tables.{rowsBytes}
 use Rattle.base.specs.Words.{bytesOf}
-use Rattle.utf8.specs.Rfc3629.{validUpTo}
 use Rattle.policy.specs.declared.Policy.{Policy}
 use Rattle.positions.specs.Positions.{AtPosition, cappedPlus, countBetween, positionAt}
 use Rattle.positions.specs.declared.TextCount.{TextCount}
@@ -22,10 +21,10 @@ use Rattle.formatter.specs.List.{rowNumbers}
 use Rattle.formatter.proofs.Steps.{none-found, rowBy}
 use Rattle.text_pass.specs.Findings.{NextFinding}
 use Rattle.text_pass.specs.declared.findings.FindingSpan.{FindingSpan}
-use Rattle.text_pass.proofs.Passing.{finds-some, item-valid, over-none}
+use Rattle.text_pass.proofs.Passing.{item-valid, over-none}
 use Rattle.listing.proofs.NextFindings.{finds-ahead, finds-positions, finds-row, next-row}
 use Rattle.findings_near.specs.Around.{filter}
-use Rattle.findings_near.specs.Helpers.{IsLast, IsNext, rowsFrom}
+use Rattle.findings_near.specs.Helpers.{IsLast, IsNext}
 
 -- ---- the next finding
 

@@ -3,7 +3,7 @@ use mathlib.Core.Path.{_≡_, refl, ap, sym, _∙_}
 use mathlib.Core.Logic.{_⊎_, inl, inr, ⊎-elim}
 use mathlib.Core.Bool.{Bool, true, false, _&&_, cond, not, false≢true, true≢false}
 use mathlib.Core.List.{List, [], _∷_, List·Memᴰ, List·Memᴰ·head}
-use Prim.Native.Nat.{ℕ, _+_, _-_, _<_, _≤_, min}
+use Prim.Native.Nat.{ℕ, _-_, _<_, _≤_}
 use native.Mathlib.Omega.{arith}
 use lib.Dec.{leb, ltb}
 use lib.ListN.{length}
@@ -11,7 +11,7 @@ use borrow.Author.Tests.{le-leb, leb-true, lt-ltb, ltb-true}
 use Rattle.base.proofs.Tests.{and-both, both-true, fails, le-or-lt}
 use Rattle.analysis.specs.declared.types.Finding.{Finding}
 use Rattle.findings_near.specs.Around.{filter, holds, inside, insideOf, listed, meets, onlyShares, sharingOf, stretchEnd}
-use Rattle.findings_near.specs.Theorems.{Apart, ByteOf, InTextOrder, Inside, Marked, Shares, StretchClaim, and-then, no-more}
+use Rattle.findings_near.specs.Theorems.{Apart, InTextOrder, Inside, Marked, Shares, StretchClaim, and-then, no-more}
 use Rattle.findings_near.proofs.Order.{
   filter-ordered,
   first-starts,

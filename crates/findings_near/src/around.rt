@@ -182,7 +182,8 @@ fn put_both(
     requires { ⌜ (length (rowsBytes rowNumbers (filter (inside from to) (listed (now text) (now policy)))) ≤ length (now inner))
         × (length (rowsBytes rowNumbers (filter (onlyShares from to) (listed (now text) (now policy)))) ≤ length (now outer)) ⌝ }
     ensures inside { λ r. ⌜ PutAt (now (inner .entry)) 0
-        (rowsBytes rowNumbers (filter (inside from to) (listed (now (text .entry)) (now (policy .entry))))) (now (inner .exit)) (r .inner) ⌝ }
+        (rowsBytes rowNumbers (filter (inside from to) (listed (now (text .entry)) (now (policy .entry)))))
+        (now (inner .exit)) (r .inner) ⌝ }
     ensures sharing { λ r. ⌜ PutAt (now (outer .entry)) 0
         (rowsBytes rowNumbers (filter (onlyShares from to) (listed (now (text .entry)) (now (policy .entry)))))
         (now (outer .exit)) (r .outer) ⌝ }
@@ -276,7 +277,8 @@ fn put_listed(
 ) -> AroundAnswer
     requires { ⌜ (length (filter (inside from to) (listed (now text) (now policy))) ≤ length (now inner) / rowBytes)
         × (2 * rowBytes ≤ length (now outer)) × (earlier ≡ 0 → starting ≡ 0
-        → (filter (inside from to) (listed (now text) (now policy)) ≡ []) × (filter (onlyShares from to) (listed (now text) (now policy)) ≡ [])) ⌝ }
+        → (filter (inside from to) (listed (now text) (now policy)) ≡ [])
+        × (filter (onlyShares from to) (listed (now text) (now policy)) ≡ [])) ⌝ }
     ensures { λ r. ⌜ record { answer = r; inner = now (inner .exit); outer = now (outer .exit) }
         ≡ fillBoth (filter (inside from to) (listed (now (text .entry)) (now (policy .entry))))
         (filter (onlyShares from to) (listed (now (text .entry)) (now (policy .entry)))) (now (inner .entry)) (now (outer .entry)) ⌝ }

@@ -1,5 +1,6 @@
 -- The values of the answers around a stretch and of the nearest finding are small.
 use mathlib.Core.Path.{_≡_, refl, ap, sym, subst, _∙_}
+use mathlib.Core.Logic.{⊎-elim}
 use mathlib.Core.Bool.{Bool, true, false, cond}
 use mathlib.Core.List.{List}
 use mathlib.Core.Option.{Option, none, some}
@@ -7,24 +8,22 @@ use Prim.Native.Nat.{ℕ, _/_, _^_, _<_, _≤_}
 use native.Mathlib.Omega.{arith}
 use lib.Dec.{leb}
 use lib.ListN.{length}
-use Rattle.base.specs.Refusals.{orElse, refusalRow, textLimit, unwritten, written}
+use Rattle.base.specs.Refusals.{orElse, refusalRow, unwritten, written}
 use Rattle.base.specs.Words.{bytesOf}
 use Rattle.base.specs.declared.Refusal.{Refusal}
 use Rattle.base.specs.declared.Refusal.the-variants.{TableTooShort}
+use Rattle.base.proofs.Tests.{le-or-lt}
 use Rattle.analysis.specs.declared.types.Finding.{Finding}
 use Rattle.formatter.specs.Intake.{intakeRefusal}
 use Rattle.formatter.specs.List.{rowBytes}
 use Rattle.formatter.proofs.Passing.{passed-accepted}
-use Rattle.findings_near.specs.Around.{AfterBoth, listAround}
+use Rattle.findings_near.specs.Around.{AfterBoth, listAround, listed}
 use Rattle.findings_near.specs.Nearest.{giveNearest, nearest, nearestBytes, nearestNumbers, nearestRow, writeNearest}
-use Rattle.findings_near.specs.Around.{listed}
 use Rattle.findings_near.specs.Theorems.{AroundCall, insideNumber, sharingNumber}
 use Rattle.findings_near.specs.declared.AroundAnswer.{AroundAnswer}
 use Rattle.findings_near.specs.declared.AroundAnswer.the-variants as Around
 use Rattle.findings_near.specs.declared.NearestAnswer.the-variants as Nearest
 use Rattle.findings_near.proofs.Calls.{around-call, few-inside, few-sharing}
-use Rattle.base.proofs.Tests.{le-or-lt}
-use mathlib.Core.Logic.{⊎-elim}
 use Rattle.tilghorz.proofs.SmallAnswers.{intake-small, most}
 
 -- ---- around a stretch
@@ -56,7 +55,8 @@ module _ (text policy : List ℕ) (from to : ℕ) (inner outer : List ℕ) where
           ⊎-elim
           (λ (i : insideNumber text policy from to ≤ length inner / rowBytes). ⊎-elim
           (λ (s : sharingNumber text policy from to ≤ length outer / rowBytes).
-          let z : _≡_ {A = AroundAnswer} (Around.Listed (insideNumber text policy from to) (sharingNumber text policy from to)) (Around.Refused r) =
+          let z : _≡_ {A = AroundAnswer}
+          (Around.Listed (insideNumber text policy from to) (sharingNumber text policy from to)) (Around.Refused r) =
           sym (tell (call .done f i s)) ∙ e in
           let y : _≡_ {A = ℕ} 0 1 = cc in
           absurd (omega arith))

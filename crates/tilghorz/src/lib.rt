@@ -92,9 +92,9 @@ pub extern "C" fn tilghorz_repair(text: &[u8], out: &mut [u8]) -> u64
     repair_word(repair::repair(text, out))
 }
 
-// Lists the findings that lie wholly inside the bytes from `from` up to, not including, `to`, and those that only share a byte with them. It
-// may answer refusals 1, 2, 3 and 7. If it is done, the low 28 bits of the value are the number of rows in the table `inside`, and the bits
-// above them are the number of rows in the table `sharing`.
+// Lists the findings that lie wholly inside the bytes from `from` up to, not including, `to`, and those that only share a byte with them.
+// It may answer refusals 1, 2, 3 and 7. If it is done, the low 28 bits of the value are the number of rows in the table `inside`, and the
+// bits above them are the number of rows in the table `sharing`.
 #[no_mangle]
 pub extern "C" fn tilghorz_around(
     text: &[u8],
