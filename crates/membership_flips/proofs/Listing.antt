@@ -1,6 +1,6 @@
 -- The memberships by number, the test by the flags, and the table after the call.
 use mathlib.Core.Path.{_≡_, refl, ap, ap₂, subst, sym, _∙_}
-use mathlib.Core.Bool.{Bool, true, false, _||_, cond}
+use mathlib.Core.Bool.{Bool, true, false, _||_, cond, true≢false}
 use mathlib.Core.List.{List, [], _∷_, _++_, List·Memᴰ, List·Memᴰ·head, List·Memᴰ·tail}
 use mathlib.Core.Option.{Option, none, some}
 use Prim.Native.Nat.{ℕ, zero, suc, _+_, _*_, _-_, _/_, _%_, _<_, _≤_}
@@ -27,6 +27,7 @@ use Rattle.base.specs.Words.{bytesOf}
 use Rattle.policy.specs.PolicyBytes.{policyOf}
 use Rattle.policy.specs.declared.Policy.{Policy}
 use Rattle.policy.specs.declared.SingletonRule.{SingletonRule}
+use Rattle.policy.specs.declared.SingletonRule.the-variants.{BareToEmoji, BareToText, EmojiToBare, TextToBare}
 use Rattle.base.proofs.Numbers.{length-bytesOf}
 use Rattle.formatter.specs.Intake.{intakeRefusal}
 use Rattle.base.specs.Tables.{fillTable, rowsBytes}
@@ -61,6 +62,20 @@ tip-is p i k a s {r} {bare} {text} {emoji} e f g h =
     ∙ ap₂ (λ (y z : Bool). mattersFor (ruleOf (holdsEntry (p .«prefer_bare») i k) (holdsEntry (p .«bare_as_text») i k)) a (s NoSelector) y
     z) g h
     ∙ for-rule a (holdsEntry (p .«prefer_bare») i k) (holdsEntry (p .«bare_as_text») i k) s
+
+-- Where an entry is not used, no flip of it matters.
+pub unused : (r : SingletonRule) (a x y z : Bool) → x || (y || z) ≡ false → false ≡ mattersFor r a x y z
+unused r a true y z e = absurd (true≢false e)
+unused r a false true z e = absurd (true≢false e)
+unused r a false false true e = absurd (true≢false e)
+unused BareToEmoji true false false false e = refl
+unused BareToEmoji false false false false e = refl
+unused BareToText true false false false e = refl
+unused BareToText false false false false e = refl
+unused EmojiToBare true false false false e = refl
+unused EmojiToBare false false false false e = refl
+unused TextToBare true false false false e = refl
+unused TextToBare false false false false e = refl
 
 matters-same : (a b t : Bool) {r s : FromSelector → Bool} → ((f : FromSelector) → r f ≡ s f) → matters a b t r ≡ matters a b t s
 unfolding matters

@@ -16,7 +16,7 @@ use Rattle.membership_flips.specs.Uses.{matters, occurs}
 
 -- ---- a flip
 
--- "A flip of one membership leaves the other 1,415 as they are", and that one is the other way round.
+-- "whose flip alone": the flipped membership is the other way round, and the other 1,415 are as they were.
 unfoldable pub FlipsOne : Type 0
 FlipsOne =
     (policy : List ℕ) (m n : Membership) → m .entry < entryCount

@@ -79,7 +79,7 @@ fn matters_for(rule: SingletonRule, as_text: bool, bare: bool, text: bool, emoji
     }
 }
 
-// Whether the flip of membership n alters the text.
+// Whether the flip of membership n alters the text. The policy is read only for an entry that the text uses.
 fn is_tip(policy: &[u8], flags: &[u8], n: usize) -> bool
     requires { ⌜ (n < 1416) × (length (now flags) ≡ 2124) ⌝ }
     ensures { λ r. ⌜ r ≡ tipTest (now (policy .entry)) (now (flags .entry)) (membershipAt n) ⌝ }
@@ -87,7 +87,6 @@ fn is_tip(policy: &[u8], flags: &[u8], n: usize) -> bool
     let index = n / 4;
     let is_keycap = n / 2 % 2 == 1;
     let as_text = n % 2 == 1;
-    let rule = rule_at(policy, index, is_keycap);
     let bare = is_flagged(flags, index, is_keycap, FromSelector::NoSelector);
     let text = is_flagged(
         flags,
@@ -101,6 +100,10 @@ fn is_tip(policy: &[u8], flags: &[u8], n: usize) -> bool
         is_keycap,
         FromSelector::Selector(Presentation::Emoji),
     );
+    if !either(bare, either(text, emoji)) {
+        return false;
+    }
+    let rule = rule_at(policy, index, is_keycap);
     matters_for(rule, as_text, bare, text, emoji)
 }
 
@@ -173,6 +176,9 @@ fn fill_table(policy: &[u8], flags: &[u8], table: &mut [u8]) -> ListAnswer
         ≡ fillTable tipNumbers 24 (filtered (tipTest (now (policy .entry)) (now (flags .entry))) (numbered 1416 0)) (now (table .entry)) ⌝ }
 {
     let findings = count_tips(policy, flags);
+    if findings == 0 {
+        return ListAnswer::Listed { findings };
+    }
     if table.len() / TIP_BYTES < findings {
         return ListAnswer::Refused(Refusal::TableTooShort { findings });
     }
