@@ -14,14 +14,14 @@ use Rattle.unicode.specs.Tables.{member as in-table}
 use Rattle.unicode.specs.Unicode.{hasVariationSequence}
 use Rattle.unicode.specs.UnicodeData.{variationEntries}
 use Rattle.policy_key_set.specs.Display.{hexDigit, hexDigits}
-use Rattle.policy_key_set.specs.Sets.{member as in-set}
+use Rattle.policy_key_set.specs.Sets.{entryCount, member as in-set, wordCount}
 use Rattle.policy.specs.PolicyBytes.{isPolicy, policyBytes, policyOf}
 use Rattle.policy.specs.Theorems.{WriteRead}
 use Rattle.policy.specs.declared.Policy.{Policy}
 use Rattle.policy.proofs.Claims.{write-read}
 use Rattle.policy_sheet.specs.Calls.{readCall}
 use Rattle.policy_sheet.specs.Grammar.{Piece, Sheet, allowedDigits}
-use Rattle.policy_sheet.specs.Meaning.{AllEntries, FirstNonEntry, Means, Rising, sheetPolicy}
+use Rattle.policy_sheet.specs.Meaning.{AllEntries, FirstNonEntry, Means, Rising, covered, sheetPolicy, wordOf, wordsOf}
 use Rattle.policy_sheet.specs.Reader.{
   SheetReading,
   firstDescending,
@@ -47,6 +47,7 @@ use Rattle.policy_sheet.specs.Theorems.{
   NonEntryRefused,
   OnlyMeaning,
   OnlyReading,
+  ReadingExample,
   ReadsBack,
   SheetsRead,
   FewestDigits,
@@ -224,6 +225,11 @@ pub sheet-examples : SheetExamples
 unfolding SheetExamples readSheet answerOf run transition transitionBy kindOf allowedDigits isNone orElse firstDescending firstNonEntry
     hasVariationSequence in-table variationEntries
 sheet-examples = (refl, refl, refl, refl, refl, refl, refl, refl, refl, refl, refl, refl, refl, refl, refl, refl, refl)
+
+pub reading-example : ReadingExample
+unfolding ReadingExample readSheet answerOf run transition transitionBy kindOf allowedDigits isNone orElse firstDescending firstNonEntry
+    hasVariationSequence in-table variationEntries sheetPolicy wordsOf wordOf covered wordCount entryCount
+reading-example = refl
 
 pub writing-example : WritingExample
 unfolding WritingExample writeSheet lineText runText runsFrom withEntry joined firstIn fewestDigits hexDigits hexDigit parted in-set one

@@ -156,6 +156,25 @@ SheetExamples =
     -- no entry in a sheet that breaks off: FF\n\n\n
     × (readSheet (0x46 ∷ 0x46 ∷ 0x0A ∷ 0x0A ∷ 0x0A ∷ []) ≡ not-a-sheet 5)
 
+-- The policy of a sheet whose first line has pieces out of order that overlap, and a range over code points that are no entries:
+-- A9,39-A9,30-39\n\n23\n\n
+unfoldable pub ReadingExample : Type 0
+ReadingExample =
+    readSheet
+    (0x41 ∷ 0x39 ∷ 0x2C ∷ 0x33 ∷ 0x39 ∷ 0x2D ∷ 0x41 ∷ 0x39 ∷ 0x2C ∷ 0x33 ∷ 0x30 ∷ 0x2D ∷ 0x33 ∷ 0x39
+    ∷ 0x0A ∷ 0x0A ∷ 0x32 ∷ 0x33 ∷ 0x0A ∷ 0x0A ∷ [])
+    ≡ is-read
+    (record {
+      «prefer_bare» = record {
+        chars = record { bits = 0x1FFC ∷ 0 ∷ 0 ∷ 0 ∷ 0 ∷ 0 ∷ [] };
+        «keycap_chars» = record { bits = 0x0 ∷ 0 ∷ 0 ∷ 0 ∷ 0 ∷ 0 ∷ [] };
+      };
+      «bare_as_text» = record {
+        chars = record { bits = 0x1 ∷ 0 ∷ 0 ∷ 0 ∷ 0 ∷ 0 ∷ [] };
+        «keycap_chars» = record { bits = 0x0 ∷ 0 ∷ 0 ∷ 0 ∷ 0 ∷ 0 ∷ [] };
+      };
+    })
+
 -- A written sheet. The entries 30 to 39 and A9 are neighbours in the table; 2A is between 23 and 30.
 unfoldable pub WritingExample : Type 0
 WritingExample =
