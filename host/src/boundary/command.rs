@@ -70,7 +70,7 @@ pub fn run(calls: &dyn Calls, options: &Options, out: &mut dyn Write) -> io::Res
         ("sheets", Boundary::sheets, 1),
         ("near", Boundary::near, 1),
         ("drawn", Boundary::drawn, options.cases),
-        ("drawn sheets", Boundary::drawn_sheets, options.cases),
+        ("drawn sheets", Boundary::drawn_sheets, options.cases / 4),
         ("limits", Boundary::limits, options.limits.into()),
         ("long sheets", Boundary::long_sheets, options.limits.into()),
     ];

@@ -17,7 +17,8 @@ usage: compare [--cases N] [--seconds S] [--seed N] [--length N] [--sheets N] [-
   --seconds S          begin no further case after S seconds; a kind of which no case was begun fails the run
   --seed N             the seed of what is drawn
   --length N           try every text of up to N characters, one of each kind
-  --sheets N           try every sheet of up to N tokens, of up to 6 of them bytes out of 9, and of up to N - 2 bytes out of 21
+  --sheets N           try every sheet of up to N tokens, of up to N bytes, but at most 6, out of 9, and of up to N - 2
+                       bytes out of 21
   --without-limits     leave out the texts around the limits
   --without-published  leave out the texts of Unicode's lists
   --programs ..        compare the two programs at these paths too

@@ -26,8 +26,7 @@ impl<'a> FaultySheet<'a> {
             return refusal;
         }
         // Another sheet that is refused by 11 has written nothing.
-        let taken = self.taken_for(sheet);
-        if taken != sheet {
+        if let Some(taken) = self.taken_for(sheet).filter(|taken| taken != sheet) {
             let answer = Answer::of_word(self.calls.read_sheet(&taken, out));
             if answer.number != 11 {
                 return answer;
@@ -75,10 +74,9 @@ impl<'a> FaultySheet<'a> {
         }
     }
 
-    /// The sheet that is read instead.
-    fn taken_for(&self, sheet: &[u8]) -> Vec<u8> {
-        let follows = || sheet::form_error(sheet).is_none();
-        match self.fault {
+    /// The sheet that is read instead, if the fault is one of form or of meaning.
+    fn taken_for(&self, sheet: &[u8]) -> Option<Vec<u8>> {
+        Some(match self.fault {
             Fault::ThreeDigits => with_digits(sheet, |digits| match digits.len() {
                 3 => [b"0", digits].concat(),
                 _ => digits.to_vec(),
@@ -90,33 +88,18 @@ impl<'a> FaultySheet<'a> {
             Fault::SmallDigits => sheet.to_ascii_uppercase(),
             Fault::Blanks => sheet.iter().copied().filter(|byte| *byte != b' ').collect(),
             Fault::LastEnd => [sheet, b"\n"].concat(),
-            Fault::FifthLine => {
-                let lines = sheet.split_inclusive(|byte| *byte == b'\n');
-                lines.take(4).flatten().copied().collect()
-            }
-            Fault::LastComma => {
-                let lines = sheet.split_inclusive(|byte| *byte == b'\n');
-                let line = |line: &[u8]| match line {
-                    [front @ .., b',', b'\n'] => [front, b"\n"].concat(),
-                    _ => line.to_vec(),
-                };
-                lines.flat_map(line).collect()
-            }
+            Fault::FifthLine => lines(sheet).take(4).flatten().copied().collect(),
+            Fault::LastComma => lines(sheet).flat_map(without_last_comma).collect(),
             Fault::RangeTurned => turned(sheet),
-            Fault::EndsAlone if follows() => {
+            Fault::EndsAlone if sheet::form_error(sheet).is_none() => {
                 let comma = |byte: &u8| if *byte == b'-' { b',' } else { *byte };
                 sheet.iter().map(comma).collect()
             }
-            Fault::LastPiece if follows() => {
-                let lines = sheet.split_inclusive(|byte| *byte == b'\n');
-                let last = |line: &'_ [u8]| {
-                    let mut pieces = line.split(|byte| *byte == b',');
-                    pieces.next_back().unwrap_or_default().to_vec()
-                };
-                lines.flat_map(last).collect()
+            Fault::LastPiece if sheet::form_error(sheet).is_none() => {
+                lines(sheet).flat_map(last_piece).copied().collect()
             }
-            _ => sheet.to_vec(),
-        }
+            _ => return None,
+        })
     }
 
     /// Changes what was written or not.
@@ -175,6 +158,25 @@ fn clear_unused(policy: &mut [u8]) {
             set[bit / 8] &= !(1 << (bit % 8));
         }
     }
+}
+
+/// The lines of a sheet, each with its end.
+fn lines(sheet: &[u8]) -> impl Iterator<Item = &[u8]> {
+    sheet.split_inclusive(|byte| *byte == b'\n')
+}
+
+/// A line without the comma at its end.
+fn without_last_comma(line: &[u8]) -> Vec<u8> {
+    match line {
+        [front @ .., b',', b'\n'] => [front, b"\n"].concat(),
+        _ => line.to_vec(),
+    }
+}
+
+/// The last piece of a line, with the line's end.
+fn last_piece(line: &[u8]) -> &[u8] {
+    let mut pieces = line.rsplit(|byte| *byte == b',');
+    pieces.next().unwrap_or_default()
 }
 
 /// The sheet with other digits for each run of digits.

@@ -23,6 +23,42 @@ pub const ALL_BYTES: [&[u8]; 21] = [
 /// The most bytes of [`FEW_BYTES`] in a short sheet.
 pub const MOST_FEW_BYTES: usize = 6;
 
+/// Sheets with one error each, and whole ones, of the kinds that document 02 names. The first is whole.
+pub const WORKED: [&[u8]; 32] = [
+    b"30-39,2764\n\n0000A9,30\n30,30-31,31\n",
+    b"39-AE\n\n\n\n",
+    b"\n\n\n\n",
+    b"030\n\n\n\n",
+    b"30,030,31\n\n\n\n",
+    b"30-031\n\n\n\n",
+    b"\n0000030\n\n\n",
+    b"30-0000031\n\n\n\n",
+    b"\n\na9\n\n",
+    b"30, 31\n\n\n\n",
+    b"30\r\n\r\n\r\n\r\n",
+    b"30,,31\n\n\n\n",
+    b",30\n\n\n\n",
+    b"\n\n\n30,\n",
+    b"30-\n\n\n\n",
+    b"-30\n\n\n\n",
+    b"30-31-32\n\n\n\n",
+    b"\n\n\n\n\n",
+    b"30\n\n\n\n30\n",
+    b"30\n\n\n31",
+    b"39-30x",
+    b"39-30,",
+    b"39-30",
+    b"39-30\n\n\n\n",
+    b"30,x,39-30\n\n\n\n",
+    b"39-30,x\n\n\n\n",
+    b"41\n\n\n",
+    b"41,39-30\n\n\n\n",
+    b"FFFFFF\n\n\n\n",
+    b"\n\nD800-110000\n\n",
+    b"30-41\n\n\n\n",
+    b"2F-41\n\n\n\n",
+];
+
 /// Calls a function with the sheet, and with every sheet that has up to `most` further tokens, until it returns an error.
 pub fn every_sheet<E>(
     tokens: &[&[u8]],

@@ -2,14 +2,18 @@
 
 use super::{Run, Stop};
 use crate::Random;
+use crate::calls::Calls;
 use crate::comparison::lent::{Difference, hexadecimal};
 use crate::comparison::reduce::reduced_text;
 use crate::comparison::report::text_report;
 use crate::comparison::{policies, sheet_case, sheets};
 use crate::reference::calls::LONGEST_TEXT;
 
+/// The number of drawn sheets that come before the texts.
+const FIRST_DRAWN: u64 = 300;
+
 /// A comparison of reading a sheet.
-type Check = fn(&dyn crate::calls::Calls, &[u8]) -> Result<(), Difference>;
+type Check = fn(&dyn Calls, &[u8]) -> Result<(), Difference>;
 
 impl Run<'_> {
     /// Compares reading a sheet; one that shows a difference is reduced first.
@@ -34,30 +38,18 @@ impl Run<'_> {
         })
     }
 
-    /// Every short sheet, drawn ones, the sheets of policies, and sheets that are too long.
+    /// Every short sheet, worked ones, the sheets of policies, sheets that are too long, and drawn ones.
     pub(super) fn sheets(&mut self) -> Result<(), Stop> {
         let most = self.options.sheets;
-        let kinds = [
-            (&sheets::TOKENS[..], most, "tokens"),
-            (
-                &sheets::FEW_BYTES[..],
-                most.min(sheets::MOST_FEW_BYTES),
-                "bytes out of 9",
-            ),
-            (
-                &sheets::ALL_BYTES[..],
-                most.saturating_sub(2),
-                "bytes out of 21",
-            ),
-        ];
-        for (tokens, most, name) in kinds {
-            let mut made = 0;
-            sheets::every_sheet(tokens, most, &mut Vec::new(), &mut |sheet| {
-                made += 1;
-                self.sheet("sheets", sheet, sheet_case::check_once)
-            })?;
-            self.told("sheets", made, &format!("sheets of up to {most} {name}"))?;
+        let few = most.min(sheets::MOST_FEW_BYTES);
+        self.every_sheet(&sheets::TOKENS, most, "tokens")?;
+        self.every_sheet(&sheets::FEW_BYTES, few, "bytes out of 9")?;
+        let fewer = most.saturating_sub(2);
+        self.every_sheet(&sheets::ALL_BYTES, fewer, "bytes out of 21")?;
+        for sheet in sheets::WORKED {
+            self.sheet("sheets", sheet, sheet_case::check_read)?;
         }
+        self.told("sheets", sheets::WORKED.len() as u64, "worked sheets")?;
         let mut random = Random::from_seed(self.options.seed);
         let policies = sheets::policies(&mut random);
         for policy in &policies {
@@ -76,6 +68,16 @@ impl Run<'_> {
         }
         let what = "drawn sheets, damaged ones, and policies each";
         self.told("sheets", drawn, what)
+    }
+
+    /// Every sheet of up to this many tokens.
+    fn every_sheet(&mut self, tokens: &[&[u8]], most: usize, name: &str) -> Result<(), Stop> {
+        let mut made = 0;
+        sheets::every_sheet(tokens, most, &mut Vec::new(), &mut |sheet| {
+            made += 1;
+            self.sheet("sheets", sheet, sheet_case::check_once)
+        })?;
+        self.told("sheets", made, &format!("sheets of up to {most} {name}"))
     }
 
     /// A drawn sheet, a damaged one, the sheet of a drawn policy, and now and then of bytes that are no policy.
@@ -98,6 +100,3 @@ impl Run<'_> {
         Ok(long.as_flattened().len() as u64)
     }
 }
-
-/// The number of drawn sheets that come before the texts.
-const FIRST_DRAWN: u64 = 300;
