@@ -195,7 +195,7 @@ pub fn items(text: &[u8]) -> Result<Table<Item>, Refusal> {
 }
 
 /// The memberships of a policy whose flip alone alters the formatted text: by code point, ordinary before keycap,
-/// `prefer_bare` before `bare_as_text`. It takes one pass over the text, and some microseconds for the memberships.
+/// `prefer_bare` before `bare_as_text`. It takes one pass over the text, and some microseconds more for the memberships.
 ///
 /// ```
 /// use tilghorz::{Context, KeySet, Policy};
