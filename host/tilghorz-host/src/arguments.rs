@@ -454,7 +454,6 @@ fn policy(mut words: Words) -> Result<Policy, String> {
         return tips(words).map(Policy::Tips);
     }
     let (mut edits, mut files, mut members) = (Vec::new(), Vec::new(), false);
-    let (mut edits, mut files) = (Vec::new(), Vec::new());
     while let Some(word) = words.next()? {
         match word {
             Word::Name(name) => files.push(PolicyFile(Some(name.into()))),

@@ -154,7 +154,7 @@ that have ended.
 
 const REPORT: &str = "\
 usage: tilghorz-host report [--json] [--items] [--repair] [--policy FILE] [OPTIONS] [FILES]
-       tilghorz-host report --at PLACE | --from PLACE --to PLACE [--json] [--repair] [--policy FILE] [OPTIONS] [FILES]
+       tilghorz-host report --at PLACE | --from PLACE --to PLACE [--json] [--repair] [--policy FILE] [FILES]
 
 Writes a line for each finding: start, end and eight counts, and a line with the totals. The counts: unsanctioned,
 modifier-defective, additional-defective, tag-conflicting, tag-forced, tag-redundant, policy-redundant, decisions. The
@@ -165,8 +165,8 @@ number and any offset. Of several files each has a line with its name first.
                  end also in characters and in UTF-16 units. In a file's name, what is not UTF-8 is U+FFFD
   --items        the items of the text instead: start, end, kind, and whether the tags are complete; with --json, beside
                  the findings
-  --at PLACE     the finding nearest to a place instead: `distance`, a number of bytes, which is 0 inside the finding, and
-                 the finding; or `none`
+  --at PLACE     the finding nearest to a place instead: `distance` and a number of bytes, which is 0 inside the
+                 finding, then the finding; or `none`
   --from PLACE --to PLACE
                  the findings around the stretch from a place up to, not including, another: `inside` and a finding for
                  each that lies wholly inside it, then `sharing` and a finding for each that only shares a byte with

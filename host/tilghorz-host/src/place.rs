@@ -50,8 +50,8 @@ impl Place {
             start += part.len() + 1;
         }
         let line = text.get(start..)?.split('\n').next()?;
-        let ends = line.char_indices().map(|(at, _)| at).chain([line.len()]);
-        ends.skip(column - 1).next().map(|at| start + at)
+        let mut ends = line.char_indices().map(|(at, _)| at).chain([line.len()]);
+        ends.nth(column - 1).map(|at| start + at)
     }
 }
 

@@ -115,7 +115,26 @@ fn wrong_command_lines_are_told_on_standard_error() {
             "policy: unknown policy command --repair",
         ),
         (&["folders"], "folders: not a command"),
-        (&["report", "--at", "1"], "report: --at: unknown option"),
+        (
+            &["report", "--offset", "1"],
+            "report: --offset: unknown option",
+        ),
+        (
+            &["report", "--at", "x"],
+            "report: --at x: neither an offset in bytes nor LINE:COLUMN",
+        ),
+        (
+            &["report", "--from", "0:1"],
+            "report: --from 0:1: lines and columns begin at 1",
+        ),
+        (
+            &["report", "--at", "1", "--to", "2"],
+            "report: --at and --from or --to cannot be used together",
+        ),
+        (
+            &["report", "--items", "--at", "1"],
+            "report: --items and --at cannot be used together",
+        ),
         (&["fix"], "fix: --at OFFSET is missing"),
         (&["fix", "--at", "x"], "fix: --at x: not an offset in bytes"),
         (
