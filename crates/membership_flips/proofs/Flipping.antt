@@ -25,7 +25,7 @@ differ-false : (b : Bool) → differ b false ≡ b
 differ-false true = refl
 differ-false false = refl
 
--- One bit of the words is the other way round, and no other.
+-- Exactly one bit of the words is inverted.
 pub member-flip : (i j : ℕ) (ws : List ℕ) → i / 64 < length ws → member j (flipBit i ws) ≡ differ (member j ws) (eqb i j)
 unfolding member flipBit
 member-flip i j ws h = ⊎-elim at-word other-word (decide (j / 64) (i / 64))
@@ -110,7 +110,7 @@ module _ (p : Policy) (n : SixWordSets p) (i : ℕ) (b : i < entryCount) where
   set-flip a k false j l = prefer-flip a k j l
   set-flip a k true j l = text-flip a k j l
 
--- Of all memberships just the flipped one is the other way round.
+-- The flipped membership is inverted, and every other membership stays.
 pub flips-one : (p : Policy) → SixWordSets p → (m n : Membership) → m .entry < entryCount → holds (flip m p) n
     ≡ differ (holds p n) (same m n)
 unfolding holds same

@@ -1,4 +1,4 @@
--- The list of memberships: complete, in order, and what is left of it by a test.
+-- The list of all memberships is complete and in order. So is the list of those that pass a test.
 use mathlib.Core.Path.{_≡_, refl, ap, subst, sym, _∙_}
 use mathlib.Core.Logic.{⊎-elim}
 use mathlib.Core.Bool.{Bool, true, false, cond, false≢true}

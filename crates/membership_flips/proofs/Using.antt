@@ -138,7 +138,7 @@ matters-step true true t false r s = refl
 
 -- ---- a cell under the two policies
 
--- Where the policies have the same rule for a base in its place, they say the same of it.
+-- If two policies have the same rule for a base before the same class of character, they give the base the same outcome.
 outcome-same : (p q : Policy) (c : ℕ) (k : Class) (s : List Presentation)
     → (byModifier k ≡ false → byTags k ≡ false → singletonRule q c (byKeycap k) ≡ singletonRule p c (byKeycap k))
     → outcome q c k s ≡ outcome p c k s

@@ -47,16 +47,16 @@ same m n = eqb (m .entry) (n .entry) && (Bool·beq (m .keycap) (n .keycap) && Bo
 
 -- ---- "flip"
 
--- "entry i at bit i mod 64 of word i/64": that bit of words, the other way round
+-- "entry i at bit i mod 64 of word i/64": the words with that bit inverted
 unfoldable pub flipBit : ℕ → List ℕ → List ℕ
 flipBit i ws = set ws (i / 64) (bitXor (getD ws (i / 64) 0) (2 ^ (i % 64)))
 
--- That bit of the ordinary or of the keycap set of a key set, the other way round.
+-- A key set with that bit of its ordinary or of its keycap set inverted.
 unfoldable pub flipKey : ℕ → Bool → PolicyKeySet → PolicyKeySet
 flipKey i false s = record { chars = record { bits = flipBit i (s .chars .bits) }; «keycap_chars» = s .«keycap_chars» }
 flipKey i true s = record { chars = s .chars; «keycap_chars» = record { bits = flipBit i (s .«keycap_chars» .bits) } }
 
--- That bit of `prefer_bare` or of `bare_as_text`, the other way round.
+-- A policy with that bit of `prefer_bare` or of `bare_as_text` inverted.
 unfoldable pub flipIn : Bool → ℕ → Bool → Policy → Policy
 flipIn false i k p = record { «prefer_bare» = flipKey i k (p .«prefer_bare»); «bare_as_text» = p .«bare_as_text» }
 flipIn true i k p = record { «prefer_bare» = p .«prefer_bare»; «bare_as_text» = flipKey i k (p .«bare_as_text») }
@@ -75,7 +75,7 @@ flipped m policy = policyBytes (flip m (policyOf policy))
 unfoldable pub tips : List ℕ → List ℕ → Membership → Bool
 tips text policy m = not (sameBytes (formatted text (flipped m policy)) (formatted text policy))
 
--- "ordinary before keycap, then prefer_bare before bare_as_text": the four memberships of an entry, before others
+-- "ordinary before keycap, then prefer_bare before bare_as_text": the four memberships of an entry, and then a list
 abbrev pub andFour : ℕ → List Membership → List Membership
 andFour i l =
     record { entry = i; keycap = false; asText = false }

@@ -16,7 +16,7 @@ use Rattle.membership_flips.specs.Uses.{matters, occurs}
 
 -- ---- a flip
 
--- "whose flip alone": the flipped membership is the other way round, and the other 1,415 are as they were.
+-- "whose flip alone": the flipped membership is inverted, and the other 1,415 stay.
 unfoldable pub FlipsOne : Type 0
 FlipsOne =
     (policy : List ℕ) (m n : Membership) → m .entry < entryCount
@@ -36,7 +36,7 @@ pub data Before (m n : Membership) : Type 0 where
   ordinary-first : codePoint m ≡ codePoint n → m .keycap ≡ false → n .keycap ≡ true → Before m n
   prefer-bare-first : codePoint m ≡ codePoint n → m .keycap ≡ n .keycap → m .asText ≡ false → n .asText ≡ true → Before m n
 
--- "The list goes by": each comes before all later ones, so none is listed twice.
+-- The order of document 02: each membership of the list is `Before` every later one. So the list has no membership twice.
 pub data InOrder : List Membership → Type 0 where
   no-more : InOrder []
   and-then : {m : Membership} {l : List Membership} → ((n : Membership) → List·Memᴰ n l → Before m n) → InOrder l → InOrder (m ∷ l)

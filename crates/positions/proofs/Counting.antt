@@ -266,7 +266,7 @@ pub stretch-past : (text : List ℕ) (from to : ℕ) → length text ≤ from �
 unfolding stretch
 stretch-past text from to h = ap (take (to - from)) (drop-of-length-le text h) ∙ take-nil (to - from)
 
--- Past the text's end the stretch is what is left of it.
+-- A stretch that ends after the text ends where the text does.
 pub stretch-cut : (text : List ℕ) (from to : ℕ) → length text ≤ to → stretch text from to ≡ take (length text - from) (drop from text)
 unfolding stretch
 stretch-cut text from to h =
