@@ -98,13 +98,15 @@ fn byte(s: &[u8], at: usize, i: usize) -> u64
     byte_at(s, at, i) as u64
 }
 
-// Returns the number that four bytes encode, lowest byte first.
+// Returns the number that four bytes encode, lowest byte first. It is a sum of two pairs of bytes: the compiler makes
+// one load of such a sum where it knows that the bytes are there.
 fn half(s: &[u8], at: usize, i: usize) -> u64
     requires { ⌜ i ≤ 4 ⌝ }
     ensures { λ r. ⌜ (r ≡ number (take 4 (drop i (drop at (now (s .entry)))))) × (r ≤ 0xFFFFFFFF) ⌝ }
 {
     byte(s, at, i)
-        + 256 * (byte(s, at, i + 1) + 256 * (byte(s, at, i + 2) + 256 * byte(s, at, i + 3)))
+        + 256 * byte(s, at, i + 1)
+        + 65536 * (byte(s, at, i + 2) + 256 * byte(s, at, i + 3))
 }
 
 // Returns the number that the eight bytes from the offset `at` encode. A byte after the end counts as 0.
