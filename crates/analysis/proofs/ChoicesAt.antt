@@ -17,7 +17,7 @@ use Rattle.scanner.specs.RunKinds.{runOf}
 use Rattle.scanner.specs.Runs.{run}
 use Rattle.scanner.specs.Spans.{size, width}
 use Rattle.scanner.specs.declared.char_class.Class.{Class}
-use Rattle.scanner.specs.declared.consume.RunKind.the-variants.{Selectors}
+use Rattle.scanner.specs.declared.char_runs.RunKind.the-variants.{Selectors}
 use Rattle.scanner.proofs.ClassTests.{run-selectors}
 use Rattle.scanner.proofs.Peek.{Seen, Unseen}
 use Rattle.scanner.proofs.Runs.{run-true}

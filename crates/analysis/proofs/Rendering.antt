@@ -13,10 +13,10 @@ use Rattle.base.specs.Refusals.{textLimit}
 use Rattle.base.specs.Sums.{capped}
 use Rattle.base.proofs.Sums.{capped-held}
 use Rattle.utf8.specs.Rfc3629.{chars, encode, encodeAll, isScalar}
-use Rattle.utf8.specs.Write.{afterWriteChar, writeChar}
-use Rattle.utf8.specs.declared.WriteChar.{WriteChar}
-use Rattle.utf8.specs.declared.WriteChar.the-variants.{NotScalar, TooShort, Written}
-use Rattle.utf8.proofs.Answers.{afterWriteChar-sets, written}
+use Rattle.utf8_encoding.specs.Write.{afterWriteChar, writeChar}
+use Rattle.utf8_encoding.specs.declared.WriteChar.{WriteChar}
+use Rattle.utf8_encoding.specs.declared.WriteChar.the-variants.{NotScalar, TooShort, Written}
+use Rattle.utf8_encoding.proofs.Answers.{afterWriteChar-sets, written}
 use Rattle.utf8.proofs.Places.{Step, Stop}
 use Rattle.utf8.proofs.Texts.{encodeAll-append, validUpTo-le}
 use Rattle.unicode.specs.Presentation.{asSelector, isSelector}

@@ -68,7 +68,7 @@ use scanner::selectors::selector_at;
 use tail::find_tail;
 use unicode::presentation::FromSelector;
 use unicode::presentation::Presentation;
-use utf8::WriteChar;
+use utf8_encoding::WriteChar;
 
 // What every piece has room for besides 4 bytes for each of its bytes. The end has this room too.
 pub(crate) const END_ROOM: usize = 16;
@@ -134,7 +134,7 @@ fn put_char(out: &mut [u8], at: usize, ch: u32) -> usize
     requires { ⌜ (isScalar ch ≡ true) × (at + length (encode ch) ≤ length (now out)) ⌝ }
     ensures { λ r. ⌜ PutAt (now (out .entry)) at (encode ch) (now (out .exit)) r ⌝ }
 {
-    match utf8::write_char(ch, out, at) {
+    match utf8_encoding::write_char(ch, out, at) {
         WriteChar::Written { width } => at + width,
         WriteChar::TooShort { width: _ } => at,
         WriteChar::NotScalar => at,

@@ -55,7 +55,7 @@ fn valid_end(text: &[u8], at: usize) -> usize
     requires { ⌜ at ≤ length (now text) ⌝ }
     ensures { λ r. ⌜ r ≡ at + validUpTo (drop at (now (text .entry))) ⌝ }
 {
-    at + utf8::valid_up_to(&text[at..])
+    at + utf8_validity::valid_up_to(&text[at..])
 }
 
 // Returns the length of the longest well-formed beginning of the unfinished bytes and the piece.

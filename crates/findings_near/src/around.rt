@@ -118,7 +118,7 @@ fn well_formed_end(text: &[u8], at: usize) -> usize
     requires { ⌜ at ≤ length (now text) ⌝ }
     ensures { λ r. ⌜ r ≡ at + validUpTo (drop at (now (text .entry))) ⌝ }
 {
-    at + utf8::valid_up_to(&text[at..])
+    at + utf8_validity::valid_up_to(&text[at..])
 }
 
 // Counts the findings of both lists.

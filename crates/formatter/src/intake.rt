@@ -31,7 +31,7 @@ pub fn intake(text: &[u8], policy: &[u8]) -> Check
     if let Check::Refused(refusal) = first_tests(text, policy) {
         return Check::Refused(refusal);
     }
-    let valid_up_to = utf8::valid_up_to(text);
+    let valid_up_to = utf8_validity::valid_up_to(text);
     if valid_up_to != text.len() {
         return Check::Refused(Refusal::NotWellFormed { valid_up_to });
     }

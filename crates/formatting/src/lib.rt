@@ -175,7 +175,7 @@ fn valid_after(text: &[u8], change: Change) -> usize
     if !change.present {
         return end;
     }
-    end + utf8::valid_up_to(&text[end..])
+    end + utf8_validity::valid_up_to(&text[end..])
 }
 
 // Formats a text into an output that has room for the formatted text. The caller knows the first change. Before the function writes, it

@@ -36,7 +36,7 @@ fn count_items(text: &[u8]) -> usize
 {
     let mut at = 0;
     let mut items = 0;
-    while let ScanStep::Item(item) = scanner::next_item(
+    while let ScanStep::Item(item) = item_scanner::next_item(
         text,
         at,
         TextCount { chars: 0, units: 0 },

@@ -5,7 +5,7 @@ use mathlib.Core.List.{List}
 use Prim.Native.Nat.{ℕ, _+_, _<_, _≤_}
 use lib.ListN.{drop, getD, length}
 use Rattle.utf8.specs.Rfc3629.{chars}
-use Rattle.utf8.proofs.AsciiRuns.{readChar-ascii-at}
+use Rattle.ascii_runs.proofs.AsciiRuns.{readChar-ascii-at}
 use Rattle.utf8.proofs.Places.{Step, step}
 use Rattle.unicode.specs.UnicodeData.{variationEntries}
 use Rattle.unicode.specs.Unicode.{variationSequenceIndex}

@@ -128,7 +128,7 @@ pub fn mend(
         return MendAnswer::Refused(refusal);
     }
     let FindingStart { end, present } = finding_starting(text, policy, offset);
-    let valid_up_to = end + utf8::valid_up_to(&text[end..]);
+    let valid_up_to = end + utf8_validity::valid_up_to(&text[end..]);
     if valid_up_to != text.len() {
         return MendAnswer::Refused(Refusal::NotWellFormed { valid_up_to });
     }

@@ -89,7 +89,7 @@ pub fn next_choice(raw: &[u8], at: usize, policy: Policy) -> ChoiceStep
 fn unit_end(raw: &[u8], at: usize) -> usize
     ensures { λ r. ⌜ r ≡ cellsStart (now (raw .entry)) at + cellsLength (frontUnit (cellsFrom (now (raw .entry)) at)) ⌝ }
 {
-    let start = scanner::consume::run_end(raw, at, scanner::consume::RunKind::Selectors);
+    let start = scanner::char_runs::run_end(raw, at, scanner::char_runs::RunKind::Selectors);
     match peek(raw, start) {
         Peeked::Char {
             value: _,

@@ -23,7 +23,7 @@ use scanner::ScanStep;
 pub fn analyze_scan_item(text: &[u8], at: usize, before: TextCount, policy: Policy) -> ItemAnalysis
     ensures { λ r. ⌜ r ≡ analysisAt policy (now (text .entry)) at before ⌝ }
 {
-    let ScanStep::Item(item) = scanner::next_item(text, at, before) else {
+    let ScanStep::Item(item) = item_scanner::next_item(text, at, before) else {
         return ItemAnalysis::End;
     };
     let end = item.end;

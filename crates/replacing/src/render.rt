@@ -32,23 +32,23 @@ use analysis::types::MendAnswer;
 use base::Check;
 use base::Refusal;
 use base::TEXT_LIMIT;
+use item_scanner::next_item;
 use policy::Policy;
 use positions::TextCount;
 use scanner::ScanStep;
-use scanner::next_item;
 use scanner::selectors::PresentationSelectors;
 use scanner::selectors::consume_presentation_selectors;
 use scanner::text_check::check_text;
 use unicode::presentation::FromSelector;
 use unicode::presentation::Presentation;
-use utf8::WriteChar;
+use utf8_encoding::WriteChar;
 
 // Writes a character's bytes. The caller has tested that there is room.
 fn put_char(out: &mut [u8], at: usize, ch: u32) -> usize
     requires { ⌜ (isScalar ch ≡ true) × (at + length (encode ch) ≤ length (now out)) ⌝ }
     ensures { λ r. ⌜ PutAt (now (out .entry)) at (encode ch) (now (out .exit)) r ⌝ }
 {
-    match utf8::write_char(ch, out, at) {
+    match utf8_encoding::write_char(ch, out, at) {
         WriteChar::Written { width } => at + width,
         WriteChar::TooShort { width: _ } => at,
         WriteChar::NotScalar => at,

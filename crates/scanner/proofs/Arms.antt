@@ -8,7 +8,7 @@ use mir.Val.{hasKey}
 use denote.Enum.Declared.{tagOf}
 use Rattle.scanner.proofs.char_class.Class.{the-type as the-class}
 use Rattle.scanner.specs.RunKinds.{inRun}
-use Rattle.scanner.specs.declared.consume.RunKind.{RunKind}
+use Rattle.scanner.specs.declared.char_runs.RunKind.{RunKind}
 use Rattle.scanner.specs.declared.state.Next.{Next}
 use Rattle.scanner.proofs.state.State.{the-type as the-state}
 use Rattle.scanner.specs.Classes.{Class, selector, link, ri, modifier, emoji, keycap, tag, other}

@@ -1,10 +1,10 @@
--- The proof of each statement of specs/Theorems.antt and of specs/Walks.antt.
+-- The proof of each statement of specs/Theorems.antt.
 use mathlib.Core.Path.{_≡_, refl, ap, sym, _∙_, subst}
-use mathlib.Core.Logic.{_↔_, inr, ⊎-elim}
-use mathlib.Core.Bool.{true, true≢false}
-use mathlib.Core.List.{List, [], _∷_, _++_, head-eq-of-cons-eq, List·Memᴰ, List·Memᴰ·head}
-use Prim.Native.Nat.{ℕ, _+_, _-_}
-use lib.ListN.{drop, drop-of-length-le, take}
+use mathlib.Core.Logic.{_↔_, inr}
+use mathlib.Core.Bool.{true}
+use mathlib.Core.List.{List, [], _∷_, _++_, head-eq-of-cons-eq, List·Memᴰ}
+use Prim.Native.Nat.{ℕ, _+_}
+use lib.ListN.{drop, drop-of-length-le}
 use Rattle.utf8.specs.Rfc3629.{encode, encodeAll, readChar, readFour, foldChars, foldStep, chars, utf8-1, utf8-2, utf8-3, utf8-4}
 use Rattle.base.specs.Sums.{capped}
 use Rattle.utf8.proofs.Folds.{chars-end}
@@ -15,7 +15,6 @@ use Rattle.unicode.specs.Tables.{inRanges, member}
 use Rattle.unicode.specs.Unicode.{isEmoji, isEmojiModifier, isRi, isTag}
 use Rattle.unicode.specs.UnicodeData.{emojiModifiers, emojiRanges, riRanges}
 use Rattle.scanner.specs.Classes.{classOf}
-use Rattle.scanner.specs.Grammar.{Derives}
 use Rattle.scanner.specs.Items.{Item, startState, splitFrom, items, kindOf, transition}
 use Rattle.scanner.specs.Runs.{afterRun, linkAt, run, selectorsAt}
 use Rattle.scanner.specs.Structure.{
@@ -33,7 +32,7 @@ use Rattle.scanner.specs.Structure.{
   toModifications,
 }
 use Rattle.positions.specs.Positions.{cappedPlus, noCount, textCount, units, utf16Units}
-use Rattle.scanner.specs.Spans.{firstOf, scan, scanAt, scanFrom, spanOf, spans, width}
+use Rattle.scanner.specs.Spans.{firstOf, scan, scanAt, scanFrom, spans, width}
 use Rattle.scanner.specs.Tags.{allComplete, complete, endsInCancel, tagModifications, tagRuns, tagsComplete, withTags}
 use Rattle.scanner.specs.Theorems.{
   CursorAtItemEnd,
@@ -60,10 +59,8 @@ use Rattle.scanner.specs.Theorems.{
   SpansAreItems,
   SpansTile,
   SpansTileFrom,
-  SpansOfItems,
   StructureFlattens,
   StructureIsDerived,
-  Structured,
   TagsAreInStructure,
   TagSequence,
   TagsCompleteMeans,
@@ -73,10 +70,7 @@ use Rattle.scanner.specs.Theorems.{
   StructureExample,
   TagExamples,
 }
-use Rattle.scanner.specs.Walks.{SequenceWalk, StructureIsWalked}
 use Rattle.scanner.specs.declared.ScanKind.{ScanKind}
-use Rattle.scanner.specs.declared.ScanItem.{ScanItem}
-use Rattle.scanner.specs.declared.ScanStep.the-variants as Step
 use Rattle.scanner.specs.declared.ScanStep.the-variants.{End}
 use Rattle.scanner.proofs.Bytes.{chars-inside}
 use Rattle.scanner.proofs.ClassTests.{run-links, run-modifications, run-passthrough, run-selectors, run-tags}
@@ -84,7 +78,6 @@ use Rattle.scanner.proofs.Complete.{all-complete-means}
 use Rattle.scanner.proofs.EmojiRuns.{unit-item}
 use Rattle.scanner.proofs.RestRuns.{unit-ends, unit-joins, unit-left-over}
 use Rattle.scanner.proofs.ItemRuns.{item-links, item-passthrough, item-selectors}
-use Rattle.scanner.proofs.ItemWalks.{structure-walk}
 use Rattle.scanner.proofs.LongestRuns.{
   longest-groups,
   longest-link,
@@ -109,10 +102,10 @@ use Rattle.scanner.proofs.RunLaws.{
 }
 use Rattle.scanner.proofs.Runs.{Stops, at-char, at-end}
 use Rattle.scanner.proofs.Positions.{positioned, positioned-from, tiles-thrice}
-use Rattle.scanner.proofs.Spans.{scan-after, scan-spans-of-items, scan-tiles, scan-tiles-all, spans-first}
+use Rattle.scanner.proofs.Spans.{scan-after, scan-spans-of-items, scan-tiles, scan-tiles-all}
 use Rattle.scanner.proofs.Tiling.{afresh, never-empty, tiling}
-use Rattle.scanner.proofs.Reading.{derive-inner, derives-alike, item-alone, item-derives, only-reading, reading}
-use Rattle.scanner.proofs.Structure.{StructureRead, emoji-headed-read, links-only-read}
+use Rattle.scanner.proofs.Reading.{derive-inner, derives-alike, item-alone, only-reading, reading}
+use Rattle.scanner.proofs.Structure.{item-structure}
 
 pub items-tile : ItemsTile
 unfolding ItemsTile
@@ -242,12 +235,6 @@ pub tiles-in-all : TilesInAll
 unfolding TilesInAll
 tiles-in-all = tiles-thrice
 
--- The structure of a links-only or emoji-headed item.
-item-structure : (t : List ℕ) (x : Item) → List·Memᴰ x (items t) → Structured (x .kind) → StructureRead (x .chars)
-item-structure t x m k =
-    ⊎-elim (λ e. links-only-read (subst (λ (i : ScanKind). Derives i (x .chars)) e (item-derives t x m)))
-    (λ e. emoji-headed-read (subst (λ (i : ScanKind). Derives i (x .chars)) e (item-derives t x m))) k
-
 pub structure-flattens : StructureFlattens
 unfolding StructureFlattens
 structure-flattens t x m k = item-structure t x m k .flat
@@ -291,25 +278,3 @@ structure-example = refl
 pub runs-by-class : RunsByClass
 unfolding RunsByClass
 runs-by-class t = (run-selectors t, run-links t, run-modifications t, run-tags t, run-passthrough t)
-
-pub structure-is-walked : StructureIsWalked
-unfolding StructureIsWalked scanAt scanFrom spans firstOf
-structure-is-walked text at before x e k = go (items (chars (drop at text))) refl (scan-spans-of-items text at before) e
-  where
-    Walked : ScanItem → Type 0
-    Walked y = (t : List ℕ) × (take (y .end - y .start) (drop (y .start) text) ≡ encodeAll t)
-        × SequenceWalk text (y .start) (y .end) (structure t)
-
-    go : (xs : List Item) → items (chars (drop at text)) ≡ xs → SpansOfItems text (spans at before xs) xs
-        → firstOf (spans at before xs) ≡ Step.Item x
-        → Walked x
-    go [] p s q = absurd (true≢false (cc))
-    go (y ∷ ys) p s q =
-        let f : spanOf at before y ≡ x = cc in
-        let m = subst (λ (z : ScanItem). Structured (z .kind)) (sym f) k in
-        subst Walked f (
-          y .chars,
-          spans-first s,
-          structure-walk text at y ys p m
-              (item-structure (chars (drop at text)) y (subst (List·Memᴰ y) (sym p) (List·Memᴰ·head refl)) m .are),
-        )

@@ -11,7 +11,7 @@ use Rattle.unicode.specs.Unicode.{isEmoji, isEmojiModifier, isRi, isTag}
 use Rattle.scanner.specs.Classes.{Class, selector, link, ri, modifier, emoji, keycap, tag, other, classOf, isClass}
 use Rattle.scanner.specs.RunKinds.{isEmojiClass, isLinkClass, isModificationClass, isSelectorClass, isTagClass, runOf}
 use Rattle.scanner.specs.Runs.{inLinks, inModifications, inTags, isModification, isPassthrough, passthroughAt, run, selectorsAt}
-use Rattle.scanner.specs.declared.consume.RunKind.the-variants.{Links, Modifications, Passthrough, Selectors, Tags}
+use Rattle.scanner.specs.declared.char_runs.RunKind.the-variants.{Links, Modifications, Passthrough, Selectors, Tags}
 use Rattle.scanner.proofs.Arms.{When}
 use Rattle.scanner.proofs.Classes.{
   HasClass,

@@ -29,15 +29,6 @@ pub mod RunLaws
 pub mod LongestRuns
 pub mod ClassTests
 pub mod RunsAt
-pub mod TagsRead
-pub mod Cursor
-pub mod TagRuns
-pub mod PartsAt
-pub mod UnitsAt
-pub mod ModificationWalks
-pub mod CursorWalks
-pub mod UnitWalks
-pub mod ItemWalks
 pub mod SelectorChars
 pub mod SelectorBytes
 pub mod SelectorRun

@@ -19,7 +19,9 @@ use Rattle.scanner.specs.Items.{
   startState,
   beginsTags,
   kindOf,
+  nextOf,
 }
+use Rattle.scanner.specs.declared.state.Next.the-variants as Next
 use Rattle.scanner.specs.declared.ScanKind.the-variants.{EmojiHeaded, LinksOnly, Passthrough, UnsanctionedPresentationSelectors}
 
 -- ---- a fact about all states and classes is one computed test
@@ -271,3 +273,13 @@ kind-emoji emoji e = refl
 kind-emoji keycap e = cc
 kind-emoji tag e = cc
 kind-emoji other e = cc
+
+-- ---- the code's answer for a transition
+
+pub next-on : (o : Option State) (q : State) → nextOf o ≡ Next.On q → o ≡ some q
+next-on (some p) q e = cc
+next-on none q e = cc
+
+pub next-stop : (o : Option State) → nextOf o ≡ Next.Stop → o ≡ none
+next-stop (some p) e = cc
+next-stop none e = refl

@@ -26,6 +26,7 @@ use Rattle.scanner.specs.Grammar.{
   links-only,
   emoji-headed,
 }
+use Rattle.scanner.specs.Items.{Item, items}
 use Rattle.scanner.specs.Runs.{afterSelectors, selectorsAt}
 use Rattle.scanner.specs.Structure.{
   EmojiLike,
@@ -52,7 +53,8 @@ use Rattle.scanner.specs.Structure.{
   tagsOfJoined,
 }
 use Rattle.scanner.specs.Tags.{tagModifications, tagRuns, withTags}
-use Rattle.scanner.specs.Theorems.{StructureDerives, UnitDerives}
+use Rattle.scanner.specs.Theorems.{StructureDerives, Structured, UnitDerives}
+use Rattle.scanner.specs.declared.ScanKind.{ScanKind}
 use Rattle.scanner.specs.declared.ScanKind.the-variants.{EmojiHeaded, LinksOnly}
 use Rattle.scanner.proofs.Classes.{emoji-no-selector}
 use Rattle.scanner.proofs.Runs.{Stops, at-char, at-end, S-passes, passes-S, run-all, run-passes, after-all}
@@ -68,6 +70,7 @@ use Rattle.scanner.proofs.Modifications.{
 }
 use Rattle.scanner.proofs.Units.{NoLink, no-more, no-link-and, S-no-link, UnitRead, unit-flatten, unit-no-link, unit-read}
 use Rattle.scanner.proofs.Tags.{link-tags, unit-tags}
+use Rattle.scanner.proofs.Reading.{item-derives}
 
 -- ---- splitting at links
 
@@ -276,3 +279,9 @@ links-only-read {t} (links-only a l) =
       tags = ap (λ (b : List ℕ × List (List ℕ)). withTags (b .0) (b .1)) (r .tags) ∙ sym (ap tagsOf e);
       are = subst (SequenceAre t) (sym e) (links-are (r .are));
     }
+
+-- The structure of a links-only or emoji-headed item.
+pub item-structure : (t : List ℕ) (x : Item) → List·Memᴰ x (items t) → Structured (x .kind) → StructureRead (x .chars)
+item-structure t x m k =
+    ⊎-elim (λ e. links-only-read (subst (λ (i : ScanKind). Derives i (x .chars)) e (item-derives t x m)))
+    (λ e. emoji-headed-read (subst (λ (i : ScanKind). Derives i (x .chars)) e (item-derives t x m))) k

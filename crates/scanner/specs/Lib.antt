@@ -6,11 +6,8 @@ pub mod Runs
 pub mod RunKinds
 pub mod Structure
 pub mod Tags
-pub mod TagStates
 pub mod Spans
 pub mod TextCheck
 pub mod Peek
 pub mod SelectorRun
-pub mod Parts
 pub mod Theorems
-pub mod Walks

@@ -1,4 +1,4 @@
--- Contracts of helper functions: `in_run` and `run_end` of src/consume.rt. One loop reads each of these runs of document 01, "Item",
+-- Contracts of helper functions: `in_run` and `run_end` of src/char_runs.rt. One loop reads each of these runs of document 01, "Item",
 -- by the class of each character.
 -- They are the runs of specs/Runs.antt: specs/Theorems.antt, RunsByClass.
 use mathlib.Core.Bool.{Bool, not, _||_}
@@ -6,8 +6,8 @@ use mathlib.Core.List.{List}
 use Prim.Native.Nat.{ℕ}
 use Rattle.scanner.specs.Classes.{Class, selector, link, ri, modifier, emoji, keycap, tag, classOf, isClass}
 use Rattle.scanner.specs.Runs.{run}
-use Rattle.scanner.specs.declared.consume.RunKind.{RunKind}
-use Rattle.scanner.specs.declared.consume.RunKind.the-variants.{Links, Modifications, Passthrough, Selectors, Tags}
+use Rattle.scanner.specs.declared.char_runs.RunKind.{RunKind}
+use Rattle.scanner.specs.declared.char_runs.RunKind.the-variants.{Links, Modifications, Passthrough, Selectors, Tags}
 
 abbrev pub isSelectorClass : Class → Bool
 isSelectorClass = isClass selector

@@ -55,7 +55,7 @@ use Rattle.scanner.specs.Structure.{
 }
 use Rattle.scanner.specs.RunKinds.{runOf}
 use Rattle.scanner.specs.Tags.{tagModifications, tagsComplete}
-use Rattle.scanner.specs.declared.consume.RunKind.the-variants as Run
+use Rattle.scanner.specs.declared.char_runs.RunKind.the-variants as Run
 use Rattle.scanner.specs.Spans.{endCount, firstOf, scan, scanAt, scanFrom, startCount}
 use Rattle.scanner.specs.declared.ScanItem.{ScanItem}
 use Rattle.scanner.specs.declared.ScanKind.{ScanKind}
@@ -252,7 +252,7 @@ pub record TilesThrice (text : List ℕ) : Type 0 where
 unfoldable pub TilesInAll : Type 0
 TilesInAll = (text : List ℕ) → length text < 2 ^ 63 → TilesThrice text
 
--- ---- the structure of links-only and emoji-headed items; specs/Walks.antt states that the code's functions return it
+-- ---- the structure of links-only and emoji-headed items; specs/Walks.antt of item_parts states that the code's functions return it
 
 -- The grammar derives the stem and each modification of a unit.
 pub record UnitDerives (u : EmojiLike) : Type 0 where

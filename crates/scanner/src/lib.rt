@@ -1,30 +1,18 @@
 // The items of a text: scanner.rs of the crate evfmt; document 01, "Item".
-// `next_item` is the cursor. It keeps nothing from call to call, reads the item at an offset character by character, and equals
-// `scanAt` of specs/Spans.antt for every slice, offset and count. Its loop is `item_rest`, which follows the automaton of
-// src/state.rt. An item has its start and end in bytes, characters and UTF-16 units (document 02, v): the caller gives the characters
-// and units before the item, and the cursor counts those of the item.
+// This crate has the types and the definitions of items, the theorems about them, and the functions that read a character, a run of
+// selectors and a run of characters of one kind. The automaton of src/state.rt says where an item ends. The crate item_scanner finds
+// items, and the crate item_parts reads their parts. An item has its start and end in bytes, characters and UTF-16 units (document 02,
+// v).
 pub mod char_class;
-pub mod consume;
-pub mod parts;
+pub mod char_runs;
 pub mod selectors;
 pub mod state;
 pub mod text_check;
 
 ghost use mathlib.Core.Path.{_≡_};
 ghost use mathlib.Core.Logic.{_↔_};
-ghost use mathlib.Core.Bool.{true, _&&_};
-ghost use Prim.Native.Nat.{_+_};
-ghost use Rattle.scanner.specs.Items.{kindOf};
-ghost use Rattle.scanner.specs.Spans.{kindNumber, restAt, scanAt, size, width};
-ghost use Rattle.scanner.specs.Tags.{tagsComplete};
-use char_class::Peeked;
-use char_class::peek;
-use consume::consume_emoji_tag_runs;
-use positions::TextCount;
-use positions::add_counts;
-use positions::count_between;
-use state::Next;
-use state::State;
+ghost use mathlib.Core.Bool.{true};
+ghost use Rattle.scanner.specs.Spans.{kindNumber};
 
 // The kind of an item.
 pub enum ScanKind {
@@ -95,96 +83,4 @@ impl ScanItem {
 pub enum ScanStep {
     Item(ScanItem),
     End,
-}
-
-// The result of reading an item after its first character: the offset of the item's end, and whether its tags are complete.
-struct ItemRest {
-    end: usize,
-    tags_complete: bool,
-}
-
-// Whether both are true.
-fn both(a: bool, b: bool) -> bool
-    ensures { λ r. ⌜ r ≡ (a && b) ⌝ }
-{
-    if a {
-        return b;
-    }
-    false
-}
-
-// Reads the rest of an item from an offset on; the item's character before this offset led to the state `first`. A tag modification
-// is read by one call.
-fn item_rest(text: &[u8], from: usize, first: State) -> ItemRest
-    ensures end { λ r. ⌜ r .end ≡ from + size width (restAt (now (text .entry)) from first) ⌝ }
-    ensures tags { λ r. ⌜ r .«tags_complete» ≡ tagsComplete (kindOf first) (restAt (now (text .entry)) from first) ⌝ }
-{
-    let mut at = from;
-    let mut state = first;
-    let mut tags_complete = true;
-    loop {
-        match peek(text, at) {
-            Peeked::Char {
-                value: _,
-                class,
-                end,
-            } => {
-                match state::transition(state, class) {
-                    Next::On(next) => {
-                        state = next;
-                    }
-                    Next::Stop => {
-                        return ItemRest {
-                            end: at,
-                            tags_complete,
-                        };
-                    }
-                }
-                if state::begins_tags(state, class) {
-                    let tags = consume_emoji_tag_runs(text, at);
-                    tags_complete = both(tags_complete, tags.complete);
-                    at = tags.end;
-                } else {
-                    at = end;
-                }
-            }
-            Peeked::NoChar => {
-                return ItemRest {
-                    end: at,
-                    tags_complete,
-                };
-            }
-        }
-    }
-}
-
-// The item at an offset, or the end. No item begins past the end of the text or inside a character. `before` is the count of the text
-// before the offset; the item's start and end in characters and units follow from it.
-pub fn next_item(text: &[u8], at: usize, before: TextCount) -> ScanStep
-    ensures { λ r. ⌜ r ≡ scanAt (now (text .entry)) at before ⌝ }
-{
-    match peek(text, at) {
-        Peeked::Char {
-            value: _,
-            class,
-            end: from,
-        } => {
-            let first = state::start_state(class);
-            let ItemRest { end, tags_complete } = item_rest(text, from, first);
-            let kind = state::kind_of(first);
-            let more = count_between(text, at, end);
-            let after = add_counts(before, more);
-            ScanStep::Item(ScanItem {
-                start: at,
-                end,
-                kind,
-                tags_complete,
-                char_start: before.chars,
-                char_end: after.chars,
-                unit_start: before.units,
-                unit_end: after.units,
-            })
-        }
-        Peeked::NoChar => ScanStep::End,
-    }
 }

@@ -14,7 +14,7 @@ pub fn check_text(text: &[u8]) -> Check
     if TEXT_LIMIT < text.len() {
         return Check::Refused(Refusal::TextTooLong);
     }
-    let valid_up_to = utf8::valid_up_to(text);
+    let valid_up_to = utf8_validity::valid_up_to(text);
     if valid_up_to != text.len() {
         return Check::Refused(Refusal::NotWellFormed { valid_up_to });
     }

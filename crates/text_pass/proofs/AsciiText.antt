@@ -11,9 +11,9 @@ use lib.ListN.{List·getD-eq-default, drop, getD, length}
 use lib.Dec.{leb}
 use borrow.Author.Tests.{leb-true, ne-eqb}
 use Rattle.base.proofs.Tests.{le-or-lt, within-in}
-use Rattle.utf8.specs.Ascii.{AsciiRun}
+use Rattle.ascii_runs.specs.Ascii.{AsciiRun}
 use Rattle.utf8.specs.Rfc3629.{chars}
-use Rattle.utf8.proofs.AsciiRuns.{readChar-ascii-at}
+use Rattle.ascii_runs.proofs.AsciiRuns.{readChar-ascii-at}
 use Rattle.utf8.proofs.Folds.{chars-end}
 use Rattle.utf8.proofs.Fronts.{readChar-past-end}
 use Rattle.utf8.proofs.Places.{Step, step as read}

@@ -44,10 +44,9 @@ use Rattle.scanner.specs.declared.state.State.the-variants.{
   LeftOver as leftOver,
 }
 use Rattle.scanner.proofs.Classes.{class-selector, selector-class}
-use Rattle.scanner.proofs.Cursor.{next-on, next-stop}
 use Rattle.scanner.proofs.Bytes.{width-some}
 use Rattle.scanner.proofs.ItemRuns.{item-selectors, walk-passes}
-use Rattle.scanner.proofs.States.{inner, inner-selector, inner-transition, kind-emoji, kind-links, kind-selector}
+use Rattle.scanner.proofs.States.{inner, inner-selector, inner-transition, kind-emoji, kind-links, kind-selector, next-on, next-stop}
 use Rattle.scanner.proofs.Rescan.{size-append}
 use Rattle.scanner.proofs.Runs.{Stops, at-char, at-end, after-stops, run-after, run-passes}
 use Rattle.scanner.proofs.Tiling.{splitFrom-none, splitFrom-some}

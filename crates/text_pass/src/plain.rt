@@ -83,7 +83,7 @@ pub(crate) fn skip_ascii(text: &[u8], from: usize) -> usize
     ensures bounds { λ r. ⌜ (from ≤ r) × (r ≤ length (now (text .entry))) ⌝ }
     ensures skips { λ r. ⌜ ((p : Policy) → AsciiBare p → PlainBetween p (now (text .entry)) from r) ⌝ }
 {
-    let end = utf8::ascii::ascii_end(text, from + 1);
+    let end = ascii_runs::ascii_end(text, from + 1);
     if end == text.len() {
         return end;
     }

@@ -1,7 +1,7 @@
 // The scanner of scanner.rs of the crate evfmt: it borrows the text and remembers one offset (document 01, "Item"), and the number of
 // characters and of UTF-16 units before it (document 02, v). A program can make a scanner at any offset with any two numbers; it
 // counts on from them.
-// The crate `scanner` says what an item is, and its `next_item` reads one.
+// The crate `scanner` says what an item is, and `next_item` of the crate `item_scanner` reads one.
 // `scan` tests the text and makes a scanner. `next` and `raw` are thin functions over `advance` and `part`, which take the slice
 // and numbers.
 // The functions that take or return the struct are proved by walks of their code, and so is a caller that holds a scanner
@@ -12,11 +12,11 @@ ghost use Rattle.base.specs.Answers.{Answers, checkRow};
 ghost use Rattle.text_scanner.specs.Helpers.{advanced, itemOf, leftAfter, opened, skipped};
 ghost use Rattle.text_scanner.specs.Scanner.{answerAt, atPlace, nthItem, part, placeAfterStep, placeOf, rawOf, scanned, verdictOf};
 use base::Check;
+use item_scanner::next_item;
 use positions::TextCount;
 use scanner::ScanItem;
 use scanner::ScanKind;
 use scanner::ScanStep;
-use scanner::next_item;
 use scanner::text_check::check_text;
 
 // A text, the offset from which the next item is read, and the characters and UTF-16 units before that offset.

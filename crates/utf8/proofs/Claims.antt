@@ -20,7 +20,6 @@ use Rattle.utf8.specs.Rfc3629.{
 }
 use Rattle.utf8.specs.Subparts.{unfinished}
 use Rattle.utf8.specs.Theorems.{
-  AsciiEndIsLongest,
   CharsAreScalar,
   DecodeEncode,
   LongestBeginning,
@@ -33,7 +32,6 @@ use Rattle.utf8.specs.Theorems.{
   WellFormedIffEncoding,
   WellFormedIffWhole,
 }
-use Rattle.utf8.proofs.AsciiRuns.{at-longest, longest-at}
 use Rattle.utf8.proofs.Fronts.{readChar-nil}
 use Rattle.utf8.proofs.Encoding.{end-empty}
 use Rattle.utf8.proofs.Texts.{chars-encodeAll-alone, encodeAll-chars, chars-allScalar, validUpTo-le, readChar-iff}
@@ -81,10 +79,6 @@ unfinished-means u = (goes-on u, ⊎-elim (λ e. ap unfinished e) (λ g. more-by
 pub unfinished-rest : UnfinishedRest
 unfolding UnfinishedRest
 unfinished-rest s = (can-go-on s, λ g. is-unfinished s (g .0) (g .1))
-
-pub ascii-end-is-longest : AsciiEndIsLongest
-unfolding AsciiEndIsLongest
-ascii-end-is-longest s from end = (longest-at, λ h. at-longest (h .0) (h .1))
 
 pub rfc3629-examples : Rfc3629Examples
 unfolding Rfc3629Examples utf8-1 utf8-2 utf8-3 utf8-4 begun-2 begun-3 subpart readFour readChar foldStep foldChars chars validUpTo encode

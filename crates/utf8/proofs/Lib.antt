@@ -1,4 +1,4 @@
--- The laws of UTF-8. Proofs of other crates use Places (loops over a text), Packed (`decode`), AsciiRuns and Texts (whole texts).
+-- The laws of UTF-8. Proofs of other crates use Places (loops over a text), Packed (`decode`) and Texts (whole texts).
 pub mod FirstBytes
 pub mod Fronts
 pub mod Rows
@@ -10,10 +10,6 @@ pub mod Folds
 pub mod Texts
 pub mod Places
 pub mod Packed
-pub mod AsciiWords
-pub mod AsciiRuns
-pub mod WidthRuns
-pub mod Answers
 pub mod Grammar
 pub mod Completions
 pub mod SecondBytes

@@ -7,7 +7,6 @@ use Prim.Native.Nat.{ℕ, _≤_}
 use lib.ListN.{length, take, drop}
 use Rattle.utf8.specs.Rfc3629.{WellFormed, utf8-char, readChar, chars, validUpTo, isScalar, allScalar, encode, encodeAll}
 use Rattle.utf8.specs.Subparts.{MaximalSubpart, unfinished}
-use Rattle.utf8.specs.Ascii.{AsciiRun, NoAsciiAt, asciiEnd}
 use Rattle.utf8.specs.declared.ReadChar.the-variants.{Char, IllFormed, End}
 
 -- Decoding the encoding of scalar values gives these values.
@@ -58,12 +57,6 @@ UnfinishedMeans =
 -- appended.
 unfoldable pub UnfinishedRest : Type 0
 UnfinishedRest = (s : List ℕ) → (unfinished (drop (validUpTo s) s) ≡ true) ↔ ((t : List ℕ) × WellFormed (s ++ t))
-
--- `asciiEnd` is the end of the longest run of ASCII bytes: the bytes up to it are ASCII, and the text ends there or the byte there is
--- above 7F. No other offset has both properties.
-unfoldable pub AsciiEndIsLongest : Type 0
-AsciiEndIsLongest =
-    (s : List ℕ) (from end : ℕ) → (end ≡ asciiEnd s from) ↔ (AsciiRun s from end × NoAsciiAt s end)
 
 -- The examples of RFC 3629, section 7, decoded and encoded; the forms that sections 3 and 10 exclude; the bounds of each length.
 unfoldable pub Rfc3629Examples : Type 0

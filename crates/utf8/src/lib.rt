@@ -1,32 +1,17 @@
-// Decodes and encodes characters as in RFC 3629, sections 3 and 4. Document 01 ("Character") adds this to the port,
-// since the Rust crate gets a `str`. The functions equal definitions of specs/Rfc3629 and specs/Write: `read_char` is
-// `readChar`, `char_len` its width, `decode` its packed number; `valid_up_to` is `validUpTo`, `is_scalar` is
-// `isScalar`, `char_width` the length of `encode`; `write_char` is `writeChar` and `afterWriteChar`.
+// Decodes characters as in RFC 3629, sections 3 and 4. Document 01 ("Character") adds this to the port, since the Rust
+// crate gets a `str`. The functions equal definitions of specs/Rfc3629: `read_char` is `readChar`, `char_len` its width,
+// `decode` its packed number, `bad_width` is `subpartOf`, and `is_scalar` is `isScalar`.
 ghost use mathlib.Core.Path.{_≡_};
-ghost use mathlib.Core.List.{[], _∷_};
-ghost use Prim.Native.Nat.{ℕ, _+_, _/_, _%_, _≤_};
+ghost use Prim.Native.Nat.{ℕ, _+_, _≤_};
 ghost use lib.ListN.{length, drop, getD};
-ghost use lib.Seq.{sets};
-ghost use Rattle.base.specs.Answers.{Answers};
 ghost use Rattle.base.specs.Ranges.{within};
-ghost use Rattle.utf8.specs.Rfc3629.{begun-2, readFour, readChar, charLen, packed, subpartOf, validUpTo, isScalar, encode};
-ghost use Rattle.utf8.specs.Write.{charRow, writeChar, afterWriteChar};
-
-pub mod ascii;
-pub mod runs;
+ghost use Rattle.utf8.specs.Rfc3629.{begun-2, readFour, readChar, charLen, packed, subpartOf, isScalar};
 
 // The result of reading at an offset of a text: a character, a bad place with the number of bytes of its maximal subpart, or the end.
 pub enum ReadChar {
     Char { value: u32, width: usize },
     IllFormed { width: usize },
     End,
-}
-
-// The answer to writing a character: its width, or the reason why nothing was written.
-pub enum WriteChar {
-    Written { width: usize },
-    TooShort { width: usize },
-    NotScalar,
 }
 
 // Converts a byte to a wider number.
@@ -253,20 +238,6 @@ pub fn read_char(s: &[u8], at: usize) -> ReadChar
     ReadChar::Char { value, width }
 }
 
-// Returns the length of the longest well-formed prefix. After a character it skips characters of the same width at once.
-pub fn valid_up_to(s: &[u8]) -> usize
-    ensures { λ r. ⌜ r ≡ validUpTo (now (s .entry)) ⌝ }
-{
-    let mut at: usize = 0;
-    loop {
-        let width = (decode(s, at) % 8) as usize;
-        if width == 0 {
-            return at;
-        }
-        at = runs::width_end(s, at + width, width);
-    }
-}
-
 // Tests whether a number is a scalar value: at most 10FFFF and no surrogate.
 pub fn is_scalar(ch: u32) -> bool
     ensures { λ r. ⌜ r ≡ isScalar ch ⌝ }
@@ -281,100 +252,4 @@ pub fn is_scalar(ch: u32) -> bool
         return false;
     }
     true
-}
-
-// Returns the number of bytes that encode a character.
-pub fn char_width(ch: u32) -> usize
-    ensures { λ r. ⌜ r ≡ length (encode ch) ⌝ }
-{
-    if ch <= 0x7F {
-        return 1;
-    }
-    if ch <= 0x7FF {
-        return 2;
-    }
-    if ch <= 0xFFFF {
-        return 3;
-    }
-    4
-}
-
-// Stores a byte, and after it the UTF8-tail that holds the lowest six bits of a number.
-fn put_pair(first: u32, ch: u32, out: &mut [u8], at: usize)
-    requires { ⌜ (first ≤ 0xFF) × (at + 2 ≤ length (now out)) ⌝ }
-    ensures { λ _. ⌜ now (out .exit) ≡ sets (now (out .entry)) at (first ∷ (0x80 + ch % 64) ∷ []) ⌝ }
-{
-    out[at] = first as u8;
-    out[at + 1] = (0x80 + ch % 64) as u8;
-}
-
-// The next four functions store a character of one, two, three and four bytes (RFC 3629, section 3).
-fn put_1(ch: u32, out: &mut [u8], at: usize)
-    requires { ⌜ (ch ≤ 0x7F) × (at + 1 ≤ length (now out)) ⌝ }
-    ensures { λ _. ⌜ now (out .exit) ≡ sets (now (out .entry)) at (ch ∷ []) ⌝ }
-{
-    out[at] = ch as u8;
-}
-
-fn put_2(ch: u32, out: &mut [u8], at: usize)
-    requires { ⌜ (ch ≤ 0x7FF) × (at + 2 ≤ length (now out)) ⌝ }
-    ensures { λ _. ⌜ now (out .exit) ≡ sets (now (out .entry)) at ((0xC0 + ch / 64) ∷ (0x80 + ch % 64) ∷ []) ⌝ }
-{
-    put_pair(0xC0 + ch / 64, ch, out, at);
-}
-
-fn put_3(ch: u32, out: &mut [u8], at: usize)
-    requires { ⌜ (ch ≤ 0xFFFF) × (at + 3 ≤ length (now out)) ⌝ }
-    ensures { λ _. ⌜ now (out .exit) ≡ sets (now (out .entry)) at ((0xE0 + ch / 4096) ∷ (0x80 + ch / 64 % 64) ∷ (0x80 + ch % 64) ∷ []) ⌝ }
-{
-    out[at] = (0xE0 + ch / 4096) as u8;
-    put_pair(0x80 + ch / 64 % 64, ch, out, at + 1);
-}
-
-fn put_4(ch: u32, out: &mut [u8], at: usize)
-    requires { ⌜ (ch ≤ 0x10FFFF) × (at + 4 ≤ length (now out)) ⌝ }
-    ensures { λ _. ⌜ now (out .exit)
-        ≡ sets (now (out .entry)) at ((0xF0 + ch / 262144) ∷ (0x80 + ch / 4096 % 64) ∷ (0x80 + ch / 64 % 64) ∷ (0x80 + ch % 64) ∷ []) ⌝ }
-{
-    put_pair(0xF0 + ch / 262144, ch / 4096, out, at);
-    put_pair(0x80 + ch / 64 % 64, ch, out, at + 2);
-}
-
-// Stores the bytes of a character. The caller shows that they fit.
-fn put_char(ch: u32, out: &mut [u8], at: usize)
-    requires { ⌜ (ch ≤ 0x10FFFF) × (at + length (encode ch) ≤ length (now out)) ⌝ }
-    ensures { λ _. ⌜ now (out .exit) ≡ sets (now (out .entry)) at (encode ch) ⌝ }
-{
-    if ch <= 0x7F {
-        put_1(ch, out, at);
-        return;
-    }
-    if ch <= 0x7FF {
-        put_2(ch, out, at);
-        return;
-    }
-    if ch <= 0xFFFF {
-        put_3(ch, out, at);
-        return;
-    }
-    put_4(ch, out, at);
-}
-
-// Writes the bytes of a character at an offset, or refuses.
-pub fn write_char(ch: u32, out: &mut [u8], at: usize) -> WriteChar
-    ensures answer { λ r. ⌜ Answers charRow (writeChar ch (now (out .entry)) at) r ⌝ }
-    ensures buffer { λ _. ⌜ now (out .exit) ≡ afterWriteChar ch (now (out .entry)) at ⌝ }
-{
-    if !is_scalar(ch) {
-        return WriteChar::NotScalar;
-    }
-    let width = char_width(ch);
-    if out.len() < width {
-        return WriteChar::TooShort { width };
-    }
-    if out.len() - width < at {
-        return WriteChar::TooShort { width };
-    }
-    put_char(ch, out, at);
-    WriteChar::Written { width }
 }

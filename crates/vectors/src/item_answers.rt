@@ -76,7 +76,7 @@ fn item_at(line: &[u8], place: Place, text: &[u8], item: ScanItem) -> Place {
 
 // Matches the item at an offset of the text. The line has no characters or units.
 fn item_of(line: &[u8], place: Place, text: &[u8], at: usize) -> Read {
-    match scanner::next_item(text, at, TextCount { chars: 0, units: 0 }) {
+    match item_scanner::next_item(text, at, TextCount { chars: 0, units: 0 }) {
         ScanStep::Item(item) => read_to(item_at(line, place, text, item), item.end),
         ScanStep::End => Read::Apart,
     }

@@ -63,7 +63,7 @@ pub(crate) fn scanner_agrees(text: &[u8]) -> bool {
     let mut before = TextCount { chars: 0, units: 0 };
     let mut n = 0;
     while at < text.len() {
-        let ScanStep::Item(item) = scanner::next_item(text, at, before) else {
+        let ScanStep::Item(item) = item_scanner::next_item(text, at, before) else {
             return false;
         };
         if !gives_item(text, n, item) {

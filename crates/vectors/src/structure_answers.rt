@@ -8,15 +8,15 @@ use crate::notation::mark_and_selectors;
 use crate::notation::read_to;
 use crate::notation::selectors;
 use crate::parse::Place;
-use scanner::parts::EmojiLike;
-use scanner::parts::EmojiModification;
-use scanner::parts::EmojiStem;
-use scanner::parts::EmojiTagRun;
-use scanner::parts::SequencePart;
-use scanner::parts::consume_emoji_like;
-use scanner::parts::consume_emoji_modification;
-use scanner::parts::consume_emoji_tag_run;
-use scanner::parts::consume_sequence_part;
+use item_parts::EmojiLike;
+use item_parts::EmojiModification;
+use item_parts::EmojiStem;
+use item_parts::EmojiTagRun;
+use item_parts::SequencePart;
+use item_parts::consume_emoji_like;
+use item_parts::consume_emoji_modification;
+use item_parts::consume_emoji_tag_run;
+use item_parts::consume_sequence_part;
 
 // Matches a letter and the tags of the text from one offset up to another.
 fn tags(line: &[u8], place: Place, text: &[u8], at: usize, end: usize) -> Place {

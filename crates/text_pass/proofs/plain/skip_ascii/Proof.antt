@@ -1,5 +1,5 @@
 -- `text_pass::plain::skip_ascii` meets its contract: the run is skipped with or without its last character (`AsciiText`).
-use Rattle.utf8.proofs.AsciiRuns.{longest-at}
+use Rattle.ascii_runs.proofs.AsciiRuns.{longest-at}
 use Rattle.text_pass.proofs.AsciiText.{last-byte, run-but-last, run-room, run-to-end, run-with-last}
 use native.Mathlib.Omega.{arith}
 use borrow.Author.Needs.{needs}

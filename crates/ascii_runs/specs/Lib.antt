@@ -1,0 +1,3 @@
+-- Runs of ASCII bytes, and a statement about them.
+pub mod Ascii
+pub mod Theorems

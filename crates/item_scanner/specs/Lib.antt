@@ -1,0 +1,2 @@
+-- Definitions for reading a tag modification.
+pub mod TagStates

@@ -1,0 +1,2 @@
+-- The answers to writing a character.
+pub mod Answers

@@ -1,0 +1,2 @@
+-- Writing a character.
+pub mod Write

@@ -1,0 +1,2 @@
+-- The laws of runs of characters.
+pub mod WidthRuns

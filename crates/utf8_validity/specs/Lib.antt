@@ -1,0 +1,2 @@
+-- Runs of characters.
+pub mod Runs
