@@ -27,8 +27,10 @@ ghost use Rattle.findings_near.specs.Around.{
   stretchEnd,
 };
 use crate::AroundAnswer;
-use crate::rows::next_row;
+use crate::rows::SpanPositions;
 use crate::rows::put_row_if;
+use crate::rows::span_positions;
+use analysis::types::Finding;
 use base::Check;
 use base::Refusal;
 use formatter::intake::first_tests;
@@ -203,23 +205,35 @@ fn put_both(
     let mut inner_to = 0;
     let mut outer_to = 0;
     loop {
-        let row = next_row(text, policy, at, before);
-        let finding = row.finding;
-        if !is_before(row.present, finding.start, to) {
+        let FindingSpan {
+            start,
+            end,
+            counts,
+            present,
+            passed: _,
+        } = next_finding(text, policy, 0, at);
+        if !is_before(present, start, to) {
             return RowEnds {
                 inner: inner_to,
                 outer: outer_to,
             };
         }
-        let inside = is_inside(from, to, finding.start, finding.end);
-        let sharing = is_sharing(from, to, finding.start, finding.end);
+        let SpanPositions { first, last } = span_positions(text, at, start, end, before);
+        let finding = Finding {
+            start,
+            end,
+            counts,
+            char_start: first.chars,
+            char_end: last.chars,
+            unit_start: first.units,
+            unit_end: last.units,
+        };
+        let inside = is_inside(from, to, start, end);
+        let sharing = is_sharing(from, to, start, end);
         inner_to = put_row_if(inside, inner, inner_to, finding);
         outer_to = put_row_if(sharing, outer, outer_to, finding);
-        at = finding.end;
-        before = TextCount {
-            chars: finding.char_end,
-            units: finding.unit_end,
-        };
+        at = end;
+        before = last;
     }
 }
 
