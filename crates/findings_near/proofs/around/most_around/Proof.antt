@@ -36,7 +36,8 @@ returns c =
 
 well-formed-end-requires-2 : tie.Need-well-formed-end-requires-2
 well-formed-end-requires-2 c κs =
-    span-advances (c .next-finding2 .ensures) .inside (span-advances (c .before .before .before .next-finding .ensures) .inside (omega arith))
+    let a = span-advances (c .before .before .before .next-finding .ensures) in
+    span-advances (c .next-finding2 .ensures) .inside (a .inside (omega arith))
 
 add-starting : tie.Need-add-starting
 add-starting c =

@@ -109,7 +109,8 @@ loop-less c =
 
 loop-again : tie.Need-loop-again Inv-loop μ-loop
 loop-again c =
-    let placed = c .before .before .before .before .before .before .before .before .before .before .before .before in
+    let put = c .before .before .before .before .before .before in
+    let placed = put .before .before .before .before .before .before in
     let passed = placed .before .before in
     let x = passed .before .before .before .before .before .before .before .before .args in
     let p = policyOf (x .policy .now) in
@@ -121,9 +122,9 @@ loop-again c =
     (not-false (b .result) (placed .before .if1 .left))
     (l .inv .0) (s .0) (s .1) in (
       f .after,
-      filling-on p t (inside (x .from) (x .to)) (x .inner .now) (l .inv .1) f (c .before .before .before .before .before .before .before .before .before .is-inside .ensures)
-          (c .before .before .before .before .before .before .put-row-if .ensures),
-      filling-on p t (onlyShares (x .from) (x .to)) (x .outer .now) (l .inv .2) f (c .before .before .before .before .before .before .before .before .is-sharing .ensures)
+      filling-on p t (inside (x .from) (x .to)) (x .inner .now) (l .inv .1) f (put .before .before .before .is-inside .ensures)
+          (put .put-row-if .ensures),
+      filling-on p t (onlyShares (x .from) (x .to)) (x .outer .now) (l .inv .2) f (put .before .before .is-sharing .ensures)
           (c .before .before .put-row-if2 .ensures),
     )
 
