@@ -16,10 +16,14 @@ use Rattle.base.proofs.TableBytes.{length-rows, rows-room}
 use Rattle.base.proofs.Writer.{Writing, begin, finish, put, room}
 use Rattle.utf8.specs.Rfc3629.{validUpTo}
 use Rattle.policy.specs.declared.Policy.{Policy}
-use Rattle.positions.specs.Positions.{AtPosition, positionAt}
+use Rattle.positions.specs.Positions.{AtPosition, cappedPlus, countBetween, positionAt}
+use Rattle.positions.specs.declared.TextCount.{TextCount}
 use Rattle.analysis.specs.declared.types.Finding.{Finding}
 use Rattle.formatter.specs.List.{rowBytes, rowNumbers}
 use Rattle.formatter.proofs.RowBytes.{length-row}
+use Rattle.formatter.proofs.Steps.{rowBy}
+use Rattle.text_pass.specs.Findings.{NextFinding}
+use Rattle.text_pass.specs.declared.findings.FindingSpan.{FindingSpan}
 use Rattle.findings_near.specs.Around.{
   AfterBoth,
   EndsAround,
@@ -36,7 +40,7 @@ use Rattle.findings_near.specs.declared.AroundAnswer.{AroundAnswer}
 use Rattle.findings_near.specs.declared.AroundAnswer.the-variants.{Listed}
 use Rattle.findings_near.specs.Theorems.{InTextOrder}
 use Rattle.findings_near.proofs.Order.{ordered-from}
-use Rattle.findings_near.proofs.NextRows.{at-own, count-one, front, write-one}
+use Rattle.findings_near.proofs.NextRows.{at-own, count-one, front, is-next, write-one}
 use Rattle.findings_near.proofs.Stretches.{rest-apart}
 
 -- ---- the tests by their branches
@@ -110,6 +114,13 @@ module _ (start to : ℕ) {present b : Bool} (e : b ≡ (present && ltb start to
       go : (x : Bool) → (x && ltb start to) ≡ false → (x ≡ false → A) → (x ≡ true → to ≤ start → A) → A
       go true k f g = g refl (ltb-false start to k)
       go false k f g = f refl
+
+-- The next finding, with the positions of its start and its end, where the pass goes on.
+pub goes-on-next : (to : ℕ) {p : Policy} {text : List ℕ} {at : ℕ} {r : FindingSpan} → NextFinding p text 0 at r → {b : Bool}
+    → b ≡ (r .present && ltb (r .start) to) → b ≡ true → {before first last : TextCount} → AtPosition text at before
+    → first ≡ cappedPlus before (countBetween text at (r .start)) → last ≡ cappedPlus first (countBetween text (r .start) (r .end))
+    → IsNext p text at (rowBy (r .start) (r .end) (r .counts) first last)
+goes-on-next to {r = r} n e h a f l = is-next n (goes-on (r .start) to e h .0) a refl f refl l
 
 -- ---- where the pass stops
 

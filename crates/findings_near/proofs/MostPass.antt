@@ -1,22 +1,24 @@
 -- A pass that only counts which findings start before a stretch and in it: what it says of the two lists.
 use mathlib.Core.Path.{_≡_, refl, ap, sym, _∙_}
-use mathlib.Core.Bool.{Bool, true, false, cond}
-use mathlib.Core.List.{List, _∷_, map, List·Memᴰ}
-use Prim.Native.Nat.{ℕ, suc, _+_, _≤_}
+use mathlib.Core.Bool.{Bool, true, false, _&&_, cond}
+use mathlib.Core.List.{List, [], _∷_, map, List·Memᴰ}
+use Prim.Native.Nat.{ℕ, suc, _+_, _<_, _≤_}
 use native.Mathlib.Omega.{arith}
+use lib.Dec.{ltb}
 use lib.ListN.{drop, length}
-use Rattle.utf8.specs.Rfc3629.{chars, validUpTo}
+use Rattle.utf8.specs.Rfc3629.{chars}
 use Rattle.policy.specs.declared.Policy.{Policy}
 use Rattle.scanner.specs.Items.{items}
 use Rattle.scanner.specs.Spans.{Found}
 use Rattle.analysis.specs.declared.types.Finding.{Finding}
 use Rattle.formatter.specs.Findings.{findingRow}
 use Rattle.formatter.proofs.Steps.{none-found}
-use Rattle.text_pass.specs.Findings.{NextFinding, SkipsFindings, none-skipped, one-skipped}
+use Rattle.text_pass.specs.Findings.{FindingsBetween, NextFinding, SkipsFindings, none-skipped, one-skipped}
 use Rattle.text_pass.specs.declared.findings.FindingSpan.{FindingSpan}
+use Rattle.text_pass.proofs.Passing.{over-finding, over-on}
 use Rattle.findings_near.specs.Around.{filter, inside, onlyShares}
 use Rattle.findings_near.specs.Helpers.{rowsFrom}
-use Rattle.findings_near.proofs.AroundPass.{NoneLeft, early-holds}
+use Rattle.findings_near.proofs.AroundPass.{NoneLeft, early-holds, stops}
 use Rattle.findings_near.proofs.Order.{has-byte, none-pass, ordered-from, starts-from}
 use Rattle.findings_near.proofs.Stretches.{starts-after}
 
@@ -62,35 +64,38 @@ module _ (p : Policy) (text : List ℕ) where
           outer = none-pass (onlyShares from to) (rowsFrom p text at) (λ g m. none g m .1);
         }
 
-    module _ {a b : FindingSpan} (n : NextFinding p text from 0 a) (m : NextFinding p text to (a .start) b) where
-      -- After the second pass no finding of either list is left.
-      none-after : NoneLeft p text from to (b .start)
-      unfolding filter
-      none-after = go (b .present) refl
-        where
-          go : (x : Bool) → b .present ≡ x → NoneLeft p text from to (b .start)
-          go true e = none-later (b .start) (m .1 e .0)
-          go false e =
-              let z = ap (map row) (none-found p text (b .start) (m .2 e .0)) in
-              record { inner = ap (filter (inside from to)) z; outer = ap (filter (onlyShares from to)) z }
+    -- Where no character begins, no finding is left.
+    none-ended : {at : ℕ} → chars (drop at text) ≡ [] → NoneLeft p text from to at
+    unfolding filter
+    none-ended {at} e =
+        let z = ap (map row) (none-found p text at e) in
+        record { inner = ap (filter (inside from to)) z; outer = ap (filter (onlyShares from to)) z }
 
-      pub most-inside : length (filter (inside from to) (rowsFrom p text 0)) ≤ b .passed
-      most-inside =
-          omega (
-            arith,
-            ap length (skip-early from to (n .0 .skips)),
-            skip-few (inside from to) (m .0 .skips),
-            ap length (none-after .inner),
-          )
+    -- The search for a finding that does not start before the end of the stretch leaves no finding of either list.
+    pub none-after : {at : ℕ} {b : FindingSpan} → NextFinding p text to at b → NoneLeft p text from to (b .start)
+    none-after {b = b} m = go (b .present) refl
+      where
+        go : (x : Bool) → b .present ≡ x → NoneLeft p text from to (b .start)
+        go true e = none-later (b .start) (m .1 e .0)
+        go false e = none-ended (m .2 e .0)
 
-      pub none-around : a .passed ≡ 0 → b .passed ≡ 0 → NoneLeft p text from to 0
-      none-around e f =
-          let z = skip-none (n .0 .skips) e ∙ skip-none (m .0 .skips) f in
-          let l = none-after in
-          record { inner = ap (filter (inside from to)) z ∙ l .inner; outer = ap (filter (onlyShares from to)) z ∙ l .outer }
+    module _ {a : FindingSpan} (n : NextFinding p text from 0 a) where
+      -- The first finding that does not start before the stretch is the first in it, or no finding starts in it.
+      pub none-first : {x : Bool} → x ≡ (a .present && ltb (a .start) to) → x ≡ false → NoneLeft p text from to (a .start)
+      none-first e f = stops (a .start) to e f (λ z. none-ended (n .2 z .0)) (λ z h. none-later (a .start) h)
 
-      pub most-within : b .start ≤ length text
-      most-within = m .0 .advances .inside (n .0 .advances .inside (omega arith))
+      -- Between the first finding in the stretch and an offset start k findings, all before the end of the stretch.
+      module _ {at k : ℕ} (s : FindingsBetween p text to (a .start) at k) (l : NoneLeft p text from to at) where
+        pub most-inside : length (filter (inside from to) (rowsFrom p text 0)) ≤ k
+        most-inside =
+            omega (arith, ap length (skip-early from to (n .0 .skips)), skip-few (inside from to) (s .skips), ap length (l .inner))
 
-      pub most-valid : {v : ℕ} → v ≡ b .start + validUpTo (drop (b .start) text) → v ≡ validUpTo text
-      most-valid e = omega (arith, e, n .0 .advances .valid, n .0 .advances .on, m .0 .advances .valid, m .0 .advances .on)
+        pub none-around : a .passed ≡ 0 → k ≡ 0 → NoneLeft p text from to 0
+        none-around e f =
+            let z = skip-none (n .0 .skips) e ∙ skip-none (s .skips) f in
+            record { inner = ap (filter (inside from to)) z ∙ l .inner; outer = ap (filter (onlyShares from to)) z ∙ l .outer }
+
+-- The first finding in the stretch, and those that a search from its end on passes.
+pub starting-between : {p : Policy} {text : List ℕ} {from to : ℕ} {a b : FindingSpan} → NextFinding p text from 0 a → a .present ≡ true
+    → a .start < to → NextFinding p text to (a .end) b → FindingsBetween p text to (a .start) (b .start) (1 + b .passed)
+starting-between n e h m = over-on (over-finding (n .1 e .1 .finds) h) (m .0)

@@ -2,7 +2,7 @@
 use mathlib.Core.Path.{_≡_, refl, ap, subst, sym, _∙_}
 use mathlib.Core.Bool.{Bool, true, false, cond}
 use mathlib.Core.List.{List, [], _∷_, _++_, map}
-use Prim.Native.Nat.{ℕ, _+_, _≤_}
+use Prim.Native.Nat.{ℕ, suc, _+_, _≤_}
 use native.Mathlib.Nat.{zero-add}
 use native.Mathlib.Omega.{arith}
 use lib.ListN.{drop, length}
@@ -19,9 +19,11 @@ use Rattle.analysis.specs.declared.types.Finding.{Finding}
 use Rattle.formatter.specs.Findings.{findingRow}
 use Rattle.formatter.specs.List.{rowNumbers}
 use Rattle.formatter.proofs.Steps.{none-found, rowBy}
+use Rattle.text_pass.specs.Changes.{Advances}
 use Rattle.text_pass.specs.Findings.{NextFinding}
 use Rattle.text_pass.specs.declared.findings.FindingSpan.{FindingSpan}
-use Rattle.text_pass.proofs.Passing.{item-valid, over-none}
+use Rattle.text_pass.proofs.Passing.{item-valid, over-finding, over-none}
+use Rattle.text_pass.proofs.Staying.{advances-on}
 use Rattle.listing.proofs.NextFindings.{finds-ahead, finds-positions, finds-row, next-row}
 use Rattle.findings_near.specs.Around.{filter}
 use Rattle.findings_near.specs.Helpers.{IsLast, IsNext}
@@ -62,6 +64,15 @@ module _ {p : Policy} {text : List ℕ} {at : ℕ} {r : FindingSpan} (n : NextFi
         rows = ap (map (findingRow p text)) (over-none (n .0) .same ∙ none-found p text (r .start) s);
         valid = omega (arith, v .valid, v .on, size-chars (drop (r .start) text), ap (size width) s);
       }
+
+-- A search reads up to the end of the finding that it returns, and the text is well-formed up to there.
+pub span-advances : {p : Policy} {text : List ℕ} {limit at : ℕ} {r : FindingSpan} → NextFinding p text limit at r
+    → Advances text at (r .end)
+span-advances {text = text} {at = at} {r = r} n = go (r .present) refl
+  where
+    go : (b : Bool) → r .present ≡ b → Advances text at (r .end)
+    go true e = advances-on (n .0 .advances) (over-finding (n .1 e .1 .finds) {limit = suc (r .start)} (omega arith) .advances)
+    go false e = subst (Advances text at) (sym (n .2 e .1)) (n .0 .advances)
 
 -- The position that a count says is that of the text.
 pub at-own : {text : List ℕ} {n : ℕ} {c : TextCount} → AtPosition text n c → AtPosition text n (positionAt text n)

@@ -27,8 +27,10 @@ ghost use Rattle.findings_near.specs.Around.{
   stretchEnd,
 };
 use crate::AroundAnswer;
-use crate::rows::next_row;
+use crate::rows::SpanPositions;
 use crate::rows::put_row_if;
+use crate::rows::span_positions;
+use analysis::types::Finding;
 use base::Check;
 use base::Refusal;
 use formatter::intake::first_tests;
@@ -139,7 +141,7 @@ fn count_around(text: &[u8], policy: &[u8], from: usize, to: usize) -> AroundCou
             passed: _,
         } = next_finding(text, policy, 0, at);
         if !is_before(present, start, to) {
-            let valid_up_to = well_formed_end(text, start);
+            let valid_up_to = well_formed_end(text, end);
             return AroundCount {
                 inside,
                 sharing,
@@ -152,7 +154,8 @@ fn count_around(text: &[u8], policy: &[u8], from: usize, to: usize) -> AroundCou
     }
 }
 
-// Counts the findings that start before a stretch, and those that start in it. Their own counts are not made.
+// Counts the findings that start before a stretch, and those that start in it. No byte is read twice: the search for the findings in the
+// stretch goes on at the end of the first of them, and the test for UTF-8 at the end of the first finding after them.
 fn most_around(text: &[u8], policy: &[u8], from: usize, to: usize) -> MostAround
     ensures most { λ r. ⌜ length (filter (inside from to) (listed (now (text .entry)) (now (policy .entry)))) ≤ r .starting ⌝ }
     ensures none { λ r. ⌜ (r .earlier ≡ 0 → r .starting ≡ 0
@@ -160,12 +163,21 @@ fn most_around(text: &[u8], policy: &[u8], from: usize, to: usize) -> MostAround
         × (filter (onlyShares from to) (listed (now (text .entry)) (now (policy .entry))) ≡ [])) ⌝ }
     ensures valid { λ r. ⌜ r .«valid_up_to» ≡ validUpTo (now (text .entry)) ⌝ }
 {
-    let before = next_finding(text, policy, from, 0);
-    let within = next_finding(text, policy, to, before.start);
-    let valid_up_to = well_formed_end(text, within.start);
+    let first = next_finding(text, policy, from, 0);
+    if !is_before(first.present, first.start, to) {
+        let valid_up_to = well_formed_end(text, first.end);
+        return MostAround {
+            earlier: first.passed,
+            starting: 0,
+            valid_up_to,
+        };
+    }
+    let after = next_finding(text, policy, to, first.end);
+    let valid_up_to = well_formed_end(text, after.end);
+    let starting = 1 + after.passed;
     MostAround {
-        earlier: before.passed,
-        starting: within.passed,
+        earlier: first.passed,
+        starting,
         valid_up_to,
     }
 }
@@ -193,23 +205,35 @@ fn put_both(
     let mut inner_to = 0;
     let mut outer_to = 0;
     loop {
-        let row = next_row(text, policy, at, before);
-        let finding = row.finding;
-        if !is_before(row.present, finding.start, to) {
+        let FindingSpan {
+            start,
+            end,
+            counts,
+            present,
+            passed: _,
+        } = next_finding(text, policy, 0, at);
+        if !is_before(present, start, to) {
             return RowEnds {
                 inner: inner_to,
                 outer: outer_to,
             };
         }
-        let inside = is_inside(from, to, finding.start, finding.end);
-        let sharing = is_sharing(from, to, finding.start, finding.end);
+        let SpanPositions { first, last } = span_positions(text, at, start, end, before);
+        let finding = Finding {
+            start,
+            end,
+            counts,
+            char_start: first.chars,
+            char_end: last.chars,
+            unit_start: first.units,
+            unit_end: last.units,
+        };
+        let inside = is_inside(from, to, start, end);
+        let sharing = is_sharing(from, to, start, end);
         inner_to = put_row_if(inside, inner, inner_to, finding);
         outer_to = put_row_if(sharing, outer, outer_to, finding);
-        at = finding.end;
-        before = TextCount {
-            chars: finding.char_end,
-            units: finding.unit_end,
-        };
+        at = end;
+        before = last;
     }
 }
 

@@ -8,7 +8,7 @@ ghost use lib.ListN.{length};
 ghost use Rattle.base.specs.Output.{PutAt};
 ghost use Rattle.base.specs.Words.{bytesOf};
 ghost use Rattle.policy.specs.PolicyBytes.{policyOf};
-ghost use Rattle.positions.specs.Positions.{AtPosition};
+ghost use Rattle.positions.specs.Positions.{AtPosition, cappedPlus, countBetween};
 ghost use Rattle.formatter.specs.List.{rowBytes, rowNumbers};
 ghost use Rattle.findings_near.specs.Helpers.{GivesRow};
 use analysis::types::Finding;
@@ -27,6 +27,12 @@ pub(crate) struct NextRow {
     pub(crate) finding: Finding,
 }
 
+// The positions of a finding's start and of its end.
+pub(crate) struct SpanPositions {
+    pub(crate) first: TextCount,
+    pub(crate) last: TextCount,
+}
+
 // An empty finding at an offset: it stands for "no finding".
 pub(crate) fn no_finding(at: usize) -> Finding
     ensures { λ r. ⌜ r .start ≡ at ⌝ }
@@ -41,6 +47,22 @@ pub(crate) fn no_finding(at: usize) -> Finding
         unit_start: 0,
         unit_end: 0,
     }
+}
+
+// The positions of a finding's start and of its end, counted on from the position `before` of the offset `at`.
+pub(crate) fn span_positions(
+    text: &[u8],
+    at: usize,
+    start: usize,
+    end: usize,
+    before: TextCount,
+) -> SpanPositions
+    ensures first { λ r. ⌜ r .first ≡ cappedPlus before (countBetween (now (text .entry)) at start) ⌝ }
+    ensures last { λ r. ⌜ r .last ≡ cappedPlus (r .first) (countBetween (now (text .entry)) start end) ⌝ }
+{
+    let first = add_counts(before, count_between(text, at, start));
+    let last = add_counts(first, count_between(text, start, end));
+    SpanPositions { first, last }
 }
 
 // Finds the next finding from an offset on, with its positions. `before` is the position of the offset.
@@ -59,8 +81,7 @@ pub(crate) fn next_row(text: &[u8], policy: &[u8], at: usize, before: TextCount)
         let finding = no_finding(start);
         return NextRow { present, finding };
     }
-    let first = add_counts(before, count_between(text, at, start));
-    let last = add_counts(first, count_between(text, start, end));
+    let SpanPositions { first, last } = span_positions(text, at, start, end, before);
     let finding = Finding {
         start,
         end,

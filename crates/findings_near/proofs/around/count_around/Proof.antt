@@ -18,7 +18,7 @@ use Rattle.findings_near.proofs.AroundPass.{
   none-reached,
   stops,
 }
-use Rattle.findings_near.proofs.NextRows.{at-own, is-last, is-next-in}
+use Rattle.findings_near.proofs.NextRows.{at-own, is-last, is-next-in, span-advances}
 use Rattle.findings_near.proofs.around.count_around.Statement.{statement}
 use Rattle.findings_near.proofs.around.count_around.Tie as tie
 
@@ -36,7 +36,7 @@ loop-holds c =
 
 well-formed-end-requires : tie.Need-well-formed-end-requires Inv-loop μ-loop
 well-formed-end-requires c κs =
-    c .before .before .next-finding .ensures .0 .advances .inside (c .before .before .before .loop .inv .in-text)
+    span-advances (c .before .before .next-finding .ensures) .inside (c .before .before .before .loop .inv .in-text)
 
 returns : tie.Need-returns Inv-loop μ-loop
 unfolding listed findings
@@ -52,7 +52,8 @@ returns c =
     (stops (r .result .start) (x .to) (b .ensures) (not-true (b .result) (c .before .if1 .taken))
     (λ q. none-left p t (x .from) (x .to) (is-last n q))
     (λ q h. none-reached p t (x .from) (x .to) (is-next-in n q (s .position)) h)) in
-    (e .0, (e .1, omega (arith, c .well-formed-end .ensures, s .valid, n .0 .advances .valid, n .0 .advances .on)))
+    let v = span-advances n in
+    (e .0, (e .1, omega (arith, c .well-formed-end .ensures, s .valid, v .valid, v .on)))
 
 add-inside : tie.Need-add-inside Inv-loop μ-loop
 add-inside c =

@@ -15,11 +15,12 @@ use Rattle.findings_near.proofs.AroundPass.{
   filling-end,
   filling-on,
   filling-room,
-  goes-on,
+  goes-on-next,
   none-left,
   none-reached,
   stops,
 }
+use Rattle.findings_near.proofs.NextRows.{at-own, is-last, is-next-in}
 use Rattle.findings_near.proofs.around.put_both.Statement.{statement}
 use Rattle.findings_near.proofs.around.put_both.Tie as tie
 
@@ -44,9 +45,6 @@ loop-holds c =
       filling-begin p t (onlyShares (x .from) (x .to)) (x .outer .now) (s .pre .1),
     )
 
-next-row-requires : tie.Need-next-row-requires Inv-loop μ-loop
-next-row-requires c κs = c .loop .inv .0
-
 same-length : tie.Need-same-length Inv-loop μ-loop
 same-length c = c .before .before .before .before .loop .inv .1 .same
 
@@ -60,67 +58,73 @@ returns c =
     let p = policyOf (x .policy .now) in
     let t = x .text .now in
     let l = c .before .before .before .before .loop in
-    let r = c .before .before .before .next-row in
+    let r = c .before .before .before .next-finding in
     let n = r .ensures in
     let b = c .before .is-before in
-    let e = stops (r .result .finding .start) (x .to) (b .ensures) (not-true (b .result) (c .if1 .taken))
-    (λ q. none-left p t (x .from) (x .to) (n .1 q))
-    (λ q h. none-reached p t (x .from) (x .to) (n .0 q) h) in (
+    let e = stops (r .result .start) (x .to) (b .ensures) (not-true (b .result) (c .if1 .taken))
+    (λ q. none-left p t (x .from) (x .to) (is-last n q))
+    (λ q h. none-reached p t (x .from) (x .to) (is-next-in n q (at-own (l .inv .0))) h) in (
       filling-end p t (inside (x .from) (x .to)) (x .inner .now) (l .at) (l .inv .1) (e .inner),
       filling-end p t (onlyShares (x .from) (x .to)) (x .outer .now) (l .at) (l .inv .2) (e .outer),
     )
 
 put-row-if-requires : tie.Need-put-row-if-requires Inv-loop μ-loop
 put-row-if-requires c κs w =
-    let x = c .before .before .before .before .before .before .before .before .before .before .before .before .args in
-    let b = c .before .before .before .before .is-before in
-    let n = c .before .before .before .before .before .before .next-row in
-    let on = goes-on (n .result .finding .start) (x .to) (b .ensures) (not-false (b .result) (c .before .before .before .if1 .left)) in
-    filling-room (policyOf (x .policy .now)) (x .text .now) (inside (x .from) (x .to)) (x .inner .now)
-    (c .before .before .before .before .before .before .before .loop .inv .1)
-    (n .ensures .0 (on .0)) (c .before .before .is-inside .ensures) w
+    let passed = c .before .before .before .before .before .before .before in
+    let x = passed .before .before .before .before .before .before .before .before .args in
+    let l = passed .before .before .before .loop in
+    let b = passed .is-before in
+    let s = c .before .before .before .before .before .span-positions .ensures in
+    let f = goes-on-next (x .to) (passed .before .before .next-finding .ensures) (b .ensures)
+    (not-false (b .result) (c .before .before .before .before .before .before .if1 .left))
+    (l .inv .0) (s .0) (s .1) in
+    filling-room (policyOf (x .policy .now)) (x .text .now) (inside (x .from) (x .to)) (x .inner .now) (l .inv .1) f
+    (c .before .before .is-inside .ensures) w
 
 put-row-if-requires-2 : tie.Need-put-row-if-requires-2 Inv-loop μ-loop
 put-row-if-requires-2 c κs w =
-    let passed = c .before .before .before .before .before .before .before .before in
+    let placed = c .before .before .before .before .before .before .before .before .before in
+    let passed = placed .before .before in
     let x = passed .before .before .before .before .before .before .before .before .args in
+    let l = passed .before .before .before .loop in
     let b = passed .is-before in
-    let n = passed .before .before .next-row in
-    let on = goes-on (n .result .finding .start) (x .to) (b .ensures) (not-false (b .result)
-    (c .before .before .before .before .before .before .before .if1 .left)) in
-    filling-room (policyOf (x .policy .now)) (x .text .now) (onlyShares (x .from) (x .to)) (x .outer .now)
-    (passed .before .before .before .loop .inv .2) (n .ensures .0 (on .0))
+    let s = placed .span-positions .ensures in
+    let f = goes-on-next (x .to) (passed .before .before .next-finding .ensures) (b .ensures)
+    (not-false (b .result) (placed .before .if1 .left))
+    (l .inv .0) (s .0) (s .1) in
+    filling-room (policyOf (x .policy .now)) (x .text .now) (onlyShares (x .from) (x .to)) (x .outer .now) (l .inv .2) f
     (c .before .before .before .before .before .is-sharing .ensures) w
 
 loop-less : tie.Need-loop-less Inv-loop μ-loop
 loop-less c =
-    let passed = c .before .before .before .before .before .before .before .before .before .before .before in
+    let placed = c .before .before .before .before .before .before .before .before .before .before .before .before in
+    let passed = placed .before .before in
     let x = passed .before .before .before .before .before .before .before .before .args in
     let b = passed .is-before in
-    let n = passed .before .before .next-row in
-    let left = c .before .before .before .before .before .before .before .before .before .before in
-    let on = goes-on (n .result .finding .start) (x .to) (b .ensures) (not-false (b .result) (left .if1 .left)) in
-    let f = n .ensures .0 (on .0) in
+    let s = placed .span-positions .ensures in
+    let f = goes-on-next (x .to) (passed .before .before .next-finding .ensures) (b .ensures)
+    (not-false (b .result) (placed .before .if1 .left))
+    (passed .before .before .before .loop .inv .0) (s .0) (s .1) in
     omega (arith, f .on, f .some, f .room)
 
 loop-again : tie.Need-loop-again Inv-loop μ-loop
 loop-again c =
-    let passed = c .before .before .before .before .before .before .before .before .before .before .before in
+    let put = c .before .before .before .before .before .before in
+    let placed = put .before .before .before .before .before .before in
+    let passed = placed .before .before in
     let x = passed .before .before .before .before .before .before .before .before .args in
     let p = policyOf (x .policy .now) in
     let t = x .text .now in
-    let b = passed .is-before in
     let l = passed .before .before .before .loop in
-    let n = passed .before .before .next-row in
-    let left = c .before .before .before .before .before .before .before .before .before .before in
-    let on = goes-on (n .result .finding .start) (x .to) (b .ensures) (not-false (b .result) (left .if1 .left)) in
-    let f = n .ensures .0 (on .0) in (
+    let b = passed .is-before in
+    let s = placed .span-positions .ensures in
+    let f = goes-on-next (x .to) (passed .before .before .next-finding .ensures) (b .ensures)
+    (not-false (b .result) (placed .before .if1 .left))
+    (l .inv .0) (s .0) (s .1) in (
       f .after,
-      filling-on p t (inside (x .from) (x .to)) (x .inner .now) (l .inv .1) f
-          (c .before .before .before .before .before .before .before .before .before .is-inside .ensures)
-          (c .before .before .before .before .before .before .put-row-if .ensures),
-      filling-on p t (onlyShares (x .from) (x .to)) (x .outer .now) (l .inv .2) f
-          (c .before .before .before .before .before .before .before .before .is-sharing .ensures)
+      filling-on p t (inside (x .from) (x .to)) (x .inner .now) (l .inv .1) f (put .before .before .before .is-inside .ensures)
+          (put .put-row-if .ensures),
+      filling-on p t (onlyShares (x .from) (x .to)) (x .outer .now) (l .inv .2) f (put .before .before .is-sharing .ensures)
           (c .before .before .put-row-if2 .ensures),
     )
 
@@ -131,11 +135,12 @@ put-both-spec =
     Inv-loop
     μ-loop
     loop-holds
-    next-row-requires
+    (λ c κs. search needs)
     (λ c κs. search needs)
     same-length
     same-length-2
     returns
+    (λ c κs. search needs)
     (λ c κs. search needs)
     (λ c κs. search needs)
     put-row-if-requires

@@ -1,5 +1,5 @@
 -- `findings_near::rows::next_row` meets its contract.
-use mathlib.Core.Path.{subst, sym, _∙_}
+use mathlib.Core.Path.{refl, subst, sym, _∙_}
 use mathlib.Core.Bool.{false≢true}
 use borrow.Author.Needs.{needs}
 use borrow.Author.Tests.{not-false, not-true}
@@ -20,11 +20,10 @@ returns c =
 
 returns-2 : tie.Need-returns-2
 returns-2 c =
-    let n = c .before .before .before .before .before .before .next-finding in
-    let some = not-false (n .result .present) (c .before .before .before .before .if1 .left) in (
-      (λ e. is-next (n .ensures) some (c .before .before .before .before .before .before .before .before .before .pre)
-          (c .before .before .before .count-between .ensures)
-          (c .before .before .add-counts .ensures) (c .before .count-between2 .ensures) (c .add-counts2 .ensures)),
+    let n = c .before .before .before .before .before .next-finding in
+    let some = not-false (n .result .present) (c .before .before .before .if1 .left) in
+    let s = c .before .before .span-positions .ensures in (
+      (λ e. is-next (n .ensures) some (c .before .before .before .before .before .before .before .before .pre) refl (s .0) refl (s .1)),
       (λ e. absurd (false≢true (sym e ∙ some))),
     )
 
@@ -35,8 +34,5 @@ next-row-spec =
     (λ c κs. search needs)
     (λ c κs. search needs)
     returns
-    (λ c κs. search needs)
-    (λ c κs. search needs)
-    (λ c κs. search needs)
     (λ c κs. search needs)
     returns-2)

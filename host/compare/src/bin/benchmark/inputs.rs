@@ -25,7 +25,7 @@ pub struct Input {
 const MESSAGE: usize = 48;
 
 /// The kinds: chats, messages, and what costs most.
-pub const INPUTS: [Input; 12] = [
+pub const INPUTS: [Input; 13] = [
     Input::text("ascii", "English chat, with some numbers", ascii).wanted(100.0),
     Input::text(
         "mixed",
@@ -51,6 +51,11 @@ pub const INPUTS: [Input; 12] = [
         .messages()
         .wanted(5.0),
     Input::text("selectors", "one run of selectors", selectors),
+    Input::text(
+        "late-run",
+        "a selector, a letter, and one run of selectors",
+        late_run,
+    ),
     Input::text("links", "one run of links", links),
     Input::text("tags", "one base with a run of tags", tags),
     Input::text(
@@ -146,6 +151,10 @@ fn cjk(input: &Input, bytes: usize) -> String {
 
 fn selectors(_: &Input, bytes: usize) -> String {
     "\u{FE0F}".repeat(bytes / 3)
+}
+
+fn late_run(input: &Input, bytes: usize) -> String {
+    "\u{FE0F}a".to_owned() + &selectors(input, bytes.saturating_sub(4))
 }
 
 fn links(_: &Input, bytes: usize) -> String {

@@ -44,8 +44,9 @@ the medians and by the best; at most 3 is wanted on mixed, dense, cyrillic and c
 /// The text above the table of stretches.
 const NEAR: &str = "\
 The findings around a stretch, and the one nearest to the middle of the text, compared with listing all findings. whole: the
-stretch is the whole text; middle: it is a tenth in the middle. ratios: the time of the call divided by that of the listing, by the
-medians and by the best; at most 1.2 is wanted.";
+stretch is the whole text; middle: it is a tenth in the middle; first: it is the first three bytes. counted: the whole text, and the
+second table has no row; exact: the last finding lies across the end of the stretch, and the first table has just the rows that are
+wanted. ratios: the time of the call divided by that of the listing, by the medians and by the best; at most 1.2 is wanted.";
 
 /// Formatting beside the crate's, the standard library's test of a text, and a copy.
 pub fn formatting(inputs: &[&Input], rounds: usize) -> Result<(), String> {
@@ -233,18 +234,21 @@ pub fn tipping(inputs: &[&Input], rounds: usize) -> Result<(), String> {
 pub fn near(inputs: &[&Input], rounds: usize) -> Result<(), String> {
     println!("\n{NEAR}");
     println!(
-        "{:<11} {:>8} {:>15} {:>13} {:>13} {:>13}",
-        "input", "findings", "list", "whole", "middle", "nearest"
+        "{:<11} {:>8} {:>15} {:>13} {:>13} {:>13} {:>13} {:>13} {:>13}",
+        "input", "findings", "list", "whole", "middle", "first", "counted", "exact", "nearest"
     );
     for input in inputs.iter().filter(|input| input.message.is_none()) {
         let text = input.make(LENGTH);
         let mut work = Near::new(input, &text);
         work.compare()?;
-        let [list, whole, middle, nearest] = interleaved(rounds, |number| {
+        let [list, rest @ ..]: [Times; 7] = interleaved(rounds, |number| {
             match number {
                 0 => work.list(),
                 1 => work.whole(),
                 2 => work.middle(),
+                3 => work.first(),
+                4 => work.counted(),
+                5 => work.exact(),
                 _ => work.nearest(),
             };
         });
@@ -252,14 +256,12 @@ pub fn near(inputs: &[&Input], rounds: usize) -> Result<(), String> {
             let (median, best) = (times.median / list.median, times.best / list.best);
             format!("{median:.2} ({best:.2})")
         };
+        let [whole, middle, first, counted, exact, nearest] = rest.map(ratios);
         println!(
-            "{:<11} {:>8} {:>15} {:>13} {:>13} {:>13}",
+            "{:<11} {:>8} {:>15} {whole:>13} {middle:>13} {first:>13} {counted:>13} {exact:>13} {nearest:>13}",
             input.name,
             work.findings,
             speed(text.len(), list),
-            ratios(whole),
-            ratios(middle),
-            ratios(nearest),
         );
     }
     Ok(())
