@@ -6,7 +6,7 @@
  * bytes during the call.
  *
  * State. A function keeps no pointer and no state after the call. Several threads may call at the same time, if each call has
- * its own output and its own feed; they may share the text and the policy.
+ * its own output, its own feed and its own store; they may share the text and the policy.
  *
  * Answers. Each function returns one word. The top 8 bits of the word are a number, the low 56 bits are a value:
  *
@@ -25,12 +25,14 @@
  *   10         the thread ends inside a character     0
  *   11         not a policy sheet                     offset at which it stops being one
  *   12         no variation entry in a sheet          offset of the first code point that is none
+ *   13         bad client or number                   0
+ *   14         the bytes do not fit the store         number of bytes that would fit; for a new store, its capacity
  *   255        nothing to do                          0
  *
  * If there are two values, the first has the low 28 bits, and the second has the 28 bits above them. Both are below 2^28.
  *
- * The numbers 1 to 12 are refusals. After a refusal, and after "nothing to do", every buffer is unchanged, a feed too. After "done" the
- * result is at the front of the buffer, and the bytes after the result are unchanged.
+ * The numbers 1 to 14 are refusals. After a refusal every buffer is unchanged, a feed and a store too. After "nothing to do" every output
+ * is unchanged. After "done" the result is at the front of the buffer, and the bytes after the result are unchanged.
  *
  * Policies. A policy is 192 bytes: 24 words of 8 bytes, lowest byte first. The words are four sets of 6 words, in this order:
  * prefer_bare ordinary, prefer_bare keycap, bare_as_text ordinary, bare_as_text keycap. In each set, bit i mod 64 of word i / 64
@@ -50,6 +52,13 @@
  * formatted at once by tilghorz_format (whose "nothing to do" means the text itself). The limit of 16,777,216 bytes is on the thread. A
  * refused call changes nothing, so another piece may follow. If the bytes of a feed are not such bytes, a piece and an end return 9, or
  * they take the bytes as some feed; the totals are then 0, or those of that feed.
+ *
+ * Stores. Up to 16 clients share a store of a capacity of C bytes. Each client has a reserve; the reserves sum to at most C, and the common
+ * part is C less all reserves. tilghorz_store_file formats a text and charges the formatted length to a client, under a number from 0 to
+ * 255 that the client does not use; tilghorz_store_release gives the bytes back. What a client uses beyond its reserve comes out of the
+ * common part, and a release gives that back first. The store keeps lengths and no texts. It is 33032 bytes, which tilghorz_store_begin
+ * writes. The caller hands these bytes on from call to call and changes none of them. If the bytes of a store are not such bytes, the
+ * calls return 13, or they take the bytes as some store.
  *
  * The comment at each function lists the numbers that it can return besides 0, in the order of its tests, and says what the
  * value means for 0.
@@ -74,6 +83,7 @@ extern "C" {
 #define TILGHORZ_FEED_BYTES 312      /* the length of a feed */
 #define TILGHORZ_TOTALS_BYTES 64     /* the length of the totals of tilghorz_feed_totals */
 #define TILGHORZ_SHEET_ROOM 9916     /* no sheet of tilghorz_write_sheet is longer */
+#define TILGHORZ_STORE_BYTES 33032   /* the length of a store */
 
 /* The number and the value of an answer. The argument may also have a signed type. */
 #define TILGHORZ_NUMBER(word) ((unsigned)((uint64_t)(word) >> 56))
@@ -97,6 +107,8 @@ extern "C" {
 #define TILGHORZ_UNFINISHED_CHARACTER 10
 #define TILGHORZ_NOT_A_SHEET 11
 #define TILGHORZ_NOT_AN_ENTRY 12
+#define TILGHORZ_BAD_CLIENT_OR_NUMBER 13
+#define TILGHORZ_DOES_NOT_FIT 14
 #define TILGHORZ_NOTHING_TO_DO 255
 
 /* Formats a text under a policy. Numbers: 1, 2, 3, 8, and 255 if the text needs no change. Value: the number of bytes written, at
@@ -176,6 +188,26 @@ uint64_t tilghorz_write_sheet(const uint8_t *policy, size_t policy_len, uint8_t 
  * numbers of 8 bytes, lowest byte first: the code point of the entry; 0 for ordinary, 1 for keycap; 0 for prefer_bare, 1 for
  * bare_as_text. The rows are in the order of these numbers. The table has room for as many rows as fit into it whole. */
 uint64_t tilghorz_tips(const uint8_t *text, size_t text_len, const uint8_t *policy, size_t policy_len, uint8_t *table, size_t table_len);
+
+/* Begins a store of this capacity: writes it at the front of the buffer. The reserves are numbers of 8 bytes, lowest byte first, from
+ * client 0 on; a client without one has the reserve 0. Numbers: 8; 13 if there are more than 16 reserves, or if the bytes are no whole
+ * numbers; 14 with the capacity if the reserves sum to more. Value: the number of bytes of a store. The other functions take exactly
+ * these bytes. A capacity of 2^56 or more is given as 2^56 - 1. */
+uint64_t tilghorz_store_begin(uint64_t capacity, const uint8_t *reserves, size_t reserves_len, uint8_t *store, size_t store_len);
+
+/* Formats a text under a policy, as tilghorz_format does, and charges the formatted length to a client under a number; a text that needs no
+ * change charges its own length. Numbers: 1, 2, 3, 8, as tilghorz_format; 13 if the client is above 15, the number is above 255 or the
+ * client uses the number; 14 with the number of bytes that would fit, if the charge does not fit what is left of the client's reserve and
+ * of the common part together; 255 if the text needs no change. Value: the number of bytes written. An empty text uses its number. */
+uint64_t tilghorz_store_file(uint8_t *store, size_t store_len, const uint8_t *text, size_t text_len, const uint8_t *policy,
+                             size_t policy_len, uint64_t client, uint64_t number, uint8_t *out, size_t out_len);
+
+/* Releases the message that a client filed under a number; the number can then be used again. Number: 13 if the client is above 15, the
+ * number is above 255 or the client does not use the number. Value: the number of bytes given back. */
+uint64_t tilghorz_store_release(uint8_t *store, size_t store_len, uint64_t client, uint64_t number);
+
+/* Gives the number of bytes charged to a client. Number: 13 if the client is above 15. Value: the number of bytes. */
+uint64_t tilghorz_store_used(const uint8_t *store, size_t store_len, uint64_t client);
 
 /* Writes the default policy. Number: 8. Value: the number of bytes written. */
 uint64_t tilghorz_default_policy(uint8_t *out, size_t out_len);

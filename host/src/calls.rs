@@ -5,7 +5,7 @@
 use std::fmt::{self, Display, Formatter};
 
 use crate::reference::calls::{self, Draft};
-use crate::reference::{characters, kept, near, policy, sheet, tips};
+use crate::reference::{characters, kept, near, policy, sheet, store, tips};
 
 /// The bytes of a policy.
 pub const POLICY_BYTES: usize = 192;
@@ -65,6 +65,22 @@ pub trait Calls {
     fn write_sheet(&self, policy: &[u8], out: &mut [u8]) -> u64;
     /// `tilghorz_tips`.
     fn tips(&self, text: &[u8], policy: &[u8], table: &mut [u8]) -> u64;
+    /// `tilghorz_store_begin`.
+    fn store_begin(&self, capacity: u64, reserves: &[u8], store: &mut [u8]) -> u64;
+    /// `tilghorz_store_file`.
+    fn store_file(
+        &self,
+        store: &mut [u8],
+        text: &[u8],
+        policy: &[u8],
+        client: u64,
+        number: u64,
+        out: &mut [u8],
+    ) -> u64;
+    /// `tilghorz_store_release`.
+    fn store_release(&self, store: &mut [u8], client: u64, number: u64) -> u64;
+    /// `tilghorz_store_used`.
+    fn store_used(&self, store: &[u8], client: u64) -> u64;
     /// `tilghorz_default_policy`.
     fn default_policy(&self, out: &mut [u8]) -> u64;
     /// `tilghorz_variation_entry`.
@@ -74,7 +90,7 @@ pub trait Calls {
 /// An answer: the number in a word's top 8 bits, and the value in its low 56.
 #[derive(Debug, Clone, Copy, PartialEq, Eq)]
 pub struct Answer {
-    /// 0 done, 1 to 12 a refusal, 255 nothing to do.
+    /// 0 done, 1 to 14 a refusal, 255 nothing to do.
     pub number: u8,
     /// What the table of refusals says is returned, or what was written.
     pub value: u64,
@@ -199,6 +215,37 @@ impl Calls for Reference {
 
     fn tips(&self, text: &[u8], policy: &[u8], table: &mut [u8]) -> u64 {
         write(&tips::list(text, policy), table)
+    }
+
+    fn store_begin(&self, capacity: u64, reserves: &[u8], store: &mut [u8]) -> u64 {
+        store::begin(capacity, reserves, store).word()
+    }
+
+    fn store_file(
+        &self,
+        store: &mut [u8],
+        text: &[u8],
+        policy: &[u8],
+        client: u64,
+        number: u64,
+        out: &mut [u8],
+    ) -> u64 {
+        store::file(
+            store,
+            &calls::format(text, policy),
+            text.len(),
+            [client, number],
+            out,
+        )
+        .word()
+    }
+
+    fn store_release(&self, store: &mut [u8], client: u64, number: u64) -> u64 {
+        store::release(store, client, number).word()
+    }
+
+    fn store_used(&self, store: &[u8], client: u64) -> u64 {
+        store::used(store, client).word()
     }
 
     fn default_policy(&self, out: &mut [u8]) -> u64 {

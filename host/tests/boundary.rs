@@ -50,6 +50,9 @@ fn faults_are_reported_with_a_reduced_text() {
         (Fault::RefusedSheetWrites, "sheets"),
         (Fault::ByteAfterPolicy, "sheets"),
         (Fault::SheetLength, "sheets"),
+        (Fault::RefusedFilingWrites, "stores"),
+        (Fault::RefusedFilingCharges, "stores"),
+        (Fault::NeverFull, "stores"),
     ] {
         let (is_same, text) = printed(&Faulty::new(&Reference, fault));
         assert!(!is_same, "{fault:?}");
@@ -126,6 +129,30 @@ impl Calls for WholeWords {
 
     fn tips(&self, text: &[u8], policy: &[u8], table: &mut [u8]) -> u64 {
         Reference.tips(text, policy, table)
+    }
+
+    fn store_begin(&self, capacity: u64, reserves: &[u8], store: &mut [u8]) -> u64 {
+        Reference.store_begin(capacity, reserves, store)
+    }
+
+    fn store_file(
+        &self,
+        store: &mut [u8],
+        text: &[u8],
+        policy: &[u8],
+        client: u64,
+        number: u64,
+        out: &mut [u8],
+    ) -> u64 {
+        Reference.store_file(store, text, policy, client, number, out)
+    }
+
+    fn store_release(&self, store: &mut [u8], client: u64, number: u64) -> u64 {
+        Reference.store_release(store, client, number)
+    }
+
+    fn store_used(&self, store: &[u8], client: u64) -> u64 {
+        Reference.store_used(store, client)
     }
 
     fn default_policy(&self, out: &mut [u8]) -> u64 {

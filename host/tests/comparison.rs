@@ -57,6 +57,7 @@ fn the_reference_has_no_difference_from_itself() {
         "feeds",
         "sheets",
         "tips",
+        "stores",
     ];
     for kind in kinds {
         assert!(text.lines().any(|line| line.starts_with(kind)), "{text}");

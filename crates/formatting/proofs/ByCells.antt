@@ -7,7 +7,7 @@ use Prim.Native.Nat.{ℕ, _+_, _<_, _≤_}
 use native.Mathlib.Omega.{arith}
 use lib.Dec.{eqb, leb}
 use lib.ListN.{length}
-use borrow.Author.Tests.{eq-eqb, eqb-true}
+use borrow.Author.Tests.{eq-eqb, eqb-true, le-leb}
 use Rattle.base.specs.Output.{PutAt}
 use Rattle.base.specs.Refusals.{After, unwritten, written}
 use Rattle.base.specs.declared.Refusal.the-variants.{OutputTooShort}
@@ -126,3 +126,13 @@ module _ (policy text : List ℕ) (a : Accepted policy text) where
   format-written out after n r e f l w =
       ap asFormat (out-put (formattedFrom P text 0) out n f after r l w ∙ ap (λ (r : List ℕ). writeOut r out) cells-are) ∙ write-as out
       ∙ sym (test-same out false e)
+
+  -- With enough room, the answer has the length of the formatted text.
+  pub format-fits : (out : List ℕ) (n : ℕ) → eqb (total (totalCells P (chars text))) 0 ≡ false → n ≡ length (formattedFrom P text 0)
+      → n ≤ length out
+      → Changed n ≡ format text policy out .answer
+  format-fits out n e f l =
+      let g : n ≡ length F = f ∙ ap length cells-are in
+      ap Changed g
+      ∙ sym (ap (λ (x : After FormatAnswer ℕ). x .answer)
+      (test-same out false e ∙ ap (λ (t : Bool). formatTests false t F out) (le-leb (length F) (length out) (omega (arith, g)))))

@@ -1,10 +1,11 @@
 // Formatting a text: `format_text` of formatter.rs of the crate evfmt; document 01, "Replacement and text", "Turned back".
 // `format_text` goes through the text from change to change (crate text_pass) and writes the formatted text on the way. Only if the output
 // may be too short, it first measures the formatted text. `format_text` equals `format` of crates/formatter/specs/Format.antt.
+// `format_answer` gives the answer of `format` and writes nothing, and `write_formatted` writes without an answer.
 ghost use mathlib.Core.Path.{_≡_};
 ghost use mathlib.Core.Bool.{true, false};
-ghost use mathlib.Core.List.{[], _∷_, _++_};
-ghost use Prim.Native.Nat.{_+_, _-_, _≤_, _<_};
+ghost use mathlib.Core.List.{List, [], _∷_, _++_};
+ghost use Prim.Native.Nat.{ℕ, _+_, _-_, _≤_, _<_};
 ghost use lib.Dec.{leb};
 ghost use lib.ListN.{drop, length, take};
 ghost use Rattle.base.specs.Answers.{EndsAs};
@@ -233,6 +234,30 @@ pub fn format_text(text: &[u8], policy: &[u8], out: &mut [u8]) -> FormatAnswer
         return format_measured(text, policy, first, out);
     }
     format_at_once(text, policy, first, out)
+}
+
+// Gives the answer of formatting into an output of `room` bytes, and writes nothing.
+pub fn format_answer(text: &[u8], policy: &[u8], room: usize) -> FormatAnswer
+    ensures { λ r. ⌜ ((out : List ℕ) → length out ≡ room → r ≡ format (now (text .entry)) (now (policy .entry)) out .answer) ⌝ }
+{
+    if let Check::Refused(refusal) = first_tests(text, policy) {
+        return FormatAnswer::Refused(refusal);
+    }
+    let first = next_change(text, policy, 0);
+    let Survey {
+        valid_up_to,
+        len: wanted,
+    } = survey_text(text, policy, first);
+    if valid_up_to != text.len() {
+        return FormatAnswer::Refused(Refusal::NotWellFormed { valid_up_to });
+    }
+    if !first.present {
+        return FormatAnswer::Unchanged;
+    }
+    if room < wanted {
+        return FormatAnswer::Refused(Refusal::OutputTooShort { wanted });
+    }
+    FormatAnswer::Changed { len: wanted }
 }
 
 // Whether the formatted text fits into a room. The caller knows the first change.

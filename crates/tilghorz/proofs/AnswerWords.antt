@@ -1,7 +1,10 @@
 -- The word of a row with a small value determines the row, and a row determines its answer.
-use mathlib.Core.Path.{_≡_, refl, ap, ap₂, _∙_}
-use Prim.Native.Nat.{ℕ, _/_, _%_, _^_, _<_}
+use mathlib.Core.Path.{_≡_, refl, ap, ap₂, sym, _∙_}
+use mathlib.Core.Bool.{Bool, cond}
+use Prim.Native.Nat.{ℕ, _/_, _%_, _^_, _≤_, _<_}
 use native.Mathlib.Omega.{arith}
+use lib.Dec.{leb}
+use borrow.Author.Tests.{le-leb, lt-leb}
 use Rattle.base.specs.Refusals.{RefusalRow, refusalRow}
 use Rattle.base.specs.declared.Refusal.{Refusal}
 use Rattle.base.proofs.Rows.{num, refusal-numbers, refusals, val}
@@ -28,9 +31,9 @@ use Rattle.policy_sheet.specs.declared.SheetAnswer.the-variants as Sheet
 use Rattle.repair.specs.Repair.{repairRow}
 use Rattle.repair.specs.declared.RepairAnswer.{RepairAnswer}
 use Rattle.repair.specs.declared.RepairAnswer.the-variants as Repair
-use Rattle.tilghorz.specs.AnswerWord.{word}
+use Rattle.tilghorz.specs.AnswerWord.{cappedRow, mostValue, word}
 use Rattle.unicode.specs.Rows.{entryRow}
-use Rattle.tilghorz.specs.Theorems.{HasBothValues, WordsDetermine}
+use Rattle.tilghorz.specs.Theorems.{HasBothValues, HasRow, WordsDetermine}
 
 -- ---- words
 
@@ -53,6 +56,29 @@ words-determine row answer small rows = record {
   number = λ i. number-of (row (answer i)) (small i);
   value = λ i. value-of (row (answer i)) (small i);
 }
+
+-- ---- words of a store's calls, whose values are capped
+
+capped-row : (n v m : ℕ) → cond (leb v mostValue) v mostValue ≡ m
+    → word (record { number = n; value = m }) ≡ word (cappedRow (record { number = n; value = v }))
+capped-row n v m e = ap (λ (k : ℕ). word (record { number = n; value = k })) (sym e)
+
+pub above-most : (n v : ℕ) → mostValue < v
+    → word (record { number = n; value = mostValue }) ≡ word (cappedRow (record { number = n; value = v }))
+above-most n v h = capped-row n v mostValue (ap (λ (t : Bool). cond t v mostValue) (lt-leb v mostValue h))
+
+pub within-most : (n v : ℕ) → v ≤ mostValue
+    → word (record { number = n; value = v }) ≡ word (cappedRow (record { number = n; value = v }))
+within-most n v h = capped-row n v v (ap (λ (t : Bool). cond t v mostValue) (le-leb v mostValue h))
+
+-- The word of a row with a small value has that value.
+pub has-row : (r : RefusalRow) → r .value < 2 ^ 56 → HasRow (word (cappedRow r)) r
+has-row r h =
+    let e = within-most (r .number) (r .value) (omega arith) in
+    record {
+      number = ap (λ (w : ℕ). w / 2 ^ 56) (sym e) ∙ number-of r h;
+      value = ap (λ (w : ℕ). w % 2 ^ 56) (sym e) ∙ value-of r h;
+    }
 
 -- ---- rows: a refusal's number is from 1 to 254, and so different from those of the other two answers
 

@@ -14,7 +14,8 @@ use Rattle.policy_sheet.specs.Theorems.{EveryReadCall, EveryWriteCall}
 use Rattle.policy_sheet.proofs.Claims.{every-read-call, every-write-call}
 use Rattle.repair.specs.Repair.{repairRow}
 use Rattle.repair.proofs.Outcomes.{the-call}
-use Rattle.tilghorz.specs.Theorems.{WordsDetermineAnswers, WordsHaveBothValues}
+use Rattle.tilghorz.specs.Theorems.{StoreWordsHaveValues, WordsDetermineAnswers, WordsHaveBothValues}
+use Rattle.tilghorz.proofs.SmallStores.{begin-small, file-small, release-small, used-small}
 use Rattle.tilghorz.proofs.SmallFeeds.{begun-small, called-small, totals-small}
 use Rattle.tilghorz.proofs.SmallNear.{around-refusal, nearest-small}
 use Rattle.tilghorz.proofs.SmallAnswers.{default-small, entry-small, format-small, items-small, list-small, mend-small}
@@ -28,6 +29,7 @@ use Rattle.tilghorz.proofs.AnswerWords.{
   entry-rows,
   feed-rows,
   format-rows,
+  has-row,
   mend-rows,
   nearest-rows,
   repair-rows,
@@ -60,6 +62,7 @@ words-determine-answers = (
       (λ i j. around-rows _ _ (around-call (i .0) (i .1) (i .2) (i .3) (i .4) (i .5) .small)
       (around-call (j .0) (j .1) (j .2) (j .3) (j .4) (j .5) .small)),
   words-determine nearestRow _ (λ c. omega (arith, nearest-small (c .0) (c .1) (c .2) (c .3))) (λ i j. nearest-rows _ _),
+  words-determine formatRow _ (λ c. omega (arith, file-small (c .0) (c .1) (c .2) (c .3) (c .4) (c .5))) (λ i j. format-rows _ _),
 )
 
 pub words-have-both-values : WordsHaveBothValues
@@ -67,4 +70,11 @@ unfolding WordsHaveBothValues
 words-have-both-values = (
   λ text out. both-values _ (the-call text out .small),
   λ text policy from to inner outer. both-numbers _ (around-call text policy from to inner outer .small),
+)
+
+pub store-words-have-values : StoreWordsHaveValues
+unfolding StoreWordsHaveValues
+store-words-have-values = (
+  λ C rb st h. has-row _ (begin-small C rb st h),
+  λ C rb st w e xs. (λ c. has-row _ (used-small C rb st w e xs c), λ c n. has-row _ (release-small C rb st w e xs c n)),
 )

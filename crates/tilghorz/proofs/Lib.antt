@@ -6,4 +6,5 @@ pub mod SmallAnswers
 pub mod SmallFeeds
 pub mod SmallTips
 pub mod SmallNear
+pub mod SmallStores
 pub mod Claims

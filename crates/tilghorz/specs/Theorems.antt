@@ -2,6 +2,7 @@
 use mathlib.Core.Path.{_≡_}
 use mathlib.Core.List.{List}
 use Prim.Native.Nat.{ℕ, _/_, _%_, _^_, _<_}
+use lib.ListN.{take}
 use Rattle.base.specs.Output.{answerOf}
 use Rattle.base.specs.Words.{bytesOf}
 use Rattle.base.specs.Refusals.{RefusalRow}
@@ -23,7 +24,10 @@ use Rattle.findings_near.specs.Nearest.{giveNearest, nearestRow}
 use Rattle.findings_near.specs.declared.AroundAnswer.the-variants.{Listed}
 use Rattle.repair.specs.Repair.{repair, repairRow}
 use Rattle.repair.specs.declared.RepairAnswer.the-variants.{Repaired}
-use Rattle.tilghorz.specs.AnswerWord.{word}
+use Rattle.store.specs.Bytes.{beginCall, bytesAfter, fileCall, releaseCall, storeBytes, storeRow, usedCall}
+use Rattle.store.specs.Calls as Store
+use Rattle.store.specs.declared.StoreAnswer.the-variants.{Done}
+use Rattle.tilghorz.specs.AnswerWord.{cappedRow, word}
 use Rattle.unicode.specs.Rows.{entryRow}
 
 -- The words of a C function determine its answers: if two calls return the same word, their answers are equal, whatever the arguments. The
@@ -35,7 +39,7 @@ pub record WordsDetermine {I A : Type 0} (row : A → RefusalRow) (answer : I �
 
 -- The words of each C function determine its answers. In order: formatting, listing findings, mending, listing items, the default policy,
 -- a variation entry, repairing, beginning a feed, a piece or an end of a feed, the totals of a feed, reading a sheet, writing a sheet,
--- listing the flips that tip a text, the findings around a stretch, the nearest finding.
+-- listing the flips that tip a text, the findings around a stretch, the nearest finding, filing into a store.
 unfoldable pub WordsDetermineAnswers : Type 0
 WordsDetermineAnswers =
     WordsDetermine formatRow (λ (c : List ℕ × List ℕ × List ℕ). format (c .0) (c .1) (c .2) .answer)
@@ -54,6 +58,8 @@ WordsDetermineAnswers =
     × WordsDetermine aroundRow
     (λ (c : List ℕ × List ℕ × ℕ × ℕ × List ℕ × List ℕ). listAround (c .0) (c .1) (c .2) (c .3) (c .4) (c .5) .answer)
     × WordsDetermine nearestRow (λ (c : List ℕ × List ℕ × ℕ × List ℕ). giveNearest (c .0) (c .1) (c .2) (c .3) .answer)
+    × WordsDetermine formatRow
+    (λ (c : List ℕ × List ℕ × List ℕ × ℕ × ℕ × List ℕ). fileCall (c .0) (c .1) (c .2) (c .3) (c .4) (c .5) .answer)
 
 -- The low 28 bits of a word are the first value, and the bits above them are the second. Both are below 2^28.
 abbrev pub HasBothValues : ℕ → ℕ → ℕ → Type 0
@@ -68,3 +74,21 @@ WordsHaveBothValues =
     × ((text policy : List ℕ) (from to : ℕ) (inner outer : List ℕ) (inside sharing : ℕ)
     → listAround text policy from to inner outer .answer ≡ Listed inside sharing
     → HasBothValues (word (aroundRow (listAround text policy from to inner outer .answer))) inside sharing)
+
+-- A word has the number and the value of a row.
+pub record HasRow (w : ℕ) (r : RefusalRow) : Type 0 where
+  pub number : w / 2 ^ 56 ≡ r .number
+  pub value : w % 2 ^ 56 ≡ r .value
+
+-- The words of a store's other calls have the numbers and values of their answers: of beginning a store of less than 2^56 bytes; of a
+-- release, and of what a client uses, after every list of calls on a store begun new.
+unfoldable pub StoreWordsHaveValues : Type 0
+StoreWordsHaveValues =
+    ((capacity : ℕ) (reserves store : List ℕ) → capacity < 2 ^ 56
+    → HasRow (word (cappedRow (storeRow (beginCall capacity reserves store .answer))))
+    (storeRow (beginCall capacity reserves store .answer)))
+    × ((capacity : ℕ) (reserves store : List ℕ) → capacity < 2 ^ 64 → beginCall capacity reserves store .answer ≡ Done storeBytes
+    → (xs : List Store.Call)
+    → let bs = bytesAfter (take storeBytes (beginCall capacity reserves store .buffer)) xs in
+    ((c : ℕ) → HasRow (word (cappedRow (storeRow (usedCall bs c)))) (storeRow (usedCall bs c)))
+    × ((c n : ℕ) → HasRow (word (cappedRow (storeRow (releaseCall bs c n .answer)))) (storeRow (releaseCall bs c n .answer))))

@@ -10,7 +10,8 @@ ghost use Rattle.findings_near.specs.Around.{aroundRow};
 ghost use Rattle.findings_near.specs.Nearest.{nearestRow};
 ghost use Rattle.formatter.specs.Format.{formatRow};
 ghost use Rattle.repair.specs.Repair.{repairRow};
-ghost use Rattle.tilghorz.specs.AnswerWord.{word};
+ghost use Rattle.store.specs.Bytes.{storeRow};
+ghost use Rattle.tilghorz.specs.AnswerWord.{cappedRow, word};
 ghost use Rattle.unicode.specs.Rows.{entryRow};
 use analysis::types::MendAnswer;
 use base::ListAnswer;
@@ -24,6 +25,7 @@ use findings_near::NearestAnswer;
 use formatter::FormatAnswer;
 use policy_sheet::SheetAnswer;
 use repair::RepairAnswer;
+use store::StoreAnswer;
 use unicode::VariationEntry;
 
 // One more than the largest value of a word: values have 56 bits.
@@ -31,6 +33,9 @@ const VALUES: u64 = 0x100_0000_0000_0000;
 
 // One more than the largest of two values in a word: each of the two has 28 bits.
 const HALF_VALUES: u64 = 0x1000_0000;
+
+// The largest value of a word.
+const MOST_VALUE: usize = 0xFF_FFFF_FFFF_FFFF;
 
 // The number of an answer that says "nothing to do": the text needs no change, or there is no such entry or no finding.
 const NOTHING: u64 = 255;
@@ -156,5 +161,29 @@ pub fn nearest_word(answer: NearestAnswer) -> u64
         NearestAnswer::Written => word_of(0, 1),
         NearestAnswer::NoFinding => word_of(NOTHING, 0),
         NearestAnswer::Refused(refusal) => refusal_word(refusal),
+    }
+}
+
+// The word of a number and a value. A value above the largest becomes the largest.
+fn capped_word(number: u64, value: usize) -> u64
+    requires { ⌜ number ≤ 255 ⌝ }
+    ensures { λ r. ⌜ r ≡ word (cappedRow (record { number = number; value = value })) ⌝ }
+{
+    if MOST_VALUE < value {
+        return word_of(number, MOST_VALUE);
+    }
+    word_of(number, value)
+}
+
+// The word of the answer of a store's call.
+pub fn store_word(answer: StoreAnswer) -> u64
+    ensures { λ r. ⌜ r ≡ word (cappedRow (storeRow answer)) ⌝ }
+{
+    match answer {
+        StoreAnswer::Done { bytes } => capped_word(0, bytes),
+        StoreAnswer::Refused(refusal) => capped_word(
+            refusal_number(refusal),
+            refusal_value(refusal),
+        ),
     }
 }

@@ -22,7 +22,8 @@ ghost use Rattle.policy_sheet.specs.Calls.{readCall, sheetRow, writeCall};
 ghost use Rattle.membership_flips.specs.Flips.{listTips};
 ghost use Rattle.findings_near.specs.Around.{aroundRow, listAround};
 ghost use Rattle.findings_near.specs.Nearest.{giveNearest, nearestRow};
-ghost use Rattle.tilghorz.specs.AnswerWord.{word};
+ghost use Rattle.store.specs.Bytes.{beginCall, fileCall, releaseCall, storeRow, usedCall};
+ghost use Rattle.tilghorz.specs.AnswerWord.{cappedRow, word};
 ghost use Rattle.unicode.specs.Rows.{entryRow};
 use answer_word::around_word;
 use answer_word::entry_word;
@@ -33,6 +34,7 @@ use answer_word::mend_word;
 use answer_word::nearest_word;
 use answer_word::repair_word;
 use answer_word::sheet_word;
+use answer_word::store_word;
 use answer_word::write_word;
 use policy::Policy;
 
@@ -199,6 +201,54 @@ pub extern "C" fn tilghorz_tips(text: &[u8], policy: &[u8], table: &mut [u8]) ->
     ensures bytes { λ _. ⌜ now (table .exit) ≡ listTips (now (text .entry)) (now (policy .entry)) (now (table .entry)) .buffer ⌝ }
 {
     list_word(membership_flips::list_tips(text, policy, table))
+}
+
+// Begins a store of `capacity` bytes in a lent buffer. The reserves are numbers of 8 bytes, from client 0 on. It may answer the refusals 8,
+// 13 and 14. Its value is the number of bytes of a store.
+#[no_mangle]
+pub extern "C" fn tilghorz_store_begin(capacity: u64, reserves: &[u8], store: &mut [u8]) -> u64
+    ensures word { λ r. ⌜ r ≡ word (cappedRow (storeRow (beginCall capacity (now (reserves .entry)) (now (store .entry)) .answer))) ⌝ }
+    ensures state { λ _. ⌜ now (store .exit) ≡ beginCall capacity (now (reserves .entry)) (now (store .entry)) .buffer ⌝ }
+{
+    store_word(storing::begin(capacity as usize, reserves, store))
+}
+
+// Formats a text under a policy, and charges the formatted length to a client under a number. It may answer "nothing to do", or the
+// refusals 1, 2, 3, 8, 13 and 14.
+#[no_mangle]
+pub extern "C" fn tilghorz_store_file(
+    store: &mut [u8],
+    text: &[u8],
+    policy: &[u8],
+    client: u64,
+    number: u64,
+    out: &mut [u8],
+) -> u64
+    ensures word { λ r. ⌜ r ≡ word (formatRow
+        (fileCall (now (store .entry)) (now (text .entry)) (now (policy .entry)) client number (now (out .entry)) .answer)) ⌝ }
+    ensures state { λ _. ⌜ now (store .exit)
+        ≡ fileCall (now (store .entry)) (now (text .entry)) (now (policy .entry)) client number (now (out .entry)) .store ⌝ }
+    ensures bytes { λ _. ⌜ now (out .exit)
+        ≡ fileCall (now (store .entry)) (now (text .entry)) (now (policy .entry)) client number (now (out .entry)) .out ⌝ }
+{
+    format_word(storing::file(store, text, policy, client as usize, number as usize, out))
+}
+
+// Releases the message that a client filed under a number. It may answer refusal 13. Its value is the number of bytes given back.
+#[no_mangle]
+pub extern "C" fn tilghorz_store_release(store: &mut [u8], client: u64, number: u64) -> u64
+    ensures word { λ r. ⌜ r ≡ word (cappedRow (storeRow (releaseCall (now (store .entry)) client number .answer))) ⌝ }
+    ensures state { λ _. ⌜ now (store .exit) ≡ releaseCall (now (store .entry)) client number .buffer ⌝ }
+{
+    store_word(storing::release(store, client as usize, number as usize))
+}
+
+// Gives the number of bytes charged to a client. It may answer refusal 13.
+#[no_mangle]
+pub extern "C" fn tilghorz_store_used(store: &[u8], client: u64) -> u64
+    ensures { λ r. ⌜ r ≡ word (cappedRow (storeRow (usedCall (now (store .entry)) client))) ⌝ }
+{
+    store_word(store::used(store, client as usize))
 }
 
 // Writes the bytes of the default policy. It may answer refusal 8.

@@ -79,6 +79,30 @@ impl Calls for Library {
         sys::tips(text, policy, table)
     }
 
+    fn store_begin(&self, capacity: u64, reserves: &[u8], store: &mut [u8]) -> u64 {
+        sys::store_begin(capacity, reserves, store)
+    }
+
+    fn store_file(
+        &self,
+        store: &mut [u8],
+        text: &[u8],
+        policy: &[u8],
+        client: u64,
+        number: u64,
+        out: &mut [u8],
+    ) -> u64 {
+        sys::store_file(store, text, policy, client, number, out)
+    }
+
+    fn store_release(&self, store: &mut [u8], client: u64, number: u64) -> u64 {
+        sys::store_release(store, client, number)
+    }
+
+    fn store_used(&self, store: &[u8], client: u64) -> u64 {
+        sys::store_used(store, client)
+    }
+
     fn default_policy(&self, out: &mut [u8]) -> u64 {
         sys::default_policy(out)
     }

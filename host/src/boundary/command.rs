@@ -60,7 +60,7 @@ pub fn run(calls: &dyn Calls, options: &Options, out: &mut dyn Write) -> io::Res
     writeln!(out, "seed {}", options.seed)?;
     let start = Instant::now();
     let mut boundary = Boundary::new(calls, options.seed);
-    let kinds: [(&str, Kind<'_>, u64); 12] = [
+    let kinds: [(&str, Kind<'_>, u64); 13] = [
         ("sizes", Boundary::sizes, 1),
         ("policies", Boundary::policies, 1),
         ("decisions", Boundary::decisions, 1),
@@ -69,6 +69,7 @@ pub fn run(calls: &dyn Calls, options: &Options, out: &mut dyn Write) -> io::Res
         ("feeds", Boundary::feeds, 1),
         ("sheets", Boundary::sheets, 1),
         ("near", Boundary::near, 1),
+        ("stores", Boundary::stores, 1),
         ("drawn", Boundary::drawn, options.cases),
         ("drawn sheets", Boundary::drawn_sheets, options.cases / 4),
         ("limits", Boundary::limits, options.limits.into()),

@@ -10,6 +10,7 @@
 //! | [`feeds`] | makes the calls on feeds |
 //! | [`sheets`] | makes the calls on sheets |
 //! | [`near`] | makes the calls around a stretch and for the nearest finding |
+//! | [`stores`] | makes the calls on stores |
 //! | [`command`] | the command line of the program `boundary` |
 //!
 //! An input that is read past its end gives another answer where the bytes after it count. Where it stands at the end
@@ -22,3 +23,4 @@ pub mod feeds;
 pub mod near;
 pub mod placed;
 pub mod sheets;
+pub mod stores;

@@ -181,10 +181,32 @@ pub enum Fault {
     OffsetCut,
     /// A text without a finding gives 7 if the row is short.
     NoneNeedsRow,
+    /// A refused filing writes a byte.
+    RefusedFilingWrites,
+    /// A filing that does not fit uses its number.
+    RefusedFilingCharges,
+    /// A filing that does not fit is accepted.
+    NeverFull,
+    /// What other clients took out of the common part would fit too.
+    CommonOfEach,
+    /// The client and the number are tested before the room.
+    PlaceBeforeRoom,
+    /// A text that needs no change is not charged.
+    UnchangedFree,
+    /// An empty message does not use its number.
+    EmptyUsesNone,
+    /// A charge within the reserve is refused where the common part cannot hold it.
+    ReserveLent,
+    /// A release gives back to the reserve first.
+    ReserveFirst,
+    /// A number that is not in use is released.
+    ReleasesTwice,
+    /// The sum of the reserves wraps at 2^64.
+    ReservesWrap,
 }
 
 /// The faults with their names.
-pub const FAULTS: [(&str, Fault); 89] = [
+pub const FAULTS: [(&str, Fault); 100] = [
     ("keycap-rule", Fault::KeycapRule),
     ("finding-span", Fault::FindingSpan),
     ("item-span", Fault::ItemSpan),
@@ -274,4 +296,15 @@ pub const FAULTS: [(&str, Fault); 89] = [
     ("later-of-equals", Fault::LaterOfEquals),
     ("offset-cut", Fault::OffsetCut),
     ("none-needs-row", Fault::NoneNeedsRow),
+    ("refused-filing-writes", Fault::RefusedFilingWrites),
+    ("refused-filing-charges", Fault::RefusedFilingCharges),
+    ("never-full", Fault::NeverFull),
+    ("common-of-each", Fault::CommonOfEach),
+    ("place-before-room", Fault::PlaceBeforeRoom),
+    ("unchanged-free", Fault::UnchangedFree),
+    ("empty-uses-none", Fault::EmptyUsesNone),
+    ("reserve-lent", Fault::ReserveLent),
+    ("reserve-first", Fault::ReserveFirst),
+    ("releases-twice", Fault::ReleasesTwice),
+    ("reserves-wrap", Fault::ReservesWrap),
 ];

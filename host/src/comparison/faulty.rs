@@ -7,6 +7,7 @@ use super::faults::Fault;
 use super::faulty_feed::FaultyFeed;
 use super::faulty_near;
 use super::faulty_sheet::FaultySheet;
+use super::faulty_store::FaultyStore;
 use crate::calls::{Answer, Calls, FINDING_BYTES, ITEM_BYTES, TIP_BYTES};
 use crate::reference::calls::LONGEST_TEXT;
 use crate::reference::characters::LAST_TAG;
@@ -20,6 +21,7 @@ pub struct Faulty<'a> {
     last_mended: RefCell<Vec<u8>>,
     feed: FaultyFeed<'a>,
     sheet: FaultySheet<'a>,
+    store: FaultyStore<'a>,
 }
 
 impl<'a> Faulty<'a> {
@@ -33,6 +35,7 @@ impl<'a> Faulty<'a> {
             last_mended: RefCell::new(Vec::new()),
             feed: FaultyFeed::new(calls, fault),
             sheet: FaultySheet::new(calls, fault),
+            store: FaultyStore::new(calls, fault),
         }
     }
 
@@ -387,6 +390,31 @@ impl Calls for Faulty<'_> {
 
     fn write_sheet(&self, policy: &[u8], out: &mut [u8]) -> u64 {
         self.sheet.write(policy, out).word()
+    }
+
+    fn store_begin(&self, capacity: u64, reserves: &[u8], store: &mut [u8]) -> u64 {
+        self.store.begin(capacity, reserves, store).word()
+    }
+
+    fn store_file(
+        &self,
+        store: &mut [u8],
+        text: &[u8],
+        policy: &[u8],
+        client: u64,
+        number: u64,
+        out: &mut [u8],
+    ) -> u64 {
+        let place = [client, number];
+        self.store.file(store, text, policy, place, out).word()
+    }
+
+    fn store_release(&self, store: &mut [u8], client: u64, number: u64) -> u64 {
+        self.store.release(store, client, number).word()
+    }
+
+    fn store_used(&self, store: &[u8], client: u64) -> u64 {
+        self.store.used(store, client).word()
     }
 
     fn default_policy(&self, out: &mut [u8]) -> u64 {

@@ -15,13 +15,15 @@
 //! | [`feed_states`] | makes calls on bytes that are no feed |
 //! | [`sheet_case`] | compares reading one sheet, and writing the sheet of one policy |
 //! | [`sheets`] | makes sheets: every short one, drawn, damaged and long ones |
+//! | [`store_case`] | compares a list of calls on a store, and makes calls on bytes that are no store |
+//! | [`store_lists`] | makes such lists: drawn ones, with refused calls between, and full stores |
 //! | [`texts`], [`policies`] | make the texts and policies: exhaustive, random, damaged |
 //! | [`limits`] | makes texts around the limits |
 //! | [`published`] | takes texts from Unicode's lists of emoji |
 //! | [`reduce`] | makes a text or a list with a difference smaller |
 //! | [`run`], [`report`] | runs all of it, within bounds, and reports the first difference |
 //! | [`programs`] | compares the two programs |
-//! | [`faults`], [`faulty`], [`faulty_feed`], [`faulty_near`], [`faulty_sheet`] | faults that are planted into calls, which a run must report |
+//! | [`faults`], [`faulty`], [`faulty_feed`], [`faulty_near`], [`faulty_sheet`], [`faulty_store`] | faults that are planted into calls |
 //! | [`command`] | the command line of the program |
 
 pub mod command;
@@ -30,6 +32,7 @@ pub mod faulty;
 pub mod faulty_feed;
 pub mod faulty_near;
 pub mod faulty_sheet;
+pub mod faulty_store;
 pub mod feed_case;
 pub mod feed_lists;
 pub mod feed_states;
@@ -46,6 +49,8 @@ pub mod report;
 pub mod run;
 pub mod sheet_case;
 pub mod sheets;
+pub mod store_case;
+pub mod store_lists;
 pub mod tables;
 pub mod text_case;
 pub mod texts;

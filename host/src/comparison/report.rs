@@ -6,6 +6,7 @@ use super::feed_case::Step;
 use super::lent::{Difference, hexadecimal};
 use super::list_case::Mend;
 use super::policies::Policy;
+use super::store_case;
 
 /// The report of a difference in a text or in a list of calls on it.
 pub fn report(
@@ -22,6 +23,16 @@ pub fn report(
 /// The report of a difference in a list of calls on a feed.
 pub fn feed_report(kind: &str, policy: &Policy, list: &[Step], difference: &Difference) -> String {
     format!("difference in {kind}\n") + &list_report(policy, list, difference)
+}
+
+/// The report of a difference in a list of calls on a store.
+pub fn store_report(
+    policy: &Policy,
+    begin: &store_case::Begin,
+    list: &[store_case::Step],
+    difference: &Difference,
+) -> String {
+    format!("difference in stores\n  store     {begin}\n") + &list_report(policy, list, difference)
 }
 
 /// The lines on the policy and on the calls of a list, and the difference.

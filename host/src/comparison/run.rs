@@ -18,6 +18,7 @@ use crate::reference::repair::repaired;
 mod feeds;
 mod near;
 mod sheets;
+mod stores;
 
 /// The bounds of a run.
 #[derive(Debug, Clone, Copy, PartialEq, Eq)]
@@ -61,6 +62,8 @@ const TIPS_BY_CRATE_IN: u64 = 32;
 const TIP_LENGTHS: [usize; 2] = [3, 1];
 /// The number of policies under which they are.
 const TIP_POLICIES: usize = 3;
+/// In one drawn case of this number a list of calls is made on a store too.
+const STORE_IN: u64 = 16;
 
 /// Why a run ended early: a difference, told in lines; cases that were asked for and of which none was tried; or a line
 /// that could not be printed.
@@ -135,6 +138,7 @@ impl<'a> Run<'a> {
         self.every_feed()?;
         self.every_tip()?;
         self.every_near()?;
+        self.every_store()?;
         self.drawn()?;
         if self.options.limits {
             self.limits()?;
@@ -334,12 +338,13 @@ impl<'a> Run<'a> {
         self.told("every text", texts, &what)
     }
 
-    /// Drawn texts, damaged ones, the same taken in, lists of mending calls and of calls on feeds, sheets, memberships and
-    /// stretches, in turns.
+    /// Drawn texts, damaged ones, the same taken in, lists of mending calls and of calls on feeds and stores, sheets,
+    /// memberships and stretches, in turns.
     fn drawn(&mut self) -> Result<(), Stop> {
         let mut cases = 0;
         let mut calls = 0;
         let (mut feeds, mut feed_calls, mut stretches) = (0, 0, 0);
+        let (mut stores, mut store_calls) = (0, 0);
         while cases < self.options.cases && !self.is_over() {
             let mut random = Random::from_seed(self.options.seed ^ (cases << 20));
             self.drawn_text(&mut random)?;
@@ -353,6 +358,10 @@ impl<'a> Run<'a> {
                 feed_calls += self.drawn_feed(&mut random)?;
                 feeds += 1;
                 self.drawn_sheets(&mut random)?;
+            }
+            if cases % STORE_IN == 0 {
+                store_calls += self.drawn_store(&mut random)?;
+                stores += 1;
             }
             cases += 1;
         }
@@ -373,7 +382,9 @@ impl<'a> Run<'a> {
         let what = format!("texts, {stretches} stretches and offsets");
         self.told("near", cases, &what)?;
         let what = format!("drawn threads and bytes that are no feed, {feed_calls} calls");
-        self.told("feeds", feeds, &what)
+        self.told("feeds", feeds, &what)?;
+        let what = format!("drawn stores and bytes that are no store, {store_calls} calls");
+        self.told("stores", stores, &what)
     }
 
     fn drawn_policy(&self, random: &mut Random) -> Policy {

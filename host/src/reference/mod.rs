@@ -22,6 +22,7 @@
 //! | [`kept`] | feeds in lent bytes |
 //! | [`sheet`] | policy sheets: their form, their meaning, and the sheet that is written |
 //! | [`tips`] | the single memberships whose flip alters the formatted text |
+//! | [`store`] | storage that clients share |
 //! | [`programs`] | what the two programs write |
 
 pub mod book;
@@ -37,5 +38,6 @@ pub mod programs;
 pub mod repair;
 pub mod rules;
 pub mod sheet;
+pub mod store;
 pub mod tips;
 pub mod utf8;

@@ -83,8 +83,16 @@ impl Presentation {
 /// # Errors
 /// Refusals 1 and 3.
 pub fn format<'a>(text: &'a [u8], policy: &Policy) -> Result<Cow<'a, [u8]>, Refusal> {
-    let room = formatted_room(text, policy);
-    let (formatted, out) = with_room(room, 1, |out| format_into(text, policy, out))?;
+    with_format_room(text, policy, |out| format_into(text, policy, out))
+}
+
+/// Makes a call that formats a text, with enough room, and gives the text that is to be kept.
+pub fn with_format_room<'a>(
+    text: &'a [u8],
+    policy: &Policy,
+    call: impl FnMut(&mut [u8]) -> Result<Formatted, Refusal>,
+) -> Result<Cow<'a, [u8]>, Refusal> {
+    let (formatted, out) = with_room(formatted_room(text, policy), 1, call)?;
     Ok(match formatted {
         Formatted::Unchanged => Cow::Borrowed(text),
         Formatted::Changed { len } => Cow::Owned(front(out, len)),
@@ -295,7 +303,7 @@ fn table<R: Row>(call: impl Fn(&mut [u8]) -> u64) -> Result<Table<R>, Refusal> {
 pub(crate) fn with_room<T>(
     room: usize,
     place: usize,
-    call: impl Fn(&mut [u8]) -> Result<T, Refusal>,
+    mut call: impl FnMut(&mut [u8]) -> Result<T, Refusal>,
 ) -> Result<(T, Vec<u8>), Refusal> {
     let mut buffer = vec![0; room];
     let answer = call(&mut buffer);

@@ -40,6 +40,7 @@
 //! - [`Policy`] is the default one, one from bytes, one from a text that is a policy sheet, or one with members added and
 //!   taken. It is written as a sheet.
 //! - [`tips`] lists the single memberships of a policy that decide a text, each as a [`Tip`].
+//! - [`Store`] keeps account of what up to 16 clients file.
 //! - [`Policy`] is the default one, one from bytes, or one with members added and taken.
 //! - [`sys`] has the C functions as they cross. It is the only module with unsafe code.
 //!
@@ -56,6 +57,7 @@ mod finding;
 mod item;
 mod policy;
 mod refusal;
+mod store;
 pub mod sys;
 mod table;
 mod tip;
@@ -70,6 +72,7 @@ pub use finding::{Counts, Finding};
 pub use item::{Item, ItemKind};
 pub use policy::{Context, KeySet, NoEntry, Policy, SingletonRule, variation_entries};
 pub use refusal::Refusal;
+pub use store::Store;
 pub use table::{Row, Table};
 pub use tip::Tip;
 

@@ -8,7 +8,7 @@ use crate::sys::POLICY_BYTES;
 /// Why a call was turned back. It then wrote to no buffer.
 ///
 /// The tests come in the order of the numbers, each only in calls that take the thing. A call on a feed tests 9 and 10
-/// first, and reading a sheet tests 11 and 12 before 8.
+/// first, reading a sheet tests 11 and 12 before 8, and beginning a store tests its buffer, 8, first.
 #[derive(Debug, Clone, Copy, PartialEq, Eq, Hash)]
 pub enum Refusal {
     /// 1: the text is over 16,777,216 bytes.
@@ -57,6 +57,13 @@ pub enum Refusal {
         /// The offset of the first such code point.
         offset: usize,
     },
+    /// 13: a client above 15, a number above 255, filing under a number in use, or releasing one not in use.
+    BadClientOrNumber,
+    /// 14: the bytes do not fit the store.
+    DoesNotFit {
+        /// How many bytes would fit; for a new store, its capacity.
+        fits: usize,
+    },
 }
 
 impl Refusal {
@@ -75,6 +82,8 @@ impl Refusal {
             10 => Self::UnfinishedCharacter,
             11 => Self::NotASheet { offset: value },
             12 => Self::NotAnEntry { offset: value },
+            13 => Self::BadClientOrNumber,
+            14 => Self::DoesNotFit { fits: value },
             _ => return None,
         })
     }
@@ -95,6 +104,8 @@ impl Refusal {
             Self::UnfinishedCharacter => 10,
             Self::NotASheet { .. } => 11,
             Self::NotAnEntry { .. } => 12,
+            Self::BadClientOrNumber => 13,
+            Self::DoesNotFit { .. } => 14,
         }
     }
 
@@ -106,7 +117,8 @@ impl Refusal {
             | Self::NotAPolicy
             | Self::NoFinding
             | Self::FeedEnded
-            | Self::UnfinishedCharacter => None,
+            | Self::UnfinishedCharacter
+            | Self::BadClientOrNumber => None,
             Self::NotWellFormed { valid_up_to } => Some(valid_up_to),
             Self::WrongNumberOfDecisions { wanted } | Self::OutputTooShort { wanted } => {
                 Some(wanted)
@@ -114,6 +126,7 @@ impl Refusal {
             Self::BadDecision { index } => Some(index),
             Self::TableTooShort { places } => Some(places),
             Self::NotASheet { offset } | Self::NotAnEntry { offset } => Some(offset),
+            Self::DoesNotFit { fits } => Some(fits),
         }
     }
 }
@@ -152,6 +165,13 @@ impl Display for Refusal {
             Self::UnfinishedCharacter => write!(out, "the thread ends inside a character"),
             Self::NotASheet { offset } => write!(out, "not a policy sheet at byte {offset}"),
             Self::NotAnEntry { offset } => write!(out, "no variation entry at byte {offset}"),
+            Self::BadClientOrNumber => write!(
+                out,
+                "the client or the number is out of range, or the number is in use, or not in use"
+            ),
+            Self::DoesNotFit { fits } => {
+                write!(out, "the store has no room for it: {fits} bytes would fit")
+            }
         }
     }
 }
@@ -166,13 +186,13 @@ mod tests {
     fn number_and_value_tell_the_refusal() {
         for number in 0..=u8::MAX {
             let Some(refusal) = Refusal::of_row(number.into(), 5) else {
-                assert!(!(1..=12).contains(&number));
+                assert!(!(1..=14).contains(&number));
                 continue;
             };
             assert_eq!(refusal.number(), number);
             assert_eq!(
                 refusal.value().is_some(),
-                ![1, 2, 4, 9, 10].contains(&number)
+                ![1, 2, 4, 9, 10, 13].contains(&number)
             );
             assert!(refusal.value().is_none_or(|value| value == 5));
         }

@@ -25,6 +25,8 @@ pub const FEED_BYTES: usize = 312;
 pub const TOTALS_BYTES: usize = 64;
 /// No sheet that is written has more bytes.
 pub const SHEET_ROOM: usize = 9916;
+/// The bytes of a store.
+pub const STORE_BYTES: usize = 33032;
 
 unsafe extern "C" {
     fn tilghorz_format(
@@ -114,6 +116,27 @@ unsafe extern "C" {
         table: *mut u8,
         table_len: usize,
     ) -> u64;
+    fn tilghorz_store_begin(
+        capacity: u64,
+        reserves: *const u8,
+        reserves_len: usize,
+        store: *mut u8,
+        store_len: usize,
+    ) -> u64;
+    fn tilghorz_store_file(
+        store: *mut u8,
+        store_len: usize,
+        text: *const u8,
+        text_len: usize,
+        policy: *const u8,
+        policy_len: usize,
+        client: u64,
+        number: u64,
+        out: *mut u8,
+        out_len: usize,
+    ) -> u64;
+    fn tilghorz_store_release(store: *mut u8, store_len: usize, client: u64, number: u64) -> u64;
+    fn tilghorz_store_used(store: *const u8, store_len: usize, client: u64) -> u64;
     fn tilghorz_default_policy(out: *mut u8, out_len: usize) -> u64;
     fn tilghorz_variation_entry(index: u64) -> u64;
 }
@@ -294,6 +317,62 @@ pub fn tips(text: &[u8], policy: &[u8], table: &mut [u8]) -> u64 {
             table.len(),
         )
     }
+}
+
+/// `tilghorz_store_begin`: begins a store of a capacity, with the reserves of its clients.
+#[must_use]
+pub fn store_begin(capacity: u64, reserves: &[u8], store: &mut [u8]) -> u64 {
+    // SAFETY: as the head of this file says.
+    unsafe {
+        tilghorz_store_begin(
+            capacity,
+            reserves.as_ptr(),
+            reserves.len(),
+            store.as_mut_ptr(),
+            store.len(),
+        )
+    }
+}
+
+/// `tilghorz_store_file`: formats a text and charges the formatted length to a client.
+#[must_use]
+pub fn store_file(
+    store: &mut [u8],
+    text: &[u8],
+    policy: &[u8],
+    client: u64,
+    number: u64,
+    out: &mut [u8],
+) -> u64 {
+    // SAFETY: as the head of this file says.
+    unsafe {
+        tilghorz_store_file(
+            store.as_mut_ptr(),
+            store.len(),
+            text.as_ptr(),
+            text.len(),
+            policy.as_ptr(),
+            policy.len(),
+            client,
+            number,
+            out.as_mut_ptr(),
+            out.len(),
+        )
+    }
+}
+
+/// `tilghorz_store_release`: gives the bytes of a filed message back.
+#[must_use]
+pub fn store_release(store: &mut [u8], client: u64, number: u64) -> u64 {
+    // SAFETY: as the head of this file says.
+    unsafe { tilghorz_store_release(store.as_mut_ptr(), store.len(), client, number) }
+}
+
+/// `tilghorz_store_used`: the number of bytes charged to a client.
+#[must_use]
+pub fn store_used(store: &[u8], client: u64) -> u64 {
+    // SAFETY: as the head of this file says.
+    unsafe { tilghorz_store_used(store.as_ptr(), store.len(), client) }
 }
 
 /// `tilghorz_default_policy`: writes the default policy.
