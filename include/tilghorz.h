@@ -27,26 +27,29 @@
  *   12         no variation entry in a sheet          offset of the first code point that is none
  *   13         bad client or number                   0
  *   14         the bytes do not fit the store         number of bytes that would fit; for a new store, its capacity
+ *   15         the policy is of another version       0
  *   255        nothing to do                          0
  *
  * If there are two values, the first has the low 28 bits, and the second has the 28 bits above them. Both are below 2^28.
  *
- * The numbers 1 to 14 are refusals. After a refusal every buffer is unchanged, a feed and a store too. After "nothing to do" every output
+ * The numbers 1 to 15 are refusals. After a refusal every buffer is unchanged, a feed and a store too. After "nothing to do" every output
  * is unchanged. After "done" the result is at the front of the buffer, and the bytes after the result are unchanged.
  *
- * Policies. A policy is 192 bytes: 24 words of 8 bytes, lowest byte first. The words are four sets of 6 words, in this order:
- * prefer_bare ordinary, prefer_bare keycap, bare_as_text ordinary, bare_as_text keycap. In each set, bit i mod 64 of word i / 64
- * says whether the set has entry i of the variation table; bit 0 is the lowest bit.
+ * Policies. A policy is 200 bytes: 25 words of 8 bytes, lowest byte first. The first word is the Unicode version of the tables, major
+ * times 256 plus minor, as tilghorz_version gives it. The other words are four sets of 6 words, in this order: prefer_bare ordinary,
+ * prefer_bare keycap, bare_as_text ordinary, bare_as_text keycap. In each set, bit i mod 64 of word i / 64 says whether the set has
+ * entry i of the variation table; bit 0 is the lowest bit.
  * There are 354 entries, those of Unicode 15.0; the other 30 bits of a set are unused and must be 0. The function
  * tilghorz_variation_entry gives the code point of an entry. If 20E3 follows a base, the keycap sets apply to the base; otherwise
- * the ordinary sets apply.
+ * the ordinary sets apply. A function whose comment lists 2 tests a policy in this order: its length (2), its version (15), its unused
+ * bits (2).
  *
  * Sheets. A sheet is a policy as text. It has four lines, one for each set in the order above. Each line ends with the byte 0A. A line is
  * empty, or it has code points and ranges such as 2764 or 30-39, with a comma between two of them and no blanks. A code point has two or
  * four to six hexadecimal digits in upper case. A range stands for the variation entries in it; its two ends must be entries. The pieces
  * of a line may come in any order and may overlap. tilghorz_write_sheet writes one sheet for each policy.
  *
- * Feeds. A feed formats a thread as it arrives. It is 312 bytes, which tilghorz_feed_begin writes. The caller hands these bytes on
+ * Feeds. A feed formats a thread as it arrives. It is 320 bytes, which tilghorz_feed_begin writes. The caller hands these bytes on
  * from call to call and changes none of them. Each call of tilghorz_feed_piece takes the next bytes of the thread, cut at any place, and
  * writes what can be written; tilghorz_feed_end writes the rest. The joined outputs and the totals are then those of the whole thread
  * formatted at once by tilghorz_format (whose "nothing to do" means the text itself). The limit of 16,777,216 bytes is on the thread. A
@@ -74,13 +77,13 @@ extern "C" {
 #endif
 
 #define TILGHORZ_TEXT_LIMIT 16777216 /* the longest text, in bytes */
-#define TILGHORZ_POLICY_BYTES 192    /* the length of a policy */
+#define TILGHORZ_POLICY_BYTES 200    /* the length of a policy */
 #define TILGHORZ_ENTRIES 354         /* variation entries, those of Unicode 15.0 */
 #define TILGHORZ_FINDING_BYTES 112   /* the length of a row of tilghorz_list */
 #define TILGHORZ_NEAREST_BYTES 120   /* the length of the row of tilghorz_nearest */
 #define TILGHORZ_ITEM_BYTES 64       /* the length of a row of tilghorz_scan */
 #define TILGHORZ_TIP_BYTES 24        /* the length of a row of tilghorz_tips */
-#define TILGHORZ_FEED_BYTES 312      /* the length of a feed */
+#define TILGHORZ_FEED_BYTES 320      /* the length of a feed */
 #define TILGHORZ_TOTALS_BYTES 64     /* the length of the totals of tilghorz_feed_totals */
 #define TILGHORZ_SHEET_ROOM 9916     /* no sheet of tilghorz_write_sheet is longer */
 #define TILGHORZ_STORE_BYTES 33032   /* the length of a store */
@@ -109,6 +112,7 @@ extern "C" {
 #define TILGHORZ_NOT_AN_ENTRY 12
 #define TILGHORZ_BAD_CLIENT_OR_NUMBER 13
 #define TILGHORZ_DOES_NOT_FIT 14
+#define TILGHORZ_OTHER_VERSION 15
 #define TILGHORZ_NOTHING_TO_DO 255
 
 /* Formats a text under a policy. Numbers: 1, 2, 3, 8, and 255 if the text needs no change. Value: the number of bytes written, at
@@ -177,7 +181,7 @@ uint64_t tilghorz_feed_totals(const uint8_t *feed, size_t feed_len, uint8_t *tot
 /* Reads a sheet and writes its policy. Numbers: 1 if the sheet is longer than a text may be; 11 with the offset of the first byte such that
  * no sheet begins with the bytes up to it, or with the length if the sheet breaks off, or with the start of a range whose end is below its
  * start, if a comma or 0A follows the range, whichever is smallest; 12 with the offset of the first code point that is no variation entry;
- * 8 with 192. Value: 192, the number of bytes of a policy. */
+ * 8 with 200. Value: 200, the number of bytes of a policy. */
 uint64_t tilghorz_read_sheet(const uint8_t *sheet, size_t sheet_len, uint8_t *out, size_t out_len);
 
 /* Writes the sheet of a policy: the code points of a line ascend, each has the fewest digits allowed, and neighbouring entries of the
@@ -214,6 +218,9 @@ uint64_t tilghorz_default_policy(uint8_t *out, size_t out_len);
 
 /* Gives the code point of a variation entry. Number: 255 if there is no such entry. Value: the code point. */
 uint64_t tilghorz_variation_entry(uint64_t index);
+
+/* Gives the Unicode version of the tables, as a policy begins with it. Value: major times 256 plus minor. */
+uint64_t tilghorz_version(void);
 
 #ifdef __cplusplus
 }

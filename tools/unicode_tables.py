@@ -152,6 +152,9 @@ def source(numbered, tables):
         f"pub const UNICODE_VERSION_MAJOR: u32 = {major};",
         "",
         f"pub const UNICODE_VERSION_MINOR: u32 = {minor};",
+        "",
+        "// The version as the first word of a stored policy: major times 256 plus minor.",
+        f"pub const UNICODE_VERSION: u64 = {major * 256 + minor};",
     ]
     for name, _, what, width, numbers in tables:
         out += ["", "// " + described(what, width, numbers)]
@@ -167,7 +170,11 @@ def specs(numbered, tables):
         f"-- The tables of Unicode {major}.{minor} as lists: the numbers that document 01, \"Character\", takes from emoji-data.txt and",
         "-- emoji-variation-sequences.txt. tools/unicode_tables.py makes this file from the two data files.",
         "use mathlib.Core.List.{List, [], _∷_}",
-        "use Prim.Native.Nat.{ℕ}",
+        "use Prim.Native.Nat.{ℕ, _+_, _*_}",
+        "",
+        "-- Document 02, change (xi): \"the version as major times 256 plus minor\".",
+        "unfoldable pub unicodeVersion : ℕ",
+        f"unicodeVersion = {major} * 256 + {minor}",
     ]
     for _, name, what, width, numbers in tables:
         out += ["", "-- " + described(what, width, numbers), f"unfoldable pub {name} : List ℕ", f"{name} ="]

@@ -9,13 +9,20 @@ use evfmt::{
     analyze_scan_item, format_text, scan,
 };
 
+use crate::reference::policy::{place, version};
 use crate::words;
 
-/// The bytes of a policy: the words of its four sets, lowest byte first.
+/// The bytes of a policy: the version of the tables and the words of its four sets, lowest byte first. The crate's
+/// policy has no version.
 #[must_use]
 pub fn policy_bytes(policy: Policy) -> Vec<u8> {
     let (prefer_bare, bare_as_text) = policy_sets(policy);
-    let words = [words(&prefer_bare), words(&bare_as_text)].concat();
+    let words = [
+        &[version()],
+        &words(&prefer_bare)[..],
+        &words(&bare_as_text),
+    ]
+    .concat();
     words.iter().flat_map(|word| word.to_le_bytes()).collect()
 }
 
@@ -39,10 +46,13 @@ pub fn policy_sets(policy: Policy) -> (PolicyKeySet, PolicyKeySet) {
 #[must_use]
 pub fn policy(bytes: &[u8]) -> Policy {
     let set = |number: usize, single: fn(char) -> PolicyKeySet| {
-        let bits = &bytes[number * bytes.len() / 4..][..bytes.len() / 4];
+        let is_member = |entry| {
+            let (byte, bit) = place(number, entry);
+            bytes[byte] & bit != 0
+        };
         let members = VARIATION_ENTRIES.iter().enumerate();
         members
-            .filter(|(entry, _)| (bits[entry / 8] >> (entry % 8)) & 1 == 1)
+            .filter(|(entry, _)| is_member(*entry))
             .fold(PolicyKeySet::none(), |set, (_, &base)| set | single(base))
     };
     let key_set = |first| {

@@ -8,7 +8,7 @@ use crate::reference::calls::{self, Draft};
 use crate::reference::{characters, kept, near, policy, sheet, store, tips};
 
 /// The bytes of a policy.
-pub const POLICY_BYTES: usize = 192;
+pub const POLICY_BYTES: usize = 200;
 /// The bytes of a finding in a table.
 pub const FINDING_BYTES: usize = 112;
 /// The bytes of the nearest finding and its distance.
@@ -85,12 +85,14 @@ pub trait Calls {
     fn default_policy(&self, out: &mut [u8]) -> u64;
     /// `tilghorz_variation_entry`.
     fn variation_entry(&self, index: u64) -> u64;
+    /// `tilghorz_version`.
+    fn version(&self) -> u64;
 }
 
 /// An answer: the number in a word's top 8 bits, and the value in its low 56.
 #[derive(Debug, Clone, Copy, PartialEq, Eq)]
 pub struct Answer {
-    /// 0 done, 1 to 14 a refusal, 255 nothing to do.
+    /// 0 done, 1 to 15 a refusal, 255 nothing to do.
     pub number: u8,
     /// What the table of refusals says is returned, or what was written.
     pub value: u64,
@@ -255,6 +257,10 @@ impl Calls for Reference {
     fn variation_entry(&self, index: u64) -> u64 {
         let entry = characters::entry(index).map(|entry| Answer::new(Answer::DONE, entry.into()));
         entry.unwrap_or(Answer::NOTHING).word()
+    }
+
+    fn version(&self) -> u64 {
+        Answer::new(Answer::DONE, policy::version()).word()
     }
 }
 

@@ -36,6 +36,9 @@ fn faults_are_reported_with_a_reduced_text() {
         (Fault::WantedLength, "sizes"),
         (Fault::BytesBeforeNumber, "decisions"),
         (Fault::DefaultPolicy, "default policy"),
+        (Fault::AnyVersion, "policies"),
+        (Fault::VersionAfterBits, "policies"),
+        (Fault::VersionBeforeLength, "policies"),
         (Fault::ReplacesEachByte, "sizes"),
         (Fault::LosesCutEnd, "sizes"),
         (Fault::WholeUnwritten, "sizes"),
@@ -162,6 +165,10 @@ impl Calls for WholeWords {
     fn variation_entry(&self, index: u64) -> u64 {
         Reference.variation_entry(index)
     }
+
+    fn version(&self) -> u64 {
+        Reference.version()
+    }
 }
 
 #[test]
@@ -186,7 +193,7 @@ fn a_case_names_its_call_and_its_inputs() {
         call: Call::Mend(0),
         inputs,
     };
-    let expected = "Mend(0) on 4 bytes: 31 EF B8 8E, policy of 192 bytes, decisions [0]";
+    let expected = "Mend(0) on 4 bytes: 31 EF B8 8E, policy of 200 bytes, decisions [0]";
     assert_eq!(case.to_string(), expected);
     let layout = Layout::all(Spot::EXACT);
     assert_eq!(case.check(&Reference, &case.draft(), 9, &layout), Ok(()));

@@ -8,6 +8,7 @@ use tilghorz_comparison::calls::{
     FINDING_BYTES, ITEM_BYTES, NEAREST_BYTES, POLICY_BYTES, SHEET_ROOM, TIP_BYTES,
 };
 use tilghorz_comparison::reference::feed::TOTALS_BYTES;
+use tilghorz_comparison::reference::policy;
 
 /// A function: its name, its parameters with name and kind, and the kind of its answer.
 #[derive(Debug, PartialEq, Eq)]
@@ -68,7 +69,11 @@ fn header_functions() -> Vec<Function> {
         };
         Some(Function {
             name: name.to_owned(),
-            parameters: parameters.split(", ").map(parameter).collect(),
+            parameters: parameters
+                .split(", ")
+                .filter(|parameters| *parameters != "void")
+                .map(parameter)
+                .collect(),
             answer: kind(answer),
         })
     });
@@ -147,7 +152,7 @@ fn trait_functions() -> Vec<Function> {
 }
 
 #[test]
-fn the_header_declares_twenty_functions() {
+fn the_header_declares_twenty_one_functions() {
     let functions = header_functions();
     let names: Vec<&str> = functions.iter().map(|of| of.name.as_str()).collect();
     let expected = [
@@ -171,10 +176,13 @@ fn the_header_declares_twenty_functions() {
         "tilghorz_store_used",
         "tilghorz_default_policy",
         "tilghorz_variation_entry",
+        "tilghorz_version",
     ];
     assert_eq!(names, expected);
     let numbers: Vec<usize> = functions.iter().map(|of| of.parameters.len()).collect();
-    let expected = [6, 6, 9, 4, 4, 10, 7, 4, 6, 4, 4, 4, 4, 6, 5, 10, 4, 3, 2, 1];
+    let expected = [
+        6, 6, 9, 4, 4, 10, 7, 4, 6, 4, 4, 4, 4, 6, 5, 10, 4, 3, 2, 1, 0,
+    ];
     assert_eq!(numbers, expected);
 }
 
@@ -245,8 +253,8 @@ fn the_refusals_agree_with_the_source() {
     let source = refusals(body.expect("the function of the numbers"), "Refusal::");
     let numbers: Vec<u64> = source.iter().map(|(_, number)| *number).collect();
     assert_eq!(numbers, (1..=16).collect::<Vec<u64>>());
-    // No C function returns 15 and 16.
-    let returned = &source[..14];
+    // No C function returns 16.
+    let returned = &source[..15];
     assert_eq!(
         refusals(&file("tilghorz/src/refusal.rs"), "Self::"),
         returned
@@ -298,6 +306,9 @@ fn the_limit_and_the_entries_agree_with_the_source() {
     assert!(text.contains(&format!("; the other {unused} bits of a set are unused")));
     let version = number_after("../docs/UNICODE.md", "**Unicode ");
     assert!(text.contains(&format!(", those of Unicode {version}.")));
+    let word = number_after(tables, "UNICODE_VERSION: u64 = ");
+    assert_eq!(word / 256, version);
+    assert_eq!(word, policy::version());
 }
 
 /// The bytes of a feed, as the source has them.

@@ -215,16 +215,30 @@ fn refusals_come_in_their_order() {
 }
 
 #[test]
-fn policies_are_bytes_of_the_right_number_without_unused_bits() {
+fn policies_are_bytes_of_the_right_number_and_version_without_unused_bits() {
     assert_eq!((policy::words(), policy::bytes()), (6, POLICY_BYTES));
-    let read = policy::Policy::read;
-    assert!(read(default_policy()).is_some());
-    assert!(read(&[0; 191]).is_none() && read(&[0; 193]).is_none() && read(&[]).is_none());
+    assert_eq!(policy::version(), 15 * 256);
+    let refusal = |bytes: &[u8]| {
+        policy::Policy::read(bytes)
+            .err()
+            .map(|answer| answer.number)
+    };
+    assert_eq!(refusal(default_policy()), None);
+    for length in [0, 8, 192, 199, 201] {
+        assert_eq!(refusal(&vec![0; length]), Some(2));
+    }
     for bit in 0..8 * POLICY_BYTES {
-        let mut bytes = vec![0; POLICY_BYTES];
-        bytes[bit / 8] = 1 << (bit % 8);
-        let is_unused = bit % 384 >= characters::entries();
-        assert_eq!(read(&bytes).is_none(), is_unused, "bit {bit}");
+        let mut bytes = policy::empty();
+        bytes[bit / 8] ^= 1 << (bit % 8);
+        let expected = match bit {
+            0..64 => Some(15),
+            _ if (bit - 64) % 384 >= characters::entries() => Some(2),
+            _ => None,
+        };
+        assert_eq!(refusal(&bytes), expected, "bit {bit}");
+        // The version is tested before the unused bits.
+        bytes[0] = 1;
+        assert_eq!(refusal(&bytes), Some(15), "bit {bit}");
     }
 }
 

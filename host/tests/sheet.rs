@@ -6,7 +6,7 @@ use tilghorz_comparison::comparison::faults::Fault;
 use tilghorz_comparison::comparison::faulty::Faulty;
 use tilghorz_comparison::comparison::{sheet_case, sheets};
 use tilghorz_comparison::reference::calls::{Draft, LONGEST_TEXT};
-use tilghorz_comparison::reference::policy::default_policy;
+use tilghorz_comparison::reference::policy::{self, default_policy};
 use tilghorz_comparison::reference::{characters, sheet};
 
 /// The answer to a sheet, with room for a policy.
@@ -19,9 +19,11 @@ fn meaning(sheet: &str) -> [Vec<u32>; 4] {
     let draft = sheet::read(sheet.as_bytes());
     let (_, bytes) = draft.with_room(POLICY_BYTES);
     assert_eq!(bytes.len(), POLICY_BYTES, "{sheet:?}: {draft:?}");
-    let set = POLICY_BYTES / 4;
     [0, 1, 2, 3].map(|line| {
-        let is_member = |entry: &usize| bytes[line * set + entry / 8] >> (entry % 8) & 1 == 1;
+        let is_member = |entry: &usize| {
+            let (byte, bit) = policy::place(line, *entry);
+            bytes[byte] & bit != 0
+        };
         let members = (0..characters::entries()).filter(is_member);
         members
             .filter_map(|entry| characters::entry(entry as u64))
@@ -175,15 +177,15 @@ fn the_room_comes_last_and_the_length_first() {
     };
     assert_eq!(answer(b"x", 0), Answer::new(11, 0));
     assert_eq!(answer(b"41\n\n\n\n", 191), Answer::new(12, 0));
-    assert_eq!(answer(b"30\n\n\n\n", 191), Answer::new(8, 192));
-    assert_eq!(answer(b"30\n\n\n\n", 192), Answer::new(0, 192));
+    assert_eq!(answer(b"30\n\n\n\n", 199), Answer::new(8, 200));
+    assert_eq!(answer(b"30\n\n\n\n", 200), Answer::new(0, 200));
     for length in [LONGEST_TEXT - 1, LONGEST_TEXT, LONGEST_TEXT + 1] {
         let [sheet, wrong] = sheets::of_length(length);
         assert_eq!((sheet.len(), wrong.len()), (length, length));
         let is_long = length > LONGEST_TEXT;
-        let expected = [Answer::new(0, 192), Answer::new(11, 0)];
+        let expected = [Answer::new(0, 200), Answer::new(11, 0)];
         let expected = expected.map(|answer| if is_long { Answer::new(1, 0) } else { answer });
-        assert_eq!([answer(&sheet, 192), answer(&wrong, 192)], expected);
+        assert_eq!([answer(&sheet, 200), answer(&wrong, 200)], expected);
     }
 }
 

@@ -5,9 +5,9 @@ use mathlib.Core.Bool.{Bool, true, false, cond, _&&_, true≢false}
 use mathlib.Core.List.{List, [], _∷_, _++_}
 use Prim.Native.Nat.{ℕ, zero, suc, _+_, _-_, _^_, _≤_, _<_}
 use native.Mathlib.Omega.{arith}
-use lib.Dec.{eqb, leb}
+use lib.Dec.{leb}
 use lib.ListN.{drop, getD, length, length-append, length-map, length-replicate}
-use borrow.Author.Tests.{eqb-true, le-leb, leb-true, ne-eqb}
+use borrow.Author.Tests.{le-leb, leb-true, ne-eqb}
 use Rattle.base.specs.Refusals.{textLimit}
 use Rattle.base.specs.Words.{allBytes, bytesOf, number}
 use Rattle.base.proofs.Tests.{and-both, both-true}
@@ -25,7 +25,8 @@ use Rattle.unicode.specs.declared.presentation.FromSelector.{FromSelector}
 use Rattle.unicode.specs.declared.presentation.FromSelector.the-variants.{NoSelector, Selector}
 use Rattle.unicode.specs.declared.presentation.Presentation.the-variants.{Emoji, Text}
 use Rattle.policy_key_set.specs.Sets.{entryCount, wordCount}
-use Rattle.policy.specs.PolicyBytes.{isPolicy, noUnusedBits, policyOf}
+use Rattle.policy.specs.PolicyBytes.{isPolicy, policyOf}
+use Rattle.policy.proofs.Refusals.{policy-parts}
 use Rattle.policy.specs.declared.Policy.{Policy}
 use Rattle.scanner.specs.Classes.{classOf}
 use Rattle.scanner.specs.declared.char_class.Class.{Class}
@@ -217,9 +218,9 @@ next-kept {f} k c e = answer-kept k e (answered f c)
 
 -- ---- its words
 
-pub policy-length : (bs : List ℕ) → isPolicy bs ≡ true → length bs ≡ 192
-unfolding isPolicy wordCount entryCount variationEntries
-policy-length bs e = eqb-true (length bs) 192 (both-true (eqb (length bs) 192) (noUnusedBits (policyOf bs)) e .0)
+pub policy-length : (bs : List ℕ) → isPolicy bs ≡ true → length bs ≡ 200
+unfolding wordCount entryCount variationEntries
+policy-length bs e = policy-parts bs e .0
 
 few-number : (bs : List ℕ) → allBytes bs ≡ true → length bs ≤ 3 → number bs ≤ 16777215
 unfolding number allBytes
@@ -324,7 +325,7 @@ module _ {f : Feed} (k : Kept f) (policy : List ℕ) (same : policyOf policy ≡
   pub kept-passes : isPolicy policy ≡ true → isFeed bs ≡ true
   unfolding bytesFor stateFor
   kept-passes e =
-      let l : length bs ≡ 312 = omega (arith, length-append (bytesOf (stateWords S)) policy, words-many S, policy-length policy e) in
+      let l : length bs ≡ 320 = omega (arith, length-append (bytesOf (stateWords S)) policy, words-many S, policy-length policy e) in
       sym (feed-5 bs l (small-to 15 (omega arith)) (ap (λ (s : State). isScalar (s .held .base)) state-is ∙ base-scalar (k .under))
       (ap (λ (s : State). unfinished (restOf s)) state-is ∙ ap unfinished (littleEndian-number (f .rest) (k .rest-bytes))
       ∙ k .unfinished-rest)

@@ -80,9 +80,9 @@ unfinished-many (suc (suc (suc (suc n)))) x h = refl
 -- ---- bytes of a feed
 
 module _ (bs : List ℕ) where
-  pub feed-1 : (length bs ≡ 312 → ⊥) → false ≡ isFeed bs
+  pub feed-1 : (length bs ≡ 320 → ⊥) → false ≡ isFeed bs
   unfolding isFeed
-  feed-1 h = sym (simp (ne-eqb (length bs) 312 h))
+  feed-1 h = sym (simp (ne-eqb (length bs) 320 h))
 
   -- The base and the unfinished bytes as they were read.
   pub feed-base : {w b : ℕ} {t : Bool} → w ≡ wordAt 1 bs → b ≡ w % 4294967296 → isScalar b ≡ t → isScalar (stateOf bs .held .base) ≡ t
@@ -94,21 +94,21 @@ module _ (bs : List ℕ) where
   unfolding stateOf
   feed-rest p q e = ap₂ (λ (x y : ℕ). unfinished (littleEndian x y)) (sym p) (sym q) ∙ e
 
-  module _ (h : length bs ≡ 312) where
+  module _ (h : length bs ≡ 320) where
     pub feed-2 : smallTo 15 bs ≡ false → false ≡ isFeed bs
     unfolding isFeed
-    feed-2 s = sym (simp (eq-eqb (length bs) 312 h, s))
+    feed-2 s = sym (simp (eq-eqb (length bs) 320 h, s))
 
     pub feed-3 : smallTo 15 bs ≡ true → isScalar (stateOf bs .held .base) ≡ false → false ≡ isFeed bs
     unfolding isFeed
-    feed-3 s t = sym (simp (eq-eqb (length bs) 312 h, s, t))
+    feed-3 s t = sym (simp (eq-eqb (length bs) 320 h, s, t))
 
     pub feed-4 : smallTo 15 bs ≡ true → isScalar (stateOf bs .held .base) ≡ true → unfinished (restOf (stateOf bs)) ≡ false
         → false ≡ isFeed bs
     unfolding isFeed
-    feed-4 s t u = sym (simp (eq-eqb (length bs) 312 h, s, t, u))
+    feed-4 s t u = sym (simp (eq-eqb (length bs) 320 h, s, t, u))
 
     pub feed-5 : smallTo 15 bs ≡ true → isScalar (stateOf bs .held .base) ≡ true → unfinished (restOf (stateOf bs)) ≡ true
         → {r : Bool} → r ≡ isPolicy (drop 120 bs) → r ≡ isFeed bs
     unfolding isFeed
-    feed-5 s t u e = e ∙ sym (simp (eq-eqb (length bs) 312 h, s, t, u))
+    feed-5 s t u e = e ∙ sym (simp (eq-eqb (length bs) 320 h, s, t, u))

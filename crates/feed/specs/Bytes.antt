@@ -33,7 +33,7 @@ abbrev pub stateBytes : ℕ
 stateBytes = 120
 
 abbrev pub feedBytes : ℕ
-feedBytes = 312
+feedBytes = 320
 
 abbrev pub wordAt : ℕ → List ℕ → ℕ
 wordAt k bs = number (take 8 (drop (8 * k) bs))

@@ -44,7 +44,7 @@ pub const STATE_WORDS: usize = 15;
 
 pub const STATE_BYTES: usize = 120;
 
-pub const FEED_BYTES: usize = 312;
+pub const FEED_BYTES: usize = 320;
 
 // Returns a word of a feed.
 fn word(feed: &[u8], k: usize) -> usize

@@ -58,15 +58,15 @@ module _ (policy feed : List ℕ) where
   unfolding begun policyRefusal
   begin-2 e q = ap (λ (r : Refusal). unwritten (Refused r) feed) q ∙ sym (simp e)
 
-  pub begin-8 : isPolicy policy ≡ true → length feed < 312
-      → _≡_ {A = After FeedAnswer ℕ} (unwritten (Refused (OutputTooShort 312)) feed) (begun policy feed)
+  pub begin-8 : isPolicy policy ≡ true → length feed < 320
+      → _≡_ {A = After FeedAnswer ℕ} (unwritten (Refused (OutputTooShort 320)) feed) (begun policy feed)
   unfolding begun policyRefusal
-  begin-8 e h = sym (simp (e, lt-leb 312 (length feed) h))
+  begin-8 e h = sym (simp (e, lt-leb 320 (length feed) h))
 
-  pub begin-done : isPolicy policy ≡ true → 312 ≤ length feed → {o o′ : List ℕ}
+  pub begin-done : isPolicy policy ≡ true → 320 ≤ length feed → {o o′ : List ℕ}
       → PutAt feed 0 (bytesOf (stateWords (stateFor (newFeed (policyOf policy))))) o 120
       → o′ ≡ cond (roomFor policy o 120) (sets o 120 policy) o
-      → _≡_ {A = After FeedAnswer ℕ} (record { answer = Written 312; buffer = o′ }) (begun policy feed)
+      → _≡_ {A = After FeedAnswer ℕ} (record { answer = Written 320; buffer = o′ }) (begun policy feed)
   unfolding begun policyRefusal newBytes bytesFor
   begin-done e h {o} {o′} p q =
       let W = bytesOf (stateWords (stateFor (newFeed (policyOf policy)))) in
@@ -74,7 +74,7 @@ module _ (policy feed : List ℕ) where
       let l = policy-length policy e in
       let m : length o ≡ length feed = ap length (p .bytes) ∙ length-sets feed 0 W in
       let r : leb (120 + length policy) (length o) ≡ true = le-leb (120 + length policy) (length o) (omega arith) in
-      let k : length (W ++ policy) ≡ 312 = omega (arith, length-append W policy) in
+      let k : length (W ++ policy) ≡ 320 = omega (arith, length-append W policy) in
       let b : o′ ≡ sets o 120 policy = q ∙ ap (λ (t : Bool). cond t (sets o 120 policy) o) r in
       let z : 0 + length W ≡ 120 = omega arith in
       let d : o′ ≡ sets feed 0 (W ++ policy) =
@@ -84,4 +84,4 @@ module _ (policy feed : List ℕ) where
       (omega arith) in
       let y : 0 + length (W ++ policy) ≡ length (W ++ policy) = omega arith in
       let a : o′ ≡ (W ++ policy) ++ drop (length (W ++ policy)) feed = d ∙ g ∙ ap (λ (i : ℕ). (W ++ policy) ++ drop i feed) y in
-      ap (λ (x : List ℕ). record { answer = Written 312; buffer = x }) a ∙ sym (simp (e, le-leb 312 (length feed) h))
+      ap (λ (x : List ℕ). record { answer = Written 320; buffer = x }) a ∙ sym (simp (e, le-leb 320 (length feed) h))

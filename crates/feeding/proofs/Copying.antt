@@ -297,7 +297,7 @@ module _ (bs : List ℕ) (w : WordsFit bs) where
       (sym (w .no-selector-no-rest 3 (omega arith) (omega arith))))
       (sym (w .no-selector-no-rest 4 (omega arith) (omega arith))) (sym (w .no-selector-no-rest 5 (omega arith) (omega arith))) refl refl)
 
-  pub copies-if : length bs ≡ 312 → isPolicy (drop 120 bs) ≡ true → asciiKeysBare (drop 120 bs) ≡ true → allBytes bs ≡ true
+  pub copies-if : length bs ≡ 320 → isPolicy (drop 120 bs) ≡ true → asciiKeysBare (drop 120 bs) ≡ true → allBytes bs ≡ true
       → CopiesAscii bs
   unfolding unfinished littleEndian
   copies-if h i b a = record {
@@ -334,7 +334,7 @@ words-put : (a b c d e f g h i j k l m n o x y : ℕ) (t : List ℕ)
 unfolding bytesOf wordBytes littleEndian
 words-put a b c d e f g h i j k l m n o x y t = refl
 
-module _ (bs : List ℕ) (w : WordsFit bs) (h : length bs ≡ 312) (t : allBytes bs ≡ true) (last len : ℕ) where
+module _ (bs : List ℕ) (w : WordsFit bs) (h : length bs ≡ 320) (t : allBytes bs ≡ true) (last len : ℕ) where
   abbrev S : State
   S = openState (bareHeld last) 0 0 len (countsOf bs)
 
@@ -404,12 +404,12 @@ module _ (o piece : List ℕ) (c last : ℕ) {o₁ : List ℕ} {at n : ℕ} (w :
       (put-then w (record { ends = omega (arith, part-length); bytes = e }))
 
 -- Both words fit into a feed.
-pub both-put : (bs : List ℕ) (x y : ℕ) {m r : List ℕ} → length bs ≡ 312 → m ≡ cond (hasRoom bs 8) (sets bs 8 (wordBytes x)) bs
+pub both-put : (bs : List ℕ) (x y : ℕ) {m r : List ℕ} → length bs ≡ 320 → m ≡ cond (hasRoom bs 8) (sets bs 8 (wordBytes x)) bs
     → r ≡ cond (hasRoom m 48) (sets m 48 (wordBytes y)) m → r ≡ sets (sets bs 8 (wordBytes x)) 48 (wordBytes y)
 both-put bs x y {m} {r} h p q =
     let M : m ≡ sets bs 8 (wordBytes x) =
     p ∙ ap (λ (t : Bool). cond t (sets bs 8 (wordBytes x)) bs) (le-leb (8 + 8) (length bs) (omega arith)) in
-    let n : length m ≡ 312 = ap length M ∙ length-sets bs 8 (wordBytes x) ∙ h in
+    let n : length m ≡ 320 = ap length M ∙ length-sets bs 8 (wordBytes x) ∙ h in
     q ∙ ap (λ (t : Bool). cond t (sets m 48 (wordBytes y)) m) (le-leb (48 + 8) (length m) (omega arith))
     ∙ ap (λ (l : List ℕ). sets l 48 (wordBytes y)) M
 

@@ -44,16 +44,16 @@ module _ (bs : List ℕ) (h : isFeed bs ≡ true) where
   abbrev policy : Bool
   policy = isPolicy (drop 120 bs)
 
-  tests : (length bs ≡ 312) × (smallTo 15 bs ≡ true) × (scalar ≡ true) × (rest ≡ true) × (policy ≡ true)
+  tests : (length bs ≡ 320) × (smallTo 15 bs ≡ true) × (scalar ≡ true) × (rest ≡ true) × (policy ≡ true)
   unfolding isFeed
   tests =
-      let a = both-true (eqb (length bs) 312) (smallTo 15 bs && (scalar && (rest && policy))) h in
+      let a = both-true (eqb (length bs) 320) (smallTo 15 bs && (scalar && (rest && policy))) h in
       let b = both-true (smallTo 15 bs) (scalar && (rest && policy)) (a .1) in
       let c = both-true scalar (rest && policy) (b .1) in
       let d = both-true rest policy (c .1) in
-      (eqb-true (length bs) 312 (a .0), b .0, c .0, d .0, d .1)
+      (eqb-true (length bs) 320 (a .0), b .0, c .0, d .0, d .1)
 
-  pub feed-length : length bs ≡ 312
+  pub feed-length : length bs ≡ 320
   feed-length = tests .0
 
   pub feed-small : smallTo 15 bs ≡ true
@@ -196,7 +196,7 @@ sum-now bs k h =
     (omega (arith, few-stored bs h, few-held bs h, settle-few (policyPart bs) (stateOf bs .held) k))
 
 -- Bytes of another length are no feed.
-pub other-length : (bs : List ℕ) → (length bs ≡ 312 → ⊥) → isFeed bs ≡ false
+pub other-length : (bs : List ℕ) → (length bs ≡ 320 → ⊥) → isFeed bs ≡ false
 other-length bs n = go (isFeed bs) refl
   where
     go : (t : Bool) → isFeed bs ≡ t → isFeed bs ≡ false

@@ -80,7 +80,7 @@ fn totals_are_few(feed: &[u8]) -> bool
 
 // Returns the word for the held base.
 pub(crate) fn base_word(feed: &[u8]) -> usize
-    requires { ⌜ length (now feed) ≡ 312 ⌝ }
+    requires { ⌜ length (now feed) ≡ 320 ⌝ }
     ensures { λ r. ⌜ r ≡ wordAt 1 (now (feed .entry)) ⌝ }
 {
     if feed.len() != FEED_BYTES {
@@ -91,7 +91,7 @@ pub(crate) fn base_word(feed: &[u8]) -> usize
 
 // Returns the word for the number of bytes taken.
 pub(crate) fn len_word(feed: &[u8]) -> usize
-    requires { ⌜ length (now feed) ≡ 312 ⌝ }
+    requires { ⌜ length (now feed) ≡ 320 ⌝ }
     ensures { λ r. ⌜ r ≡ wordAt 6 (now (feed .entry)) ⌝ }
 {
     if feed.len() != FEED_BYTES {
@@ -102,7 +102,7 @@ pub(crate) fn len_word(feed: &[u8]) -> usize
 
 // Tests the words of a feed.
 fn words_fit(feed: &[u8]) -> bool
-    requires { ⌜ length (now feed) ≡ 312 ⌝ }
+    requires { ⌜ length (now feed) ≡ 320 ⌝ }
     ensures { λ r. ⌜ (r ≡ true → WordsFit (now (feed .entry))) ⌝ }
 {
     if !is_zero(feed, 0) {
@@ -122,7 +122,7 @@ fn words_fit(feed: &[u8]) -> bool
 
 // Tests whether a feed copies ASCII.
 pub(crate) fn copies_ascii(feed: &[u8]) -> bool
-    requires { ⌜ length (now feed) ≡ 312 ⌝ }
+    requires { ⌜ length (now feed) ≡ 320 ⌝ }
     ensures { λ r. ⌜ (r ≡ true → CopiesAscii (now (feed .entry))) ⌝ }
 {
     if !words_fit(feed) {
@@ -264,7 +264,7 @@ pub(crate) fn put_ascii(out: &mut [u8], base: usize, piece: &[u8], last: usize) 
 
 // Writes the words for the held base and for the number of bytes taken.
 pub(crate) fn put_words(feed: &mut [u8], base: usize, len: usize)
-    requires { ⌜ length (now feed) ≡ 312 ⌝ }
+    requires { ⌜ length (now feed) ≡ 320 ⌝ }
     ensures { λ _. ⌜ now (feed .exit) ≡ sets (sets (now (feed .entry)) 8 (wordBytes base)) 48 (wordBytes len) ⌝ }
 {
     base::write_word(feed, BASE_AT, base as u64);

@@ -206,7 +206,7 @@ fn put_held(policy: &[u8], held: Held, next: Class, out: &mut [u8], at: usize) -
 
 // Returns the totals, for bytes that have the length of a feed.
 fn feed_totals(feed: &[u8]) -> NonCanonicality
-    requires { ⌜ length (now feed) ≡ 312 ⌝ }
+    requires { ⌜ length (now feed) ≡ 320 ⌝ }
     ensures { λ r. ⌜ r ≡ totalsOf (now (feed .entry)) ⌝ }
 {
     if !is_feed(feed) {
@@ -278,7 +278,7 @@ fn ended_state(len: usize, counts: NonCanonicality) -> State
 
 // Ends a feed, for bytes that have the length of a feed.
 fn end_feed(feed: &mut [u8], out: &mut [u8]) -> FeedAnswer
-    requires { ⌜ length (now feed) ≡ 312 ⌝ }
+    requires { ⌜ length (now feed) ≡ 320 ⌝ }
     ensures { λ r. ⌜ EndsCalled (called (now (feed .entry)) (Calls.end (now (out .entry)))) r (now (feed .exit)) (now (out .exit)) ⌝ }
 {
     if !is_feed(feed) {
@@ -663,7 +663,7 @@ fn open_state(
 
 // Takes a piece, for bytes that have the length of a feed.
 fn take_piece(feed: &mut [u8], piece: &[u8], out: &mut [u8]) -> FeedAnswer
-    requires { ⌜ length (now feed) ≡ 312 ⌝ }
+    requires { ⌜ length (now feed) ≡ 320 ⌝ }
     ensures { λ r. ⌜ EndsCalled (called (now (feed .entry)) (Calls.piece (now (piece .entry)) (now (out .entry)))) r (now (feed .exit))
         (now (out .exit)) ⌝ }
 {

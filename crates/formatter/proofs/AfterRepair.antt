@@ -1,5 +1,6 @@
--- Formatting a repaired text. The repaired text is well-formed, so only tests 1 and 2 can refuse it.
+-- Formatting a repaired text. The repaired text is well-formed, so only the test of its length and the tests of the policy can refuse it.
 use mathlib.Core.Path.{_≡_, refl, sym, ap, _∙_}
+use mathlib.Core.Logic.{⊎-elim}
 use mathlib.Core.Bool.{Bool, true, false}
 use mathlib.Core.List.{List}
 use mathlib.Core.Option.{some}
@@ -9,10 +10,11 @@ use lib.Dec.{eqb, leb}
 use lib.ListN.{length, replicate}
 use borrow.Author.Tests.{eq-eqb, leb-false}
 use Rattle.base.specs.Refusals.{textLimit}
-use Rattle.base.specs.declared.Refusal.the-variants.{NotWellFormed, TextTooLong}
+use Rattle.base.specs.declared.Refusal.the-variants.{NotAPolicy, NotWellFormed, TextTooLong}
 use Rattle.utf8.specs.Rfc3629.{validUpTo}
 use Rattle.utf8.proofs.Grammar.{well-formed-whole}
 use Rattle.policy.specs.PolicyBytes.{isPolicy, policyFault}
+use Rattle.policy.proofs.Refusals.{fault-is}
 use Rattle.repair.specs.Repaired.{repaired}
 use Rattle.repair.proofs.Outcomes.{wrote}
 use Rattle.repair.proofs.Repairing.{reached, result-well-formed, stretches, well-formed-is}
@@ -32,15 +34,17 @@ module _ (text policy : List ℕ) where
   tests p q = intake-is (repaired text) policy p q (whole text)
 
   never-3 : (a b : Bool) (n : ℕ) → byTests a b true (policyFault policy) (repaired text) ≡ some (NotWellFormed n) → ⊥
-  unfolding policyFault
   never-3 false b n e = let z : _≡_ {A = ℕ} 0 1 = cc in omega arith
-  never-3 true false n e = let z : _≡_ {A = ℕ} 0 1 = cc in omega arith
+  never-3 true false n e =
+      ⊎-elim (λ (f : policyFault policy ≡ NotAPolicy). let z : _≡_ {A = ℕ} 0 1 = cc in omega arith)
+      (λ f. let z : _≡_ {A = ℕ} 0 1 = cc in omega arith) (fault-is policy)
   never-3 true true n e = let z : _≡_ {A = ℕ} 0 1 = cc in omega arith
 
   only-long : (a b : Bool) → byTests a b true (policyFault policy) (repaired text) ≡ some TextTooLong → a ≡ false
-  unfolding policyFault
   only-long false b e = refl
-  only-long true false e = let z : _≡_ {A = ℕ} 0 1 = cc in absurd (omega arith)
+  only-long true false e =
+      ⊎-elim (λ (f : policyFault policy ≡ NotAPolicy). let z : _≡_ {A = ℕ} 0 1 = cc in absurd (omega arith))
+      (λ f. let z : _≡_ {A = ℕ} 0 1 = cc in absurd (omega arith)) (fault-is policy)
   only-long true true e = let z : _≡_ {A = ℕ} 0 1 = cc in absurd (omega arith)
 
   pub after-repair : AfterRepair text policy

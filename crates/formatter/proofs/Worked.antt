@@ -17,7 +17,15 @@ use Rattle.unicode.specs.Unicode.{
   isTag,
   variationSequenceIndex,
 }
-use Rattle.unicode.specs.UnicodeData.{emojiModifierBases, emojiModifiers, emojiPresentationRanges, emojiRanges, riRanges, variationEntries}
+use Rattle.unicode.specs.UnicodeData.{
+  emojiModifierBases,
+  emojiModifiers,
+  emojiPresentationRanges,
+  emojiRanges,
+  riRanges,
+  unicodeVersion,
+  variationEntries,
+}
 use Rattle.base.specs.Bits.{one}
 use Rattle.policy_key_set.specs.Sets.{allBelow, contains, entryCount, member as Sets·member, memberAt, wordCount}
 use Rattle.policy.specs.DefaultPolicy.{bareAsText, bareAsTextKeycap, defaultPolicy, preferBare, preferBareKeycap}
@@ -88,7 +96,8 @@ unfolding WorkedTexts ExampleCalls workedTable workedText positionAt textCount u
     findingRow findings textTotals totals littleEndian number wordBytes chars encode encodeAll foldChars foldStep readChar readFour utf8-1
     utf8-2 utf8-3 utf8-4 validUpTo asSelector fromSelector isSelector inRanges indexOf member next hasVariationSequence isEmoji
     isEmojiDefault isEmojiModifier isEmojiModifierBase isEmojiPresentation isRi isTag variationSequenceIndex emojiModifierBases
-    emojiModifiers emojiPresentationRanges emojiRanges riRanges variationEntries allBelow contains entryCount Sets·member memberAt one
+    emojiModifiers emojiPresentationRanges emojiRanges riRanges unicodeVersion variationEntries allBelow contains entryCount Sets·member
+    memberAt one
     bareAsText bareAsTextKeycap defaultPolicy preferBare preferBareKeycap holdsBase ruleOf singletonRule bytesOf isPolicy keyWords
     noUnusedBit noUnusedBits policyBytes policyOf policyWords wordCount wordsFrom classOf startState splitFrom items kindOf transition
     found width addChar split countCells countsOf following nonCanonicality render renew replacement replacementOf byFirst byKeycap
@@ -102,7 +111,8 @@ unfolding WorkedList workedCalls badDecision decisionsRefusal findingAt judge me
     policyRefusal findingRow findings textTotals totals littleEndian number wordBytes chars encode encodeAll foldChars foldStep readChar
     readFour utf8-1 utf8-2 utf8-3 utf8-4 validUpTo asSelector fromSelector isSelector inRanges indexOf member next hasVariationSequence
     isEmoji isEmojiDefault isEmojiModifier isEmojiModifierBase isEmojiPresentation isRi isTag variationSequenceIndex emojiModifierBases
-    emojiModifiers emojiPresentationRanges emojiRanges riRanges variationEntries allBelow contains entryCount Sets·member memberAt one
+    emojiModifiers emojiPresentationRanges emojiRanges riRanges unicodeVersion variationEntries allBelow contains entryCount Sets·member
+    memberAt one
     bareAsText bareAsTextKeycap defaultPolicy preferBare preferBareKeycap holdsBase ruleOf singletonRule bytesOf isPolicy keyWords
     noUnusedBit noUnusedBits policyBytes policyOf policyWords wordCount wordsFrom classOf startState splitFrom items kindOf transition
     found width addChar split countCells countsOf following nonCanonicality render renew replacement replacementOf byFirst byKeycap
@@ -111,7 +121,8 @@ calls = (refl, refl, refl, refl, refl)
 
 accepted : Accepted theDefault twoFindings
 unfolding theDefault littleEndian number wordBytes allBelow one entryCount foldChars foldStep readChar readFour utf8-1 utf8-2 utf8-3 utf8-4
-    validUpTo variationEntries bareAsText bareAsTextKeycap defaultPolicy preferBare preferBareKeycap bytesOf isPolicy keyWords noUnusedBit
+    validUpTo unicodeVersion variationEntries bareAsText bareAsTextKeycap defaultPolicy preferBare preferBareKeycap bytesOf isPolicy
+    keyWords noUnusedBit
     noUnusedBits policyBytes policyWords wordCount wordsFrom policyOf Sets·member
 accepted = record { short = omega arith; is-policy = refl; well-formed = whole-well-formed twoFindings refl }
 

@@ -28,6 +28,7 @@ use Rattle.policy.specs.Theorems.{ReadWritten}
 use Rattle.policy.specs.declared.Policy.{Policy}
 use Rattle.policy.proofs.Bytes.{getD-wordsFrom, length-wordsFrom}
 use Rattle.policy.proofs.Claims.{read-written}
+use Rattle.policy.proofs.Refusals.{policy-parts}
 use Rattle.policy.proofs.RoundTrips.{SixWordSets, six-words-of}
 use Rattle.scanner.specs.Classes.{strip}
 use Rattle.analysis.specs.Analysis.{render, renew}
@@ -68,8 +69,8 @@ word-below n at bs e k = ⊎-elim
 
 set-value : (k : ℕ) (bs : List ℕ) → allBytes bs ≡ true → SetValue (setOf k bs .bits)
 set-value k bs e = record {
-  word-count = length-wordsFrom wordCount (k * (wordCount * 8)) bs;
-  words = word-below wordCount (k * (wordCount * 8)) bs e;
+  word-count = length-wordsFrom wordCount (8 + k * (wordCount * 8)) bs;
+  words = word-below wordCount (8 + k * (wordCount * 8)) bs e;
 }
 
 policy-value : (bs : List ℕ) → allBytes bs ≡ true → PolicyValue (policyOf bs)
@@ -179,11 +180,11 @@ flipped-read policy m e = read-written (flip m (policyOf policy))
 
 pub flipped-accepted : (policy : List ℕ) (m : Membership) → m .entry < entryCount → isPolicy policy ≡ true → allBytes policy ≡ true
     → isPolicy (flipped m policy) ≡ true
-unfolding ReadWritten isPolicy
+unfolding ReadWritten
 flipped-accepted policy m b a e =
     read-written (flip m (policyOf policy)) (flip-policy (m .entry) (m .asText) (m .keycap) (policyOf policy) (policy-value policy e)) .1
     ∙ flip-clean (m .entry) b (m .asText) (m .keycap) (policyOf policy) (six-words-of policy)
-    (both-true (eqb (length policy) (4 * (wordCount * 8))) (noUnusedBits (policyOf policy)) a .1)
+    (policy-parts policy a .2)
 
 -- ---- characters
 

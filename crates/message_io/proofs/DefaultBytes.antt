@@ -1,4 +1,4 @@
--- The bytes of the default policy fill a buffer of 192 bytes.
+-- The bytes of the default policy fill a buffer of 200 bytes.
 use mathlib.Core.Path.{_≡_, refl, ap, _∙_, subst}
 use mathlib.Core.Bool.{Bool, cond}
 use mathlib.Core.List.{List, _++_, append-nil}
@@ -21,12 +21,12 @@ filled {o} {o′} {r} e w =
     w .buffer ∙ ap (λ (t : Bool). cond t (r ++ drop (length r) o) o) (le-leb (length r) (length o) (omega arith))
     ∙ ap (λ (k : ℕ). r ++ drop k o) e ∙ ap (λ (xs : List ℕ). r ++ xs) (drop-length o) ∙ append-nil r
 
-pub default-length : length (policyBytes defaultPolicy) ≡ 192
+pub default-length : length (policyBytes defaultPolicy) ≡ 200
 unfolding policyBytes bytesOf policyWords keyWords defaultPolicy preferBare preferBareKeycap bareAsText bareAsTextKeycap wordBytes
     littleEndian
 default-length = refl
 
-pub default-written : {o o′ : List ℕ} {p : Policy} {a : WriteAnswer} → length o ≡ 192 → p ≡ defaultPolicy → Wrote (policyBytes p) o o′ a
+pub default-written : {o o′ : List ℕ} {p : Policy} {a : WriteAnswer} → length o ≡ 200 → p ≡ defaultPolicy → Wrote (policyBytes p) o o′ a
     → o′ ≡ policyBytes defaultPolicy
 default-written {o} {o′} {a = a} l e w = filled (omega (arith, l, default-length))
     (subst (λ (q : Policy). Wrote (policyBytes q) o o′ a) e w)

@@ -98,9 +98,9 @@ pub fn read_message(buf: &mut [u8]) -> Message
     }
 }
 
-// Writes the bytes of the default policy. The first `ensures` lets a caller lend the array as a slice of 192 bytes.
+// Writes the bytes of the default policy. The first `ensures` lets a caller lend the array as a slice of 200 bytes.
 pub fn put_default_policy(out: &mut [u8; POLICY_BYTES])
-    ensures { λ _. ⌜ length (now (out .exit)) ≡ 192 ⌝ }
+    ensures { λ _. ⌜ length (now (out .exit)) ≡ 200 ⌝ }
     ensures { λ _. ⌜ now (out .exit) ≡ policyBytes defaultPolicy ⌝ }
 {
     policy::write_policy(Policy::default(), out);

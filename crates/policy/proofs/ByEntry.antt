@@ -42,7 +42,7 @@ rule-by-entry p c i keycap e =
     ap₂ ruleOf (holds-by-entry (p .«prefer_bare») c i keycap e) (holds-by-entry (p .«bare_as_text») c i keycap e)
 
 -- The rule for an entry from the two sets in the bytes.
-pub rule-by-sets : (bs : List ℕ) (i start : ℕ) (keycap : Bool) → start ≡ cond keycap 48 0
+pub rule-by-sets : (bs : List ℕ) (i start : ℕ) (keycap : Bool) → start ≡ cond keycap 56 8
     → ruleOf (member i (wordsFrom wordCount start bs)) (member i (wordsFrom wordCount (96 + start) bs))
     ≡ entryRule (policyOf bs) i keycap
 unfolding entryRule holdsEntry policyOf wordCount entryCount variationEntries
@@ -75,22 +75,22 @@ ascii-below p =
     ⊎-elim (λ (h : 12 ≤ i). ap (λ (b : Bool). not b || p i) (ascii-entry i l ∙ le-ltb i 12 h))
     (λ h. ap (λ (b : Bool). not b || p i) (ascii-entry i l ∙ lt-ltb i 12 h) ∙ all-below 12 p t i h) (le-or-lt 12 i)))
 
--- So the ASCII keys are the lowest twelve bits of the first word.
+-- So the ASCII keys are the lowest twelve bits of the first word after the version.
 first-bits : (bs : List ℕ)
-    → allBelow 12 (ordinary (policyOf bs .«prefer_bare»)) ≡ eqb (number (take 8 (drop 0 bs)) % 4096) 4095
+    → allBelow 12 (ordinary (policyOf bs .«prefer_bare»)) ≡ eqb (number (take 8 (drop 8 bs)) % 4096) 4095
 unfolding allBelow member policyOf wordsFrom wordCount entryCount variationEntries
-first-bits bs = low-ones 12 (number (take 8 (drop 0 bs)))
+first-bits bs = low-ones 12 (number (take 8 (drop 8 bs)))
 
-ascii-keys-word : (bs : List ℕ) → asciiKeysBare bs ≡ eqb (number (take 8 (drop 0 bs)) % 4096) 4095
+ascii-keys-word : (bs : List ℕ) → asciiKeysBare bs ≡ eqb (number (take 8 (drop 8 bs)) % 4096) 4095
 unfolding asciiKeysBare
 ascii-keys-word bs = ascii-below (ordinary (policyOf bs .«prefer_bare»)) ∙ first-bits bs
 
--- These are the bits of the first byte and the lowest four bits of the second.
-pub ascii-keys-bytes : (bs : List ℕ) (a b : ℕ) → a ≡ getD (drop 0 bs) 0 0 → b ≡ getD (drop 0 bs) 1 0 → a < 256
+-- These are the bits of the first byte of that word and the lowest four bits of its second byte.
+pub ascii-keys-bytes : (bs : List ℕ) (a b : ℕ) → a ≡ getD (drop 8 bs) 0 0 → b ≡ getD (drop 8 bs) 1 0 → a < 256
     → asciiKeysBare bs ≡ (eqb a 0xFF && eqb (b % 16) 0xF)
 ascii-keys-bytes bs a b p q h =
-    let w = number (take 8 (drop 0 bs)) % 4096 in
-    let n : w ≡ a + 256 * (b % 16) = omega (arith, number-eight (drop 0 bs), number-four (drop 0 bs)) in
+    let w = number (take 8 (drop 8 bs)) % 4096 in
+    let n : w ≡ a + 256 * (b % 16) = omega (arith, number-eight (drop 8 bs), number-four (drop 8 bs)) in
     ascii-keys-word bs
     ∙ same-test (eqb w 4095) (eqb a 0xFF && eqb (b % 16) 0xF)
     (λ t.

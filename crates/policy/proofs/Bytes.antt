@@ -1,12 +1,19 @@
--- Words and their bytes.
+-- Words and their bytes, and the bytes of a stored policy.
 use mathlib.Core.Path.{_≡_, refl, ap, _∙_}
-use mathlib.Core.List.{List}
-use Prim.Native.Nat.{ℕ, zero, suc, _+_, _*_, _<_}
+use mathlib.Core.Bool.{cond}
+use mathlib.Core.List.{List, _++_}
+use Prim.Native.Nat.{ℕ, zero, suc, _+_, _*_, _<_, _≤_}
 use native.Mathlib.Nat.{le-of-suc-le-suc, not-suc-le-zero}
 use native.Mathlib.Omega.{arith}
-use lib.ListN.{drop, getD, length, take}
-use Rattle.base.specs.Words.{number}
-use Rattle.policy.specs.PolicyBytes.{policyOf, setOf, wordsFrom}
+use lib.ListN.{drop, getD, length, length-append, take}
+use lib.Seq.{sets}
+use Rattle.base.specs.Output.{PutAt}
+use Rattle.base.specs.Words.{bytesOf, hasRoom, number, wordBytes}
+use Rattle.base.proofs.Numbers.{length-both, put-both}
+use Rattle.base.proofs.Words.{length-wordBytes, word-put}
+use Rattle.base.proofs.Writer.{put-then}
+use Rattle.unicode.specs.UnicodeData.{unicodeVersion}
+use Rattle.policy.specs.PolicyBytes.{keyWords, policyBytes, policyOf, policyWords, setOf, wordsFrom}
 use Rattle.policy_key_set.specs.declared.char_set.CharSet.{CharSet}
 use Rattle.policy.specs.declared.Policy.{Policy}
 
@@ -39,3 +46,19 @@ policy-made a b c d bs p q r s =
     let g : c ≡ setOf 2 bs = ap (λ (ws : List ℕ). record { bits = ws }) r in
     let h : d ≡ setOf 3 bs = ap (λ (ws : List ℕ). record { bits = ws }) s in
     cc
+
+-- A stored policy: the version and the two key sets, one after the other.
+module _ (p : Policy) where
+  pub stored-length : length (policyBytes p)
+      ≡ length (bytesOf (keyWords (p .«prefer_bare»))) + length (bytesOf (keyWords (p .«bare_as_text»))) + 8
+  unfolding policyBytes policyWords bytesOf
+  stored-length =
+      let l = length-append (wordBytes unicodeVersion) (bytesOf (keyWords (p .«prefer_bare») ++ keyWords (p .«bare_as_text»))) in
+      omega (arith, l, length-wordBytes unicodeVersion, length-both (keyWords (p .«prefer_bare»)) (keyWords (p .«bare_as_text»)))
+
+  pub stored-put : {o o₁ o₂ o₃ : List ℕ} {i r : ℕ} → 8 ≤ length o → o₁ ≡ cond (hasRoom o 0) (sets o 0 (wordBytes unicodeVersion)) o
+      → PutAt o₁ 8 (bytesOf (keyWords (p .«prefer_bare»))) o₂ i → PutAt o₂ i (bytesOf (keyWords (p .«bare_as_text»))) o₃ r
+      → PutAt o 0 (policyBytes p) o₃ r
+  unfolding policyBytes policyWords bytesOf
+  stored-put {o} {o₁} h e a b =
+      put-then (word-put o o₁ 0 unicodeVersion h e) (put-both (keyWords (p .«prefer_bare»)) (keyWords (p .«bare_as_text»)) a b)

@@ -1,20 +1,19 @@
 -- The proof of each statement of specs/Theorems.antt.
 use mathlib.Core.Path.{_≡_, refl, sym, ap, ap₂, _∙_}
 use mathlib.Core.Bool.{Bool, true, false, cond, _&&_, _||_, not}
-use mathlib.Core.List.{List, _++_}
-use Prim.Native.Nat.{ℕ, _^_, _<_}
+use mathlib.Core.List.{List, _∷_, _++_}
+use Prim.Native.Nat.{ℕ, zero, suc, _^_, _<_}
 use native.Mathlib.Omega.{arith}
-use lib.ListN.{getD, length}
+use lib.ListN.{drop, getD, length}
 use borrow.Author.Tests.{eq-eqb, ltb-true}
 use Rattle.base.proofs.Numbers.{length-bytesOf}
 use Rattle.base.specs.Words.{bytesOf}
 use Rattle.unicode.specs.Tables.{inRanges, member as Tables·member}
 use Rattle.unicode.specs.Unicode.{hasVariationSequence, isEmojiDefault, isEmojiPresentation, isTextDefault}
-use Rattle.unicode.specs.UnicodeData.{emojiPresentationRanges, variationEntries}
+use Rattle.unicode.specs.UnicodeData.{emojiPresentationRanges, unicodeVersion, variationEntries}
 use Rattle.unicode.specs.Theorems.{NoIndexNoEntry}
 use Rattle.unicode.specs.declared.VariationSequenceIndex.{VariationSequenceIndex}
 use Rattle.unicode.proofs.Claims.{no-index-no-entry}
-use Rattle.base.specs.declared.Refusal.the-variants.{NotAPolicy}
 use Rattle.base.specs.Bits.{one}
 use Rattle.policy_key_set.specs.Sets.{allBelow, contains, entryCount, member, memberAt, wordCount}
 use Rattle.policy_key_set.specs.KeySets.{isAscii, wordsMatchRule}
@@ -28,9 +27,9 @@ use Rattle.policy.specs.PolicyBytes.{
   keyWords,
   noUnusedBits,
   policyBytes,
-  policyFault,
   policyOf,
   policyWords,
+  versionOf,
   wordsFrom,
 }
 use Rattle.policy.specs.declared.Policy.{Policy}
@@ -40,6 +39,7 @@ use Rattle.policy.specs.Theorems.{
   DefaultPolicyHolds,
   DefaultRules,
   NoPolicyMeans,
+  PolicyTests,
   ReadWritten,
   RuleByEntry,
   RuleWithoutEntry,
@@ -60,7 +60,7 @@ use Rattle.policy.proofs.RoundTrips.{
   words-of,
   write-words,
 }
-use Rattle.policy.proofs.Refusals.{passed-policy, policy-passes, policy-refused, refused-policy}
+use Rattle.policy.proofs.Refusals.{all-pass, bits-third, length-first, passed-policy, policy-passes, version-second}
 use Rattle.policy.proofs.Unused.{refused-by, refused-for}
 
 -- The entries of each set of the default policy, by one computed test for each.
@@ -167,25 +167,35 @@ words-below p v =
     append-below (2 ^ 64) (a ++ b) (c ++ d) (append-below (2 ^ 64) a b (v .prefer-bare .words) (v .prefer-bare-keycap .words))
     (append-below (2 ^ 64) c d (v .bare-as-text .words) (v .bare-as-text-keycap .words))
 
+-- The words of a stored policy: the version, then the words of the sets.
+stored-below : (p : Policy) → PolicyValue p → (k : ℕ) → getD (unicodeVersion ∷ policyWords p) k 0 < 2 ^ 64
+unfolding unicodeVersion
+stored-below p v zero = omega arith
+stored-below p v (suc k) = words-below p v k
+
 pub read-written : ReadWritten
-unfolding ReadWritten isPolicy policyBytes wordCount entryCount variationEntries
+unfolding ReadWritten isPolicy policyBytes wordsFrom wordCount entryCount variationEntries
 read-written p v =
-    let ws = policyWords p in
+    let ws = unicodeVersion ∷ policyWords p in
+    let bs = bytesOf ws in
     let many = many-words p (six-word-sets p v) in
-    let read : wordsFrom 24 0 (bytesOf ws) ≡ ws = ap (λ (n : ℕ). wordsFrom n 0 (bytesOf ws)) (sym many) ∙ read-words ws (words-below p v) in
-    let back : policyOf (bytesOf ws) ≡ p = same-words (policyOf (bytesOf ws)) p (six-words-of (bytesOf ws)) (six-word-sets p v)
-    (words-of (bytesOf ws) ∙ read) in
-    let long : length (bytesOf ws) ≡ 192 = omega (arith, length-bytesOf ws) in
-    (back, ap₂ _&&_ (eq-eqb (length (bytesOf ws)) 192 long) (ap noUnusedBits back))
+    let read : wordsFrom 25 0 bs ≡ ws =
+    ap (λ (n : ℕ). wordsFrom n 0 bs) (sym (ap suc many)) ∙ read-words ws (stored-below p v) in
+    let back : policyOf bs ≡ p = same-words (policyOf bs) p (six-words-of bs) (six-word-sets p v) (words-of bs ∙ ap (drop 1) read) in
+    let ours : versionOf bs ≡ unicodeVersion = ap (λ (l : List ℕ). getD l 0 0) read in
+    let long : length bs ≡ 200 = omega (arith, length-bytesOf ws) in (
+      back,
+      ap₂ _&&_ (eq-eqb (length bs) 200 long) (ap₂ _&&_ (eq-eqb (versionOf bs) unicodeVersion ours) (ap noUnusedBits back)),
+    )
 
 pub write-read : WriteRead
-unfolding WriteRead policyBytes wordCount entryCount variationEntries
-write-read bs t l = ap bytesOf (words-of bs) ∙ write-words 24 bs l t
+unfolding WriteRead policyBytes wordsFrom wordCount entryCount variationEntries
+write-read bs t l v = ap₂ (λ (w : ℕ) (ws : List ℕ). bytesOf (w ∷ ws)) (sym v) (words-of bs) ∙ write-words 25 bs l t
 
 pub no-policy-means : NoPolicyMeans
-unfolding NoPolicyMeans policyFault
-no-policy-means bs = (
-  ((λ e. refused-for bs (refused-policy bs NotAPolicy e)), (λ h. policy-refused bs (refused-by bs h))),
-  (refused-for bs, refused-by bs),
-  (passed-policy bs, policy-passes bs),
-)
+unfolding NoPolicyMeans
+no-policy-means bs = ((refused-for bs, refused-by bs), (passed-policy bs, policy-passes bs))
+
+pub policy-tests : PolicyTests
+unfolding PolicyTests
+policy-tests bs = (length-first bs, version-second bs, bits-third bs, all-pass bs)

@@ -124,14 +124,14 @@ many-words p s = simp length-append (omega arith)
 pub six-words-of : (bs : List ℕ) → SixWordSets (policyOf bs)
 unfolding policyOf wordCount entryCount variationEntries
 six-words-of bs = record {
-  first = length-wordsFrom 6 0 bs;
-  second = length-wordsFrom 6 48 bs;
-  third = length-wordsFrom 6 96 bs;
-  fourth = length-wordsFrom 6 144 bs;
+  first = length-wordsFrom 6 8 bs;
+  second = length-wordsFrom 6 56 bs;
+  third = length-wordsFrom 6 104 bs;
+  fourth = length-wordsFrom 6 152 bs;
 }
 
-pub words-of : (bs : List ℕ) → policyWords (policyOf bs) ≡ wordsFrom 24 0 bs
+pub words-of : (bs : List ℕ) → policyWords (policyOf bs) ≡ wordsFrom 24 8 bs
 unfolding policyOf policyWords keyWords wordCount entryCount variationEntries
 words-of bs =
-    ap₂ (λ (x y : List ℕ). x ++ y) (sym (wordsFrom-append 6 6 0 bs)) (sym (wordsFrom-append 6 6 96 bs))
-    ∙ sym (wordsFrom-append 12 12 0 bs)
+    ap₂ (λ (x y : List ℕ). x ++ y) (sym (wordsFrom-append 6 6 8 bs)) (sym (wordsFrom-append 6 6 104 bs))
+    ∙ sym (wordsFrom-append 12 12 8 bs)

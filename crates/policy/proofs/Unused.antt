@@ -1,4 +1,4 @@
--- The unused bits of a set are all in its last word. Bytes are not a policy because of their length, or because of such a bit.
+-- The unused bits of a set are all in its last word. Bytes are not a policy because of their length, their version, or such a bit.
 use mathlib.Core.Path.{_≡_, refl, sym, ap, ap₂, _∙_}
 use mathlib.Core.Logic.{_⊎_, inl, inr, ⊎-elim}
 use mathlib.Core.Bool.{Bool, true, false, not, _&&_, _||_, true≢false}
@@ -11,6 +11,7 @@ use lib.Pow.{pow-pos}
 use borrow.Author.Tests.{eqb-false, le-leb, le-ltb, leb-true, lt-ltb, ltb-false, ne-eqb, not-false, not-true}
 use Rattle.base.proofs.Tests.{le-or-lt, same-test}
 use Rattle.base.specs.Bits.{one}
+use Rattle.unicode.specs.UnicodeData.{unicodeVersion}
 use Rattle.policy_key_set.specs.Sets.{allBelow, entryCount, member, wordCount}
 use Rattle.policy_key_set.proofs.Below.{all-below, below-all}
 use Rattle.policy.specs.PolicyBytes.{
@@ -19,10 +20,13 @@ use Rattle.policy.specs.PolicyBytes.{
   isPolicy,
   noUnusedBit,
   noUnusedBits,
-  not-4W-words,
+  other-length,
+  other-version,
+  policyLength,
   policyOf,
   setOf,
   unused-bit,
+  versionOf,
 }
 use Rattle.policy.proofs.Bounds.{high-bits, low-word}
 
@@ -141,17 +145,22 @@ module _ (bs : List ℕ) where
 
   pub refused-for : isPolicy bs ≡ false → NoPolicy bs
   unfolding isPolicy noUnusedBits policyOf
-  refused-for e = go (eqb (length bs) (4 * (wordCount * 8))) refl e
+  refused-for e = go (eqb (length bs) policyLength) refl e
     where
       in-set : (k : ℕ) → k < 4 → clean k ≡ false → NoPolicy bs
       in-set k l f = unused-bit k l (unused-one (setOf k bs .bits) f)
 
-      go : (b : Bool) → eqb (length bs) (4 * (wordCount * 8)) ≡ b → (b && noUnusedBits (policyOf bs)) ≡ false → NoPolicy bs
-      go false t f = not-4W-words (eqb-false (length bs) (4 * (wordCount * 8)) t)
-      go true t f =
+      by-version : (b : Bool) → eqb (versionOf bs) unicodeVersion ≡ b → (b && noUnusedBits (policyOf bs)) ≡ false → NoPolicy bs
+      by-version false t f = other-version (eqb-false (versionOf bs) unicodeVersion t)
+      by-version true t f =
           ⊎-elim (in-set 0 (omega arith))
           (⊎-elim (in-set 1 (omega arith)) (⊎-elim (in-set 2 (omega arith)) (in-set 3 (omega arith))))
           (one-of (clean 0) (clean 1) (clean 2) (clean 3) f)
+
+      go : (b : Bool) → eqb (length bs) policyLength ≡ b
+          → (b && (eqb (versionOf bs) unicodeVersion && noUnusedBits (policyOf bs))) ≡ false → NoPolicy bs
+      go false t f = other-length (eqb-false (length bs) policyLength t)
+      go true t f = by-version (eqb (versionOf bs) unicodeVersion) refl f
 
   and-false : (x y : Bool) → y ≡ false → (x && y) ≡ false
   and-false true y e = e
@@ -159,9 +168,14 @@ module _ (bs : List ℕ) where
 
   pub refused-by : NoPolicy bs → isPolicy bs ≡ false
   unfolding isPolicy noUnusedBits policyOf
-  refused-by (not-4W-words h) = ap (λ (b : Bool). b && noUnusedBits (policyOf bs)) (ne-eqb (length bs) (4 * (wordCount * 8)) h)
-  refused-by (unused-bit k l u) = and-false (eqb (length bs) (4 * (wordCount * 8))) (noUnusedBits (policyOf bs))
-      (go k l (one-unused (setOf k bs .bits) u))
+  refused-by (other-length h) =
+      ap (λ (b : Bool). b && (eqb (versionOf bs) unicodeVersion && noUnusedBits (policyOf bs))) (ne-eqb (length bs) policyLength h)
+  refused-by (other-version h) =
+      and-false (eqb (length bs) policyLength) (eqb (versionOf bs) unicodeVersion && noUnusedBits (policyOf bs))
+      (ap (λ (b : Bool). b && noUnusedBits (policyOf bs)) (ne-eqb (versionOf bs) unicodeVersion h))
+  refused-by (unused-bit k l u) =
+      and-false (eqb (length bs) policyLength) (eqb (versionOf bs) unicodeVersion && noUnusedBits (policyOf bs))
+      (and-false (eqb (versionOf bs) unicodeVersion) (noUnusedBits (policyOf bs)) (go k l (one-unused (setOf k bs .bits) u)))
     where
       go : (k : ℕ) → k < 4 → clean k ≡ false → ((clean 0 && clean 1) && (clean 2 && clean 3)) ≡ false
       go zero l f = ap (λ (b : Bool). (b && clean 1) && (clean 2 && clean 3)) f

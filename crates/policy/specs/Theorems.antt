@@ -4,15 +4,14 @@ use mathlib.Core.Logic.{_↔_, _⊎_}
 use mathlib.Core.Bool.{Bool, true, false, cond, _||_}
 use mathlib.Core.List.{List}
 use mathlib.Core.Option.{none, some}
-use Prim.Native.Nat.{ℕ, _*_}
+use Prim.Native.Nat.{ℕ}
 use lib.ListN.{getD, length}
 use Rattle.base.specs.Words.{allBytes}
-use Rattle.base.specs.declared.Refusal.the-variants.{NotAPolicy}
+use Rattle.base.specs.declared.Refusal.the-variants.{NotAPolicy, OtherVersion}
 use Rattle.unicode.specs.Unicode.{hasVariationSequence, isEmojiDefault, isTextDefault, variationSequenceIndex}
-use Rattle.unicode.specs.UnicodeData.{variationEntries}
+use Rattle.unicode.specs.UnicodeData.{unicodeVersion, variationEntries}
 use Rattle.unicode.specs.declared.VariationSequenceIndex.the-variants.{At}
 use Rattle.policy_key_set.specs.KeySets.{HoldsKeys, isAscii}
-use Rattle.policy_key_set.specs.Sets.{wordCount}
 use Rattle.policy.specs.Policy.{entryRule, samePolicy, sameRule, singletonRule}
 use Rattle.policy.specs.DefaultPolicy.{defaultPolicy}
 use Rattle.policy.specs.PolicyBytes.{
@@ -22,9 +21,11 @@ use Rattle.policy.specs.PolicyBytes.{
   isPolicy,
   noUnusedBits,
   policyBytes,
+  policyLength,
   policyOf,
   policyRefusal,
   policyWords,
+  versionOf,
 }
 use Rattle.policy.specs.declared.Policy.{Policy}
 use Rattle.policy.specs.declared.SingletonRule.{SingletonRule}
@@ -81,16 +82,28 @@ unfoldable pub ReadWritten : Type 0
 ReadWritten =
     (p : Policy) → PolicyValue p → (policyOf (policyBytes p) ≡ p) × (isPolicy (policyBytes p) ≡ noUnusedBits p)
 
--- Writing the policy that was read gives the bytes.
+-- Writing the policy that was read gives the bytes, if they name the version of the tables.
 unfoldable pub WriteRead : Type 0
 WriteRead =
-    (bs : List ℕ) → allBytes bs ≡ true → length bs ≡ 4 * (wordCount * 8) → policyBytes (policyOf bs) ≡ bs
+    (bs : List ℕ) → allBytes bs ≡ true → length bs ≡ policyLength → versionOf bs ≡ unicodeVersion
+    → policyBytes (policyOf bs) ≡ bs
 
--- Bytes get refusal 2 exactly when they are not 4W words or have an unused bit set. Exactly then they are not a policy. They get no
--- refusal exactly when they are a policy.
+-- Bytes are refused exactly when they are not 4W + 1 words, or name another version, or have an unused bit set. Exactly then they are
+-- not a policy. They get no refusal exactly when they are a policy.
 unfoldable pub NoPolicyMeans : Type 0
 NoPolicyMeans =
     (bs : List ℕ)
-    → ((policyRefusal bs ≡ some NotAPolicy) ↔ NoPolicy bs)
-    × ((isPolicy bs ≡ false) ↔ NoPolicy bs)
+    → ((isPolicy bs ≡ false) ↔ NoPolicy bs)
     × ((policyRefusal bs ≡ none) ↔ (isPolicy bs ≡ true))
+
+-- "15, another version, tested after the word count of 2 and before its unused bits": the first of the three tests that fails gives the
+-- refusal.
+unfoldable pub PolicyTests : Type 0
+PolicyTests =
+    (bs : List ℕ)
+    → ((length bs ≡ policyLength → ⊥) → policyRefusal bs ≡ some NotAPolicy)
+    × (length bs ≡ policyLength → (versionOf bs ≡ unicodeVersion → ⊥) → policyRefusal bs ≡ some OtherVersion)
+    × (length bs ≡ policyLength → versionOf bs ≡ unicodeVersion → noUnusedBits (policyOf bs) ≡ false
+    → policyRefusal bs ≡ some NotAPolicy)
+    × (length bs ≡ policyLength → versionOf bs ≡ unicodeVersion → noUnusedBits (policyOf bs) ≡ true
+    → policyRefusal bs ≡ none)

@@ -1,5 +1,6 @@
 // Policies: policy.rs of the crate evfmt; document 01, "Key set and policy". A policy is two key sets. Outside the
-// library it is 4W words of 8 bytes, and `is_policy` tests such bytes (refusal 2).
+// library it is 4W + 1 words of 8 bytes: the version of the tables, then the sets (document 02, change (xi)).
+// `is_policy` tests such bytes (refusals 2 and 15).
 mod default_policy;
 pub mod policy_bytes;
 
@@ -20,6 +21,7 @@ use policy_key_set::char_set::CharSet;
 use policy_key_set::named_sets::ALL_BITS;
 use policy_key_set::named_sets::CHARSET_WORDS;
 use policy_key_set::named_sets::TEXT_DEFAULT_BITS;
+use unicode::unicode_data::UNICODE_VERSION;
 
 // The keys for which bare is canonical, and the keys for which bare means text.
 pub struct Policy {
@@ -163,14 +165,23 @@ pub struct ReadPolicy {
     pub policy: Policy,
 }
 
-// The number of bytes of a set, and of a policy.
+// The number of bytes of a set, and of a policy: the version and four sets.
 pub(crate) const SET_BYTES: usize = CHARSET_WORDS * WORD_BYTES;
 
-pub const POLICY_BYTES: usize = 4 * SET_BYTES;
+pub const POLICY_BYTES: usize = WORD_BYTES + 4 * SET_BYTES;
+
+// The offsets of the four sets in the bytes of a policy.
+pub(crate) const PREFER_BARE: usize = WORD_BYTES;
+
+pub(crate) const PREFER_BARE_KEYCAP: usize = PREFER_BARE + SET_BYTES;
+
+pub(crate) const BARE_AS_TEXT: usize = PREFER_BARE_KEYCAP + SET_BYTES;
+
+pub(crate) const BARE_AS_TEXT_KEYCAP: usize = BARE_AS_TEXT + SET_BYTES;
 
 // Reads the set whose bytes start at an offset.
 fn read_set(bytes: &[u8], at: usize) -> CharSet
-    requires { ⌜ at ≤ 144 ⌝ }
+    requires { ⌜ at ≤ 152 ⌝ }
     ensures { λ r. ⌜ r .bits ≡ wordsFrom wordCount at (now (bytes .entry)) ⌝ }
 {
     let mut bits = [0u64; CHARSET_WORDS];
@@ -188,12 +199,12 @@ pub fn read_policy(bytes: &[u8]) -> ReadPolicy
 {
     let policy = Policy {
         prefer_bare: PolicyKeySet {
-            chars: read_set(bytes, 0),
-            keycap_chars: read_set(bytes, SET_BYTES),
+            chars: read_set(bytes, PREFER_BARE),
+            keycap_chars: read_set(bytes, PREFER_BARE_KEYCAP),
         },
         bare_as_text: PolicyKeySet {
-            chars: read_set(bytes, 2 * SET_BYTES),
-            keycap_chars: read_set(bytes, 3 * SET_BYTES),
+            chars: read_set(bytes, BARE_AS_TEXT),
+            keycap_chars: read_set(bytes, BARE_AS_TEXT_KEYCAP),
         },
     };
     let accepted = policy_bytes::is_policy(bytes);
@@ -241,17 +252,18 @@ fn put_keys(out: &mut [u8], start: usize, set: PolicyKeySet) -> usize
     put_set(out, at, keycap_chars)
 }
 
-// Writes the words of a policy at the front of a lent buffer, or refuses.
+// Writes the version of the tables and the words of a policy at the front of a lent buffer, or refuses.
 pub fn write_policy(policy: Policy, out: &mut [u8]) -> WriteAnswer
     ensures { λ r. ⌜ Wrote (policyBytes policy) (now (out .entry)) (now (out .exit)) r ⌝ }
 {
     let prefer_bare = policy.prefer_bare;
     let bare_as_text = policy.bare_as_text;
-    let wanted = keys_len(prefer_bare) + keys_len(bare_as_text);
+    let wanted = keys_len(prefer_bare) + keys_len(bare_as_text) + WORD_BYTES;
     if out.len() < wanted {
         return WriteAnswer::TooShort { wanted };
     }
-    let at = put_keys(out, 0, prefer_bare);
+    base::write_word(out, 0, UNICODE_VERSION);
+    let at = put_keys(out, PREFER_BARE, prefer_bare);
     put_keys(out, at, bare_as_text);
     WriteAnswer::Written { len: wanted }
 }

@@ -1,6 +1,6 @@
 // The policy's functions on its bytes: document 01, "Key set and policy". A `Policy` is passed by value, so each call
-// would copy its 192 bytes; these functions read the bytes instead. `is_policy` is the test of refusal 2. `rule_at` and
-// `ascii_keys_bare` equal the same functions of the policy that the bytes encode (`policyOf`), for any bytes.
+// would copy its sets; these functions read the bytes instead. `is_policy` is the test of refusals 2 and 15. `rule_at`
+// and `ascii_keys_bare` equal the same functions of the policy that the bytes encode (`policyOf`), for any bytes.
 ghost use mathlib.Core.Path.{_≡_};
 ghost use mathlib.Core.Bool.{_||_, cond, not};
 ghost use Prim.Native.Nat.{ℕ, _+_, _≤_};
@@ -9,13 +9,18 @@ ghost use Rattle.base.specs.Bits.{one};
 ghost use Rattle.policy_key_set.specs.Sets.{allBelow, member, wordCount};
 ghost use Rattle.policy.specs.Policy.{entryRule};
 ghost use Rattle.policy.specs.PolicyBytes.{asciiKeysBare, isPolicy, noUnusedBit, policyFault, policyOf, wordsFrom};
+use crate::BARE_AS_TEXT;
+use crate::BARE_AS_TEXT_KEYCAP;
 use crate::POLICY_BYTES;
+use crate::PREFER_BARE;
+use crate::PREFER_BARE_KEYCAP;
 use crate::SET_BYTES;
 use crate::SingletonRule;
 use base::Refusal;
 use base::WORD_BYTES;
 use policy_key_set::named_sets::ALL_BITS;
 use policy_key_set::named_sets::CHARSET_WORDS;
+use unicode::unicode_data::UNICODE_VERSION;
 
 // The offset of the last word in a set, and the number of bits of a set.
 const LAST_WORD: usize = SET_BYTES - WORD_BYTES;
@@ -32,36 +37,45 @@ fn last_is_used(last: u64) -> bool
 
 // Tests whether all unused bits are 0 in the set whose bytes start at an offset.
 fn has_no_unused_bit(bytes: &[u8], at: usize) -> bool
-    requires { ⌜ at ≤ 144 ⌝ }
+    requires { ⌜ at ≤ 152 ⌝ }
     ensures { λ r. ⌜ r ≡ noUnusedBit (wordsFrom wordCount at (now (bytes .entry))) ⌝ }
 {
     last_is_used(base::read_word(bytes, at + LAST_WORD))
 }
 
-// Tests whether bytes are a policy: the test of refusal 2.
+// Tests whether bytes are a policy: the test of refusals 2 and 15.
 pub fn is_policy(bytes: &[u8]) -> bool
     ensures { λ r. ⌜ r ≡ isPolicy (now (bytes .entry)) ⌝ }
 {
     if bytes.len() != POLICY_BYTES {
         return false;
     }
-    if !has_no_unused_bit(bytes, 0) {
+    if base::read_word(bytes, 0) != UNICODE_VERSION {
         return false;
     }
-    if !has_no_unused_bit(bytes, SET_BYTES) {
+    if !has_no_unused_bit(bytes, PREFER_BARE) {
         return false;
     }
-    if !has_no_unused_bit(bytes, 2 * SET_BYTES) {
+    if !has_no_unused_bit(bytes, PREFER_BARE_KEYCAP) {
         return false;
     }
-    has_no_unused_bit(bytes, 3 * SET_BYTES)
+    if !has_no_unused_bit(bytes, BARE_AS_TEXT) {
+        return false;
+    }
+    has_no_unused_bit(bytes, BARE_AS_TEXT_KEYCAP)
 }
 
-// Returns the refusal of bytes that are not a policy. The calls use it where `is_policy` returns false. Every such
-// refusal is number 2.
+// Returns the refusal of bytes that are not a policy: number 15 for another version, if the number of bytes is right,
+// or else number 2. The calls use it where `is_policy` returns false.
 pub fn policy_refusal(bytes: &[u8]) -> Refusal
     ensures { λ r. ⌜ r ≡ policyFault (now (bytes .entry)) ⌝ }
 {
+    if bytes.len() != POLICY_BYTES {
+        return Refusal::NotAPolicy;
+    }
+    if base::read_word(bytes, 0) != UNICODE_VERSION {
+        return Refusal::OtherVersion;
+    }
     Refusal::NotAPolicy
 }
 
@@ -75,14 +89,14 @@ fn holds_entry(bytes: &[u8], at: usize, index: usize) -> bool
     base::has_bit(base::byte_at(bytes, at, index / 8) as u64, index % 8)
 }
 
-// Returns the offset of the ordinary or the keycap set in a key set.
+// Returns the offset of the ordinary or the keycap set of `prefer_bare`.
 fn set_start(is_keycap: bool) -> usize
-    ensures { λ r. ⌜ (r ≡ cond «is_keycap» 48 0) × (r ≤ 48) ⌝ }
+    ensures { λ r. ⌜ (r ≡ cond «is_keycap» 56 8) × (r ≤ 56) ⌝ }
 {
     if is_keycap {
-        return SET_BYTES;
+        return PREFER_BARE_KEYCAP;
     }
-    0
+    PREFER_BARE
 }
 
 // Returns the policy's rule for a variation entry, as an ordinary or a keycap base.
@@ -100,8 +114,8 @@ pub fn rule_at(bytes: &[u8], index: usize, is_keycap: bool) -> SingletonRule
 pub fn ascii_keys_bare(bytes: &[u8]) -> bool
     ensures { λ r. ⌜ r ≡ asciiKeysBare (now (bytes .entry)) ⌝ }
 {
-    if base::byte_at(bytes, 0, 0) != 0xFF {
+    if base::byte_at(bytes, PREFER_BARE, 0) != 0xFF {
         return false;
     }
-    base::byte_at(bytes, 0, 1) % 16 == 0xF
+    base::byte_at(bytes, PREFER_BARE, 1) % 16 == 0xF
 }

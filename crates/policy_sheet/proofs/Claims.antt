@@ -19,6 +19,7 @@ use Rattle.policy.specs.PolicyBytes.{isPolicy, policyBytes, policyOf}
 use Rattle.policy.specs.Theorems.{WriteRead}
 use Rattle.policy.specs.declared.Policy.{Policy}
 use Rattle.policy.proofs.Claims.{write-read}
+use Rattle.policy.proofs.Refusals.{policy-parts}
 use Rattle.policy_sheet.specs.Calls.{readCall}
 use Rattle.policy_sheet.specs.Grammar.{Piece, Sheet, allowedDigits}
 use Rattle.policy_sheet.specs.Meaning.{AllEntries, FirstNonEntry, Means, Rising, covered, sheetPolicy, wordOf, wordsOf}
@@ -70,7 +71,7 @@ use Rattle.policy_sheet.proofs.Outcomes.{
   write-result,
   write-small,
 }
-use Rattle.policy_sheet.proofs.PolicyValues.{policy-bytes-many, policy-split, value-of-bytes}
+use Rattle.policy_sheet.proofs.PolicyValues.{policy-bytes-many, value-of-bytes}
 use Rattle.policy_sheet.proofs.ReadsBack.{back}
 use Rattle.policy_sheet.proofs.Faults.{Verdict, faulty, formed, only-pieces, read-rising, verdict}
 use Rattle.policy_sheet.proofs.Maximal.{fewest, maximal, point-small}
@@ -168,7 +169,7 @@ sheets-determine-policies p q v w u t = (
 
 -- ---- the calls
 
-value-read : (s : List ℕ) (p : Policy) → readSheet s ≡ is-read p → length (policyBytes p) ≡ 192
+value-read : (s : List ℕ) (p : Policy) → readSheet s ≡ is-read p → length (policyBytes p) ≡ 200
 unfolding SheetsRead
 value-read s p e = policy-bytes-many p (sheets-read s p .0 e .4 .value)
 
@@ -178,8 +179,8 @@ every-read-call sheet out = record {
   long = read-long sheet out;
   no-sheet = λ h n e. read-as sheet out (not-a-sheet n) h e;
   no-entry = λ h n e. read-as sheet out (not-an-entry n) h e;
-  short = λ h p e l. read-as sheet out (is-read p) h e ∙ result-short 192 (policyBytes p) out (value-read sheet p e) l;
-  done = λ h p e l. read-as sheet out (is-read p) h e ∙ result-done 192 (policyBytes p) out (value-read sheet p e) l;
+  short = λ h p e l. read-as sheet out (is-read p) h e ∙ result-short 200 (policyBytes p) out (value-read sheet p e) l;
+  done = λ h p e l. read-as sheet out (is-read p) h e ∙ result-done 200 (policyBytes p) out (value-read sheet p e) l;
   small =
       read-small sheet out (λ n e. fault-inside (first-fault sheet n .0 e .0))
       (λ n e. let r = non-entry-refused sheet n .0 e in non-entry-inside (r .1) (r .3)) (value-read sheet);
@@ -199,14 +200,14 @@ every-write-call policy out = record {
     S : List ℕ
     S = writeSheet (policyOf policy)
 
-    back-to : allBytes policy ≡ true → isPolicy policy ≡ true → (o : List ℕ) → 192 ≤ length o
-        → readCall S o ≡ written (Written 192) policy o
+    back-to : allBytes policy ≡ true → isPolicy policy ≡ true → (o : List ℕ) → 200 ≤ length o
+        → readCall S o ≡ written (Written 200) policy o
     back-to b e o l =
         let v = value-of-bytes policy b in
-        let n = policy-split policy e in
-        read-as S o (is-read (policyOf policy)) (omega (arith, sheet-few (policyOf policy))) (reads-back (policyOf policy) v (n .1))
-        ∙ result-done 192 (policyBytes (policyOf policy)) o (policy-bytes-many (policyOf policy) v) l
-        ∙ ap (λ (r : List ℕ). written (Written 192) r o) (write-read policy b (n .0))
+        let n = policy-parts policy e in
+        read-as S o (is-read (policyOf policy)) (omega (arith, sheet-few (policyOf policy))) (reads-back (policyOf policy) v (n .2))
+        ∙ result-done 200 (policyBytes (policyOf policy)) o (policy-bytes-many (policyOf policy) v) l
+        ∙ ap (λ (r : List ℕ). written (Written 200) r o) (write-read policy b (n .0) (n .1))
 
 -- ---- the form of a written sheet
 

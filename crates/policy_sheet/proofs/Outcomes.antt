@@ -11,10 +11,11 @@ use borrow.Author.Tests.{le-leb, leb-true, lt-leb}
 use Rattle.base.specs.Output.{answerOf, bufferOf}
 use Rattle.base.specs.Refusals.{orElse, textLimit, unwritten, written}
 use Rattle.base.specs.declared.Refusal.{Refusal}
-use Rattle.base.specs.declared.Refusal.the-variants.{NotAPolicy, OutputTooShort, TextTooLong}
+use Rattle.base.specs.declared.Refusal.the-variants.{OutputTooShort, TextTooLong}
 use Rattle.base.specs.declared.WriteAnswer.the-variants as Write
 use Rattle.policy.specs.PolicyBytes.{isPolicy, policyBytes, policyFault, policyOf, policyRefusal}
 use Rattle.policy.specs.declared.Policy.{Policy}
+use Rattle.policy.proofs.Refusals.{fault-value}
 use Rattle.policy_sheet.specs.Calls.{afterReading, readCall, sheetAnswer, sheetRow, writeCall, writeResult}
 use Rattle.policy_sheet.specs.Reader.{SheetReading, is-read, not-a-sheet, not-an-entry, readSheet}
 use Rattle.policy_sheet.specs.Writer.{writeSheet}
@@ -62,7 +63,7 @@ module _ (sheet out : List ℕ) where
 
   pub read-small : ((n : ℕ) → readSheet sheet ≡ not-a-sheet n → n ≤ length sheet)
       → ((n : ℕ) → readSheet sheet ≡ not-an-entry n → n ≤ length sheet)
-      → ((p : Policy) → readSheet sheet ≡ is-read p → length (policyBytes p) ≡ 192)
+      → ((p : Policy) → readSheet sheet ≡ is-read p → length (policyBytes p) ≡ 200)
       → sheetRow (readCall sheet out .answer) .value ≤ 16777216
   unfolding readCall sheetRow
   read-small f g h = go (leb (length sheet) textLimit) (readSheet sheet) refl refl
@@ -77,19 +78,19 @@ module _ (sheet out : List ℕ) where
 -- ---- writing
 
 module _ (policy out : List ℕ) where
-  pub write-refused : isPolicy policy ≡ false → writeCall policy out ≡ unwritten (Refused NotAPolicy) out
-  unfolding writeCall policyRefusal policyFault
-  write-refused e = simp e
+  pub write-refused : (r : Refusal) → policyRefusal policy ≡ some r → writeCall policy out ≡ unwritten (Refused r) out
+  unfolding writeCall
+  write-refused r e = simp e
 
   pub write-result : isPolicy policy ≡ true → writeCall policy out ≡ writeResult (writeSheet (policyOf policy)) out
   unfolding writeCall policyRefusal
   write-result e = simp e
 
   pub write-small : sheetRow (writeCall policy out .answer) .value ≤ 9916
-  unfolding writeCall policyRefusal policyFault sheetRow
+  unfolding writeCall policyRefusal sheetRow
   write-small = go (isPolicy policy)
     where
-      go : (t : Bool) → sheetRow (orElse (cond t none (some NotAPolicy)) (λ (r : Refusal). unwritten (Refused r) out)
+      go : (t : Bool) → sheetRow (orElse (cond t none (some (policyFault policy))) (λ (r : Refusal). unwritten (Refused r) out)
           (writeResult (writeSheet (policyOf policy)) out) .answer) .value ≤ 9916
       go true = result-small 9916 (writeSheet (policyOf policy)) out (sheet-few (policyOf policy))
-      go false = omega arith
+      go false = omega (arith, fault-value policy)

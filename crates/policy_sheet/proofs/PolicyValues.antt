@@ -1,4 +1,4 @@
--- The policy that bytes encode has words of 64 bits, and the bytes of a policy are 192.
+-- The policy that bytes encode has words of 64 bits, and the bytes of a policy are 200.
 use mathlib.Core.Path.{_≡_, _∙_}
 use mathlib.Core.Logic.{⊎-elim}
 use mathlib.Core.Bool.{true}
@@ -6,16 +6,17 @@ use mathlib.Core.List.{List, [], _∷_}
 use Prim.Native.Nat.{ℕ, zero, suc, _+_, _*_, _^_, _<_}
 use native.Mathlib.Nat.{pow-suc}
 use native.Mathlib.Omega.{arith}
-use lib.Dec.{eqb, leb}
+use lib.Dec.{leb}
 use lib.ListN.{List·getD-eq-default, drop, getD, length, take}
-use borrow.Author.Tests.{eqb-true, leb-true}
+use borrow.Author.Tests.{leb-true}
 use Rattle.base.specs.Words.{allBytes, number}
 use Rattle.base.proofs.Numbers.{length-bytesOf}
 use Rattle.base.proofs.Tests.{both-true, le-or-lt}
 use Rattle.base.proofs.Words.{allBytes-drop}
+use Rattle.unicode.specs.UnicodeData.{unicodeVersion}
 use Rattle.policy_key_set.specs.Sets.{wordCount}
 use Rattle.policy_key_set.proofs.Entries.{entry-count}
-use Rattle.policy.specs.PolicyBytes.{PolicyValue, SetValue, isPolicy, noUnusedBits, policyBytes, policyOf, policyWords, wordsFrom}
+use Rattle.policy.specs.PolicyBytes.{PolicyValue, SetValue, policyBytes, policyOf, policyWords, wordsFrom}
 use Rattle.policy.specs.declared.Policy.{Policy}
 use Rattle.policy.proofs.Bytes.{getD-wordsFrom, length-wordsFrom}
 use Rattle.policy.proofs.RoundTrips.{many-words}
@@ -42,17 +43,17 @@ set-of-bytes at bs t = record { word-count = length-wordsFrom wordCount at bs; w
 pub value-of-bytes : (bs : List ℕ) → allBytes bs ≡ true → PolicyValue (policyOf bs)
 unfolding policyOf
 value-of-bytes bs t = record {
-  prefer-bare = set-of-bytes (0 * (wordCount * 8)) bs t;
-  prefer-bare-keycap = set-of-bytes (1 * (wordCount * 8)) bs t;
-  bare-as-text = set-of-bytes (2 * (wordCount * 8)) bs t;
-  bare-as-text-keycap = set-of-bytes (3 * (wordCount * 8)) bs t;
+  prefer-bare = set-of-bytes (8 + 0 * (wordCount * 8)) bs t;
+  prefer-bare-keycap = set-of-bytes (8 + 1 * (wordCount * 8)) bs t;
+  bare-as-text = set-of-bytes (8 + 2 * (wordCount * 8)) bs t;
+  bare-as-text-keycap = set-of-bytes (8 + 3 * (wordCount * 8)) bs t;
 }
 
 six : wordCount ≡ 6
 unfolding wordCount
 six = omega (arith, entry-count)
 
-pub policy-bytes-many : (p : Policy) → PolicyValue p → length (policyBytes p) ≡ 192
+pub policy-bytes-many : (p : Policy) → PolicyValue p → length (policyBytes p) ≡ 200
 unfolding policyBytes
 policy-bytes-many p v =
     let n = many-words p
@@ -62,11 +63,4 @@ policy-bytes-many p v =
       third = v .bare-as-text .word-count ∙ six;
       fourth = v .bare-as-text-keycap .word-count ∙ six;
     }) in
-    omega (arith, length-bytesOf (policyWords p), n)
-
--- Bytes that are a policy have its length, and no unused bit.
-pub policy-split : (bs : List ℕ) → isPolicy bs ≡ true → (length bs ≡ 4 * (wordCount * 8)) × (noUnusedBits (policyOf bs) ≡ true)
-unfolding isPolicy
-policy-split bs e =
-    let p = both-true (eqb (length bs) (4 * (wordCount * 8))) (noUnusedBits (policyOf bs)) e in
-    (eqb-true (length bs) (4 * (wordCount * 8)) (p .0), p .1)
+    omega (arith, length-bytesOf (unicodeVersion ∷ policyWords p), n)

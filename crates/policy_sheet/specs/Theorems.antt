@@ -3,14 +3,16 @@ use mathlib.Core.Path.{_≡_}
 use mathlib.Core.Logic.{_↔_}
 use mathlib.Core.Bool.{Bool, true, false}
 use mathlib.Core.List.{List, [], _∷_}
+use mathlib.Core.Option.{some}
 use Prim.Native.Nat.{ℕ, suc, _<_, _≤_}
 use lib.ListN.{getD, length, take}
 use Rattle.base.specs.Refusals.{unwritten, written}
 use Rattle.base.specs.Words.{allBytes}
-use Rattle.base.specs.declared.Refusal.the-variants.{NotAPolicy, NotASheet, NotAnEntry, OutputTooShort, TextTooLong}
+use Rattle.base.specs.declared.Refusal.{Refusal}
+use Rattle.base.specs.declared.Refusal.the-variants.{NotASheet, NotAnEntry, OutputTooShort, TextTooLong}
 use Rattle.unicode.specs.UnicodeData.{variationEntries}
 use Rattle.policy_key_set.specs.Sets.{member}
-use Rattle.policy.specs.PolicyBytes.{PolicyValue, isPolicy, noUnusedBits, policyBytes, policyOf}
+use Rattle.policy.specs.PolicyBytes.{PolicyValue, isPolicy, noUnusedBits, policyBytes, policyOf, policyRefusal}
 use Rattle.policy.specs.declared.Policy.{Policy}
 use Rattle.policy_sheet.specs.Calls.{readCall, sheetRow, writeCall}
 use Rattle.policy_sheet.specs.Grammar.{Begins, CodePoint, DescendingRange, IsSheet, Piece, Sheet}
@@ -65,34 +67,34 @@ SheetsDeterminePolicies =
 -- ---- the calls
 
 -- The claim on reading, for all bytes. The tests are made in the order 1, 11, 12, 8, and a refusal leaves the output as it was. A policy
--- has 192 bytes. No value of an answer is above the limit of a text.
+-- has 200 bytes. No value of an answer is above the limit of a text.
 pub record ReadCall (sheet out : List ℕ) : Type 0 where
   pub long : 16777217 ≤ length sheet → readCall sheet out ≡ unwritten (Refused TextTooLong) out
   pub no-sheet : length sheet ≤ 16777216 → (n : ℕ) → readSheet sheet ≡ not-a-sheet n
       → readCall sheet out ≡ unwritten (Refused (NotASheet n)) out
   pub no-entry : length sheet ≤ 16777216 → (n : ℕ) → readSheet sheet ≡ not-an-entry n
       → readCall sheet out ≡ unwritten (Refused (NotAnEntry n)) out
-  pub short : length sheet ≤ 16777216 → (p : Policy) → readSheet sheet ≡ is-read p → length out < 192
-      → readCall sheet out ≡ unwritten (Refused (OutputTooShort 192)) out
-  pub done : length sheet ≤ 16777216 → (p : Policy) → readSheet sheet ≡ is-read p → 192 ≤ length out
-      → readCall sheet out ≡ written (Written 192) (policyBytes p) out
+  pub short : length sheet ≤ 16777216 → (p : Policy) → readSheet sheet ≡ is-read p → length out < 200
+      → readCall sheet out ≡ unwritten (Refused (OutputTooShort 200)) out
+  pub done : length sheet ≤ 16777216 → (p : Policy) → readSheet sheet ≡ is-read p → 200 ≤ length out
+      → readCall sheet out ≡ written (Written 200) (policyBytes p) out
   pub small : sheetRow (readCall sheet out .answer) .value ≤ 16777216
 
 unfoldable pub EveryReadCall : Type 0
 EveryReadCall = (sheet out : List ℕ) → ReadCall sheet out
 
--- The claim on writing, for all bytes. The tests are made in the order 2, 8, and a refusal leaves the output as it was. A written sheet has
--- at most 9,916 bytes. ".. a written sheet reads back to its policy": reading it gives the bytes of the policy.
+-- The claim on writing, for all bytes. The policy is tested first, then the room, and a refusal leaves the output as it was. A written
+-- sheet has at most 9,916 bytes. ".. a written sheet reads back to its policy": reading it gives the bytes of the policy.
 pub record WriteCall (policy out : List ℕ) : Type 0 where
-  pub no-policy : isPolicy policy ≡ false → writeCall policy out ≡ unwritten (Refused NotAPolicy) out
+  pub no-policy : (r : Refusal) → policyRefusal policy ≡ some r → writeCall policy out ≡ unwritten (Refused r) out
   pub short : isPolicy policy ≡ true → length out < length (writeSheet (policyOf policy))
       → writeCall policy out ≡ unwritten (Refused (OutputTooShort (length (writeSheet (policyOf policy))))) out
   pub done : isPolicy policy ≡ true → length (writeSheet (policyOf policy)) ≤ length out
       → writeCall policy out ≡ written (Written (length (writeSheet (policyOf policy)))) (writeSheet (policyOf policy)) out
   pub few : length (writeSheet (policyOf policy)) ≤ 9916
   pub small : sheetRow (writeCall policy out .answer) .value ≤ 9916
-  pub reads-back : allBytes policy ≡ true → isPolicy policy ≡ true → (o : List ℕ) → 192 ≤ length o
-      → readCall (writeSheet (policyOf policy)) o ≡ written (Written 192) policy o
+  pub reads-back : allBytes policy ≡ true → isPolicy policy ≡ true → (o : List ℕ) → 200 ≤ length o
+      → readCall (writeSheet (policyOf policy)) o ≡ written (Written 200) policy o
 
 unfoldable pub EveryWriteCall : Type 0
 EveryWriteCall = (policy out : List ℕ) → WriteCall policy out

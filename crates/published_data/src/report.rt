@@ -7,6 +7,7 @@ use crate::survey::Survey;
 use crate::survey::Version;
 use crate::tables::Table;
 use libc::STDOUT_FILENO;
+use unicode::unicode_data::UNICODE_VERSION;
 use unicode::unicode_data::UNICODE_VERSION_MAJOR;
 use unicode::unicode_data::UNICODE_VERSION_MINOR;
 
@@ -70,10 +71,12 @@ fn say_table(table: Table) {
     }
 }
 
-// Writes the version of the tables: "Unicode 15.0".
+// Writes the version of the tables, and this version as the first word of a policy: "Unicode 15.0, as a word 3840".
 pub(crate) fn say_tables_version() {
     say(b"Unicode ");
     say_pair(UNICODE_VERSION_MAJOR, UNICODE_VERSION_MINOR);
+    say(b", as a word ");
+    io::print_decimal(STDOUT_FILENO, UNICODE_VERSION);
     say(b"\n");
 }
 
@@ -95,7 +98,12 @@ pub(crate) fn say_line(name: &[u8], number: usize, what: &[u8]) {
     say(b"\n");
 }
 
-// Writes the file's version, and whether it is the version of the tables.
+// Returns a version as one word.
+fn version_word(major: u32, minor: u32) -> u64 {
+    256 * major as u64 + minor as u64
+}
+
+// Writes the file's version, and whether it is the version of the tables and of the word.
 fn say_version(version: Version) {
     match version {
         Version::Stated(major, minor) => {
@@ -105,6 +113,9 @@ fn say_version(version: Version) {
                 say(b", not that of the tables");
             } else if minor != UNICODE_VERSION_MINOR {
                 say(b", not that of the tables");
+            }
+            if version_word(major, minor) != UNICODE_VERSION {
+                say(b", not that of the word");
             }
         }
         Version::Unstated => say(b"no Emoji Version"),

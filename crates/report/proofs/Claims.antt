@@ -16,7 +16,15 @@ use Rattle.unicode.specs.Unicode.{
   isTag,
   variationSequenceIndex,
 }
-use Rattle.unicode.specs.UnicodeData.{emojiModifierBases, emojiModifiers, emojiPresentationRanges, emojiRanges, riRanges, variationEntries}
+use Rattle.unicode.specs.UnicodeData.{
+  emojiModifierBases,
+  emojiModifiers,
+  emojiPresentationRanges,
+  emojiRanges,
+  riRanges,
+  unicodeVersion,
+  variationEntries,
+}
 use Rattle.base.specs.Bits.{one}
 use Rattle.policy_key_set.specs.Sets.{allBelow, contains, entryCount, member as Sets·member, memberAt, wordCount}
 use Rattle.policy.specs.DefaultPolicy.{bareAsText, bareAsTextKeycap, defaultPolicy, preferBare, preferBareKeycap}
@@ -72,7 +80,8 @@ unfolding ExampleReported findingLine totalLine line parted decimal decimalBy ta
     firstTests intakeRefusal policyRefusal findingRow findings totals littleEndian number wordBytes chars encode encodeAll foldChars
     foldStep readChar readFour utf8-1 utf8-2 utf8-3 utf8-4 validUpTo asSelector fromSelector isSelector inRanges indexOf member next
     hasVariationSequence isEmoji isEmojiDefault isEmojiModifier isEmojiModifierBase isEmojiPresentation isRi isTag variationSequenceIndex
-    emojiModifierBases emojiModifiers emojiPresentationRanges emojiRanges riRanges variationEntries allBelow contains entryCount
+    emojiModifierBases emojiModifiers emojiPresentationRanges emojiRanges riRanges unicodeVersion variationEntries allBelow contains
+    entryCount
     Sets·member memberAt one bareAsText bareAsTextKeycap defaultPolicy preferBare preferBareKeycap holdsBase ruleOf singletonRule bytesOf
     isPolicy keyWords noUnusedBit noUnusedBits policyBytes policyOf policyWords wordCount wordsFrom classOf startState splitFrom items
     kindOf transition found width addChar split countCells countsOf following nonCanonicality render renew replacement replacementOf

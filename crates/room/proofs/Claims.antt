@@ -21,7 +21,15 @@ use Rattle.unicode.specs.Unicode.{
   isTag,
   variationSequenceIndex,
 }
-use Rattle.unicode.specs.UnicodeData.{emojiModifierBases, emojiModifiers, emojiPresentationRanges, emojiRanges, riRanges, variationEntries}
+use Rattle.unicode.specs.UnicodeData.{
+  emojiModifierBases,
+  emojiModifiers,
+  emojiPresentationRanges,
+  emojiRanges,
+  riRanges,
+  unicodeVersion,
+  variationEntries,
+}
 use Rattle.policy_key_set.specs.KeySets.{isAscii, ordinary}
 use Rattle.policy_key_set.specs.Sets.{allBelow, contains, entryCount, member as Sets·member, memberAt, wordCount}
 use Rattle.policy.specs.DefaultPolicy.{bareAsText, bareAsTextKeycap, defaultPolicy, preferBare, preferBareKeycap}
@@ -111,7 +119,7 @@ unfolding CopyrightSignReaches format formatItems formatted sameBytes firstTests
     preferBareKeycap holdsBase ruleOf singletonRule bytesOf isPolicy keyWords noUnusedBit noUnusedBits policyBytes policyOf policyWords
     wordCount wordsFrom classOf startState splitFrom items kindOf transition addChar split countCells countsOf following nonCanonicality
     render renew replacement replacementOf byFirst byKeycap byModifier byTags isBareSide outcome rule1 rule2 rule3 rule4 rule5 rule6
-    textFirst withoutSelector
+    textFirst withoutSelector unicodeVersion
 copyright-sign-reaches = (refl, refl)
 
 pub digit-reaches-four : DigitReachesFour
@@ -122,7 +130,7 @@ unfolding DigitReachesFour format formatItems formatted sameBytes firstTests int
     variationEntries allBelow contains entryCount Sets·member memberAt one holdsBase ruleOf singletonRule bytesOf isPolicy keyWords
     noUnusedBit noUnusedBits policyBytes policyOf policyWords wordCount wordsFrom classOf startState splitFrom items kindOf transition
     addChar split countCells countsOf following nonCanonicality render renew replacement replacementOf byFirst byKeycap byModifier byTags
-    isBareSide outcome rule1 rule2 rule3 rule4 rule5 rule6 textFirst withoutSelector
+    isBareSide outcome rule1 rule2 rule3 rule4 rule5 rule6 textFirst withoutSelector unicodeVersion
 digit-reaches-four = (refl, refl)
 
 pub copyright-signs-reach : CopyrightSignsReach

@@ -1,5 +1,6 @@
 -- What formatting answers of a message that is filed: the length that is charged, the buffer, and which refusals it can give.
 use mathlib.Core.Path.{_≡_, refl, ap, sym, subst, _∙_}
+use mathlib.Core.Logic.{⊎-elim}
 use mathlib.Core.Bool.{Bool, true, false, true≢false}
 use mathlib.Core.List.{List}
 use mathlib.Core.Option.{Option, none, some}
@@ -14,11 +15,13 @@ use Rattle.base.specs.declared.Refusal.the-variants.{
   DoesNotFit,
   NotAPolicy,
   NotWellFormed,
+  OtherVersion,
   OutputTooShort,
   TextTooLong,
 }
 use Rattle.utf8.specs.Rfc3629.{validUpTo}
 use Rattle.policy.specs.PolicyBytes.{isPolicy, policyFault}
+use Rattle.policy.proofs.Refusals.{fault-is}
 use Rattle.formatter.specs.Format.{format, formatted, sameBytes}
 use Rattle.formatter.specs.Intake.{intakeRefusal}
 use Rattle.formatter.specs.declared.FormatAnswer.{FormatAnswer}
@@ -106,7 +109,6 @@ module _ (text policy : List ℕ) where
   other-number q r x y e = (λ h. x (ap number (e ∙ h)), λ l h. y (ap number (e ∙ h)))
 
   pub not-of-store : (o : List ℕ) (r : Refusal) → format text policy o .answer ≡ Refused r → NotOfStore r
-  unfolding policyFault
   not-of-store o r = by-tests (λ o x. x .answer ≡ Refused r → NotOfStore r) o go
     where
       refused : (q : Refusal) → (number q ≡ 13 → ⊥) → (number q ≡ 14 → ⊥) → Refused q ≡ Refused r → NotOfStore r
@@ -114,7 +116,10 @@ module _ (text policy : List ℕ) where
 
       go : Tested (λ o x. x .answer ≡ Refused r → NotOfStore r) o
       go false b f same fits q e = refused TextTooLong (λ h. omega arith) (λ h. omega arith) e
-      go true false f same fits q e = refused NotAPolicy (λ h. omega arith) (λ h. omega arith) e
+      go true false f same fits q e =
+          ⊎-elim (λ (g : policyFault policy ≡ NotAPolicy).
+          refused NotAPolicy (λ h. omega arith) (λ h. omega arith) (ap Refused (sym g) ∙ e))
+          (λ g. refused OtherVersion (λ h. omega arith) (λ h. omega arith) (ap Refused (sym g) ∙ e)) (fault-is policy)
       go true true false same fits q e = refused (NotWellFormed (validUpTo text)) (λ h. omega arith) (λ h. omega arith) e
       go true true true true fits q e = let z : _≡_ {A = ℕ} 0 1 = cc in absurd (omega arith)
       go true true true false true q e = let z : _≡_ {A = ℕ} 0 1 = cc in absurd (omega arith)

@@ -1,6 +1,8 @@
 -- The proof of each statement of specs/Theorems.antt.
+use mathlib.Core.Path.{refl}
 use native.Mathlib.Omega.{arith}
 use Rattle.unicode.specs.Unicode.{variationEntry}
+use Rattle.unicode.specs.UnicodeData.{unicodeVersion}
 use Rattle.analysis.specs.Decisions.{mendRow}
 use Rattle.base.specs.Answers.{listRow, writeRow}
 use Rattle.feed.specs.Bytes.{feedRow}
@@ -14,7 +16,7 @@ use Rattle.policy_sheet.specs.Theorems.{EveryReadCall, EveryWriteCall}
 use Rattle.policy_sheet.proofs.Claims.{every-read-call, every-write-call}
 use Rattle.repair.specs.Repair.{repairRow}
 use Rattle.repair.proofs.Outcomes.{the-call}
-use Rattle.tilghorz.specs.Theorems.{StoreWordsHaveValues, WordsDetermineAnswers, WordsHaveBothValues}
+use Rattle.tilghorz.specs.Theorems.{StoreWordsHaveValues, WordHasVersion, WordsDetermineAnswers, WordsHaveBothValues}
 use Rattle.tilghorz.proofs.SmallStores.{begin-small, file-small, release-small, used-small}
 use Rattle.tilghorz.proofs.SmallFeeds.{begun-small, called-small, totals-small}
 use Rattle.tilghorz.proofs.SmallNear.{around-refusal, nearest-small}
@@ -78,3 +80,7 @@ store-words-have-values = (
   λ C rb st h. has-row _ (begin-small C rb st h),
   λ C rb st w e xs. (λ c. has-row _ (used-small C rb st w e xs c), λ c n. has-row _ (release-small C rb st w e xs c n)),
 )
+
+pub word-has-version : WordHasVersion
+unfolding WordHasVersion unicodeVersion
+word-has-version = (refl, refl)

@@ -20,7 +20,7 @@ use Rattle.utf8.specs.Rfc3629.{chars, encodeAll, validUpTo}
 use Rattle.utf8.proofs.Texts.{validUpTo-le}
 use Rattle.unicode.specs.Tables.{entryAt}
 use Rattle.unicode.specs.Unicode.{variationEntry}
-use Rattle.unicode.specs.UnicodeData.{variationEntries}
+use Rattle.unicode.specs.UnicodeData.{unicodeVersion, variationEntries}
 use Rattle.unicode.proofs.Between.{every}
 use Rattle.policy.specs.DefaultPolicy.{bareAsText, bareAsTextKeycap, defaultPolicy, preferBare, preferBareKeycap}
 use Rattle.policy.specs.PolicyBytes.{isPolicy, keyWords, policyBytes, policyFault, policyOf, policyWords}
@@ -215,10 +215,10 @@ module _ (text policy : List ℕ) (offset : ℕ) (decisions out : List ℕ) wher
           room true h = omega arith
           room false h = omega arith
 
--- The bytes of a policy are those of 24 words.
-default-bytes : length (policyBytes defaultPolicy) ≡ 24 * 8
+-- The bytes of a policy are those of 25 words.
+default-bytes : length (policyBytes defaultPolicy) ≡ 25 * 8
 unfolding policyBytes policyWords keyWords defaultPolicy preferBare preferBareKeycap bareAsText bareAsTextKeycap
-default-bytes = length-bytesOf (policyWords defaultPolicy)
+default-bytes = length-bytesOf (unicodeVersion ∷ policyWords defaultPolicy)
 
 pub default-small : (out : List ℕ) → writeRow (answerOf (policyBytes defaultPolicy) out) .value ≤ most
 unfolding answerOf writeRow
@@ -227,7 +227,7 @@ default-small out = go (leb (length B) (length out)) default-bytes
     B : List ℕ
     B = policyBytes defaultPolicy
 
-    go : (b : Bool) → length B ≡ 24 * 8 → writeRow (cond b (Write.Written (length B)) (Write.TooShort (length B))) .value ≤ most
+    go : (b : Bool) → length B ≡ 25 * 8 → writeRow (cond b (Write.Written (length B)) (Write.TooShort (length B))) .value ≤ most
     go true h = omega arith
     go false h = omega arith
 

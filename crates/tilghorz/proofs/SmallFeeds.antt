@@ -42,10 +42,10 @@ use Rattle.tilghorz.proofs.SmallAnswers.{most}
 
 pub begun-small : (policy feed : List ℕ) → feedRow (begun policy feed .answer) .value ≤ most
 unfolding begun feedRow policyRefusal
-begun-small policy feed = go (isPolicy policy) (leb 312 (length feed))
+begun-small policy feed = go (isPolicy policy) (leb 320 (length feed))
   where
     go : (a b : Bool) → feedRow (orElse (cond a none (some (policyFault policy))) (λ r. unwritten (Refused r) feed)
-        (cond b (written (Written 312) (newBytes policy) feed) (unwritten (Refused (OutputTooShort 312)) feed)) .answer) .value ≤ most
+        (cond b (written (Written 320) (newBytes policy) feed) (unwritten (Refused (OutputTooShort 320)) feed)) .answer) .value ≤ most
     go true true = omega arith
     go true false = omega arith
     go false b = omega (arith, fault-value policy)

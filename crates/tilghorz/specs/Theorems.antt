@@ -7,13 +7,14 @@ use Rattle.base.specs.Output.{answerOf}
 use Rattle.base.specs.Words.{bytesOf}
 use Rattle.base.specs.Refusals.{RefusalRow}
 use Rattle.unicode.specs.Unicode.{variationEntry}
+use Rattle.unicode.specs.UnicodeData.{unicodeVersion}
 use Rattle.policy.specs.DefaultPolicy.{defaultPolicy}
 use Rattle.policy.specs.PolicyBytes.{policyBytes}
 use Rattle.formatter.specs.Format.{format}
 use Rattle.formatter.specs.List.{listBytes, listItems}
 use Rattle.formatter.specs.Mend.{Call, mendCall}
 use Rattle.analysis.specs.Decisions.{mendRow}
-use Rattle.base.specs.Answers.{listRow, writeRow}
+use Rattle.base.specs.Answers.{done, listRow, writeRow}
 use Rattle.formatter.specs.Format.{formatRow}
 use Rattle.feed.specs.Bytes.{begun, called, eightWords, feedRow, totalsOf}
 use Rattle.feed.specs.Calls as Feed
@@ -92,3 +93,7 @@ StoreWordsHaveValues =
     → let bs = bytesAfter (take storeBytes (beginCall capacity reserves store .buffer)) xs in
     ((c : ℕ) → HasRow (word (cappedRow (storeRow (usedCall bs c)))) (storeRow (usedCall bs c)))
     × ((c n : ℕ) → HasRow (word (cappedRow (storeRow (releaseCall bs c n .answer)))) (storeRow (releaseCall bs c n .answer))))
+
+-- The word of the tables' version: its number is 0, "done", and its value is the version.
+unfoldable pub WordHasVersion : Type 0
+WordHasVersion = (word (done unicodeVersion) / 2 ^ 56 ≡ 0) × (word (done unicodeVersion) % 2 ^ 56 ≡ unicodeVersion)

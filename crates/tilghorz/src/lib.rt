@@ -7,13 +7,14 @@ ghost use mathlib.Core.Path.{_≡_};
 ghost use Rattle.base.specs.Output.{answerOf, bufferOf};
 ghost use Rattle.base.specs.Words.{bytesOf};
 ghost use Rattle.unicode.specs.Unicode.{variationEntry};
+ghost use Rattle.unicode.specs.UnicodeData.{unicodeVersion};
 ghost use Rattle.policy.specs.DefaultPolicy.{defaultPolicy};
 ghost use Rattle.policy.specs.PolicyBytes.{policyBytes};
 ghost use Rattle.formatter.specs.Format.{format};
 ghost use Rattle.formatter.specs.List.{listBytes, listItems};
 ghost use Rattle.formatter.specs.Mend.{mend};
 ghost use Rattle.analysis.specs.Decisions.{mendRow};
-ghost use Rattle.base.specs.Answers.{listRow, writeRow};
+ghost use Rattle.base.specs.Answers.{done, listRow, writeRow};
 ghost use Rattle.formatter.specs.Format.{formatRow};
 ghost use Rattle.repair.specs.Repair.{repair, repairRow};
 ghost use Rattle.feed.specs.Bytes.{begun, called, eightWords, feedRow, totalsOf};
@@ -37,6 +38,7 @@ use answer_word::sheet_word;
 use answer_word::store_word;
 use answer_word::write_word;
 use policy::Policy;
+use unicode::unicode_data::UNICODE_VERSION;
 
 // Formats a text under a policy. It may answer "nothing to do", or refusals 1, 2, 3 and 8.
 #[no_mangle]
@@ -266,4 +268,12 @@ pub extern "C" fn tilghorz_variation_entry(index: u64) -> u64
     ensures { λ r. ⌜ r ≡ word (entryRow (variationEntry index)) ⌝ }
 {
     entry_word(unicode::variation_entry(index as usize))
+}
+
+// Gives the version of the tables, as a policy begins with it: major times 256 plus minor.
+#[no_mangle]
+pub extern "C" fn tilghorz_version() -> u64
+    ensures { λ r. ⌜ r ≡ word (done unicodeVersion) ⌝ }
+{
+    UNICODE_VERSION
 }

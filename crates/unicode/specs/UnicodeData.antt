@@ -1,7 +1,11 @@
 -- The tables of Unicode 15.0 as lists: the numbers that document 01, "Character", takes from emoji-data.txt and
 -- emoji-variation-sequences.txt. tools/unicode_tables.py makes this file from the two data files.
 use mathlib.Core.List.{List, [], _∷_}
-use Prim.Native.Nat.{ℕ}
+use Prim.Native.Nat.{ℕ, _+_, _*_}
+
+-- Document 02, change (xi): "the version as major times 256 plus minor".
+unfoldable pub unicodeVersion : ℕ
+unicodeVersion = 15 * 256 + 0
 
 -- Emoji: the first and the last number of each of 151 ranges.
 unfoldable pub emojiRanges : List ℕ

@@ -4,6 +4,9 @@ pub const UNICODE_VERSION_MAJOR: u32 = 15;
 
 pub const UNICODE_VERSION_MINOR: u32 = 0;
 
+// The version as the first word of a stored policy: major times 256 plus minor.
+pub const UNICODE_VERSION: u64 = 3840;
+
 // Emoji: the first and the last number of each of 151 ranges.
 pub const EMOJI_RANGES: [u32; 302] = [
     0x23,

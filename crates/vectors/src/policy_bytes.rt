@@ -1,6 +1,7 @@
-// Policies as bytes: `write_policy` and `read_policy`. A policy is written as the bytes of its words, lowest byte
-// first, and reading the bytes gives the same policy. Bytes are a policy only if there are 192 and every bit that is
-// set belongs to an entry. This module also tries bytes that are not a policy.
+// Policies as bytes: `write_policy` and `read_policy`. A policy is written as the version of the tables and the bytes
+// of its words, lowest byte first, and reading the bytes gives the same policy. Bytes are a policy only if there are 200,
+// the first 8 are the version, and every bit that is set after them belongs to an entry. This module also tries bytes
+// that are not a policy.
 ghost use Prim.Native.Nat.{_<_};
 use crate::report;
 use crate::sets::same_policy;
@@ -10,10 +11,13 @@ use base::WriteAnswer;
 use policy::POLICY_BYTES;
 use policy::Policy;
 use std::num::wrapping_add_u64;
+use unicode::unicode_data::UNICODE_VERSION;
+use unicode::unicode_data::UNICODE_VERSION_MAJOR;
+use unicode::unicode_data::UNICODE_VERSION_MINOR;
 use unicode::unicode_data::VARIATION_ENTRY_COUNT;
 
 // The number of bytes of a character set, and its last bit.
-const SET_BYTES: usize = POLICY_BYTES / 4;
+const SET_BYTES: usize = (POLICY_BYTES - WORD_BYTES) / 4;
 
 const LAST_BIT: usize = 8 * SET_BYTES - 1;
 
@@ -29,11 +33,19 @@ fn is_number(b: u8, n: u64) -> bool {
     b as u64 == n
 }
 
-// Tests whether the bytes are those of the words from an index on.
+// Returns word k of a stored policy: the version, then the words from an index on.
+fn stored_word(words: &[u64], at: usize, k: usize) -> u64 {
+    if k == 0 {
+        return UNICODE_VERSION;
+    }
+    word(words, at, k - 1)
+}
+
+// Tests whether the bytes are the version and the words from an index on.
 fn are_bytes_of(bytes: &[u8; POLICY_BYTES], words: &[u64], at: usize) -> bool {
     let mut i = 0;
     while i < POLICY_BYTES {
-        let w = word(words, at, i / WORD_BYTES);
+        let w = stored_word(words, at, i / WORD_BYTES);
         if !is_number(bytes[i], byte_of(w, i % WORD_BYTES)) {
             return false;
         }
@@ -51,8 +63,8 @@ fn is_read_back(bytes: &[u8; POLICY_BYTES], policy: Policy) -> bool {
     false
 }
 
-// Tests whether the policy is written as the bytes of the words from an index on, and whether reading these bytes gives
-// the policy.
+// Tests whether the policy is written as the version and the words from an index on, and whether reading these bytes
+// gives the policy.
 pub(crate) fn round_trips(policy: Policy, words: &[u64], at: usize) -> bool {
     let mut bytes = [0u8; POLICY_BYTES];
     let WriteAnswer::Written { len } = policy::write_policy(policy, &mut bytes) else {
@@ -114,7 +126,9 @@ fn with_bit(tried: Tried, set: usize, bit: usize, is_policy: bool) -> Tried
     requires { ⌜ (set < 4) × (bit < 384) ⌝ }
 {
     let mut bytes = [0u8; POLICY_BYTES];
-    bytes[set * SET_BYTES + bit / 8] = 1u8 << (bit % 8);
+    bytes[0] = UNICODE_VERSION_MINOR as u8;
+    bytes[1] = UNICODE_VERSION_MAJOR as u8;
+    bytes[WORD_BYTES + set * SET_BYTES + bit / 8] = 1u8 << (bit % 8);
     with_bytes(tried, &bytes, is_policy)
 }
 
@@ -129,11 +143,31 @@ fn with_set(tried: Tried, set: usize) -> Tried
 
 // Tries bytes of four lengths. Those of the right length are the policy without a key.
 fn with_lengths(tried: Tried) -> Tried {
-    let bytes = [0u8; POLICY_BYTES + 1];
+    let mut bytes = [0u8; POLICY_BYTES + 1];
+    bytes[0] = UNICODE_VERSION_MINOR as u8;
+    bytes[1] = UNICODE_VERSION_MAJOR as u8;
     let empty = with_bytes(tried, &bytes[..0], false);
     let short = with_bytes(empty, &bytes[..POLICY_BYTES - 1], false);
     let right = with_bytes(short, &bytes[..POLICY_BYTES], true);
     with_bytes(right, &bytes, false)
+}
+
+// Tries the policy without a key, with another byte in its version.
+fn with_version(tried: Tried, at: usize, byte: u8) -> Tried
+    requires { ⌜ at < 8 ⌝ }
+{
+    let mut bytes = [0u8; POLICY_BYTES];
+    bytes[0] = UNICODE_VERSION_MINOR as u8;
+    bytes[1] = UNICODE_VERSION_MAJOR as u8;
+    bytes[at] = byte;
+    with_bytes(tried, &bytes, false)
+}
+
+// Tries four other versions: the next minor one, the major one before, none, and one with its highest bit set.
+fn with_versions(tried: Tried) -> Tried {
+    let minor = with_version(tried, 0, UNICODE_VERSION_MINOR as u8 + 1);
+    let major = with_version(minor, 1, UNICODE_VERSION_MAJOR as u8 - 1);
+    with_version(with_version(major, 1, 0), 7, 0x80)
 }
 
 // Tries the policies and writes the counts.
@@ -143,8 +177,8 @@ pub(crate) fn try_policies() {
         refused: 0,
         wrong: 0,
     };
-    let lengths = with_lengths(none);
-    let first = with_set(with_set(lengths, 0), 1);
+    let versions = with_versions(with_lengths(none));
+    let first = with_set(with_set(versions, 0), 1);
     let tried = with_set(with_set(first, 2), 3);
     report::say_policy_bytes(tried.accepted, tried.refused, tried.wrong);
 }

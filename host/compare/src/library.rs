@@ -110,4 +110,8 @@ impl Calls for Library {
     fn variation_entry(&self, index: u64) -> u64 {
         sys::variation_entry(index)
     }
+
+    fn version(&self) -> u64 {
+        sys::version()
+    }
 }

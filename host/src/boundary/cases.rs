@@ -14,6 +14,7 @@ use crate::comparison::reduce::reduced_text;
 use crate::comparison::texts::Alphabet;
 use crate::reference::book::Book;
 use crate::reference::calls::{self, Draft};
+use crate::reference::policy;
 use crate::reference::tips;
 
 /// The lengths of texts up to which each is tried.
@@ -60,7 +61,7 @@ impl<'a> Boundary<'a> {
         let around = |size: usize| [size - 1, size, size + 1];
         for length in (0..=SMALL).chain(SIZES.into_iter().flat_map(around)) {
             for text in texts(length) {
-                for policy in [default_policy(), vec![0; POLICY_BYTES]] {
+                for policy in [default_policy(), policy::empty()] {
                     self.all_calls(&text, &policy)?;
                 }
             }
@@ -68,12 +69,27 @@ impl<'a> Boundary<'a> {
         Ok(())
     }
 
-    /// Policies of every length up to some way past theirs.
+    /// Policies of every length up to some way past theirs, and of other versions.
     pub fn policies(&mut self) -> Result<(), Difference> {
         for length in 0..=POLICIES {
             let mut policy = default_policy();
             policy.resize(length, 0);
             self.all_calls("1\u{FE0E} \u{2764}".as_bytes(), &policy)?;
+        }
+        self.versions()
+    }
+
+    /// Policies of other versions: each bit of the version flipped, alone, with an unused bit set, and
+    /// with a byte less.
+    fn versions(&mut self) -> Result<(), Difference> {
+        for bit in 0..64 {
+            let mut policy = default_policy();
+            policy[bit / 8] ^= 1 << (bit % 8);
+            self.all_calls("1\u{FE0E} \u{2764}".as_bytes(), &policy)?;
+            policy[POLICY_BYTES - 1] = 0x80;
+            self.all_calls(b"1\xFF", &policy)?;
+            policy.pop();
+            self.all_calls(b"1\xFF", &policy)?;
         }
         Ok(())
     }
@@ -118,9 +134,10 @@ impl<'a> Boundary<'a> {
 
     /// The text, the policy and the decisions are one memory: what is only read may overlap.
     pub fn one_memory(&mut self) -> Result<(), Difference> {
-        // Digits, and zeros where a set has no entries.
+        // The version, then digits, and zeros where a set has no entries.
+        let (version, sets) = (&policy::empty()[..8], POLICY_BYTES - 8);
         let set = [[b'1'; 40], [0; 40]].concat();
-        let memory = set[..POLICY_BYTES / 4].repeat(4);
+        let memory = [version, &set[..sets / 4].repeat(4)].concat();
         for end in 0..=memory.len() {
             let text = &memory[memory.len() - end..];
             let decisions = &memory[..end % 3];

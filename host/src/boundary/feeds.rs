@@ -75,7 +75,9 @@ impl Boundary<'_> {
         let mut out = vec![0; feed::room(before.len())];
         let _ = self.calls.feed_begin(default_policy(), &mut feed);
         let word = self.calls.feed_piece(&mut feed, before, &mut out);
-        let reading = Feed::begin(default_policy()).and_then(|feed| feed.piece(before).ok());
+        let reading = Feed::begin(default_policy())
+            .ok()
+            .and_then(|feed| feed.piece(before).ok());
         let number = Answer::of_word(word).number;
         let name = || "the first piece of a feed".to_owned();
         same(name, &Answer::DONE, &number, u8::to_string)?;

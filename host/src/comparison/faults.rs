@@ -41,6 +41,16 @@ pub enum Fault {
     Beginning,
     /// A policy with an unused bit is taken, and the bit cleared.
     UnusedBit,
+    /// A policy of another version is taken.
+    AnyVersion,
+    /// The version of a policy is tested after its unused bits.
+    VersionAfterBits,
+    /// The version of a policy is tested before its length.
+    VersionBeforeLength,
+    /// The version of the tables is the next minor one.
+    NextVersion,
+    /// The policy of a sheet has no version.
+    SheetWithoutVersion,
     /// A text of the longest length is refused.
     LimitTooLow,
     /// A text longer by one byte is taken.
@@ -206,7 +216,7 @@ pub enum Fault {
 }
 
 /// The faults with their names.
-pub const FAULTS: [(&str, Fault); 100] = [
+pub const FAULTS: [(&str, Fault); 105] = [
     ("keycap-rule", Fault::KeycapRule),
     ("finding-span", Fault::FindingSpan),
     ("item-span", Fault::ItemSpan),
@@ -226,6 +236,11 @@ pub const FAULTS: [(&str, Fault); 100] = [
     ("wanted-places", Fault::WantedPlaces),
     ("beginning", Fault::Beginning),
     ("unused-bit", Fault::UnusedBit),
+    ("any-version", Fault::AnyVersion),
+    ("version-after-bits", Fault::VersionAfterBits),
+    ("version-before-length", Fault::VersionBeforeLength),
+    ("next-version", Fault::NextVersion),
+    ("sheet-without-version", Fault::SheetWithoutVersion),
     ("limit-too-low", Fault::LimitTooLow),
     ("limit-too-high", Fault::LimitTooHigh),
     ("default-policy", Fault::DefaultPolicy),

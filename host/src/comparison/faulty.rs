@@ -8,10 +8,11 @@ use super::faulty_feed::FaultyFeed;
 use super::faulty_near;
 use super::faulty_sheet::FaultySheet;
 use super::faulty_store::FaultyStore;
-use crate::calls::{Answer, Calls, FINDING_BYTES, ITEM_BYTES, TIP_BYTES};
+use crate::calls::{Answer, Calls, FINDING_BYTES, ITEM_BYTES, POLICY_BYTES, TIP_BYTES};
 use crate::reference::calls::LONGEST_TEXT;
 use crate::reference::characters::LAST_TAG;
 use crate::reference::items::{Item, Role, items};
+use crate::reference::policy::{place, version};
 
 /// Calls with a planted fault.
 pub struct Faulty<'a> {
@@ -62,6 +63,16 @@ impl<'a> Faulty<'a> {
                     answer = tested;
                 }
             }
+            (Fault::VersionAfterBits, 15) => {
+                let policy = with_version(&policy);
+                answer.number = match Answer::of_word(self.calls.format(&[], &policy, &mut [])) {
+                    Answer { number: 2, .. } => 2,
+                    _ => 15,
+                };
+            }
+            (Fault::VersionBeforeLength, 2) if with_version(&policy) != policy => {
+                answer.number = 15;
+            }
             (Fault::WantedLength, 8) | (Fault::WantedPlaces, 7) | (Fault::Beginning, 3) => {
                 answer.value += 1;
             }
@@ -74,23 +85,27 @@ impl<'a> Faulty<'a> {
     /// The text and the policy that the call is made with instead, or a refusal.
     fn inputs<'t>(&self, text: &'t [u8], policy: &[u8]) -> Result<(&'t [u8], Vec<u8>), Answer> {
         let mut policy = policy.to_vec();
-        let set = policy.len() / 4;
         match self.fault {
             Fault::RefusesAll => return Err(Answer::new(1, 0)),
             Fault::LimitTooLow if text.len() == LONGEST_TEXT => return Err(Answer::new(1, 0)),
             Fault::LimitTooHigh if text.len() == LONGEST_TEXT + 1 => {
                 return Ok((&text[..LONGEST_TEXT], policy));
             }
-            Fault::KeycapRule => {
-                policy.copy_within(..set, set);
-                policy.copy_within(2 * set..3 * set, 3 * set);
+            Fault::KeycapRule if policy.len() == POLICY_BYTES => {
+                for set in [0, 2] {
+                    let [from, to] = [set, set + 1].map(|set| place(set, 0).0);
+                    policy.copy_within(from..to, to);
+                }
             }
             // Of a set's 48 bytes the last four hold two entries.
-            Fault::UnusedBit => policy.chunks_mut(48).for_each(|set| {
-                if let [.., a, b, c, d] = set {
-                    (*a, *b, *c, *d) = (*a & 3, 0, 0, 0);
-                }
-            }),
+            Fault::UnusedBit if policy.len() == POLICY_BYTES => {
+                policy[place(0, 0).0..].chunks_mut(48).for_each(|set| {
+                    if let [.., a, b, c, d] = set {
+                        (*a, *b, *c, *d) = (*a & 3, 0, 0, 0);
+                    }
+                });
+            }
+            Fault::AnyVersion => policy = with_version(&policy),
             _ => {}
         }
         Ok((text, policy))
@@ -155,6 +170,14 @@ impl<'a> Faulty<'a> {
             flip(out, answer.value as usize * place);
         }
     }
+}
+
+/// The bytes of a policy with the version of the tables at their front.
+fn with_version(policy: &[u8]) -> Vec<u8> {
+    let mut policy = policy.to_vec();
+    let length = policy.len().min(8);
+    policy[..length].copy_from_slice(&version().to_le_bytes()[..length]);
+    policy
 }
 
 /// Whether E007F is the last tag of every tag modification.
@@ -431,5 +454,10 @@ impl Calls for Faulty<'_> {
             return self.calls.variation_entry(index - 1);
         }
         word
+    }
+
+    fn version(&self) -> u64 {
+        let word = self.calls.version();
+        word + u64::from(self.fault == Fault::NextVersion)
     }
 }

@@ -104,12 +104,13 @@ impl<'a> FaultySheet<'a> {
 
     /// Changes what was written or not.
     fn spoil(&self, answer: Answer, out: &mut [u8]) {
-        let set = policy::bytes() / 4;
         match (self.fault, answer.number) {
             (Fault::LineOrder, Answer::DONE) => {
-                let (first, second) = out[set..3 * set].split_at_mut(set);
+                let [start, middle, end] = [1, 2, 3].map(|set| policy::place(set, 0).0);
+                let (first, second) = out[start..end].split_at_mut(middle - start);
                 first.swap_with_slice(second);
             }
+            (Fault::SheetWithoutVersion, Answer::DONE) => out[..8].fill(0),
             (Fault::ByteAfterPolicy, Answer::DONE) => flip(out, answer.value as usize),
             (Fault::RefusedSheetWrites, 1..) => flip(out, 0),
             _ => {}
@@ -153,7 +154,7 @@ fn give(draft: &Draft, out: &mut [u8]) -> Answer {
 
 /// Clears the bits of the sets that no entry has.
 fn clear_unused(policy: &mut [u8]) {
-    for set in policy.chunks_mut(policy::bytes() / 4) {
+    for set in policy[8..].chunks_mut(8 * policy::words()) {
         for bit in characters::entries()..8 * set.len() {
             set[bit / 8] &= !(1 << (bit % 8));
         }

@@ -78,12 +78,12 @@ pub fn feed_bytes(calls: &dyn Calls) -> Result<usize, Difference> {
 /// Begins feeds in buffers of several lengths. Bytes that are no policy are refused first.
 pub fn check_begin(calls: &dyn Calls, policy: &Policy) -> Result<(), Difference> {
     let bytes = feed_bytes(calls)?;
-    let is_policy = Feed::begin(&policy.bytes).is_some();
+    let begun = Feed::begin(&policy.bytes);
     for room in [0, 1, bytes - 1, bytes, bytes + 1, bytes + 100] {
-        let expected = match (is_policy, room >= bytes) {
-            (false, _) => Answer::new(2, 0),
-            (true, false) => Answer::new(8, bytes as u64),
-            (true, true) => Answer::new(Answer::DONE, bytes as u64),
+        let expected = match (&begun, room >= bytes) {
+            (Err(refusal), _) => *refusal,
+            (Ok(_), false) => Answer::new(8, bytes as u64),
+            (Ok(_), true) => Answer::new(Answer::DONE, bytes as u64),
         };
         begin_in(calls, policy, expected, room)?;
     }
@@ -119,7 +119,7 @@ fn begin_in(
 /// the reading, and the joined outputs and the totals at the end those of the crate.
 pub fn check(calls: &dyn Calls, policy: &Policy, list: &[Step]) -> Result<(), Difference> {
     let bytes = feed_bytes(calls)?;
-    let Some(reading) = Feed::begin(&policy.bytes) else {
+    let Ok(reading) = Feed::begin(&policy.bytes) else {
         return check_begin(calls, policy);
     };
     let begun = Answer::new(Answer::DONE, bytes as u64);

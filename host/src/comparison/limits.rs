@@ -45,7 +45,7 @@ pub fn cases(length: usize, random: &mut Random) -> Vec<(Vec<u8>, Policy)> {
     }
     if length <= LONGEST_FIRST_TEXT && length != LONGEST_FIRST_TEXT - 1 {
         // Every byte gets a selector, so the formatted text is four times as long.
-        let none = Policy::new("empty", vec![0; policy::bytes()]);
+        let none = Policy::new("empty", policy::empty());
         cases.push((vec![b'1'; length], none));
     }
     if length == LONGEST_TEXT {

@@ -23,7 +23,7 @@ impl Policy {
         let accepted = policy::Policy::read(&bytes);
         Self {
             name: name.to_owned(),
-            beside: accepted.map(|_| beside::policy(&bytes)),
+            beside: accepted.ok().map(|_| beside::policy(&bytes)),
             bytes,
         }
     }
@@ -58,37 +58,51 @@ pub fn drawn(random: &mut Random) -> Policy {
     }
     let mut bytes = default_policy().to_vec();
     for _ in 0..random.below(40) {
-        let set = random.below(4);
-        let bit = random.below(entries());
-        bytes[set * policy::bytes() / 4 + bit / 8] ^= 1 << (bit % 8);
+        let (byte, bit) = policy::place(random.below(4), random.below(entries()));
+        bytes[byte] ^= bit;
     }
     Policy::new("near the default", bytes)
 }
 
-/// Bytes that are no policy: another length, or one of the unused bits set.
+/// Bytes that are no policy: another length, another version, one of the unused bits set, or several of these.
 #[must_use]
 pub fn refused(random: &mut Random) -> Policy {
     let mut bytes = default_policy().to_vec();
-    if random.coin() {
-        let length = random.element(&[0, 1, 8, 96, 184, 191, 193, 200, 384]);
-        bytes.resize(length, 0);
-        return Policy::new("of another length", bytes);
+    // One fault, or each of them by a coin.
+    let [length, version, bit] = match random.below(4) {
+        fault @ 0..=2 => [0, 1, 2].map(|number| number == fault),
+        _ => [random.coin(), random.coin(), true],
+    };
+    let mut faults = Vec::new();
+    if version {
+        bytes[random.below(8)] ^= 1 << random.below(8);
+        faults.push("of another version");
     }
-    let unused = 64 * policy::words() - entries();
-    let between = random.below(unused);
-    let bit = entries() + random.element(&[0, between, unused - 1]);
-    bytes[random.below(4) * policy::bytes() / 4 + bit / 8] |= 1 << (bit % 8);
-    Policy::new("with an unused bit set", bytes)
+    if bit {
+        let unused = 64 * policy::words() - entries();
+        let between = random.below(unused);
+        let entry = entries() + random.element(&[0, between, unused - 1]);
+        let (byte, bit) = policy::place(random.below(4), entry);
+        bytes[byte] |= bit;
+        faults.push("with an unused bit set");
+    }
+    if length {
+        let length = random.element(&[0, 1, 8, 96, 192, 199, 201, 208, 392]);
+        bytes.resize(length, 0);
+        faults.push("of another length");
+    }
+    Policy::new(&faults.join(", "), bytes)
 }
 
 /// The bytes of the policy whose sets, by their number, hold entries, by theirs.
 #[must_use]
 pub fn of_sets(mut holds: impl FnMut(usize, usize) -> bool) -> Vec<u8> {
-    let mut bytes = vec![0; policy::bytes()];
+    let mut bytes = policy::empty();
     for set in 0..4 {
         for entry in 0..entries() {
             if holds(set, entry) {
-                bytes[set * policy::bytes() / 4 + entry / 8] |= 1 << (entry % 8);
+                let (byte, bit) = policy::place(set, entry);
+                bytes[byte] |= bit;
             }
         }
     }

@@ -85,14 +85,15 @@ pub fn drawn_policy(random: &mut Random) -> Vec<u8> {
     if random.below(4) == 0 {
         return policies::drawn(random).bytes;
     }
-    let mut bytes = vec![0; policy::bytes()];
+    let mut bytes = policy::empty();
     for set in 0..4 {
         for _ in 0..random.below(8) {
             let first = random.below(characters::entries());
             let most = random.element(&[1, 1, 2, 3, 40]);
             let last = (first + random.below(most)).min(characters::entries() - 1);
             for entry in first..=last {
-                bytes[set * policy::bytes() / 4 + entry / 8] |= 1 << (entry % 8);
+                let (byte, bit) = policy::place(set, entry);
+                bytes[byte] |= bit;
             }
         }
     }

@@ -1,4 +1,4 @@
-//! The default policy and the variation entries, which take no text.
+//! The default policy, the variation entries and the version, which take no text.
 
 use super::lent::{Difference, lend, same};
 use crate::calls::{Answer, Calls, Reference};
@@ -6,7 +6,8 @@ use crate::reference::calls::Draft;
 use crate::reference::characters;
 use crate::reference::policy::default_policy;
 
-/// Compares the default policy in rooms of several lengths, and every entry, with indices after the last one.
+/// Compares the default policy in rooms of several lengths, every entry, with indices after the last one, and the
+/// version.
 pub fn check(calls: &dyn Calls) -> Result<(), Difference> {
     let draft = Draft::bytes(default_policy().to_vec());
     for room in [0, draft.wanted() - 1, draft.wanted(), draft.wanted() + 9] {
@@ -20,5 +21,11 @@ pub fn check(calls: &dyn Calls) -> Result<(), Difference> {
         let name = || format!("variation entry {index}");
         same(name, &expected, &found, Answer::to_string)?;
     }
-    Ok(())
+    let [expected, found] = [Reference.version(), calls.version()].map(Answer::of_word);
+    same(
+        || "version".to_owned(),
+        &expected,
+        &found,
+        Answer::to_string,
+    )
 }

@@ -245,10 +245,10 @@ pub fn push_numbers(table: &mut Vec<u8>, numbers: &[u64]) {
     }
 }
 
-/// The policy of a call with an accepted text and policy, or the first of the refusals 1 to 3.
+/// The policy of a call with an accepted text and policy, or the first of the refusals 1, 2, 15, 2 and 3.
 pub fn accept(text: &[u8], policy: &[u8]) -> Result<Policy, Answer> {
     accept_length(text)?;
-    let policy = Policy::read(policy).ok_or(Answer::new(2, 0))?;
+    let policy = Policy::read(policy)?;
     accept_form(text)?;
     Ok(policy)
 }

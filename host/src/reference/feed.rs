@@ -42,11 +42,10 @@ pub const fn room(piece: usize) -> usize {
 }
 
 impl Feed {
-    /// A feed begun new. None where the bytes are no policy.
-    #[must_use]
-    pub fn begin(policy: &[u8]) -> Option<Self> {
+    /// A feed begun new, or the refusal of bytes that are no policy.
+    pub fn begin(policy: &[u8]) -> Result<Self, Answer> {
         Policy::read(policy)?;
-        Some(Self {
+        Ok(Self {
             policy: policy.to_vec(),
             thread: Vec::new(),
             written: 0,
@@ -151,7 +150,7 @@ pub fn totals_bytes(totals: &Counts) -> Vec<u8> {
 #[must_use]
 pub fn totals(text: &[u8], policy: &[u8]) -> Counts {
     let mut totals = Counts::default();
-    let Some(policy) = Policy::read(policy) else {
+    let Ok(policy) = Policy::read(policy) else {
         return totals;
     };
     for analysis in items(text).filter_map(|item| finding(&item, &policy)) {

@@ -33,10 +33,11 @@ thread_local! {
     static KEPT: RefCell<Kept> = RefCell::default();
 }
 
-/// Begins a feed: 2, then 8 with the bytes of a feed.
+/// Begins a feed: the tests of the policy, then 8 with the bytes of a feed.
 pub fn begin(policy: &[u8], bytes: &mut [u8]) -> Answer {
-    let Some(feed) = Feed::begin(policy) else {
-        return Answer::new(2, 0);
+    let feed = match Feed::begin(policy) {
+        Ok(feed) => feed,
+        Err(refusal) => return refusal,
     };
     let value = FEED_BYTES as u64;
     match bytes.get_mut(..FEED_BYTES) {

@@ -1,8 +1,15 @@
-//! Document 01, "Key set and policy": which bytes are a policy, and what it says of a base.
+//! Document 01, "Key set and policy": which bytes are a policy, and what it says of a base. Document 02, (xi): a policy
+//! begins with the version of the tables.
 
 use std::sync::LazyLock;
 
+use evfmt::internals::UNICODE_VERSION;
+
 use super::characters;
+use crate::calls::Answer;
+
+/// The bytes of a word.
+const WORD: usize = 8;
 
 /// What a policy says of a base.
 #[derive(Debug, Clone, Copy, PartialEq, Eq)]
@@ -37,29 +44,63 @@ pub fn words() -> usize {
     characters::entries().div_ceil(64)
 }
 
-/// The number of bytes of a policy: 4W words of 8 bytes.
+/// The number of bytes of a policy: "a policy is 4W + 1 words" of 8 bytes.
 #[must_use]
 pub fn bytes() -> usize {
-    4 * words() * 8
+    (4 * words() + 1) * WORD
+}
+
+/// The version of the tables, "as major times 256 plus minor".
+///
+/// # Panics
+/// If the data files name no version of two numbers.
+#[must_use]
+pub fn version() -> u64 {
+    let (major, minor) = UNICODE_VERSION.split_once('.').expect("two numbers");
+    let number = |digits: &str| digits.parse::<u64>().expect("a number");
+    number(major) * 256 + number(minor)
+}
+
+/// The byte of a policy and the bit in it that say whether one of the four sets holds an entry. The sets follow the
+/// version.
+#[must_use]
+pub fn place(set: usize, entry: usize) -> (usize, u8) {
+    (WORD + set * words() * WORD + entry / 8, 1 << (entry % 8))
+}
+
+/// The bytes of the policy with no members.
+#[must_use]
+pub fn empty() -> Vec<u8> {
+    let mut bytes = vec![0; self::bytes()];
+    bytes[..WORD].copy_from_slice(&version().to_le_bytes());
+    bytes
 }
 
 impl Policy {
-    /// The policy of some bytes. None if they are not 4W words or an unused bit is set.
-    #[must_use]
-    pub fn read(bytes: &[u8]) -> Option<Self> {
+    /// The policy of some bytes, or their refusal: "15, another version, tested after the word count of 2 and before
+    /// its unused bits".
+    pub fn read(bytes: &[u8]) -> Result<Self, Answer> {
+        let not_a_policy = Answer::new(2, 0);
         if bytes.len() != self::bytes() {
-            return None;
+            return Err(not_a_policy);
         }
-        let mut sets = bytes.chunks(8 * words()).map(read_words);
+        let (version, sets) = bytes.split_at(WORD);
+        if version != self::version().to_le_bytes() {
+            return Err(Answer::new(15, 0));
+        }
+        let sets: Option<Vec<_>> = sets.chunks(WORD * words()).map(read_words).collect();
+        let mut sets = sets.ok_or(not_a_policy)?.into_iter();
         let mut key_set = || {
             Some(KeySet {
-                ordinary: sets.next()??,
-                keycap: sets.next()??,
+                ordinary: sets.next()?,
+                keycap: sets.next()?,
             })
         };
-        Some(Self {
-            prefer_bare: key_set()?,
-            bare_as_text: key_set()?,
+        let prefer_bare = key_set().ok_or(not_a_policy)?;
+        let bare_as_text = key_set().ok_or(not_a_policy)?;
+        Ok(Self {
+            prefer_bare,
+            bare_as_text,
         })
     }
 

@@ -44,11 +44,12 @@ pub fn read(sheet: &[u8]) -> Draft {
     Draft::bytes(meaning(sheet))
 }
 
-/// Writing a policy's sheet: refusal 2, or the sheet.
+/// Writing a policy's sheet: the policy's refusal, or the sheet.
 #[must_use]
 pub fn write(policy: &[u8]) -> Draft {
-    let Some(policy) = Policy::read(policy) else {
-        return Draft::Refused(Answer::new(2, 0));
+    let policy = match Policy::read(policy) {
+        Ok(policy) => policy,
+        Err(refusal) => return Draft::Refused(refusal),
     };
     let lines = policy.sets().map(|set| line(set) + "\n");
     Draft::bytes(lines.concat().into_bytes())
@@ -127,7 +128,7 @@ pub fn no_entry(sheet: &[u8]) -> Option<usize> {
     no_entries.next().map(|(offset, _)| offset)
 }
 
-/// The bytes of the policy: each line is a set, and "a range includes only the variation entries inside it". The table
+/// The bytes of the policy: "the sheet reader writes the tables' own version into it"; each line is a set, and "a range includes only the variation entries inside it". The table
 /// is ascending, so these are the entries from that of the start to that of the end.
 fn meaning(sheet: &[u8]) -> Vec<u8> {
     let mut sets = [(); LINES].map(|()| vec![0; policy::words()]);
@@ -140,7 +141,7 @@ fn meaning(sheet: &[u8]) -> Vec<u8> {
             }
         }
     }
-    let words = sets.concat();
+    let words = [vec![policy::version()], sets.concat()].concat();
     words.iter().flat_map(|word| word.to_le_bytes()).collect()
 }
 

@@ -35,14 +35,14 @@ impl Membership {
         })
     }
 
-    /// The bytes of a policy with this membership the other way round, "alone". "A policy is 4W words: `prefer_bare`
+    /// The bytes of a policy with this membership the other way round, "alone". After the version come "`prefer_bare`
     /// ordinary, `prefer_bare` keycap, then `bare_as_text` likewise"; "entry i at bit i mod 64 of word i/64".
     #[must_use]
     pub fn flipped(self, policy: &[u8]) -> Vec<u8> {
         let set = usize::from(self.keycap) + 2 * usize::from(self.as_text);
-        let bit = 64 * policy::words() * set + self.entry;
+        let (byte, bit) = policy::place(set, self.entry);
         let mut flipped = policy.to_vec();
-        flipped[bit / 8] ^= 1 << (bit % 8);
+        flipped[byte] ^= bit;
         flipped
     }
 

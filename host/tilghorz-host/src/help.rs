@@ -36,8 +36,11 @@ impl Topic {
     }
 }
 
-/// What `--version` says.
-pub const VERSION: &str = concat!("tilghorz-host ", env!("CARGO_PKG_VERSION"), "\n");
+/// What `--version` says: the version of the command, and that of the tables.
+pub fn version() -> String {
+    let own = env!("CARGO_PKG_VERSION");
+    format!("tilghorz-host {own}, Unicode {}\n", tilghorz::version())
+}
 
 /// The help on a topic.
 pub fn text(topic: Topic) -> &'static str {
@@ -95,7 +98,7 @@ Formats texts. Without an option one text is written to standard output; on a re
                  at once; an unfinished character and a last base wait for what comes next. The text ends with standard
                  input, or at SIGINT, SIGTERM or SIGHUP, and then the rest is written. On a refusal, what is formatted
                  before the damaged place has been written
-  --policy FILE  the policy: a sheet, or the 192 bytes of `tilghorz-host policy write`: tilghorz-host help policy. Else
+  --policy FILE  the policy: a sheet, or the 200 bytes of `tilghorz-host policy write`: tilghorz-host help policy. Else
                  it is the default policy
 
 More OPTIONS: --exclude, --include, --no-ignore, --binary, --jobs, --quiet, --verbose: tilghorz-host help folders.
@@ -213,8 +216,9 @@ usage: tilghorz-host policy print [--members] [FILE]
        tilghorz-host policy write [--add SET CONTEXT CODE] [--take SET CONTEXT CODE] .. [FILE]
        tilghorz-host policy tips [--json] [--repair] [--policy FILE] [OPTIONS] [FILES]
 
-A policy is a sheet, which is a text, or a file of 192 bytes. A file with a byte 00 is taken for the bytes, any other
-for a sheet. Without FILE, and as the second of compare, it is the default policy.
+A policy is a sheet, which is a text, or a file of 200 bytes. A file with a byte 00 is taken for the bytes, any other
+for a sheet. The bytes begin with the Unicode version of the tables, and a policy of another version is refused. Without
+FILE, and as the second of compare, it is the default policy.
 
 A sheet has four lines, each ended by a line feed: prefer_bare ordinary, prefer_bare keycap, bare_as_text ordinary,
 bare_as_text keycap. A line has code points and ranges, such as 2764 or 30-39, with a comma between and no blanks; it
@@ -224,7 +228,7 @@ range includes only the code points inside it that have one. What is wrong with 
   print      the sheet: ascending, with ranges joined; equal policies have equal sheets
   --members  the members of the four sets instead, each by its code point, and their number
   compare    a line for each base and context with two rules; status 1 if there is one
-  write      the 192 bytes, to standard output, with members added and taken. SET is prefer_bare or bare_as_text,
+  write      the 200 bytes, to standard output, with members added and taken. SET is prefer_bare or bare_as_text,
              CONTEXT is ordinary or keycap, CODE is a code point, such as 2764
   tips       the memberships whose flip alone alters a formatted text, over all FILES: a line for each, with the number
              of texts that it alters, and the flip as an option of write. The largest numbers are first; equal ones are

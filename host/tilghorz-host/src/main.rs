@@ -57,7 +57,7 @@ fn main() -> ExitCode {
 fn run(command: &Command, console: &mut Console) -> io::Result<Status> {
     match command {
         Command::Help(topic) => console.print(help::text(*topic)),
-        Command::Version => console.print(help::VERSION),
+        Command::Version => console.print(&help::version()),
         Command::Format(format) => format.run(console),
         Command::Repair(repair) => repair.run(console),
         Command::Follow(follow) => follow.run(console),

@@ -3,7 +3,7 @@
 use std::io::{self, Write};
 use std::path::PathBuf;
 
-use tilghorz::{Context, KeySet, variation_entries};
+use tilghorz::{Context, KeySet, Refusal, Version, variation_entries};
 
 use crate::console::{Console, Status};
 use crate::sheet::explanation;
@@ -62,11 +62,36 @@ impl PolicyFile {
         } else {
             tilghorz::Policy::from_sheet(&bytes)
         };
-        let refused = |refusal: &tilghorz::Refusal| {
-            let message = source.refused(*refusal, &bytes);
+        let complain = |refusal: &tilghorz::Refusal| {
+            let message = refused(&source, *refusal, &bytes);
             console.complain(&(message + &explanation(&bytes, *refusal)));
         };
-        policy.inspect_err(refused).ok()
+        policy.inspect_err(complain).ok()
+    }
+}
+
+/// The bytes of a policy as it was stored before it began with a version.
+const WITHOUT_VERSION: usize = tilghorz::sys::POLICY_BYTES - 8;
+
+/// The message that the bytes of a policy were refused. It names the versions, where they are the cause.
+fn refused(source: &Source, refusal: Refusal, bytes: &[u8]) -> String {
+    let tables = tilghorz::version();
+    let number = refusal.number();
+    match (refusal, Version::of_policy(bytes)) {
+        (Refusal::OtherVersion, Some(version)) => format!(
+            "{source}: refused {number}: the policy is of Unicode {version}, and the tables are of Unicode {tables}"
+        ),
+        (Refusal::NotAPolicy, _) if bytes.len() == WITHOUT_VERSION => {
+            let front = tilghorz::Policy::default().as_bytes()[..8]
+                .iter()
+                .map(|byte| format!("\\{byte:03o}"))
+                .collect::<String>();
+            format!(
+                "{source}: refused {number}: a policy of {WITHOUT_VERSION} bytes names no Unicode version. If it is of \
+                 {tables}, write it anew: (printf '{front}'; cat {source}) > NEW"
+            )
+        }
+        _ => source.refused(refusal, bytes),
     }
 }
 

@@ -225,7 +225,7 @@ fn show_makes_selectors_visible() {
 fn policies_are_written_printed_compared_and_used() {
     let folder = Folder::new("policy");
     let default = folder.run(&["policy", "write"]);
-    assert_eq!((default.status, default.out.len()), (0, 192));
+    assert_eq!((default.status, default.out.len()), (0, 200));
     folder.write("default", &default.out);
     let ran = folder.run(&["policy", "compare", "default"]);
     assert_eq!((ran.status, ran.text()), (0, ""));
@@ -259,6 +259,29 @@ fn policies_are_written_printed_compared_and_used() {
         "{}",
         ran.err
     );
+}
+
+#[test]
+fn policies_of_another_version_and_without_one_are_named() {
+    let folder = Folder::new("versions");
+    let default = folder.run(&["policy", "write"]).out;
+    let older = [&[1, 14], &default[2..]].concat();
+    folder.write("older", &older);
+    folder.write("unversioned", &default[8..]);
+    for command in [&["policy", "print"][..], &["format", "--policy"]] {
+        let ran = folder.run(&[command, &["older"]].concat());
+        assert_eq!((ran.status, ran.text()), (2, ""));
+        let message =
+            "older: refused 15: the policy is of Unicode 14.1, and the tables are of Unicode 15.0";
+        assert!(ran.err.contains(message), "{}", ran.err);
+        let ran = folder.run(&[command, &["unversioned"]].concat());
+        assert_eq!((ran.status, ran.text()), (2, ""));
+        let message = "unversioned: refused 2: a policy of 192 bytes names no Unicode version. If it is of 15.0, write it anew: \
+            (printf '\\000\\017\\000\\000\\000\\000\\000\\000'; cat unversioned) > NEW";
+        assert!(ran.err.contains(message), "{}", ran.err);
+    }
+    let ran = folder.run(&["version"]);
+    assert!(ran.text().ends_with(", Unicode 15.0\n"), "{}", ran.text());
 }
 
 /// `tests/programs` has what the proved programs write. Where they refuse, `format` writes nothing here.

@@ -38,10 +38,9 @@
 //! - [`Feed`] formats a thread that comes in pieces; [`FeedWriter`] and [`FeedReader`] do it between a writer or a
 //!   reader and another.
 //! - [`Policy`] is the default one, one from bytes, one from a text that is a policy sheet, or one with members added and
-//!   taken. It is written as a sheet.
+//!   taken. It is written as a sheet. Its bytes begin with the Unicode version of the tables, [`version()`].
 //! - [`tips`] lists the single memberships of a policy that decide a text, each as a [`Tip`].
 //! - [`Store`] keeps account of what up to 16 clients file.
-//! - [`Policy`] is the default one, one from bytes, or one with members added and taken.
 //! - [`sys`] has the C functions as they cross. It is the only module with unsafe code.
 //!
 //! "Document 01" in comments is the specification, "The selector formatter: records from byte to sealed text";
@@ -61,6 +60,7 @@ mod store;
 pub mod sys;
 mod table;
 mod tip;
+mod version;
 
 pub use calls::{Around, Formatted, Nearest, Presentation, Repaired};
 pub use calls::{
@@ -75,6 +75,7 @@ pub use refusal::Refusal;
 pub use store::Store;
 pub use table::{Row, Table};
 pub use tip::Tip;
+pub use version::{Version, version};
 
 /// The length of the longest text that is not refused: [`Refusal::TextTooLong`].
 pub const LONGEST_TEXT: usize = 16_777_216;

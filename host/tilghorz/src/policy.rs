@@ -8,8 +8,10 @@ use std::sync::LazyLock;
 use crate::calls::{front, with_room};
 use crate::{Refusal, answer, sys};
 
-/// The bytes of a character set: a policy is four.
-const SET_BYTES: usize = sys::POLICY_BYTES / 4;
+/// The bytes of the version, with which a policy begins.
+const VERSION_BYTES: usize = 8;
+/// The bytes of a character set: a policy is its version and four.
+const SET_BYTES: usize = (sys::POLICY_BYTES - VERSION_BYTES) / 4;
 
 /// A policy: two key sets, each an ordinary and a keycap set of characters.
 ///
@@ -123,11 +125,11 @@ impl Default for Policy {
 }
 
 impl Policy {
-    /// The policy of its bytes: 24 words of 8 bytes, lowest byte first. The library itself tests them, with an empty
+    /// The policy of its bytes: 25 words of 8 bytes, lowest byte first. The library itself tests them, with an empty
     /// text.
     ///
     /// # Errors
-    /// Refusal 2.
+    /// Refusals 2 and 15.
     pub fn from_bytes(bytes: &[u8]) -> Result<Self, Refusal> {
         answer::read(sys::format(&[], bytes, &mut []))?;
         let bytes = bytes.try_into().map_err(|_| Refusal::NotAPolicy)?;
@@ -288,12 +290,13 @@ pub fn variation_entries() -> &'static [char] {
 }
 
 /// The byte of a key, and its bit. "Entry i at bit i mod 64 of word i/64", and a word has its lowest byte first; so it
-/// is at bit i mod 8 of byte i/8. The four character sets stand in the order of the two `ALL`.
+/// is at bit i mod 8 of byte i/8. The four character sets stand in the order of the two `ALL`, after the version.
 fn place(set: KeySet, character: char, context: Context) -> Result<(usize, u8), NoEntry> {
     let entry = variation_entries()
         .binary_search(&character)
         .map_err(|_| NoEntry(character))?;
     let before =
         2 * usize::from(set == KeySet::BareAsText) + usize::from(context == Context::Keycap);
-    Ok((before * SET_BYTES + entry / 8, 1 << (entry % 8)))
+    let byte = VERSION_BYTES + before * SET_BYTES + entry / 8;
+    Ok((byte, 1 << (entry % 8)))
 }

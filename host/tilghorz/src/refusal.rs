@@ -4,16 +4,18 @@ use std::error::Error;
 use std::fmt::{self, Display, Formatter};
 
 use crate::sys::POLICY_BYTES;
+use crate::version;
 
 /// Why a call was turned back. It then wrote to no buffer.
 ///
 /// The tests come in the order of the numbers, each only in calls that take the thing. A call on a feed tests 9 and 10
-/// first, reading a sheet tests 11 and 12 before 8, and beginning a store tests its buffer, 8, first.
+/// first, reading a sheet tests 11 and 12 before 8, and beginning a store tests its buffer, 8, first. Of a policy, the
+/// length (2) is tested first, then the version (15), then the unused bits (2).
 #[derive(Debug, Clone, Copy, PartialEq, Eq, Hash)]
 pub enum Refusal {
     /// 1: the text is over 16,777,216 bytes.
     TextTooLong,
-    /// 2: the bytes are not a policy: not 192, or with an unused bit set.
+    /// 2: the bytes are not a policy: not 200, or with an unused bit set.
     NotAPolicy,
     /// 3: the text is not well-formed UTF-8.
     NotWellFormed {
@@ -64,6 +66,8 @@ pub enum Refusal {
         /// How many bytes would fit; for a new store, its capacity.
         fits: usize,
     },
+    /// 15: the policy is of another Unicode version than the tables.
+    OtherVersion,
 }
 
 impl Refusal {
@@ -84,6 +88,7 @@ impl Refusal {
             12 => Self::NotAnEntry { offset: value },
             13 => Self::BadClientOrNumber,
             14 => Self::DoesNotFit { fits: value },
+            15 => Self::OtherVersion,
             _ => return None,
         })
     }
@@ -106,6 +111,7 @@ impl Refusal {
             Self::NotAnEntry { .. } => 12,
             Self::BadClientOrNumber => 13,
             Self::DoesNotFit { .. } => 14,
+            Self::OtherVersion => 15,
         }
     }
 
@@ -118,7 +124,8 @@ impl Refusal {
             | Self::NoFinding
             | Self::FeedEnded
             | Self::UnfinishedCharacter
-            | Self::BadClientOrNumber => None,
+            | Self::BadClientOrNumber
+            | Self::OtherVersion => None,
             Self::NotWellFormed { valid_up_to } => Some(valid_up_to),
             Self::WrongNumberOfDecisions { wanted } | Self::OutputTooShort { wanted } => {
                 Some(wanted)
@@ -172,6 +179,11 @@ impl Display for Refusal {
             Self::DoesNotFit { fits } => {
                 write!(out, "the store has no room for it: {fits} bytes would fit")
             }
+            Self::OtherVersion => write!(
+                out,
+                "the policy is of another version than the tables, which are of Unicode {}",
+                version()
+            ),
         }
     }
 }
@@ -186,13 +198,13 @@ mod tests {
     fn number_and_value_tell_the_refusal() {
         for number in 0..=u8::MAX {
             let Some(refusal) = Refusal::of_row(number.into(), 5) else {
-                assert!(!(1..=14).contains(&number));
+                assert!(!(1..=15).contains(&number));
                 continue;
             };
             assert_eq!(refusal.number(), number);
             assert_eq!(
                 refusal.value().is_some(),
-                ![1, 2, 4, 9, 10, 13].contains(&number)
+                ![1, 2, 4, 9, 10, 13, 15].contains(&number)
             );
             assert!(refusal.value().is_none_or(|value| value == 5));
         }

@@ -10,7 +10,7 @@
 #![allow(unsafe_code)]
 
 /// The bytes of a policy.
-pub const POLICY_BYTES: usize = 192;
+pub const POLICY_BYTES: usize = 200;
 /// The bytes of a finding in a table.
 pub const FINDING_BYTES: usize = 112;
 /// The bytes of the nearest finding and its distance.
@@ -20,7 +20,7 @@ pub const ITEM_BYTES: usize = 64;
 /// The bytes of a membership in a table.
 pub const TIP_BYTES: usize = 24;
 /// The bytes of a feed.
-pub const FEED_BYTES: usize = 312;
+pub const FEED_BYTES: usize = 320;
 /// The bytes of the totals of a feed.
 pub const TOTALS_BYTES: usize = 64;
 /// No sheet that is written has more bytes.
@@ -139,6 +139,7 @@ unsafe extern "C" {
     fn tilghorz_store_used(store: *const u8, store_len: usize, client: u64) -> u64;
     fn tilghorz_default_policy(out: *mut u8, out_len: usize) -> u64;
     fn tilghorz_variation_entry(index: u64) -> u64;
+    fn tilghorz_version() -> u64;
 }
 
 /// `tilghorz_format`: formats a text under a policy.
@@ -387,4 +388,11 @@ pub fn default_policy(out: &mut [u8]) -> u64 {
 pub fn variation_entry(index: u64) -> u64 {
     // SAFETY: the function takes a number.
     unsafe { tilghorz_variation_entry(index) }
+}
+
+/// `tilghorz_version`: the version of the tables.
+#[must_use]
+pub fn version() -> u64 {
+    // SAFETY: the function takes nothing.
+    unsafe { tilghorz_version() }
 }

@@ -3,7 +3,9 @@
 use std::fs;
 use std::path::Path;
 
-use tilghorz::{Context, KeySet, NoEntry, Policy, Refusal, SingletonRule, Tip, variation_entries};
+use tilghorz::{
+    Context, KeySet, NoEntry, Policy, Refusal, SingletonRule, Tip, Version, variation_entries,
+};
 
 /// The selectors.
 const TEXT: char = '\u{FE0E}';
@@ -150,7 +152,7 @@ fn no_policy_speaks_of_another_character() {
 #[test]
 fn bytes_that_are_not_a_policy_are_refused() {
     let bytes = *Policy::default().as_bytes();
-    for length in [0, 1, 184, 191] {
+    for length in [0, 1, 8, 192, 199] {
         assert_eq!(
             Policy::from_bytes(&bytes[..length]),
             Err(Refusal::NotAPolicy)
@@ -160,11 +162,11 @@ fn bytes_that_are_not_a_policy_are_refused() {
         Policy::from_bytes(&[&bytes[..], &[0]].concat()),
         Err(Refusal::NotAPolicy)
     );
-    let set_bytes = bytes.len() / 4;
+    let set_bytes = (bytes.len() - 8) / 4;
     for set in 0..4 {
         for bit in variation_entries().len()..8 * set_bytes {
             let mut bytes = bytes;
-            bytes[set_bytes * set + bit / 8] |= 1 << (bit % 8);
+            bytes[8 + set_bytes * set + bit / 8] |= 1 << (bit % 8);
             assert_eq!(Policy::from_bytes(&bytes), Err(Refusal::NotAPolicy));
         }
     }
@@ -195,4 +197,24 @@ fn the_memberships_that_decide_a_text_are_those_whose_flip_alters_it() {
     let tips = tilghorz::tips(text.as_bytes(), &policy).expect("taken");
     assert_eq!(tips.iter().collect::<Vec<_>>(), expected);
     assert!(expected.is_sorted() && !expected.is_empty());
+}
+
+#[test]
+fn a_policy_of_another_version_is_refused_before_its_unused_bits_are_tested() {
+    let bytes = *Policy::default().as_bytes();
+    assert_eq!(Version::of_policy(&bytes), Some(tilghorz::version()));
+    for bit in 0..64 {
+        let mut bytes = bytes;
+        bytes[bit / 8] ^= 1 << (bit % 8);
+        assert_eq!(Policy::from_bytes(&bytes), Err(Refusal::OtherVersion));
+        bytes[199] = 0x80;
+        assert_eq!(Policy::from_bytes(&bytes), Err(Refusal::OtherVersion));
+        assert_eq!(Policy::from_bytes(&bytes[..199]), Err(Refusal::NotAPolicy));
+    }
+    let version = Version::of_word(14 * 256 + 1);
+    assert_eq!(
+        (version.to_string(), version < tilghorz::version()),
+        ("14.1".to_owned(), true)
+    );
+    assert_eq!(Version::of_policy(&[0; 7]), None);
 }

@@ -8,7 +8,7 @@ use Rattle.message_io.proofs.put_default_policy.Tie as tie
 
 returns : tie.Need-returns
 returns c =
-    let l : length (c .before .before .before .args .out .now) ≡ 192 = search needs in
+    let l : length (c .before .before .before .args .out .now) ≡ 200 = search needs in
     let w = default-written l (c .before .before .default .ensures) (c .write-policy .ensures) in
     (ap length w ∙ default-length, w)
 

@@ -3,9 +3,9 @@
 use std::hint::black_box;
 
 use compare::library::Library;
-use tilghorz_comparison::calls::{Answer, Calls, POLICY_BYTES};
+use tilghorz_comparison::calls::{Answer, Calls};
 use tilghorz_comparison::reference::feed::room;
-use tilghorz_comparison::reference::policy::default_policy;
+use tilghorz_comparison::reference::policy::{default_policy, empty};
 
 use crate::inputs::Input;
 
@@ -26,7 +26,7 @@ impl<'a> Feeding<'a> {
     /// Prepares a thread.
     pub fn new(input: &Input, thread: &'a str) -> Result<Self, String> {
         let policy = match input.empty_policy {
-            true => vec![0; POLICY_BYTES],
+            true => empty(),
             false => default_policy().to_vec(),
         };
         // Without room the library says how many bytes a feed has.

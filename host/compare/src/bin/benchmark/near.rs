@@ -3,8 +3,8 @@
 use std::hint::black_box;
 
 use compare::library::Library;
-use tilghorz_comparison::calls::{Answer, Calls, FINDING_BYTES, NEAREST_BYTES, POLICY_BYTES};
-use tilghorz_comparison::reference::policy::default_policy;
+use tilghorz_comparison::calls::{Answer, Calls, FINDING_BYTES, NEAREST_BYTES};
+use tilghorz_comparison::reference::policy::{default_policy, empty};
 
 use crate::inputs::Input;
 
@@ -25,7 +25,7 @@ impl<'a> Near<'a> {
     /// Prepares a text.
     pub fn new(input: &Input, text: &'a str) -> Self {
         let policy = match input.empty_policy {
-            true => vec![0; POLICY_BYTES],
+            true => empty(),
             false => default_policy().to_vec(),
         };
         // Without a table the findings are only counted.

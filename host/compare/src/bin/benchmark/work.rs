@@ -5,9 +5,8 @@ use std::hint::black_box;
 use compare::library::Library;
 use evfmt::{Policy, analyze_scan_item, format_text, scan};
 use tilghorz_comparison::beside;
-use tilghorz_comparison::calls::{
-    Answer, Calls, FINDING_BYTES, ITEM_BYTES, POLICY_BYTES, TIP_BYTES,
-};
+use tilghorz_comparison::calls::{Answer, Calls, FINDING_BYTES, ITEM_BYTES, TIP_BYTES};
+use tilghorz_comparison::reference::policy::empty;
 
 use crate::inputs::Input;
 
@@ -32,7 +31,7 @@ impl<'a> Work<'a> {
     /// Prepares a text.
     pub fn new(input: &Input, text: &'a str) -> (Self, Buffers) {
         let policy = match input.empty_policy {
-            true => beside::policy(&[0; POLICY_BYTES]),
+            true => beside::policy(&empty()),
             false => Policy::default(),
         };
         let size = input.message.unwrap_or(text.len()).max(1);
