@@ -28,11 +28,12 @@
  *   13         bad client or number                   0
  *   14         the bytes do not fit the store         number of bytes that would fit; for a new store, its capacity
  *   15         the policy is of another version       0
+ *   16         not a list of an old policy's entries  0
  *   255        nothing to do                          0
  *
  * If there are two values, the first has the low 28 bits, and the second has the 28 bits above them. Both are below 2^28.
  *
- * The numbers 1 to 15 are refusals. After a refusal every buffer is unchanged, a feed and a store too. After "nothing to do" every output
+ * The numbers 1 to 16 are refusals. After a refusal every buffer is unchanged, a feed and a store too. After "nothing to do" every output
  * is unchanged. After "done" the result is at the front of the buffer, and the bytes after the result are unchanged.
  *
  * Policies. A policy is 200 bytes: 25 words of 8 bytes, lowest byte first. The first word is the Unicode version of the tables, major
@@ -113,6 +114,7 @@ extern "C" {
 #define TILGHORZ_BAD_CLIENT_OR_NUMBER 13
 #define TILGHORZ_DOES_NOT_FIT 14
 #define TILGHORZ_OTHER_VERSION 15
+#define TILGHORZ_NOT_AN_ENTRY_LIST 16
 #define TILGHORZ_NOTHING_TO_DO 255
 
 /* Formats a text under a policy. Numbers: 1, 2, 3, 8, and 255 if the text needs no change. Value: the number of bytes written, at
@@ -187,6 +189,16 @@ uint64_t tilghorz_read_sheet(const uint8_t *sheet, size_t sheet_len, uint8_t *ou
 /* Writes the sheet of a policy: the code points of a line ascend, each has the fewest digits allowed, and neighbouring entries of the
  * variation table are one range. Numbers: 2, 8. Value: the number of bytes written, at most 9916. Reading the sheet gives the policy. */
 uint64_t tilghorz_write_sheet(const uint8_t *policy, size_t policy_len, uint8_t *out, size_t out_len);
+
+/* Carries a policy over from the tables of another Unicode version: writes the policy for our tables. `entries` is the old variation table:
+ * the code points in ascending order, 8 bytes each, lowest byte first. A list of V entries belongs to a policy of 4 W + 1 words, where W is
+ * V / 64 rounded up; its first word, the version, may have any value. An entry of both tables keeps its four memberships, an entry that our
+ * table has not is dropped, and a new entry gets those of the default policy. Numbers: 16 if the bytes are no whole numbers, if the list
+ * does not ascend strictly or if the policy has another number of words; 2 if an unused bit of the policy is set; 8 with 200. Value: 200,
+ * the number of bytes of a policy. */
+uint64_t tilghorz_carry_policy(const uint8_t *entries, size_t entries_len, const uint8_t *policy, size_t policy_len, uint8_t *out,
+                               size_t out_len);
+
 /* Lists the memberships of a policy whose flip alone alters the formatted text: an entry that is added to one of the four sets, or taken
  * out of it, while all other memberships stay. Numbers: 1, 2, 3, 7. Value: the number of rows written, at most 1,416. A row is three
  * numbers of 8 bytes, lowest byte first: the code point of the entry; 0 for ordinary, 1 for keycap; 0 for prefer_bare, 1 for

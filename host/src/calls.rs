@@ -5,7 +5,7 @@
 use std::fmt::{self, Display, Formatter};
 
 use crate::reference::calls::{self, Draft};
-use crate::reference::{characters, kept, near, policy, sheet, store, tips};
+use crate::reference::{carry, characters, kept, near, policy, sheet, store, tips};
 
 /// The bytes of a policy.
 pub const POLICY_BYTES: usize = 200;
@@ -63,6 +63,8 @@ pub trait Calls {
     fn read_sheet(&self, sheet: &[u8], out: &mut [u8]) -> u64;
     /// `tilghorz_write_sheet`.
     fn write_sheet(&self, policy: &[u8], out: &mut [u8]) -> u64;
+    /// `tilghorz_carry_policy`.
+    fn carry_policy(&self, entries: &[u8], policy: &[u8], out: &mut [u8]) -> u64;
     /// `tilghorz_tips`.
     fn tips(&self, text: &[u8], policy: &[u8], table: &mut [u8]) -> u64;
     /// `tilghorz_store_begin`.
@@ -213,6 +215,10 @@ impl Calls for Reference {
 
     fn write_sheet(&self, policy: &[u8], out: &mut [u8]) -> u64 {
         write(&sheet::write(policy), out)
+    }
+
+    fn carry_policy(&self, entries: &[u8], policy: &[u8], out: &mut [u8]) -> u64 {
+        write(&carry::carry(entries, policy), out)
     }
 
     fn tips(&self, text: &[u8], policy: &[u8], table: &mut [u8]) -> u64 {

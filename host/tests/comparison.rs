@@ -56,6 +56,7 @@ fn the_reference_has_no_difference_from_itself() {
         "lists",
         "feeds",
         "sheets",
+        "carries",
         "tips",
         "stores",
     ];

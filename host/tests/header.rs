@@ -152,7 +152,7 @@ fn trait_functions() -> Vec<Function> {
 }
 
 #[test]
-fn the_header_declares_twenty_one_functions() {
+fn the_header_declares_twenty_two_functions() {
     let functions = header_functions();
     let names: Vec<&str> = functions.iter().map(|of| of.name.as_str()).collect();
     let expected = [
@@ -169,6 +169,7 @@ fn the_header_declares_twenty_one_functions() {
         "tilghorz_feed_totals",
         "tilghorz_read_sheet",
         "tilghorz_write_sheet",
+        "tilghorz_carry_policy",
         "tilghorz_tips",
         "tilghorz_store_begin",
         "tilghorz_store_file",
@@ -181,7 +182,7 @@ fn the_header_declares_twenty_one_functions() {
     assert_eq!(names, expected);
     let numbers: Vec<usize> = functions.iter().map(|of| of.parameters.len()).collect();
     let expected = [
-        6, 6, 9, 4, 4, 10, 7, 4, 6, 4, 4, 4, 4, 6, 5, 10, 4, 3, 2, 1, 0,
+        6, 6, 9, 4, 4, 10, 7, 4, 6, 4, 4, 4, 4, 6, 6, 5, 10, 4, 3, 2, 1, 0,
     ];
     assert_eq!(numbers, expected);
 }
@@ -253,14 +254,9 @@ fn the_refusals_agree_with_the_source() {
     let source = refusals(body.expect("the function of the numbers"), "Refusal::");
     let numbers: Vec<u64> = source.iter().map(|(_, number)| *number).collect();
     assert_eq!(numbers, (1..=16).collect::<Vec<u64>>());
-    // No C function returns 16.
-    let returned = &source[..15];
-    assert_eq!(
-        refusals(&file("tilghorz/src/refusal.rs"), "Self::"),
-        returned
-    );
+    assert_eq!(refusals(&file("tilghorz/src/refusal.rs"), "Self::"), source);
     let header = file("../include/tilghorz.h");
-    for (name, number) in returned {
+    for (name, number) in source {
         let mut lines = header.lines();
         assert!(lines.any(|line| line.starts_with(&format!(" *   {number:<11}"))));
         let define = format!("\n#define TILGHORZ_{} {number}\n", screaming(name));

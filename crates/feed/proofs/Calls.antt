@@ -143,7 +143,7 @@ no-length (x ∷ l) e = absurd (omega arith)
 
 module _ {f : Feed} {T : List ℕ} {X : List Fed} {W : List ℕ} (h : Inv f T X W) where
   -- Nothing is added.
-  same : Inv f (T ++ []) (X ++ []) (W ++ [])
+  pub same : Inv f (T ++ []) (X ++ []) (W ++ [])
   same =
       subst (λ (t : List ℕ). Inv f t (X ++ []) (W ++ [])) (sym (append-nil T))
       (subst (λ (x : List Fed). Inv f T x (W ++ [])) (sym (append-nil X)) (subst (λ (w : List ℕ). Inv f T X w) (sym (append-nil W)) h))
@@ -194,7 +194,7 @@ module _ {f : Feed} {T : List ℕ} {X : List Fed} {W : List ℕ} (h : Inv f T X 
                 (s .counts);
           }))
 
-  by-answer : {c : Call} {a : Answer} → Answered f c a
+  pub by-answer : {c : Call} {a : Answer} → Answered f c a
       → Inv (after f c a) (T ++ bytesTaken c a) (X ++ charsTaken f c a) (W ++ bytesWritten a)
   by-answer (piece-9 e) = same
   by-answer (piece-1 e l) = same
@@ -222,7 +222,7 @@ runs {f} {T} {X} {W} h (c ∷ cs) =
     (subst (λ (w : List ℕ). Inv (feedAfter (next f c) cs) ((T ++ bytesTaken c a) ++ thread (next f c) cs)
     ((X ++ charsTaken f c a) ++ allFed (next f c) cs) w) (append-assoc W (bytesWritten a) (outputs (next f c) cs)) k))
 
-start : (p : Policy) → Inv (newFeed p) [] [] []
+pub start : (p : Policy) → Inv (newFeed p) [] [] []
 unfolding takeChars encodeAll
 start p = record {
   characters = sym (chars-end [] readChar-nil);
@@ -244,42 +244,27 @@ module _ (p : Policy) (cs : List Call) where
   abbrev pub X : List Fed
   X = allFed (newFeed p) cs
 
-  -- The characters are those of the thread, the rest is what is unfinished, and the held base is that of taking these characters. Text and
-  -- totals are those of the characters formatted as a whole: after the end, and before it with the held base.
-  pub record FeedClaim : Type 0 where
-    pub characters : charsOf X ≡ chars T
-    pub left : F .rest ≡ drop (validUpTo T) T
-    pub length-is : F .len ≡ length T
-    pub bounded : length T ≤ textLimit
-    pub pending-is : F .ended ≡ false → takeChars nothing X .0 ≡ F .pending
-    pub totals : totalsNow F ≡ totalFed X
-    pub ended-whole : F .ended ≡ true → WellFormed T
-    pub ended-text : F .ended ≡ true → outputs (newFeed p) cs ≡ encodeAll (formatFed X)
-    pub open-text : F .ended ≡ false → outputs (newFeed p) cs ++ encodeAll (settle (F .pending) other .text) ≡ encodeAll (formatFed X)
+-- The characters are those of the thread, the rest is what is unfinished, and the held base is that of taking these characters. Text and
+-- totals are those of the characters formatted as a whole: after the end, and before it with the held base.
+pub record FeedClaim (F : Feed) (T : List ℕ) (X : List Fed) (W : List ℕ) : Type 0 where
+  pub characters : charsOf X ≡ chars T
+  pub left : F .rest ≡ drop (validUpTo T) T
+  pub length-is : F .len ≡ length T
+  pub bounded : length T ≤ textLimit
+  pub pending-is : F .ended ≡ false → takeChars nothing X .0 ≡ F .pending
+  pub totals : totalsNow F ≡ totalFed X
+  pub ended-whole : F .ended ≡ true → WellFormed T
+  pub ended-text : F .ended ≡ true → W ≡ encodeAll (formatFed X)
+  pub open-text : F .ended ≡ false → W ++ encodeAll (settle (F .pending) other .text) ≡ encodeAll (formatFed X)
 
-pub claimed : (p : Policy) (cs : List Call) → FeedClaim p cs
+pub claim-of : {f : Feed} {thr : List ℕ} {x : List Fed} {W : List ℕ} → Inv f thr x W → FeedClaim f thr x W
 unfolding settle
-claimed p cs = go (k .state)
+claim-of {f} {thr} {x} {W} k = go (k .state)
   where
-    f : Feed
-    f = F p cs
-
-    thr : List ℕ
-    thr = T p cs
-
-    x : List Fed
-    x = X p cs
-
-    W : List ℕ
-    W = outputs (newFeed p) cs
-
-    k : Inv f thr x W
-    k = runs (start p) cs
-
     S : WholeFormat nothing x (takeChars nothing x)
     S = whole-format nothing none-held x
 
-    go : Held f x W → FeedClaim p cs
+    go : Held f x W → FeedClaim f thr x W
     go (going w e t v) =
         let s : WholeFormat nothing x (f .pending, record { text = w; counts = f .totals }) = subst
         (λ (q : R). WholeFormat nothing x q) t S in
@@ -308,3 +293,6 @@ claimed p cs = go (k .state)
       ended-text = λ _. sym a;
       open-text = λ e′. absurd (true≢false (sym e ∙ e′));
     }
+
+pub claimed : (p : Policy) (cs : List Call) → FeedClaim (F p cs) (T p cs) (X p cs) (outputs (newFeed p) cs)
+claimed p cs = claim-of (runs (start p) cs)

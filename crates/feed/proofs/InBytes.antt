@@ -16,7 +16,7 @@ use Rattle.utf8.proofs.Unfinished.{can-go-on, is-unfinished}
 use Rattle.policy.specs.PolicyBytes.{isPolicy, policyOf}
 use Rattle.scanner.specs.declared.char_class.Class.the-variants.{Other as other}
 use Rattle.analysis.specs.Counts.{empty}
-use Rattle.feed.specs.Feed.{settle, takeChars}
+use Rattle.feed.specs.Feed.{Fed, settle, takeChars}
 use Rattle.feed.specs.Calls.{
   Answer,
   Call,
@@ -73,7 +73,7 @@ use Rattle.feed.proofs.Answered.{
   piece-taken,
 }
 use Rattle.feed.proofs.Back.{calls-agree, part-back, reads-back}
-use Rattle.feed.proofs.Calls.{F, T, claimed, rest-parted, valid-parted}
+use Rattle.feed.proofs.Calls.{F, FeedClaim, T, claimed, rest-parted, valid-parted}
 use Rattle.feed.proofs.Kept.{Kept, PieceBytes, kept-holds, kept-passes, new-kept, next-kept}
 use Rattle.feed.proofs.OneCall.{keeps-policy, whole-formatted, whole-thread, whole-totals}
 use Rattle.feed.proofs.PieceRoom.{held-few, piece-bytes, settle-bytes}
@@ -199,25 +199,15 @@ module _ (policy : List ℕ) (ok : isPolicy policy ≡ true) where
 
 -- ---- the next call
 
-module _ (policy : List ℕ) (cs : List Call) (g : Good policy (F (policyOf policy) cs)) where
-  abbrev f : Feed
-  f = F (policyOf policy) cs
-
-  abbrev t : List ℕ
-  t = T (policyOf policy) cs
-
-  abbrev B : List ℕ
-  B = bytesFor f policy
-
+module _ {f : Feed} {t : List ℕ} {X : List Fed} {W : List ℕ} (k : FeedClaim f t X W) (u₀ : unfinished (f .rest) ≡ true) (B : List ℕ) where
   len-is : f .len ≡ length t
-  len-is = claimed (policyOf policy) cs .length-is
+  len-is = k .length-is
 
   rest-is : (b : List ℕ) → restBy f b ≡ drop (validUpTo (t ++ b)) (t ++ b)
-  rest-is b = ap (λ (r : List ℕ). drop (validUpTo (r ++ b)) (r ++ b)) (claimed (policyOf policy) cs .left) ∙ sym (rest-parted t b)
+  rest-is b = ap (λ (r : List ℕ). drop (validUpTo (r ++ b)) (r ++ b)) (k .left) ∙ sym (rest-parted t b)
 
   offset-is : (b : List ℕ) → f .len - length (f .rest) + validUpTo (f .rest ++ b) ≡ validUpTo (t ++ b)
   offset-is b =
-      let k = claimed (policyOf policy) cs in
       omega (
         arith,
         k .length-is,
@@ -236,7 +226,7 @@ module _ (policy : List ℕ) (cs : List Call) (g : Good policy (F (policyOf poli
   can : (b : List ℕ) → unfinished (restBy f b) ≡ true → GoesOn (t ++ b)
   can b h = can-go-on (t ++ b) (ap unfinished (sym (rest-is b)) ∙ h)
 
-  piece-outcome : (b out : List ℕ) {a : Answer} → Answered f (piece b out) a
+  pub piece-outcome : (b out : List ℕ) {a : Answer} → Answered f (piece b out) a
       → NextPiece B t (f .ended) b out (leaves B out (after f (piece b out) a) a)
   piece-outcome b out (piece-9 h) = record {
     ended = λ e. refl;
@@ -275,20 +265,21 @@ module _ (policy : List ℕ) (cs : List Call) (g : Good policy (F (policyOf poli
       bytes = encodeAll (takeChars (f .pending) (fedBy f b) .1 .text);
       answer = refl;
       out-bytes = refl;
-      room = piece-bytes f b (g .kept .unfinished-rest);
+      room = piece-bytes f b u₀;
     };
   }
 
   -- The thread is well-formed exactly if nothing is left.
   none-left : WellFormed t → length (f .rest) ≡ 0
   none-left w =
-      omega (arith, ap length (claimed (policyOf policy) cs .left), length-drop (validUpTo t) t, well-formed-whole w)
+      omega (arith, ap length (k .left), length-drop (validUpTo t) t, well-formed-whole w)
 
   whole : length (f .rest) ≡ 0 → WellFormed t
   whole e = whole-well-formed t
-      (omega (arith, ap length (claimed (policyOf policy) cs .left), length-drop (validUpTo t) t, validUpTo-le t))
+      (omega (arith, ap length (k .left), length-drop (validUpTo t) t, validUpTo-le t))
 
-  end-outcome : (out : List ℕ) {a : Answer} → Answered f (end out) a → NextEnd B t (f .ended) out (leaves B out (after f (end out) a) a)
+  pub end-outcome : (out : List ℕ) {a : Answer} → Answered f (end out) a
+      → NextEnd B t (f .ended) out (leaves B out (after f (end out) a) a)
   end-outcome out (end-9 h) = record {
     ended = λ e. refl;
     unfinished = λ e. absurd (true≢false (sym h ∙ e));
@@ -319,37 +310,46 @@ module _ (policy : List ℕ) (cs : List Call) (g : Good policy (F (policyOf poli
     };
   }
 
-  module _ (ok : isPolicy policy ≡ true) where
-    totals-are : totalsOf B ≡ totalsNow f
-    unfolding totalsOf
-    totals-are =
-        ap (λ (x : Bool). cond x (totalsNow (feedOf B)) empty) (passes policy ok f g) ∙ ap (λ (x : Feed). totalsNow x)
-        (feed-is policy ok f g)
+module _ (policy : List ℕ) (cs : List Call) (g : Good policy (F (policyOf policy) cs)) (ok : isPolicy policy ≡ true) where
+  abbrev f : Feed
+  f = F (policyOf policy) cs
 
-    in-bytes : FeedInBytes policy B t (outputs (newFeed (policyOf policy)) cs) (f .ended)
-    in-bytes =
-        let k = claimed (policyOf policy) cs in
-        let w = whole-thread policy cs in
-        let z : unfinished (drop (validUpTo t) t) ≡ true = ap unfinished (sym (k .left)) ∙ g .kept .unfinished-rest in
-        record {
-          end-whole = k .ended-whole;
-          end-text = w .ended-text;
-          end-totals = λ e. totals-are ∙ w .totals;
-          totals = totals-are ∙ w .totals ∙ whole-totals t policy;
-          open-text =
-              λ e. ap (λ (x : Feed). outputs (newFeed (policyOf policy)) cs ++ encodeAll (settle (x .pending) other .text))
-              (feed-is policy ok f g)
-              ∙ w .open-text e ∙ whole-formatted t policy;
-          held = λ e. subst (λ (x : Feed). HeldLast (policyOf policy) (chars t) (x .pending)) (sym (feed-is policy ok f g)) (w .held e);
-          rest = λ e. ap (λ (x : Feed). x .rest) (feed-is policy ok f g) ∙ k .left;
-          within-limit = k .bounded;
-          goes-on = can-go-on t z;
-          passes = passes policy ok f g;
-          next-piece = λ b out. subst (λ (r : Called). NextPiece B t (f .ended) b out r) (sym (call-is policy ok f g (piece b out)))
-              (piece-outcome b out (answered f (piece b out)));
-          next-end = λ out. subst (λ (r : Called). NextEnd B t (f .ended) out r) (sym (call-is policy ok f g (end out)))
-              (end-outcome out (answered f (end out)));
-        }
+  abbrev t : List ℕ
+  t = T (policyOf policy) cs
+
+  abbrev B : List ℕ
+  B = bytesFor f policy
+
+  totals-are : totalsOf B ≡ totalsNow f
+  unfolding totalsOf
+  totals-are =
+      ap (λ (x : Bool). cond x (totalsNow (feedOf B)) empty) (passes policy ok f g) ∙ ap (λ (x : Feed). totalsNow x)
+      (feed-is policy ok f g)
+
+  in-bytes : FeedInBytes policy B t (outputs (newFeed (policyOf policy)) cs) (f .ended)
+  in-bytes =
+      let k = claimed (policyOf policy) cs in
+      let w = whole-thread policy cs in
+      let z : unfinished (drop (validUpTo t) t) ≡ true = ap unfinished (sym (k .left)) ∙ g .kept .unfinished-rest in
+      record {
+        end-whole = k .ended-whole;
+        end-text = w .ended-text;
+        end-totals = λ e. totals-are ∙ w .totals;
+        totals = totals-are ∙ w .totals ∙ whole-totals t policy;
+        open-text =
+            λ e. ap (λ (x : Feed). outputs (newFeed (policyOf policy)) cs ++ encodeAll (settle (x .pending) other .text))
+            (feed-is policy ok f g)
+            ∙ w .open-text e ∙ whole-formatted t policy;
+        held = λ e. subst (λ (x : Feed). HeldLast (policyOf policy) (chars t) (x .pending)) (sym (feed-is policy ok f g)) (w .held e);
+        rest = λ e. ap (λ (x : Feed). x .rest) (feed-is policy ok f g) ∙ k .left;
+        within-limit = k .bounded;
+        goes-on = can-go-on t z;
+        passes = passes policy ok f g;
+        next-piece = λ b out. subst (λ (r : Called). NextPiece B t (f .ended) b out r) (sym (call-is policy ok f g (piece b out)))
+            (piece-outcome (claimed (policyOf policy) cs) (g .kept .unfinished-rest) B b out (answered f (piece b out)));
+        next-end = λ out. subst (λ (r : Called). NextEnd B t (f .ended) out r) (sym (call-is policy ok f g (end out)))
+            (end-outcome (claimed (policyOf policy) cs) (g .kept .unfinished-rest) B out (answered f (end out)));
+      }
 
 -- ---- the claim on bytes
 

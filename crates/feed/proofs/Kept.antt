@@ -98,7 +98,7 @@ char-few p nothing h c (Selector q) = omega arith
 char-few p (base p′ d f n) h c (Selector q) = omega arith
 char-few p s h c NoSelector = omega (arith, settle-few s h (classOf c), held-weight p c (hasVariationSequence c))
 
-chars-few : (s : Pending) → Sound s → (xs : List Fed)
+pub chars-few : (s : Pending) → Sound s → (xs : List Fed)
     → total (takeChars s xs .1 .counts) + weight (takeChars s xs .0) ≤ weight s + length xs
 unfolding takeChars
 chars-few s h [] = omega arith
@@ -130,7 +130,8 @@ char-held p h c NoSelector i = go (hasVariationSequence c) refl
     go true e = a-base i e
     go false e = no-base
 
-chars-held : (p : Policy) {s : Pending} → HeldUnder p s → (cs : List ℕ) → allScalar cs ≡ true → HeldUnder p (takeChars s (fedAs p cs) .0)
+pub chars-held : (p : Policy) {s : Pending} → HeldUnder p s → (cs : List ℕ) → allScalar cs ≡ true
+    → HeldUnder p (takeChars s (fedAs p cs) .0)
 unfolding takeChars allScalar
 chars-held p h [] e = h
 chars-held p h (c ∷ cs) e =
@@ -139,7 +140,7 @@ chars-held p h (c ∷ cs) e =
 
 -- ---- what is kept
 
-allBytes-append : (a b : List ℕ) → allBytes a ≡ true → allBytes b ≡ true → allBytes (a ++ b) ≡ true
+pub allBytes-append : (a b : List ℕ) → allBytes a ≡ true → allBytes b ≡ true → allBytes (a ++ b) ≡ true
 unfolding allBytes
 allBytes-append [] b e h = h
 allBytes-append (x ∷ a) b e h =
@@ -240,7 +241,7 @@ selector-small NoSelector = omega arith
 selector-small (Selector Text) = omega arith
 selector-small (Selector Emoji) = omega arith
 
-base-scalar : {p : Policy} {s : Pending} → HeldUnder p s → isScalar (heldFor s .base) ≡ true
+pub base-scalar : {p : Policy} {s : Pending} → HeldUnder p s → isScalar (heldFor s .base) ≡ true
 base-scalar no-base = isScalar-low 0 (omega arith)
 base-scalar (a-base i e) = i
 
@@ -308,7 +309,7 @@ module _ {f : Feed} (k : Kept f) (policy : List ℕ) (same : policyOf policy ≡
     rest-bytes = k .rest-bytes;
   }
 
-  state-is : stateOf bs ≡ S
+  pub state-is : stateOf bs ≡ S
   unfolding bytesFor stateFor
   state-is = state-back S policy words narrow
 

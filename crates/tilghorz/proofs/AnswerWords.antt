@@ -25,6 +25,9 @@ use Rattle.findings_near.specs.declared.NearestAnswer.{NearestAnswer}
 use Rattle.findings_near.specs.declared.NearestAnswer.the-variants as Nearest
 use Rattle.analysis.specs.Decisions.{mendRow}
 use Rattle.formatter.specs.Format.{formatRow}
+use Rattle.policy_migration.specs.Carry.{carryRow}
+use Rattle.policy_migration.specs.declared.CarryAnswer.{CarryAnswer}
+use Rattle.policy_migration.specs.declared.CarryAnswer.the-variants as Carry
 use Rattle.policy_sheet.specs.Calls.{sheetRow}
 use Rattle.policy_sheet.specs.declared.SheetAnswer.{SheetAnswer}
 use Rattle.policy_sheet.specs.declared.SheetAnswer.the-variants as Sheet
@@ -121,6 +124,13 @@ sheet-rows (Sheet.Written n) (Sheet.Written m) e = ap Sheet.Written (val e)
 sheet-rows (Sheet.Written n) (Sheet.Refused r) e = absurd (omega (arith, num e, refusal-numbers r))
 sheet-rows (Sheet.Refused r) (Sheet.Written n) e = absurd (omega (arith, num e, refusal-numbers r))
 sheet-rows (Sheet.Refused r) (Sheet.Refused s) e = ap Sheet.Refused (refusals r s e)
+
+pub carry-rows : (a b : CarryAnswer) → carryRow a ≡ carryRow b → a ≡ b
+unfolding carryRow
+carry-rows (Carry.Written n) (Carry.Written m) e = ap Carry.Written (val e)
+carry-rows (Carry.Written n) (Carry.Refused r) e = absurd (omega (arith, num e, refusal-numbers r))
+carry-rows (Carry.Refused r) (Carry.Written n) e = absurd (omega (arith, num e, refusal-numbers r))
+carry-rows (Carry.Refused r) (Carry.Refused s) e = ap Carry.Refused (refusals r s e)
 
 pub nearest-rows : (a b : NearestAnswer) → nearestRow a ≡ nearestRow b → a ≡ b
 unfolding nearestRow

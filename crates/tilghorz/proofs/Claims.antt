@@ -11,6 +11,8 @@ use Rattle.findings_near.specs.Nearest.{nearestRow}
 use Rattle.findings_near.proofs.Calls.{around-call}
 use Rattle.formatter.specs.Format.{formatRow}
 use Rattle.unicode.specs.Rows.{entryRow}
+use Rattle.policy_migration.specs.Carry.{carryRow}
+use Rattle.policy_migration.proofs.Calls.{call-small}
 use Rattle.policy_sheet.specs.Calls.{sheetRow}
 use Rattle.policy_sheet.specs.Theorems.{EveryReadCall, EveryWriteCall}
 use Rattle.policy_sheet.proofs.Claims.{every-read-call, every-write-call}
@@ -28,6 +30,7 @@ use Rattle.tilghorz.proofs.AnswerWords.{
   around-small,
   both-numbers,
   both-values,
+  carry-rows,
   entry-rows,
   feed-rows,
   format-rows,
@@ -65,6 +68,7 @@ words-determine-answers = (
       (around-call (j .0) (j .1) (j .2) (j .3) (j .4) (j .5) .small)),
   words-determine nearestRow _ (λ c. omega (arith, nearest-small (c .0) (c .1) (c .2) (c .3))) (λ i j. nearest-rows _ _),
   words-determine formatRow _ (λ c. omega (arith, file-small (c .0) (c .1) (c .2) (c .3) (c .4) (c .5))) (λ i j. format-rows _ _),
+  words-determine carryRow _ (λ c. omega (arith, call-small (c .0) (c .1) (c .2))) (λ i j. carry-rows _ _),
 )
 
 pub words-have-both-values : WordsHaveBothValues

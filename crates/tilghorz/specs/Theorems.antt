@@ -18,6 +18,7 @@ use Rattle.base.specs.Answers.{done, listRow, writeRow}
 use Rattle.formatter.specs.Format.{formatRow}
 use Rattle.feed.specs.Bytes.{begun, called, eightWords, feedRow, totalsOf}
 use Rattle.feed.specs.Calls as Feed
+use Rattle.policy_migration.specs.Carry.{carryCall, carryRow}
 use Rattle.policy_sheet.specs.Calls.{readCall, sheetRow, writeCall}
 use Rattle.membership_flips.specs.Flips.{listTips}
 use Rattle.findings_near.specs.Around.{aroundRow, listAround}
@@ -40,7 +41,7 @@ pub record WordsDetermine {I A : Type 0} (row : A → RefusalRow) (answer : I �
 
 -- The words of each C function determine its answers. In order: formatting, listing findings, mending, listing items, the default policy,
 -- a variation entry, repairing, beginning a feed, a piece or an end of a feed, the totals of a feed, reading a sheet, writing a sheet,
--- listing the flips that tip a text, the findings around a stretch, the nearest finding, filing into a store.
+-- listing the flips that tip a text, the findings around a stretch, the nearest finding, filing into a store, carrying a policy over.
 unfoldable pub WordsDetermineAnswers : Type 0
 WordsDetermineAnswers =
     WordsDetermine formatRow (λ (c : List ℕ × List ℕ × List ℕ). format (c .0) (c .1) (c .2) .answer)
@@ -61,6 +62,7 @@ WordsDetermineAnswers =
     × WordsDetermine nearestRow (λ (c : List ℕ × List ℕ × ℕ × List ℕ). giveNearest (c .0) (c .1) (c .2) (c .3) .answer)
     × WordsDetermine formatRow
     (λ (c : List ℕ × List ℕ × List ℕ × ℕ × ℕ × List ℕ). fileCall (c .0) (c .1) (c .2) (c .3) (c .4) (c .5) .answer)
+    × WordsDetermine carryRow (λ (c : List ℕ × List ℕ × List ℕ). carryCall (c .0) (c .1) (c .2) .answer)
 
 -- The low 28 bits of a word are the first value, and the bits above them are the second. Both are below 2^28.
 abbrev pub HasBothValues : ℕ → ℕ → ℕ → Type 0

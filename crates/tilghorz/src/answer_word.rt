@@ -5,6 +5,7 @@ ghost use Rattle.base.specs.Refusals.{refusalRow};
 ghost use Rattle.analysis.specs.Decisions.{mendRow};
 ghost use Rattle.base.specs.Answers.{listRow, twoValues, writeRow};
 ghost use Rattle.feed.specs.Bytes.{feedRow};
+ghost use Rattle.policy_migration.specs.Carry.{carryRow};
 ghost use Rattle.policy_sheet.specs.Calls.{sheetRow};
 ghost use Rattle.findings_near.specs.Around.{aroundRow};
 ghost use Rattle.findings_near.specs.Nearest.{nearestRow};
@@ -23,6 +24,7 @@ use feed::FeedAnswer;
 use findings_near::AroundAnswer;
 use findings_near::NearestAnswer;
 use formatter::FormatAnswer;
+use policy_migration::CarryAnswer;
 use policy_sheet::SheetAnswer;
 use repair::RepairAnswer;
 use store::StoreAnswer;
@@ -140,6 +142,16 @@ pub fn sheet_word(answer: SheetAnswer) -> u64
     match answer {
         SheetAnswer::Written { len } => word_of(0, len),
         SheetAnswer::Refused(refusal) => refusal_word(refusal),
+    }
+}
+
+// The word of the answer to carrying a policy over.
+pub fn carry_word(answer: CarryAnswer) -> u64
+    ensures { λ r. ⌜ r ≡ word (carryRow answer) ⌝ }
+{
+    match answer {
+        CarryAnswer::Written { len } => word_of(0, len),
+        CarryAnswer::Refused(refusal) => refusal_word(refusal),
     }
 }
 

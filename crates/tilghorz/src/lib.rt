@@ -19,6 +19,7 @@ ghost use Rattle.formatter.specs.Format.{formatRow};
 ghost use Rattle.repair.specs.Repair.{repair, repairRow};
 ghost use Rattle.feed.specs.Bytes.{begun, called, eightWords, feedRow, totalsOf};
 ghost use Rattle.feed.specs.Calls as Calls;
+ghost use Rattle.policy_migration.specs.Carry.{carryCall, carryRow};
 ghost use Rattle.policy_sheet.specs.Calls.{readCall, sheetRow, writeCall};
 ghost use Rattle.membership_flips.specs.Flips.{listTips};
 ghost use Rattle.findings_near.specs.Around.{aroundRow, listAround};
@@ -27,6 +28,7 @@ ghost use Rattle.store.specs.Bytes.{beginCall, fileCall, releaseCall, storeRow,
 ghost use Rattle.tilghorz.specs.AnswerWord.{cappedRow, word};
 ghost use Rattle.unicode.specs.Rows.{entryRow};
 use answer_word::around_word;
+use answer_word::carry_word;
 use answer_word::entry_word;
 use answer_word::feed_word;
 use answer_word::format_word;
@@ -193,6 +195,16 @@ pub extern "C" fn tilghorz_write_sheet(policy: &[u8], out: &mut [u8]) -> u64
     ensures bytes { λ _. ⌜ now (out .exit) ≡ writeCall (now (policy .entry)) (now (out .entry)) .buffer ⌝ }
 {
     sheet_word(sheet_writing::write_sheet(policy, out))
+}
+
+// Carries a policy over from the tables of another version. `entries` is the old variation table, numbers of 8 bytes each. It may answer
+// the refusals 16, 2 and 8. Its value is the number of bytes of a policy.
+#[no_mangle]
+pub extern "C" fn tilghorz_carry_policy(entries: &[u8], policy: &[u8], out: &mut [u8]) -> u64
+    ensures word { λ r. ⌜ r ≡ word (carryRow (carryCall (now (entries .entry)) (now (policy .entry)) (now (out .entry)) .answer)) ⌝ }
+    ensures bytes { λ _. ⌜ now (out .exit) ≡ carryCall (now (entries .entry)) (now (policy .entry)) (now (out .entry)) .buffer ⌝ }
+{
+    carry_word(policy_migration::carry_policy(entries, policy, out))
 }
 
 // Lists the memberships of a policy whose flip alone alters the formatted text. A row is three numbers of 8 bytes each: the code point; 0

@@ -75,6 +75,10 @@ impl Calls for Library {
         sys::write_sheet(policy, out)
     }
 
+    fn carry_policy(&self, entries: &[u8], policy: &[u8], out: &mut [u8]) -> u64 {
+        sys::carry_policy(entries, policy, out)
+    }
+
     fn tips(&self, text: &[u8], policy: &[u8], table: &mut [u8]) -> u64 {
         sys::tips(text, policy, table)
     }

@@ -60,7 +60,7 @@ pub fn run(calls: &dyn Calls, options: &Options, out: &mut dyn Write) -> io::Res
     writeln!(out, "seed {}", options.seed)?;
     let start = Instant::now();
     let mut boundary = Boundary::new(calls, options.seed);
-    let kinds: [(&str, Kind<'_>, u64); 13] = [
+    let kinds: [(&str, Kind<'_>, u64); 15] = [
         ("sizes", Boundary::sizes, 1),
         ("policies", Boundary::policies, 1),
         ("decisions", Boundary::decisions, 1),
@@ -68,10 +68,12 @@ pub fn run(calls: &dyn Calls, options: &Options, out: &mut dyn Write) -> io::Res
         ("one memory", Boundary::one_memory, 1),
         ("feeds", Boundary::feeds, 1),
         ("sheets", Boundary::sheets, 1),
+        ("carries", Boundary::carries, 1),
         ("near", Boundary::near, 1),
         ("stores", Boundary::stores, 1),
         ("drawn", Boundary::drawn, options.cases),
         ("drawn sheets", Boundary::drawn_sheets, options.cases / 4),
+        ("drawn carries", Boundary::drawn_carries, options.cases / 4),
         ("limits", Boundary::limits, options.limits.into()),
         ("long sheets", Boundary::long_sheets, options.limits.into()),
     ];

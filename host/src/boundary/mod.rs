@@ -9,6 +9,7 @@
 //! | [`cases`] | makes the cases: sizes, lengths of policies and decisions, and drawn ones |
 //! | [`feeds`] | makes the calls on feeds |
 //! | [`sheets`] | makes the calls on sheets |
+//! | [`carries`] | makes the calls that carry a policy over |
 //! | [`near`] | makes the calls around a stretch and for the nearest finding |
 //! | [`stores`] | makes the calls on stores |
 //! | [`command`] | the command line of the program `boundary` |
@@ -16,6 +17,7 @@
 //! An input that is read past its end gives another answer where the bytes after it count. Where it stands at the end
 //! of its allocation, or fills it, valgrind tells a byte that is read or written outside.
 
+pub mod carries;
 pub mod case;
 pub mod cases;
 pub mod command;

@@ -163,6 +163,28 @@ pub enum Fault {
     SheetLength,
     /// The sheet of a policy with an unused bit is written.
     SheetOfUnusedBit,
+    /// A membership is carried over by its place, and not by its character.
+    CarryByPlace,
+    /// A new entry gets no membership.
+    NewEntryEmpty,
+    /// A carried policy keeps its version.
+    CarriedVersion,
+    /// The version of the old policy is tested.
+    VersionTested,
+    /// Two equal numbers of an old list are taken.
+    EqualNumbers,
+    /// Half a number at the end of an old list is passed over.
+    HalfNumber,
+    /// An unused bit of the old policy is taken, and cleared.
+    OldUnusedBit,
+    /// The unused bits of the old policy are tested before its list.
+    BitsBeforeList,
+    /// The room is tested before the old list.
+    RoomBeforeList,
+    /// A refused carrying over writes a byte.
+    RefusedCarryWrites,
+    /// The byte after a carried policy is changed.
+    ByteAfterCarried,
     /// A base before 20E3 counts for the ordinary memberships.
     TipKeycapAsOrdinary,
     /// A base before a tag counts for its memberships.
@@ -216,7 +238,7 @@ pub enum Fault {
 }
 
 /// The faults with their names.
-pub const FAULTS: [(&str, Fault); 105] = [
+pub const FAULTS: [(&str, Fault); 116] = [
     ("keycap-rule", Fault::KeycapRule),
     ("finding-span", Fault::FindingSpan),
     ("item-span", Fault::ItemSpan),
@@ -297,6 +319,17 @@ pub const FAULTS: [(&str, Fault); 105] = [
     ("four-digits", Fault::FourDigits),
     ("sheet-length", Fault::SheetLength),
     ("sheet-of-unused-bit", Fault::SheetOfUnusedBit),
+    ("carry-by-place", Fault::CarryByPlace),
+    ("new-entry-empty", Fault::NewEntryEmpty),
+    ("carried-version", Fault::CarriedVersion),
+    ("version-tested", Fault::VersionTested),
+    ("equal-numbers", Fault::EqualNumbers),
+    ("half-number", Fault::HalfNumber),
+    ("old-unused-bit", Fault::OldUnusedBit),
+    ("bits-before-list", Fault::BitsBeforeList),
+    ("room-before-list", Fault::RoomBeforeList),
+    ("refused-carry-writes", Fault::RefusedCarryWrites),
+    ("byte-after-carried", Fault::ByteAfterCarried),
     ("tip-keycap", Fault::TipKeycapAsOrdinary),
     ("tip-before-tag", Fault::TipBeforeTag),
     ("tip-order", Fault::TipOrder),

@@ -4,6 +4,7 @@ use std::cell::{Cell, RefCell};
 use std::iter::repeat_n;
 
 use super::faults::Fault;
+use super::faulty_carry;
 use super::faulty_feed::FaultyFeed;
 use super::faulty_near;
 use super::faulty_sheet::FaultySheet;
@@ -413,6 +414,10 @@ impl Calls for Faulty<'_> {
 
     fn write_sheet(&self, policy: &[u8], out: &mut [u8]) -> u64 {
         self.sheet.write(policy, out).word()
+    }
+
+    fn carry_policy(&self, entries: &[u8], policy: &[u8], out: &mut [u8]) -> u64 {
+        faulty_carry::carry(self.calls, self.fault, entries, policy, out).word()
     }
 
     fn store_begin(&self, capacity: u64, reserves: &[u8], store: &mut [u8]) -> u64 {

@@ -15,6 +15,7 @@
 //! | [`feed_states`] | makes calls on bytes that are no feed |
 //! | [`sheet_case`] | compares reading one sheet, and writing the sheet of one policy |
 //! | [`sheets`] | makes sheets: every short one, drawn, damaged and long ones |
+//! | [`carry_case`] | compares carrying a policy over, and makes old lists and old policies |
 //! | [`store_case`] | compares a list of calls on a store, and makes calls on bytes that are no store |
 //! | [`store_lists`] | makes such lists: drawn ones, with refused calls between, and full stores |
 //! | [`texts`], [`policies`] | make the texts and policies: exhaustive, random, damaged |
@@ -23,12 +24,14 @@
 //! | [`reduce`] | makes a text or a list with a difference smaller |
 //! | [`run`], [`report`] | runs all of it, within bounds, and reports the first difference |
 //! | [`programs`] | compares the two programs |
-//! | [`faults`], [`faulty`], [`faulty_feed`], [`faulty_near`], [`faulty_sheet`], [`faulty_store`] | faults that are planted into calls |
+//! | [`faults`], [`faulty`], [`faulty_carry`], [`faulty_feed`], [`faulty_near`], [`faulty_sheet`], [`faulty_store`] | faults that are planted into calls |
 //! | [`command`] | the command line of the program |
 
+pub mod carry_case;
 pub mod command;
 pub mod faults;
 pub mod faulty;
+pub mod faulty_carry;
 pub mod faulty_feed;
 pub mod faulty_near;
 pub mod faulty_sheet;

@@ -15,6 +15,7 @@ use crate::reference::calls::LONGEST_TEXT;
 use crate::reference::characters;
 use crate::reference::repair::repaired;
 
+mod carries;
 mod feeds;
 mod near;
 mod sheets;
@@ -53,7 +54,7 @@ impl Default for Options {
     }
 }
 
-/// In one drawn case of this number a thread is fed too, and sheets are read and written.
+/// In one drawn case of this number a thread is fed too, sheets are read and written, and a policy is carried over.
 const FEED_IN: u64 = 4;
 
 /// In one drawn case of this number the memberships that decide a text are compared with the crate too.
@@ -128,6 +129,7 @@ impl<'a> Run<'a> {
         writeln!(self.out, "seed {}", self.options.seed)?;
         self.tables()?;
         self.sheets()?;
+        self.every_carry()?;
         if self.options.published {
             self.published()?;
         }
@@ -339,7 +341,7 @@ impl<'a> Run<'a> {
     }
 
     /// Drawn texts, damaged ones, the same taken in, lists of mending calls and of calls on feeds and stores, sheets,
-    /// memberships and stretches, in turns.
+    /// policies carried over, memberships and stretches, in turns.
     fn drawn(&mut self) -> Result<(), Stop> {
         let mut cases = 0;
         let mut calls = 0;
@@ -358,6 +360,7 @@ impl<'a> Run<'a> {
                 feed_calls += self.drawn_feed(&mut random)?;
                 feeds += 1;
                 self.drawn_sheets(&mut random)?;
+                self.drawn_carry(&mut random)?;
             }
             if cases % STORE_IN == 0 {
                 store_calls += self.drawn_store(&mut random)?;
@@ -379,6 +382,8 @@ impl<'a> Run<'a> {
         self.told("lists", cases, &what)?;
         let what = "drawn sheets, damaged ones, and policies each";
         self.told("sheets", feeds, what)?;
+        let what = "drawn old lists with a policy";
+        self.told("carries", feeds, what)?;
         let what = format!("texts, {stretches} stretches and offsets");
         self.told("near", cases, &what)?;
         let what = format!("drawn threads and bytes that are no feed, {feed_calls} calls");

@@ -21,12 +21,14 @@
 //! | [`feed`] | a thread that comes in pieces |
 //! | [`kept`] | feeds in lent bytes |
 //! | [`sheet`] | policy sheets: their form, their meaning, and the sheet that is written |
+//! | [`carry`] | a policy carried over from the tables of another version |
 //! | [`tips`] | the single memberships whose flip alters the formatted text |
 //! | [`store`] | storage that clients share |
 //! | [`programs`] | what the two programs write |
 
 pub mod book;
 pub mod calls;
+pub mod carry;
 pub mod characters;
 pub mod feed;
 pub mod items;

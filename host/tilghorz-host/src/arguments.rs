@@ -6,6 +6,7 @@ use std::num::NonZero;
 
 use tilghorz::{Context, KeySet, Presentation};
 
+use crate::carry::Carry;
 use crate::fix::Fix;
 use crate::follow::Follow;
 use crate::format::Format;
@@ -449,17 +450,19 @@ fn show(words: Words) -> Result<Show, String> {
 fn policy(mut words: Words) -> Result<Policy, String> {
     let action = words
         .text("policy")
-        .map_err(|_| "the policy command is missing: print, compare, write or tips")?;
+        .map_err(|_| "the policy command is missing: print, compare, write, carry or tips")?;
     if action == "tips" {
         return tips(words).map(Policy::Tips);
     }
     let (mut edits, mut files, mut members) = (Vec::new(), Vec::new(), false);
+    let mut from = PolicyFile::default();
     while let Some(word) = words.next()? {
         match word {
             Word::Name(name) => files.push(PolicyFile(Some(name.into()))),
             Word::Option(option) => match (action.as_str(), option.as_str()) {
                 ("write", "--add" | "--take") => edits.push(edit(&mut words, &option)?),
                 ("print", "--members") => members = true,
+                ("carry", "--from") => words.policy(&option, &mut from)?,
                 _ => return unknown(&option),
             },
         }
@@ -477,6 +480,12 @@ fn policy(mut words: Words) -> Result<Policy, String> {
             let first = first.ok_or("compare: a file is missing")?;
             Ok(Policy::Compare(first, files.next().unwrap_or_default()))
         }
+        "carry" => Ok(Policy::Carry(Carry {
+            from: from.0.ok_or("carry: --from FILE is missing")?,
+            policy: first
+                .and_then(|file| file.0)
+                .ok_or("carry: a file is missing")?,
+        })),
         "write" => Ok(Policy::Write(first.unwrap_or_default(), edits)),
         _ => Err(format!("unknown policy command {action}")),
     }

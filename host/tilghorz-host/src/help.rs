@@ -66,7 +66,7 @@ usage: tilghorz-host COMMAND [OPTIONS] [FILES]
   fix       mend one finding
   show      show the text with its selectors made visible and its findings marked
   repair    write a damaged text with U+FFFD for each bad place, change files in place, or check them
-  policy    print, compare or write policies, or list the single memberships that decide texts
+  policy    print, compare, write or carry over policies, or list the single memberships that decide texts
   help      show this, or the help of a command: tilghorz-host help format
   version   show the version
 
@@ -214,6 +214,7 @@ const POLICY: &str = "\
 usage: tilghorz-host policy print [--members] [FILE]
        tilghorz-host policy compare FILE [FILE]
        tilghorz-host policy write [--add SET CONTEXT CODE] [--take SET CONTEXT CODE] .. [FILE]
+       tilghorz-host policy carry --from OLD-emoji-variation-sequences.txt FILE
        tilghorz-host policy tips [--json] [--repair] [--policy FILE] [OPTIONS] [FILES]
 
 A policy is a sheet, which is a text, or a file of 200 bytes. A file with a byte 00 is taken for the bytes, any other
@@ -230,6 +231,9 @@ range includes only the code points inside it that have one. What is wrong with 
   compare    a line for each base and context with two rules; status 1 if there is one
   write      the 200 bytes, to standard output, with members added and taken. SET is prefer_bare or bare_as_text,
              CONTEXT is ordinary or keycap, CODE is a code point, such as 2764
+  carry      the 200 bytes of a policy that was stored under the tables of another Unicode version, to standard output.
+             --from names that version's file of variation sequences. An entry of both tables keeps its memberships, an
+             entry that is gone is dropped, and a new one gets those of the default policy
   tips       the memberships whose flip alone alters a formatted text, over all FILES: a line for each, with the number
              of texts that it alters, and the flip as an option of write. The largest numbers are first; equal ones are
              by code point, ordinary before keycap, prefer_bare before bare_as_text. With --json a JSON array instead.

@@ -7,6 +7,7 @@
 #![warn(missing_docs)]
 
 mod arguments;
+mod carry;
 mod console;
 mod fix;
 mod follow;

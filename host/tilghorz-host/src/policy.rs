@@ -5,6 +5,7 @@ use std::path::PathBuf;
 
 use tilghorz::{Context, KeySet, Refusal, Version, variation_entries};
 
+use crate::carry::Carry;
 use crate::console::{Console, Status};
 use crate::sheet::explanation;
 use crate::source::Source;
@@ -25,6 +26,8 @@ pub enum Policy {
     Compare(PolicyFile, PolicyFile),
     /// Writes the bytes, after these edits.
     Write(PolicyFile, Vec<Edit>),
+    /// Writes the bytes of a policy that is carried over.
+    Carry(Carry),
     /// Counts which single membership decides texts.
     Tips(Tips),
 }
@@ -100,6 +103,7 @@ impl Policy {
     pub fn run(&self, console: &mut Console) -> io::Result<Status> {
         match self {
             Self::Tips(tips) => tips.run(console),
+            Self::Carry(carry) => carry.run(console),
             Self::Print(file) => match file.read_or_complain(console) {
                 None => Ok(Status::Fault),
                 Some(policy) => console.print(&policy.to_string()),

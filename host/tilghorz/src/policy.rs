@@ -1,4 +1,4 @@
-//! Policies: document 01, "Key set and policy". Policy sheets: document 02, (vi).
+//! Policies: document 01, "Key set and policy". Policy sheets: document 02, (vi). Policies of other tables: (xii).
 
 use std::error::Error;
 use std::fmt::{self, Debug, Display, Formatter};
@@ -156,6 +156,41 @@ impl Policy {
     pub fn from_sheet(sheet: &[u8]) -> Result<Self, Refusal> {
         let mut bytes = [0; sys::POLICY_BYTES];
         let written = answer::read_done(sys::read_sheet(sheet, &mut bytes))?;
+        assert_eq!(
+            written,
+            bytes.len(),
+            "the linked library has another length of a policy"
+        );
+        Ok(Self { bytes })
+    }
+
+    /// The policy for our tables of bytes that were stored under the tables of another Unicode version. `entries` is the
+    /// old variation table. An entry of both tables keeps its four memberships, an entry that is gone is dropped, and a
+    /// new one gets those of the default policy. The version that the bytes name is not tested.
+    ///
+    /// ```
+    /// use tilghorz::{Context, KeySet, Policy, Refusal};
+    ///
+    /// // 14.0; the second entry is in `prefer_bare`.
+    /// let mut stored = [0; 40];
+    /// stored[1] = 14;
+    /// stored[8] = 0b10;
+    /// let policy = Policy::carried(&['#', '\u{2764}'], &stored)?;
+    /// assert!(policy.contains(KeySet::PreferBare, '\u{2764}', Context::Ordinary));
+    /// assert!(!policy.contains(KeySet::PreferBare, '#', Context::Ordinary));
+    /// assert!(policy.contains(KeySet::PreferBare, '*', Context::Ordinary));
+    ///
+    /// assert_eq!(Policy::carried(&['\u{2764}', '#'], &stored), Err(Refusal::NotAnEntryList));
+    /// # Ok::<(), Refusal>(())
+    /// ```
+    ///
+    /// # Errors
+    /// Refusals 16 and 2.
+    pub fn carried(entries: &[char], stored: &[u8]) -> Result<Self, Refusal> {
+        let entries = entries.iter().map(|entry| u64::from(*entry).to_le_bytes());
+        let entries: Vec<u8> = entries.flatten().collect();
+        let mut bytes = [0; sys::POLICY_BYTES];
+        let written = answer::read_done(sys::carry_policy(&entries, stored, &mut bytes))?;
         assert_eq!(
             written,
             bytes.len(),

@@ -10,7 +10,8 @@ use crate::version;
 ///
 /// The tests come in the order of the numbers, each only in calls that take the thing. A call on a feed tests 9 and 10
 /// first, reading a sheet tests 11 and 12 before 8, and beginning a store tests its buffer, 8, first. Of a policy, the
-/// length (2) is tested first, then the version (15), then the unused bits (2).
+/// length (2) is tested first, then the version (15), then the unused bits (2). Carrying a policy over tests 16 first, and
+/// not 15.
 #[derive(Debug, Clone, Copy, PartialEq, Eq, Hash)]
 pub enum Refusal {
     /// 1: the text is over 16,777,216 bytes.
@@ -68,6 +69,8 @@ pub enum Refusal {
     },
     /// 15: the policy is of another Unicode version than the tables.
     OtherVersion,
+    /// 16: the old entries do not ascend, or the old policy has another number of words than they want.
+    NotAnEntryList,
 }
 
 impl Refusal {
@@ -89,6 +92,7 @@ impl Refusal {
             13 => Self::BadClientOrNumber,
             14 => Self::DoesNotFit { fits: value },
             15 => Self::OtherVersion,
+            16 => Self::NotAnEntryList,
             _ => return None,
         })
     }
@@ -112,6 +116,7 @@ impl Refusal {
             Self::BadClientOrNumber => 13,
             Self::DoesNotFit { .. } => 14,
             Self::OtherVersion => 15,
+            Self::NotAnEntryList => 16,
         }
     }
 
@@ -125,7 +130,8 @@ impl Refusal {
             | Self::FeedEnded
             | Self::UnfinishedCharacter
             | Self::BadClientOrNumber
-            | Self::OtherVersion => None,
+            | Self::OtherVersion
+            | Self::NotAnEntryList => None,
             Self::NotWellFormed { valid_up_to } => Some(valid_up_to),
             Self::WrongNumberOfDecisions { wanted } | Self::OutputTooShort { wanted } => {
                 Some(wanted)
@@ -184,6 +190,10 @@ impl Display for Refusal {
                 "the policy is of another version than the tables, which are of Unicode {}",
                 version()
             ),
+            Self::NotAnEntryList => write!(
+                out,
+                "the old entries do not ascend, or the old policy has another number of words than they want"
+            ),
         }
     }
 }
@@ -198,13 +208,13 @@ mod tests {
     fn number_and_value_tell_the_refusal() {
         for number in 0..=u8::MAX {
             let Some(refusal) = Refusal::of_row(number.into(), 5) else {
-                assert!(!(1..=15).contains(&number));
+                assert!(!(1..=16).contains(&number));
                 continue;
             };
             assert_eq!(refusal.number(), number);
             assert_eq!(
                 refusal.value().is_some(),
-                ![1, 2, 4, 9, 10, 13, 15].contains(&number)
+                ![1, 2, 4, 9, 10, 13, 15, 16].contains(&number)
             );
             assert!(refusal.value().is_none_or(|value| value == 5));
         }

@@ -108,6 +108,14 @@ unsafe extern "C" {
         out: *mut u8,
         out_len: usize,
     ) -> u64;
+    fn tilghorz_carry_policy(
+        entries: *const u8,
+        entries_len: usize,
+        policy: *const u8,
+        policy_len: usize,
+        out: *mut u8,
+        out_len: usize,
+    ) -> u64;
     fn tilghorz_tips(
         text: *const u8,
         text_len: usize,
@@ -302,6 +310,22 @@ pub fn read_sheet(sheet: &[u8], out: &mut [u8]) -> u64 {
 pub fn write_sheet(policy: &[u8], out: &mut [u8]) -> u64 {
     // SAFETY: as the head of this file says.
     unsafe { tilghorz_write_sheet(policy.as_ptr(), policy.len(), out.as_mut_ptr(), out.len()) }
+}
+
+/// `tilghorz_carry_policy`: writes a policy, carried over from the tables of another version.
+#[must_use]
+pub fn carry_policy(entries: &[u8], policy: &[u8], out: &mut [u8]) -> u64 {
+    // SAFETY: as the head of this file says.
+    unsafe {
+        tilghorz_carry_policy(
+            entries.as_ptr(),
+            entries.len(),
+            policy.as_ptr(),
+            policy.len(),
+            out.as_mut_ptr(),
+            out.len(),
+        )
+    }
 }
 
 /// `tilghorz_tips`: lists the memberships whose flip alone alters the formatted text.

@@ -218,3 +218,49 @@ fn a_policy_of_another_version_is_refused_before_its_unused_bits_are_tested() {
     );
     assert_eq!(Version::of_policy(&[0; 7]), None);
 }
+
+#[test]
+fn a_policy_is_carried_over_from_other_tables() {
+    let entries = variation_entries();
+    let policy: Policy = "30-39,2764\n\n2764\n\n".parse().expect("a sheet");
+    let mut stored = policy.as_bytes().to_vec();
+    stored[..8].fill(7);
+    assert_eq!(Policy::carried(entries, &stored), Ok(policy.clone()));
+    // Without the first entry every other one has another place, and the first gets its default memberships.
+    let default = Policy::default();
+    let mut first = policy.clone();
+    for set in KeySet::ALL {
+        for context in Context::ALL {
+            if default.contains(set, entries[0], context) {
+                first.add(set, entries[0], context).expect("an entry");
+            }
+        }
+    }
+    let shifted: Vec<u8> = stored[8..]
+        .chunks(48)
+        .flat_map(|set| {
+            let bit = |place: usize| {
+                set.get(place / 8)
+                    .is_some_and(|byte| byte >> (place % 8) & 1 == 1)
+            };
+            (0..48)
+                .map(move |byte| {
+                    (0..8).fold(0, |bits, place| {
+                        bits | u8::from(bit(8 * byte + place + 1)) << place
+                    })
+                })
+                .collect::<Vec<u8>>()
+        })
+        .collect();
+    let old = [&stored[..8], &shifted].concat();
+    assert_eq!(Policy::carried(&entries[1..], &old), Ok(first));
+    assert_eq!(Policy::carried(&[], &[0; 8]), Ok(default));
+    assert_eq!(
+        Policy::carried(&['#', '#'], &[0; 40]),
+        Err(Refusal::NotAnEntryList)
+    );
+    assert_eq!(
+        Policy::carried(&['#'], &[0xFF; 40]),
+        Err(Refusal::NotAPolicy)
+    );
+}
