@@ -11,8 +11,8 @@
  * Answers. Each function returns one word. The top 8 bits of the word are a number, the low 56 bits are a value:
  *
  *   number     meaning                                value
- *   0          done                                   bytes or rows written, or the code point; tilghorz_repair and
- *                                                     tilghorz_around have two values
+ *   0          done                                   bytes or rows written, the code point, or the cut; tilghorz_repair
+ *                                                     and tilghorz_around have two values
  *   1          text over 16,777,216 bytes             0
  *   2          not a policy                           0
  *   3          text not well-formed                   length of the longest well-formed beginning
@@ -161,6 +161,13 @@ uint64_t tilghorz_around(const uint8_t *text, size_t text_len, const uint8_t *po
  * whatever the length of the row. Value: 1. */
 uint64_t tilghorz_nearest(const uint8_t *text, size_t text_len, const uint8_t *policy, size_t policy_len, uint64_t offset, uint8_t *row,
                           size_t row_len);
+
+/* Gives the largest offset, at or below an offset, where bytes may be cut for two workers. Such a cut is the length of the bytes, or an
+ * offset where a well-formed character begins that is no selector, modifier, 20E3 or tag. If the bytes are well-formed, both parts are, the
+ * two parts formatted and joined are the whole formatted, and the eight totals add up. The call takes bytes and makes no test: they may be
+ * longer than a text may be, and they need not be well-formed. So it has no refusal. The offset may be any number. It reads back from the
+ * offset, so its time is by the distance to the cut. Number: 255 if there is no such offset. Value: the cut, which may be 0. */
+uint64_t tilghorz_cut(const uint8_t *bytes, size_t bytes_len, uint64_t offset);
 
 /* Begins a feed under a policy: writes it at the front of the buffer. Numbers: 2, 8. Value: the number of bytes of a feed. The other
  * functions take exactly these bytes. */

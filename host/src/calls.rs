@@ -5,7 +5,7 @@
 use std::fmt::{self, Display, Formatter};
 
 use crate::reference::calls::{self, Draft};
-use crate::reference::{carry, characters, kept, near, policy, sheet, store, tips};
+use crate::reference::{carry, characters, cut, kept, near, policy, sheet, store, tips};
 
 /// The bytes of a policy.
 pub const POLICY_BYTES: usize = 200;
@@ -51,6 +51,8 @@ pub trait Calls {
     ) -> u64;
     /// `tilghorz_nearest`.
     fn nearest(&self, text: &[u8], policy: &[u8], offset: u64, row: &mut [u8]) -> u64;
+    /// `tilghorz_cut`.
+    fn cut(&self, bytes: &[u8], offset: u64) -> u64;
     /// `tilghorz_feed_begin`.
     fn feed_begin(&self, policy: &[u8], feed: &mut [u8]) -> u64;
     /// `tilghorz_feed_piece`.
@@ -191,6 +193,10 @@ impl Calls for Reference {
 
     fn nearest(&self, text: &[u8], policy: &[u8], offset: u64, row: &mut [u8]) -> u64 {
         write(&near::nearest(text, policy, offset), row)
+    }
+
+    fn cut(&self, bytes: &[u8], offset: u64) -> u64 {
+        cut::cut(bytes, offset).word()
     }
 
     fn feed_begin(&self, policy: &[u8], feed: &mut [u8]) -> u64 {

@@ -109,6 +109,10 @@ impl Calls for WholeWords {
         Reference.nearest(text, policy, offset, row)
     }
 
+    fn cut(&self, bytes: &[u8], offset: u64) -> u64 {
+        Reference.cut(bytes, offset)
+    }
+
     fn feed_begin(&self, policy: &[u8], feed: &mut [u8]) -> u64 {
         Reference.feed_begin(policy, feed)
     }

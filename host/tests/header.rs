@@ -163,6 +163,7 @@ fn the_header_declares_twenty_two_functions() {
         "tilghorz_repair",
         "tilghorz_around",
         "tilghorz_nearest",
+        "tilghorz_cut",
         "tilghorz_feed_begin",
         "tilghorz_feed_piece",
         "tilghorz_feed_end",
@@ -182,7 +183,7 @@ fn the_header_declares_twenty_two_functions() {
     assert_eq!(names, expected);
     let numbers: Vec<usize> = functions.iter().map(|of| of.parameters.len()).collect();
     let expected = [
-        6, 6, 9, 4, 4, 10, 7, 4, 6, 4, 4, 4, 4, 6, 6, 5, 10, 4, 3, 2, 1, 0,
+        6, 6, 9, 4, 4, 10, 7, 3, 4, 6, 4, 4, 4, 4, 6, 6, 5, 10, 4, 3, 2, 1, 0,
     ];
     assert_eq!(numbers, expected);
 }

@@ -23,6 +23,9 @@ use Rattle.findings_near.specs.declared.AroundAnswer.{AroundAnswer}
 use Rattle.findings_near.specs.declared.AroundAnswer.the-variants as Around
 use Rattle.findings_near.specs.declared.NearestAnswer.{NearestAnswer}
 use Rattle.findings_near.specs.declared.NearestAnswer.the-variants as Nearest
+use Rattle.cutting.specs.Cut.{cutRow}
+use Rattle.cutting.specs.declared.Cut.{Cut}
+use Rattle.cutting.specs.declared.Cut.the-variants as Cut
 use Rattle.analysis.specs.Decisions.{mendRow}
 use Rattle.formatter.specs.Format.{formatRow}
 use Rattle.policy_migration.specs.Carry.{carryRow}
@@ -143,6 +146,13 @@ nearest-rows Nearest.NoFinding (Nearest.Refused r) e = absurd (omega (arith, num
 nearest-rows (Nearest.Refused r) Nearest.Written e = absurd (omega (arith, num e, refusal-numbers r))
 nearest-rows (Nearest.Refused r) Nearest.NoFinding e = absurd (omega (arith, num e, refusal-numbers r))
 nearest-rows (Nearest.Refused r) (Nearest.Refused s) e = ap Nearest.Refused (refusals r s e)
+
+pub cut-rows : (a b : Cut) → cutRow a ≡ cutRow b → a ≡ b
+unfolding cutRow
+cut-rows (Cut.At m) (Cut.At n) e = ap Cut.At (val e)
+cut-rows (Cut.At m) Cut.Nowhere e = absurd (omega (arith, num e))
+cut-rows Cut.Nowhere (Cut.At n) e = absurd (omega (arith, num e))
+cut-rows Cut.Nowhere Cut.Nowhere e = refl
 
 -- ---- two values below 2^28 in one
 

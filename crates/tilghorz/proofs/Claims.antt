@@ -9,6 +9,7 @@ use Rattle.feed.specs.Bytes.{feedRow}
 use Rattle.findings_near.specs.Around.{aroundRow}
 use Rattle.findings_near.specs.Nearest.{nearestRow}
 use Rattle.findings_near.proofs.Calls.{around-call}
+use Rattle.cutting.specs.Cut.{cutRow}
 use Rattle.formatter.specs.Format.{formatRow}
 use Rattle.unicode.specs.Rows.{entryRow}
 use Rattle.policy_migration.specs.Carry.{carryRow}
@@ -20,6 +21,7 @@ use Rattle.repair.specs.Repair.{repairRow}
 use Rattle.repair.proofs.Outcomes.{the-call}
 use Rattle.tilghorz.specs.Theorems.{StoreWordsHaveValues, WordHasVersion, WordsDetermineAnswers, WordsHaveBothValues}
 use Rattle.tilghorz.proofs.SmallStores.{begin-small, file-small, release-small, used-small}
+use Rattle.tilghorz.proofs.SmallCuts.{cut-small}
 use Rattle.tilghorz.proofs.SmallFeeds.{begun-small, called-small, totals-small}
 use Rattle.tilghorz.proofs.SmallNear.{around-refusal, nearest-small}
 use Rattle.tilghorz.proofs.SmallAnswers.{default-small, entry-small, format-small, items-small, list-small, mend-small}
@@ -31,6 +33,7 @@ use Rattle.tilghorz.proofs.AnswerWords.{
   both-numbers,
   both-values,
   carry-rows,
+  cut-rows,
   entry-rows,
   feed-rows,
   format-rows,
@@ -69,6 +72,7 @@ words-determine-answers = (
   words-determine nearestRow _ (λ c. omega (arith, nearest-small (c .0) (c .1) (c .2) (c .3))) (λ i j. nearest-rows _ _),
   words-determine formatRow _ (λ c. omega (arith, file-small (c .0) (c .1) (c .2) (c .3) (c .4) (c .5))) (λ i j. format-rows _ _),
   words-determine carryRow _ (λ c. omega (arith, call-small (c .0) (c .1) (c .2))) (λ i j. carry-rows _ _),
+  words-determine cutRow _ (λ c. cut-small (c .0 .bytes) (c .1) (c .0 .held)) (λ i j. cut-rows _ _),
 )
 
 pub words-have-both-values : WordsHaveBothValues

@@ -7,4 +7,5 @@ pub mod SmallFeeds
 pub mod SmallTips
 pub mod SmallNear
 pub mod SmallStores
+pub mod SmallCuts
 pub mod Claims

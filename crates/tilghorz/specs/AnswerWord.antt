@@ -4,8 +4,10 @@
 -- answer has two values, `twoValues` of crates/base/specs/Answers.antt makes one value of them. `WordsHaveBothValues` of
 -- specs/Theorems.antt says that the word has both.
 use mathlib.Core.Bool.{cond}
-use Prim.Native.Nat.{ℕ, _+_, _*_, _%_, _^_}
+use mathlib.Core.List.{List}
+use Prim.Native.Nat.{ℕ, _+_, _*_, _%_, _^_, _<_}
 use lib.Dec.{leb}
+use lib.ListN.{length}
 use Rattle.base.specs.Refusals.{RefusalRow}
 
 -- The word of a row. No answer has a value of 2^56 or more: `WordsDetermineAnswers` of specs/Theorems.antt.
@@ -20,3 +22,8 @@ mostValue = 72057594037927935
 -- value above the largest becomes the largest. `StoreWordsHaveValues` of specs/Theorems.antt says where no value does.
 abbrev pub cappedRow : RefusalRow → RefusalRow
 cappedRow r = record { number = r .number; value = cond (leb (r .value) mostValue) (r .value) mostValue }
+
+-- Bytes that a machine can hold: fewer than 2^56. A cut of longer ones would not fit into the value of a word.
+pub record HeldBytes : Type 0 where
+  pub bytes : List ℕ
+  pub held : length bytes < 2 ^ 56

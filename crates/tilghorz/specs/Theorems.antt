@@ -24,12 +24,13 @@ use Rattle.membership_flips.specs.Flips.{listTips}
 use Rattle.findings_near.specs.Around.{aroundRow, listAround}
 use Rattle.findings_near.specs.Nearest.{giveNearest, nearestRow}
 use Rattle.findings_near.specs.declared.AroundAnswer.the-variants.{Listed}
+use Rattle.cutting.specs.Cut.{cutBefore, cutRow}
 use Rattle.repair.specs.Repair.{repair, repairRow}
 use Rattle.repair.specs.declared.RepairAnswer.the-variants.{Repaired}
 use Rattle.store.specs.Bytes.{beginCall, bytesAfter, fileCall, releaseCall, storeBytes, storeRow, usedCall}
 use Rattle.store.specs.Calls as Store
 use Rattle.store.specs.declared.StoreAnswer.the-variants.{Done}
-use Rattle.tilghorz.specs.AnswerWord.{cappedRow, word}
+use Rattle.tilghorz.specs.AnswerWord.{HeldBytes, cappedRow, word}
 use Rattle.unicode.specs.Rows.{entryRow}
 
 -- The words of a C function determine its answers: if two calls return the same word, their answers are equal, whatever the arguments. The
@@ -41,7 +42,8 @@ pub record WordsDetermine {I A : Type 0} (row : A → RefusalRow) (answer : I �
 
 -- The words of each C function determine its answers. In order: formatting, listing findings, mending, listing items, the default policy,
 -- a variation entry, repairing, beginning a feed, a piece or an end of a feed, the totals of a feed, reading a sheet, writing a sheet,
--- listing the flips that tip a text, the findings around a stretch, the nearest finding, filing into a store, carrying a policy over.
+-- listing the flips that tip a text, the findings around a stretch, the nearest finding, filing into a store, carrying a policy over, the
+-- largest cut at or below an offset.
 unfoldable pub WordsDetermineAnswers : Type 0
 WordsDetermineAnswers =
     WordsDetermine formatRow (λ (c : List ℕ × List ℕ × List ℕ). format (c .0) (c .1) (c .2) .answer)
@@ -63,6 +65,7 @@ WordsDetermineAnswers =
     × WordsDetermine formatRow
     (λ (c : List ℕ × List ℕ × List ℕ × ℕ × ℕ × List ℕ). fileCall (c .0) (c .1) (c .2) (c .3) (c .4) (c .5) .answer)
     × WordsDetermine carryRow (λ (c : List ℕ × List ℕ × List ℕ). carryCall (c .0) (c .1) (c .2) .answer)
+    × WordsDetermine cutRow (λ (c : HeldBytes × ℕ). cutBefore (c .0 .bytes) (c .1))
 
 -- The low 28 bits of a word are the first value, and the bits above them are the second. Both are below 2^28.
 abbrev pub HasBothValues : ℕ → ℕ → ℕ → Type 0

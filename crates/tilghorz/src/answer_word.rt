@@ -9,6 +9,7 @@ ghost use Rattle.policy_migration.specs.Carry.{carryRow};
 ghost use Rattle.policy_sheet.specs.Calls.{sheetRow};
 ghost use Rattle.findings_near.specs.Around.{aroundRow};
 ghost use Rattle.findings_near.specs.Nearest.{nearestRow};
+ghost use Rattle.cutting.specs.Cut.{cutRow};
 ghost use Rattle.formatter.specs.Format.{formatRow};
 ghost use Rattle.repair.specs.Repair.{repairRow};
 ghost use Rattle.store.specs.Bytes.{storeRow};
@@ -20,6 +21,7 @@ use base::Refusal;
 use base::WriteAnswer;
 use base::refusals::refusal_number;
 use base::refusals::refusal_value;
+use cutting::Cut;
 use feed::FeedAnswer;
 use findings_near::AroundAnswer;
 use findings_near::NearestAnswer;
@@ -39,7 +41,7 @@ const HALF_VALUES: u64 = 0x1000_0000;
 // The largest value of a word.
 const MOST_VALUE: usize = 0xFF_FFFF_FFFF_FFFF;
 
-// The number of an answer that says "nothing to do": the text needs no change, or there is no such entry or no finding.
+// The number of an answer that says "nothing to do": the text needs no change, or there is no such entry, no finding or no cut.
 const NOTHING: u64 = 255;
 
 // The word of a number and a value.
@@ -197,5 +199,15 @@ pub fn store_word(answer: StoreAnswer) -> u64
             refusal_number(refusal),
             refusal_value(refusal),
         ),
+    }
+}
+
+// The word of a cut.
+pub fn cut_word(answer: Cut) -> u64
+    ensures { λ r. ⌜ r ≡ word (cutRow answer) ⌝ }
+{
+    match answer {
+        Cut::At(at) => word_of(0, at),
+        Cut::Nowhere => word_of(NOTHING, 0),
     }
 }

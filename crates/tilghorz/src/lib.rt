@@ -25,10 +25,12 @@ ghost use Rattle.membership_flips.specs.Flips.{listTips};
 ghost use Rattle.findings_near.specs.Around.{aroundRow, listAround};
 ghost use Rattle.findings_near.specs.Nearest.{giveNearest, nearestRow};
 ghost use Rattle.store.specs.Bytes.{beginCall, fileCall, releaseCall, storeRow, usedCall};
+ghost use Rattle.cutting.specs.Cut.{cutBefore, cutRow};
 ghost use Rattle.tilghorz.specs.AnswerWord.{cappedRow, word};
 ghost use Rattle.unicode.specs.Rows.{entryRow};
 use answer_word::around_word;
 use answer_word::carry_word;
+use answer_word::cut_word;
 use answer_word::entry_word;
 use answer_word::feed_word;
 use answer_word::format_word;
@@ -136,6 +138,15 @@ pub extern "C" fn tilghorz_nearest(text: &[u8], policy: &[u8], offset: u64, row:
     ensures bytes { λ _. ⌜ now (row .exit) ≡ giveNearest (now (text .entry)) (now (policy .entry)) offset (now (row .entry)) .buffer ⌝ }
 {
     nearest_word(findings_near::nearest::nearest_finding(text, policy, offset as usize, row))
+}
+
+// Gives the largest offset, at or below an offset, where a text may be cut for two workers. It takes bytes, and not a text in document 01's
+// sense: it makes no test and has no refusal. It may answer "nothing to do", if there is no such offset.
+#[no_mangle]
+pub extern "C" fn tilghorz_cut(bytes: &[u8], offset: u64) -> u64
+    ensures { λ r. ⌜ r ≡ word (cutRow (cutBefore (now (bytes .entry)) offset)) ⌝ }
+{
+    cut_word(cutting::cut_before(bytes, offset as usize))
 }
 
 // Begins a feed under a policy in a lent buffer. It may answer the refusals 2 and 8. Its value is the number of bytes of a feed.

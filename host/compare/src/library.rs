@@ -50,6 +50,10 @@ impl Calls for Library {
         sys::nearest(text, policy, offset, row)
     }
 
+    fn cut(&self, bytes: &[u8], offset: u64) -> u64 {
+        sys::cut(bytes, offset)
+    }
+
     fn feed_begin(&self, policy: &[u8], feed: &mut [u8]) -> u64 {
         sys::feed_begin(policy, feed)
     }

@@ -71,6 +71,7 @@ pub fn run(calls: &dyn Calls, options: &Options, out: &mut dyn Write) -> io::Res
         ("carries", Boundary::carries, 1),
         ("near", Boundary::near, 1),
         ("stores", Boundary::stores, 1),
+        ("cuts", Boundary::cuts, 1),
         ("drawn", Boundary::drawn, options.cases),
         ("drawn sheets", Boundary::drawn_sheets, options.cases / 4),
         ("drawn carries", Boundary::drawn_carries, options.cases / 4),

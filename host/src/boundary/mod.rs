@@ -12,6 +12,7 @@
 //! | [`carries`] | makes the calls that carry a policy over |
 //! | [`near`] | makes the calls around a stretch and for the nearest finding |
 //! | [`stores`] | makes the calls on stores |
+//! | [`cuts`] | cuts bytes |
 //! | [`command`] | the command line of the program `boundary` |
 //!
 //! An input that is read past its end gives another answer where the bytes after it count. Where it stands at the end
@@ -21,6 +22,7 @@ pub mod carries;
 pub mod case;
 pub mod cases;
 pub mod command;
+pub mod cuts;
 pub mod feeds;
 pub mod near;
 pub mod placed;

@@ -235,10 +235,22 @@ pub enum Fault {
     ReleasesTwice,
     /// The sum of the reserves wraps at 2^64.
     ReservesWrap,
+    /// A text is cut before 20E3.
+    CutBeforeKeycap,
+    /// A text is cut before a tag.
+    CutBeforeTag,
+    /// A text is cut inside a character.
+    CutInsideCharacter,
+    /// The offset itself is never the cut.
+    CutBelowOffset,
+    /// The end of the text is no cut.
+    CutNotAtEnd,
+    /// A text that is not well-formed is not cut.
+    CutTestsForm,
 }
 
 /// The faults with their names.
-pub const FAULTS: [(&str, Fault); 116] = [
+pub const FAULTS: [(&str, Fault); 122] = [
     ("keycap-rule", Fault::KeycapRule),
     ("finding-span", Fault::FindingSpan),
     ("item-span", Fault::ItemSpan),
@@ -355,4 +367,10 @@ pub const FAULTS: [(&str, Fault); 116] = [
     ("reserve-first", Fault::ReserveFirst),
     ("releases-twice", Fault::ReleasesTwice),
     ("reserves-wrap", Fault::ReservesWrap),
+    ("cut-before-keycap", Fault::CutBeforeKeycap),
+    ("cut-before-tag", Fault::CutBeforeTag),
+    ("cut-inside-character", Fault::CutInsideCharacter),
+    ("cut-below-offset", Fault::CutBelowOffset),
+    ("cut-not-at-end", Fault::CutNotAtEnd),
+    ("cut-tests-form", Fault::CutTestsForm),
 ];

@@ -5,6 +5,7 @@ use std::iter::repeat_n;
 
 use super::faults::Fault;
 use super::faulty_carry;
+use super::faulty_cut;
 use super::faulty_feed::FaultyFeed;
 use super::faulty_near;
 use super::faulty_sheet::FaultySheet;
@@ -217,7 +218,7 @@ fn with_other_places(text: &[u8], fault: Fault) -> Vec<u8> {
 }
 
 /// The text with other characters for some, if it is well-formed.
-fn exchanged(text: &[u8], is_taken: impl Fn(char) -> bool, by: &str) -> Vec<u8> {
+pub fn exchanged(text: &[u8], is_taken: impl Fn(char) -> bool, by: &str) -> Vec<u8> {
     match str::from_utf8(text) {
         Ok(text) => text.replace(is_taken, by).into_bytes(),
         Err(_) => text.to_vec(),
@@ -390,6 +391,10 @@ impl Calls for Faulty<'_> {
 
     fn nearest(&self, text: &[u8], policy: &[u8], offset: u64, row: &mut [u8]) -> u64 {
         faulty_near::nearest(self.calls, self.fault, (text, policy), offset, row)
+    }
+
+    fn cut(&self, bytes: &[u8], offset: u64) -> u64 {
+        faulty_cut::cut(self.calls, self.fault, bytes, offset)
     }
 
     fn feed_begin(&self, policy: &[u8], feed: &mut [u8]) -> u64 {

@@ -10,6 +10,7 @@
 //! | [`tip_case`] | compares the memberships that decide one text under one policy |
 //! | [`repair_case`] | compares what taking in does to one damaged text |
 //! | [`near_case`] | compares the findings around a stretch and the nearest finding |
+//! | [`cut_case`] | compares where a text may be cut, and the joined results of its parts |
 //! | [`feed_case`] | compares a list of calls on a feed |
 //! | [`feed_lists`] | makes such lists: threads cut in every way and at random, with refused calls between |
 //! | [`feed_states`] | makes calls on bytes that are no feed |
@@ -24,14 +25,16 @@
 //! | [`reduce`] | makes a text or a list with a difference smaller |
 //! | [`run`], [`report`] | runs all of it, within bounds, and reports the first difference |
 //! | [`programs`] | compares the two programs |
-//! | [`faults`], [`faulty`], [`faulty_carry`], [`faulty_feed`], [`faulty_near`], [`faulty_sheet`], [`faulty_store`] | faults that are planted into calls |
+//! | [`faults`], [`faulty`], [`faulty_carry`], [`faulty_cut`], [`faulty_feed`], [`faulty_near`], [`faulty_sheet`], [`faulty_store`] | faults that are planted into calls |
 //! | [`command`] | the command line of the program |
 
 pub mod carry_case;
 pub mod command;
+pub mod cut_case;
 pub mod faults;
 pub mod faulty;
 pub mod faulty_carry;
+pub mod faulty_cut;
 pub mod faulty_feed;
 pub mod faulty_near;
 pub mod faulty_sheet;

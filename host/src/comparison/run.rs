@@ -16,6 +16,7 @@ use crate::reference::characters;
 use crate::reference::repair::repaired;
 
 mod carries;
+mod cuts;
 mod feeds;
 mod near;
 mod sheets;
@@ -141,6 +142,7 @@ impl<'a> Run<'a> {
         self.every_tip()?;
         self.every_near()?;
         self.every_store()?;
+        self.every_cut()?;
         self.drawn()?;
         if self.options.limits {
             self.limits()?;
@@ -341,12 +343,13 @@ impl<'a> Run<'a> {
     }
 
     /// Drawn texts, damaged ones, the same taken in, lists of mending calls and of calls on feeds and stores, sheets,
-    /// policies carried over, memberships and stretches, in turns.
+    /// policies carried over, memberships, stretches and cuts, in turns.
     fn drawn(&mut self) -> Result<(), Stop> {
         let mut cases = 0;
         let mut calls = 0;
         let (mut feeds, mut feed_calls, mut stretches) = (0, 0, 0);
         let (mut stores, mut store_calls) = (0, 0);
+        let mut cuts = 0;
         while cases < self.options.cases && !self.is_over() {
             let mut random = Random::from_seed(self.options.seed ^ (cases << 20));
             self.drawn_text(&mut random)?;
@@ -366,6 +369,7 @@ impl<'a> Run<'a> {
                 store_calls += self.drawn_store(&mut random)?;
                 stores += 1;
             }
+            cuts += self.drawn_cuts(&mut random)?;
             cases += 1;
         }
         if cases == 0 && self.options.cases > 0 {
@@ -386,6 +390,8 @@ impl<'a> Run<'a> {
         self.told("carries", feeds, what)?;
         let what = format!("texts, {stretches} stretches and offsets");
         self.told("near", cases, &what)?;
+        let what = format!("texts, {cuts} offsets, and the joined parts");
+        self.told("cuts", cases, &what)?;
         let what = format!("drawn threads and bytes that are no feed, {feed_calls} calls");
         self.told("feeds", feeds, &what)?;
         let what = format!("drawn stores and bytes that are no store, {store_calls} calls");

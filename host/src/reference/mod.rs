@@ -17,6 +17,7 @@
 //! | [`positions`] | characters and UTF-16 units before an offset |
 //! | [`calls`] | formatting, listing, mending, scanning and repairing, with their refusals |
 //! | [`near`] | the findings around a stretch, and the nearest finding |
+//! | [`cut`] | where a text may be cut for two workers |
 //! | [`book`] | a list of mending calls |
 //! | [`feed`] | a thread that comes in pieces |
 //! | [`kept`] | feeds in lent bytes |
@@ -30,6 +31,7 @@ pub mod book;
 pub mod calls;
 pub mod carry;
 pub mod characters;
+pub mod cut;
 pub mod feed;
 pub mod items;
 pub mod kept;

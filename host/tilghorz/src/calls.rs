@@ -194,6 +194,32 @@ pub fn nearest(text: &[u8], policy: &Policy, offset: usize) -> Result<Option<Nea
     }))
 }
 
+/// The largest offset, at or below an offset, where a text may be cut for two workers: the text's length, or an offset
+/// where a character begins that is no selector, modifier, 20E3 or tag. None if there is no such offset.
+///
+/// If the text is well-formed, both parts are, the two parts formatted and joined are the whole formatted, and the
+/// totals add up. The text may be longer than [`LONGEST_TEXT`](crate::LONGEST_TEXT), and need not be well-formed: nothing
+/// is tested. The time is by the distance between the offset and the cut.
+///
+/// ```
+/// use tilghorz::{Policy, Refusal};
+///
+/// let policy = Policy::default();
+/// let text = "1\u{20E3} \u{2764}".as_bytes();
+/// // Inside 20E3. A cut before 20E3 would change what is written after the digit.
+/// assert_eq!(tilghorz::cut(text, 2), Some(0));
+/// let (first, second) = text.split_at(tilghorz::cut(text, 6).unwrap_or(text.len()));
+/// assert_eq!((first.len(), second.len()), (5, 3));
+/// let joined = [tilghorz::format(first, &policy)?, tilghorz::format(second, &policy)?].concat();
+/// assert_eq!(joined, &*tilghorz::format(text, &policy)?);
+/// # Ok::<(), Refusal>(())
+/// ```
+#[must_use]
+pub fn cut(text: &[u8], offset: usize) -> Option<usize> {
+    // The call has no refusal.
+    answer::read(sys::cut(text, offset as u64)).ok().flatten()
+}
+
 /// The items, in text order.
 ///
 /// # Errors

@@ -34,6 +34,7 @@
 //! - A [`Finding`] and an [`Item`] have their start and end in bytes, in characters and in UTF-16 units.
 //! - [`around`] has the findings inside a stretch of bytes and those that only share a byte with it; [`nearest`] has the
 //!   finding nearest to an offset.
+//! - [`cut`] says where a text may be cut for two workers.
 //! - [`repair`] takes damaged text in, which the others refuse; [`repair_into`] writes to the caller's buffer.
 //! - [`Feed`] formats a thread that comes in pieces; [`FeedWriter`] and [`FeedReader`] do it between a writer or a
 //!   reader and another.
@@ -64,7 +65,7 @@ mod version;
 
 pub use calls::{Around, Formatted, Nearest, Presentation, Repaired};
 pub use calls::{
-    around, filed, findings, format, format_into, items, mend, mend_into, nearest, repair,
+    around, cut, filed, findings, format, format_into, items, mend, mend_into, nearest, repair,
     repair_into, tips,
 };
 pub use feed::{Feed, FeedReader, FeedWriter};

@@ -79,6 +79,7 @@ unsafe extern "C" {
         row: *mut u8,
         row_len: usize,
     ) -> u64;
+    fn tilghorz_cut(bytes: *const u8, bytes_len: usize, offset: u64) -> u64;
     fn tilghorz_feed_begin(
         policy: *const u8,
         policy_len: usize,
@@ -257,6 +258,13 @@ pub fn nearest(text: &[u8], policy: &[u8], offset: u64, row: &mut [u8]) -> u64 {
             row.len(),
         )
     }
+}
+
+/// `tilghorz_cut`: the largest offset, at or below an offset, where bytes may be cut for two workers.
+#[must_use]
+pub fn cut(bytes: &[u8], offset: u64) -> u64 {
+    // SAFETY: as the head of this file says.
+    unsafe { tilghorz_cut(bytes.as_ptr(), bytes.len(), offset) }
 }
 
 /// `tilghorz_feed_begin`: begins a feed under a policy.
