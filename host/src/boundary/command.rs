@@ -60,7 +60,7 @@ pub fn run(calls: &dyn Calls, options: &Options, out: &mut dyn Write) -> io::Res
     writeln!(out, "seed {}", options.seed)?;
     let start = Instant::now();
     let mut boundary = Boundary::new(calls, options.seed);
-    let kinds: [(&str, Kind<'_>, u64); 15] = [
+    let kinds: [(&str, Kind<'_>, u64); 16] = [
         ("sizes", Boundary::sizes, 1),
         ("policies", Boundary::policies, 1),
         ("decisions", Boundary::decisions, 1),
