@@ -152,7 +152,7 @@ fn trait_functions() -> Vec<Function> {
 }
 
 #[test]
-fn the_header_declares_twenty_two_functions() {
+fn the_header_declares_twenty_three_functions() {
     let functions = header_functions();
     let names: Vec<&str> = functions.iter().map(|of| of.name.as_str()).collect();
     let expected = [

@@ -269,9 +269,7 @@ fn the_room_of_a_formatted_text_is_reached() {
         tilghorz::format_into(sign, &default, &mut out[..4]),
         Err(Refusal::OutputTooShort { wanted: 5 })
     );
-    let mut bytes = vec![0; default.as_bytes().len()];
-    bytes[..8].copy_from_slice(&default.as_bytes()[..8]);
-    let empty = Policy::from_bytes(&bytes).expect("a policy");
+    let empty = Policy::from_sheet(b"\n\n\n\n").expect("a sheet");
     assert!(!empty.is_default());
     assert_eq!(
         *tilghorz::format(b"1", &empty).expect("a text"),

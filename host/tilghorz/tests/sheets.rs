@@ -4,7 +4,7 @@ use tilghorz::{Context, KeySet, LONGEST_TEXT, Policy, Refusal, variation_entries
 
 /// The policy with no members.
 fn empty() -> Policy {
-    Policy::from_bytes(&[0; tilghorz::sys::POLICY_BYTES]).expect("a policy")
+    Policy::from_sheet(b"\n\n\n\n").expect("a sheet")
 }
 
 /// The policy in which each of the four sets, by its number, has the entries of these numbers.
