@@ -55,8 +55,13 @@ six = omega (arith, entry-count)
 pub versioned-length : (p : Policy) → PolicyValue p → (version : ℕ) → length (versioned version p) ≡ 200
 unfolding versioned
 versioned-length p v version =
-    let s : SixWordSets p = record { first = v .prefer-bare .word-count ∙ six; second = v .prefer-bare-keycap .word-count ∙ six; third =
-    v .bare-as-text .word-count ∙ six; fourth = v .bare-as-text-keycap .word-count ∙ six } in
+    let s : SixWordSets p = record {
+      first = v .prefer-bare .word-count ∙ six;
+      second = v .prefer-bare-keycap .word-count ∙ six;
+      third =
+          v .bare-as-text .word-count ∙ six;
+      fourth = v .bare-as-text-keycap .word-count ∙ six;
+    } in
     omega (arith, length-bytesOf (version ∷ policyWords p), many-words p s)
 
 module _ (old policy : List ℕ) where

@@ -112,8 +112,13 @@ module _ (es ps : List ℕ) where
   six-sets : SixWordSets P
   six-sets =
       let v = policy-value old ps in
-      record { first = v .prefer-bare .word-count ∙ six; second = v .prefer-bare-keycap .word-count ∙ six; third = v .bare-as-text
-      .word-count ∙ six; fourth = v .bare-as-text-keycap .word-count ∙ six }
+      record {
+        first = v .prefer-bare .word-count ∙ six;
+        second = v .prefer-bare-keycap .word-count ∙ six;
+        third = v .bare-as-text
+            .word-count ∙ six;
+        fourth = v .bare-as-text-keycap .word-count ∙ six;
+      }
 
   pub result-word : (n : ℕ) → (n ≡ 0 → ⊥) → n < 25 → getD (carriedSet old ps (setAt ((n - 1) / 6))) ((n - 1) % 6) 0 ≡ getD Ws n 0
   result-word zero z l = absurd (z refl)

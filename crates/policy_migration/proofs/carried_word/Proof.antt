@@ -62,9 +62,11 @@ loop-less c =
 
 loop-again : tie.Need-loop-again Inv-loop μ-loop
 loop-again c =
-    let x = c .before .before .before .before .before .before .before .args in let l = c .before .before .before .loop in
-    (omega arith, ap₂ (λ (u v : ℕ). u + 2 * v) (c .bit .ensures .0 ∙ ap oneIf (c .before .carried-bit .ensures)) (l .inv .1) ∙ next-high
-    (carriedTest (numbersOf (x .entries .now)) (x .policy .now) (setAt (x .k))) (x .w) (l .b) (omega arith) (l .inv .0))
+    let x = c .before .before .before .before .before .before .before .args in let l = c .before .before .before .loop in (
+      omega arith,
+      ap₂ (λ (u v : ℕ). u + 2 * v) (c .bit .ensures .0 ∙ ap oneIf (c .before .carried-bit .ensures)) (l .inv .1) ∙ next-high
+          (carriedTest (numbersOf (x .entries .now)) (x .policy .now) (setAt (x .k))) (x .w) (l .b) (omega arith) (l .inv .0),
+    )
 
 returns : tie.Need-returns Inv-loop μ-loop
 returns c =

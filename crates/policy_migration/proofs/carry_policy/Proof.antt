@@ -41,10 +41,13 @@ slice-aggregate-put-policy c = search needs
 
 put-policy-requires : tie.Need-put-policy-requires
 put-policy-requires c κs =
-    let x = c .before .before .before .before .before .before .before .before .before .before .before .before .args in
-    (c .before .before .before .before .if3 .left, c .before .before .put-default .ensures .1, listed-ascends (x .entries .now)
-    (x .policy .now) (sym (c .before .before .before .before .before .before .before .before .is-old-list .ensures) ∙ not-false _
-    (c .before .before .before .before .before .before .before .if1 .left)))
+    let x = c .before .before .before .before .before .before .before .before .before .before .before .before .args in (
+      c .before .before .before .before .if3 .left,
+      c .before .before .put-default .ensures .1,
+      listed-ascends (x .entries .now)
+          (x .policy .now) (sym (c .before .before .before .before .before .before .before .before .is-old-list .ensures) ∙ not-false _
+          (c .before .before .before .before .before .before .before .if1 .left)),
+    )
 
 same-length : tie.Need-same-length
 same-length c = search needs

@@ -57,9 +57,13 @@ loop-again c =
     let x = s .args in
     let l = c .before .before .before .before .loop in
     let xs = numbersOf (x .entries .now) in
-    let n = many-numbers (x .entries .now) in
-    (l .inv .0, omega arith, goes-up xs (s .pre) (x .c) (l .lo + (l .hi - l .lo) / 2) (omega arith)
-    (omega (arith, c .before .before .number-at .ensures, c .if2 .taken)), l .inv .3)
+    let n = many-numbers (x .entries .now) in (
+      l .inv .0,
+      omega arith,
+      goes-up xs (s .pre) (x .c) (l .lo + (l .hi - l .lo) / 2) (omega arith)
+          (omega (arith, c .before .before .number-at .ensures, c .if2 .taken)),
+      l .inv .3,
+    )
 
 loop-less-2 : tie.Need-loop-less-2 Inv-loop μ-loop
 loop-less-2 c =
@@ -71,10 +75,14 @@ loop-again-2 c =
     let x = s .args in
     let l = c .before .before .before .before .loop in
     let xs = numbersOf (x .entries .now) in
-    let n = many-numbers (x .entries .now) in
-    (omega arith, omega arith, l .inv .2, goes-down xs (s .pre) (x .c) (l .lo + (l .hi - l .lo) / 2) (omega arith)
-    (λ e. c .before .if1 .left (c .before .before .number-at .ensures ∙ e))
-    (omega (arith, c .before .before .number-at .ensures, c .if2 .left)))
+    let n = many-numbers (x .entries .now) in (
+      omega arith,
+      omega arith,
+      l .inv .2,
+      goes-down xs (s .pre) (x .c) (l .lo + (l .hi - l .lo) / 2) (omega arith)
+          (λ e. c .before .if1 .left (c .before .before .number-at .ensures ∙ e))
+          (omega (arith, c .before .before .number-at .ensures, c .if2 .left)),
+    )
 
 returns-2 : tie.Need-returns-2 Inv-loop μ-loop
 returns-2 c =

@@ -40,9 +40,12 @@ loop-less : tie.Need-loop-less Inv-loop μ-loop
 loop-less c = omega arith
 
 loop-again : tie.Need-loop-again Inv-loop μ-loop
-loop-again c = let x = c .before .before .before .before .before .before .args in let l = c .before .before .before .before .loop in
-    (omega arith, l .inv .1, next-pair (numbersOf (x .entries .now)) (l .j) (omega arith) (l .inv .2)
-    (omega (arith, c .before .before .number-at .ensures, c .before .number-at2 .ensures)))
+loop-again c = let x = c .before .before .before .before .before .before .args in let l = c .before .before .before .before .loop in (
+  omega arith,
+  l .inv .1,
+  next-pair (numbersOf (x .entries .now)) (l .j) (omega arith) (l .inv .2)
+      (omega (arith, c .before .before .number-at .ensures, c .before .number-at2 .ensures)),
+)
 
 returns-2 : tie.Need-returns-2 Inv-loop μ-loop
 returns-2 c = let x = c .before .before .before .args in let l = c .before .loop in

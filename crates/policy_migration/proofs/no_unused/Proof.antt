@@ -38,9 +38,12 @@ loop-less : tie.Need-loop-less Inv-loop μ-loop
 loop-less c = omega arith
 
 loop-again : tie.Need-loop-again Inv-loop μ-loop
-loop-again c = let x = c .before .before .before .before .before .args in let l = c .before .before .before .loop in
-    (omega arith, l .inv .1, below-more (λ (m : ℕ). x .count ≤ m → member m (wordsFrom (x .words) (x .at) (x .policy .now)) ≡ false)
-    (l .i) (l .inv .2) (λ k. sym (c .before .old-bit .ensures) ∙ c .if1 .left))
+loop-again c = let x = c .before .before .before .before .before .args in let l = c .before .before .before .loop in (
+  omega arith,
+  l .inv .1,
+  below-more (λ (m : ℕ). x .count ≤ m → member m (wordsFrom (x .words) (x .at) (x .policy .now)) ≡ false)
+      (l .i) (l .inv .2) (λ k. sym (c .before .old-bit .ensures) ∙ c .if1 .left),
+)
 
 returns-2 : tie.Need-returns-2 Inv-loop μ-loop
 returns-2 c = let x = c .before .before .before .args in let l = c .before .loop in

@@ -28,9 +28,12 @@ loop-holds c =
     (omega arith, begin-result (x .entries .now) (x .policy .now) (x .out .now) (c .before .before .before .before .pre .0))
 
 new-word-requires : tie.Need-new-word-requires Inv-loop μ-loop
-new-word-requires c κs =
-    (omega arith, c .before .before .before .before .before .before .before .pre .1, c .before .before .before .before .before .before
-    .before .pre .2)
+new-word-requires c κs = (
+  omega arith,
+  c .before .before .before .before .before .before .before .pre .1,
+  c .before .before .before .before .before .before
+      .before .pre .2,
+)
 
 write-word-requires : tie.Need-write-word-requires Inv-loop μ-loop
 write-word-requires c κs =
