@@ -1,12 +1,12 @@
 // The six rules for a single base, in document 01's order ("Counts and finding"): `analyze_singleton_base_selectors` of analysis.rs
 // of the crate evfmt, and the functions that it calls. They take the base, the class of the character after the base and its
 // selectors, the first selector and the number of selectors.
-// `analyze_singleton_base_selectors` and `analyze_by_policy_bytes` equal `outcome` of specs/Rules.antt; each smaller function
-// equals one of its rules.
+// `analyze_singleton_base_selectors`, `analyze_by_index` and `analyze_by_policy_bytes` equal `outcome` of specs/Rules.antt; each
+// smaller function equals one of its rules.
 ghost use mathlib.Core.Path.{_≡_};
 ghost use mathlib.Core.Bool.{cond, true};
 ghost use Prim.Native.Nat.{_-_};
-ghost use Rattle.unicode.specs.Unicode.{hasVariationSequence, isEmojiModifierBase};
+ghost use Rattle.unicode.specs.Unicode.{hasVariationSequence, isEmojiModifierBase, variationSequenceIndex};
 ghost use Rattle.policy.specs.Policy.{singletonRule};
 ghost use Rattle.policy.specs.PolicyBytes.{policyOf};
 ghost use Rattle.policy.specs.declared.Policy.{Policy as GivenPolicy};
@@ -275,7 +275,28 @@ pub fn analyze_singleton_base_selectors(
     with_entry(base, next, first, count, rule)
 }
 
-// The same for a policy given as bytes, which are not copied.
+// The same for a policy given as bytes, which are not copied, and for a base whose index among the variation entries is known.
+pub fn analyze_by_index(
+    policy: &[u8],
+    base: u32,
+    entry: VariationSequenceIndex,
+    next: Class,
+    first: FromSelector,
+    count: usize,
+) -> Outcome
+    ensures { λ r. ⌜ (variationSequenceIndex base ≡ entry → r
+        ≡ outcome (policyOf (now (policy .entry))) base next (runWith first count)) ⌝ }
+{
+    match entry {
+        VariationSequenceIndex::NoEntry => without_entry(first, count),
+        VariationSequenceIndex::At(index) => {
+            let rule = policy::policy_bytes::rule_at(policy, index, is_keycap(next));
+            with_entry(base, next, first, count, rule)
+        }
+    }
+}
+
+// The same for any base.
 pub fn analyze_by_policy_bytes(
     policy: &[u8],
     base: u32,
@@ -285,11 +306,6 @@ pub fn analyze_by_policy_bytes(
 ) -> Outcome
     ensures { λ r. ⌜ r ≡ outcome (policyOf (now (policy .entry))) base next (runWith first count) ⌝ }
 {
-    match unicode::variation_sequence_index_by_block(base) {
-        VariationSequenceIndex::NoEntry => without_entry(first, count),
-        VariationSequenceIndex::At(index) => {
-            let rule = policy::policy_bytes::rule_at(policy, index, is_keycap(next));
-            with_entry(base, next, first, count, rule)
-        }
-    }
+    let entry = unicode::variation_sequence_index_by_block(base);
+    analyze_by_index(policy, base, entry, next, first, count)
 }

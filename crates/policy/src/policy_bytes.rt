@@ -81,12 +81,13 @@ pub fn policy_refusal(bytes: &[u8]) -> Refusal
 
 // Tests whether a set holds an entry. The set's bytes start at an offset. After the bits of the set there is no entry.
 fn holds_entry(bytes: &[u8], at: usize, index: usize) -> bool
+    requires { ⌜ at ≤ 144 ⌝ }
     ensures { λ r. ⌜ r ≡ member index (wordsFrom wordCount at (now (bytes .entry))) ⌝ }
 {
     if SET_BITS <= index {
         return false;
     }
-    base::has_bit(base::byte_at(bytes, at, index / 8) as u64, index % 8)
+    base::has_bit(base::byte_at(bytes, at + index / 8, 0) as u64, index % 8)
 }
 
 // Returns the offset of the ordinary or the keycap set of `prefer_bare`.

@@ -1,6 +1,7 @@
 -- The proofs about items, and the proofs of the statements.
 pub mod Classes
 pub mod Arms
+pub mod Rows
 pub mod Tiling
 pub mod States
 pub mod Walk

@@ -23,10 +23,16 @@ pub struct PresentationSelectors {
     pub end: usize,
 }
 
-// The presentation that the selector at an offset selects, if a selector stands there.
+// The presentation that the selector at an offset selects, if a selector stands there. One test of the length serves all three bytes.
 pub fn selector_at(text: &[u8], at: usize) -> FromSelector
     ensures { λ r. ⌜ r ≡ firstSelector (chars (drop at (now (text .entry)))) ⌝ }
 {
+    if text.len() < SELECTOR_BYTES {
+        return FromSelector::NoSelector;
+    }
+    if text.len() - SELECTOR_BYTES < at {
+        return FromSelector::NoSelector;
+    }
     if base::byte_at(text, at, 0) != 0xEF {
         return FromSelector::NoSelector;
     }

@@ -1,9 +1,13 @@
 // The automaton of items. A state says where in an item a character stands; `transition` gives the next state if the item goes on.
-// It is the loops of scanner.rs of the crate evfmt as one table; document 01, "Item".
+// It is the loops of scanner.rs of the crate evfmt as one table; document 01, "Item". The table is a word for each state, so no jump
+// depends on the class of a character.
 // `start_state`, `transition`, `begins_tags` and `kind_of` equal `startState`, `transition`, `beginsTags` and `kindOf` of
 // specs/Items.antt for every state and class.
 ghost use mathlib.Core.Path.{_≡_};
+ghost use Prim.Native.Nat.{_/_, _%_, _^_, _≤_};
+ghost use Rattle.scanner.specs.Classes.{Class as ClassValue};
 ghost use Rattle.scanner.specs.Items.{startState, beginsTags, kindOf, nextOf, transition};
+ghost use Rattle.scanner.specs.Rows.{classPlace, numbered, stateOf};
 use crate::ScanKind;
 use crate::char_class::Class;
 
@@ -30,6 +34,62 @@ pub enum Next {
     Stop,
 }
 
+// Where the number for a class begins in a row of the automaton, in bits.
+fn class_place(k: Class) -> u32
+    ensures { λ r. ⌜ (r ≡ classPlace k) × (r ≤ 28) ⌝ }
+{
+    match k {
+        Class::Selector => 0,
+        Class::Link => 4,
+        Class::Ri => 8,
+        Class::Modifier => 12,
+        Class::Emoji => 16,
+        Class::Keycap => 20,
+        Class::Tag => 24,
+        Class::Other => 28,
+    }
+}
+
+// The state that has a number.
+fn state_of(n: u32) -> State
+    ensures { λ r. ⌜ r ≡ stateOf n ⌝ }
+{
+    if n == 0 {
+        return State::Plain;
+    }
+    if n == 1 {
+        return State::Selectors;
+    }
+    if n == 2 {
+        return State::Links;
+    }
+    if n == 3 {
+        return State::OneRi;
+    }
+    if n == 4 {
+        return State::Unit;
+    }
+    if n == 5 {
+        return State::Joined;
+    }
+    State::LeftOver
+}
+
+// The row of a state: the number of the next state for each class, or 7 where the item ends. The class of selectors has the lowest bits.
+fn row_of(p: State) -> u32
+    ensures { λ r. ⌜ ((k : ClassValue) → numbered (r / 2 ^ classPlace k % 8) ≡ nextOf (transition p k)) ⌝ }
+{
+    match p {
+        State::Plain => 0x0007_7777,
+        State::Selectors => 0x7777_7771,
+        State::Links => 0x7777_7722,
+        State::OneRi => 0x7447_4453,
+        State::Unit => 0x7447_4754,
+        State::Joined => 0x7774_4365,
+        State::LeftOver => 0x7777_7766,
+    }
+}
+
 // The state after the first character of an item.
 pub fn start_state(k: Class) -> State
     ensures { λ r. ⌜ r ≡ startState k ⌝ }
@@ -43,42 +103,22 @@ pub fn start_state(k: Class) -> State
     }
 }
 
+// The same by a row, without a jump that depends on the class. It is faster where items of many kinds follow each other.
+pub fn start_state_by_row(k: Class) -> State
+    ensures { λ r. ⌜ r ≡ startState k ⌝ }
+{
+    state_of((0x0004_4321 >> class_place(k)) % 8)
+}
+
 // The state after a character of the class, if the item goes on with it.
 pub fn transition(p: State, k: Class) -> Next
     ensures { λ r. ⌜ r ≡ nextOf (transition p k) ⌝ }
 {
-    match p {
-        State::Plain => match k {
-            Class::Keycap | Class::Tag | Class::Other => Next::On(State::Plain),
-            _ => Next::Stop,
-        },
-        State::Selectors => match k {
-            Class::Selector => Next::On(State::Selectors),
-            _ => Next::Stop,
-        },
-        State::Links | State::LeftOver => match k {
-            Class::Selector | Class::Link => Next::On(p),
-            _ => Next::Stop,
-        },
-        State::OneRi => match k {
-            Class::Selector => Next::On(State::OneRi),
-            Class::Link => Next::On(State::Joined),
-            Class::Ri | Class::Modifier | Class::Keycap | Class::Tag => Next::On(State::Unit),
-            _ => Next::Stop,
-        },
-        State::Unit => match k {
-            Class::Selector | Class::Modifier | Class::Keycap | Class::Tag => Next::On(State::Unit),
-            Class::Link => Next::On(State::Joined),
-            _ => Next::Stop,
-        },
-        State::Joined => match k {
-            Class::Selector => Next::On(State::Joined),
-            Class::Link => Next::On(State::LeftOver),
-            Class::Ri => Next::On(State::OneRi),
-            Class::Modifier | Class::Emoji => Next::On(State::Unit),
-            _ => Next::Stop,
-        },
+    let n = (row_of(p) >> class_place(k)) % 8;
+    if n == 7 {
+        return Next::Stop;
     }
+    Next::On(state_of(n))
 }
 
 // Whether a tag modification begins with a character of class k that leads to state p.

@@ -27,7 +27,7 @@ use crate::base_selectors::number_of;
 use crate::base_selectors::selectors_after;
 use crate::plain::skip_ascii;
 use crate::plain::skip_letters;
-use analysis::singleton::analyze_by_policy_bytes;
+use analysis::singleton::analyze_by_index;
 use analysis::types::NonCanonicality;
 use scanner::char_class::Class;
 use scanner::char_class::Classified;
@@ -126,17 +126,19 @@ fn add_cell(
     wanted: bool,
     policy: &[u8],
     base: u32,
+    index: VariationSequenceIndex,
     next: Class,
     first: FromSelector,
     bytes: usize,
 ) -> NonCanonicality
+    requires { ⌜ variationSequenceIndex base ≡ index ⌝ }
     ensures { λ r. ⌜ r ≡ cond wanted
         (cappedSum counts (outcome (policyOf (now (policy .entry))) base next (runWith first (bytes / 3)) .counts)) counts ⌝ }
 {
     if !wanted {
         return counts;
     }
-    let outcome = analyze_by_policy_bytes(policy, base, next, first, bytes / SELECTOR_BYTES);
+    let outcome = analyze_by_index(policy, base, index, next, first, bytes / SELECTOR_BYTES);
     counts.add(outcome.counts)
 }
 
@@ -180,7 +182,16 @@ fn walk_items(
         let class = cell.class;
         let selector = cell.first;
         let wanted = is_wanted(cell.changes, limit, start);
-        counts = add_cell(counts, wanted, policy, base, class, selector, end - at);
+        counts = add_cell(
+            counts,
+            wanted,
+            policy,
+            base,
+            index,
+            class,
+            selector,
+            end - at,
+        );
         if cell.changes {
             changed = true;
         }
@@ -199,7 +210,7 @@ fn walk_items(
                     };
                 }
                 passed += findings_of(changed);
-                state = scanner::state::start_state(class);
+                state = scanner::state::start_state_by_row(class);
                 if let State::Plain = state {
                     return FindingSpan {
                         start: end,

@@ -11,7 +11,7 @@ returns-2 : tie.Need-returns-2
 returns-2 c = simp (
   not-false (c .before .before .before .before .args .wanted) (c .before .before .if1 .left),
   c .add .ensures,
-  c .before .analyze-by-policy-bytes .ensures,
+  c .before .analyze-by-index .ensures (c .before .before .before .before .pre),
 )
 
 pub add-cell-spec : {M : Type 1} → statement M

@@ -63,6 +63,9 @@ loop-holds c =
 read-cell-requires : tie.Need-read-cell-requires Inv-loop μ-loop
 read-cell-requires c κs = c .loop .inv .entry
 
+add-cell-requires : tie.Need-add-cell-requires Inv-loop μ-loop
+add-cell-requires c κs = c .before .before .loop .inv .entry
+
 sub-add-cell : tie.Need-sub-add-cell Inv-loop μ-loop
 sub-add-cell c = omega (arith, c .before .read-cell .ensures .end-is)
 
@@ -171,7 +174,7 @@ walk-items-spec =
     read-cell-requires
     (λ c κs. search needs)
     sub-add-cell
-    (λ c κs. search needs)
+    add-cell-requires
     (λ c κs. search needs)
     (λ c. search needs)
     (λ c. search needs)
