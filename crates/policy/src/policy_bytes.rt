@@ -81,7 +81,7 @@ pub fn policy_refusal(bytes: &[u8]) -> Refusal
 
 // Tests whether a set holds an entry. The set's bytes start at an offset. After the bits of the set there is no entry.
 fn holds_entry(bytes: &[u8], at: usize, index: usize) -> bool
-    requires { ⌜ at ≤ 144 ⌝ }
+    requires { ⌜ at ≤ 152 ⌝ }
     ensures { λ r. ⌜ r ≡ member index (wordsFrom wordCount at (now (bytes .entry))) ⌝ }
 {
     if SET_BITS <= index {
