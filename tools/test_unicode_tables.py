@@ -60,7 +60,7 @@ class Committed(unittest.TestCase):
 
     def test_every_file_that_differs_or_is_missing_shows(self):
         made = maker.files()
-        self.assertEqual(len(made), 10)
+        self.assertEqual(len(made), 11)
         self.assertEqual(maker.differing(made), [])
         for path, text in made:
             self.assertEqual(maker.differing([(path, text + "\n")]), [path])
@@ -91,6 +91,25 @@ class Blocks(unittest.TestCase):
         self.assertEqual((places[0], places[15], places[16], places[-1]), (0, 0x1E, 0x1F, 0x4A))
         held = [row[1:] for name in ("low", "dense", "middle") for row in arms[name]]
         self.assertEqual(sorted(held), sorted(row[1:] for row in maker.blocks(tables)))
+
+
+class Widths(unittest.TestCase):
+    def test_the_sets_of_rows(self):
+        rows = maker.width_rows("f", "# a\n0300..0301;A;Mn\n0600;N;Cf\n200B;N;Cf\n3099;W;Mn\n4E00..4E01;W;-\nFF01;F;-\n20DD;N;Me\n")
+        wide, marks, formats = maker.width_sets(rows)
+        self.assertEqual(wide, {0x4E00, 0x4E01, 0xFF01})
+        self.assertEqual(marks - set(maker.JOINED_JAMO), {0x300, 0x301, 0x3099, 0x20DD})
+        self.assertEqual(formats, {0x200B})
+
+    def test_malformed_rows(self):
+        for line in ("0300", "0300;A", "0300;A;Lu", "0300;X;Mn", "300;A;Mn"):
+            with self.assertRaises(maker.Malformed, msg=line):
+                list(maker.width_rows("f", line))
+
+    def test_a_changed_edge_shows(self):
+        made = maker.width_table((15, 0), None)
+        self.assertEqual(maker.differing([(maker.WIDTH_TABLE, made)]), [])
+        self.assertEqual(maker.differing([(maker.WIDTH_TABLE, made.replace("0x1F004", "0x1F003"))]), [maker.WIDTH_TABLE])
 
 
 if __name__ == "__main__":

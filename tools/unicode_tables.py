@@ -1,5 +1,5 @@
 #!/usr/bin/env python3
-"""Makes the tables of the crate `unicode` from Unicode's two data files.
+"""Makes the tables of the crate `unicode` from Unicode's two data files, and the command's table of widths.
 
     tools/unicode_tables.py            write the tables
     tools/unicode_tables.py --check    fail if a committed table differs from what this script makes
@@ -13,6 +13,10 @@ The script reads crates/published_data/data/{emoji-data.txt,emoji-variation-sequ
 - crates/unicode/proofs/blocks/*_block/Proof.antt: the proof for each `match`, with the same lemma for each arm;
 - crates/policy_key_set/src/named_sets.rt: the words of the named sets, with entry i at bit i % 64 of word i / 64;
 - crates/policy/src/default_policy.rt and crates/policy/specs/DefaultPolicy.antt: the words of the default policy.
+
+From host/tilghorz-host/data/widths.txt, which tools/width_data.py makes, it writes
+- host/tilghorz-host/src/width_table.rs: which characters take two columns of a terminal, which take none, and which are format
+  characters.
 """
 
 import pathlib
@@ -29,9 +33,17 @@ BLOCK_PROOFS = ROOT / "crates" / "unicode" / "proofs" / "blocks"
 NAMED_SETS = ROOT / "crates" / "policy_key_set" / "src" / "named_sets.rt"
 DEFAULT_POLICY = ROOT / "crates" / "policy" / "src" / "default_policy.rt"
 DEFAULT_POLICY_SPECS = ROOT / "crates" / "policy" / "specs" / "DefaultPolicy.antt"
+WIDTHS = ROOT / "host" / "tilghorz-host" / "data" / "widths.txt"
+WIDTH_TABLE = ROOT / "host" / "tilghorz-host" / "src" / "width_table.rs"
 
 # Document 01, "Character": the data files have no property for the regional indicators.
 REGIONAL_INDICATORS = range(0x1F1E6, 0x1F1FF + 1)
+
+# The medial and final Hangul jamo. They stand in the two columns of the initial one before them.
+JOINED_JAMO = [*range(0x1160, 0x11FF + 1), *range(0xD7B0, 0xD7C6 + 1), *range(0xD7CB, 0xD7FB + 1)]
+
+# The format characters that are visible: Unicode's property Prepended_Concatenation_Mark.
+VISIBLE_FORMATS = {*range(0x600, 0x605 + 1), 0x6DD, 0x70F, 0x890, 0x891, 0x8E2, 0x110BD, 0x110CD}
 
 # The groups of blocks: a name, the first block of the group, and what the group contains.
 BLOCK_GROUPS = [
@@ -445,6 +457,47 @@ def default_policy_specs(numbered, tables):
     return "\n".join(out) + "\n"
 
 
+def width_rows(name, text):
+    """The rows of widths.txt: a range, its width and its category."""
+    for place, content in content_lines(name, text):
+        match = re.fullmatch(r"([0-9A-F]{4,6})(?:\.\.([0-9A-F]{4,6}))?;(A|F|H|N|Na|W);(Mn|Me|Cf|-)", content)
+        if not match:
+            raise Malformed(f"{place}: it is not a range with a width and a category")
+        yield range(int(match[1], 16), int(match[2] or match[1], 16) + 1), match[3], match[4]
+
+
+def width_sets(rows):
+    """The characters that take two columns, those that take none, and the format characters that are invisible."""
+    wide, marks, formats = set(), set(JOINED_JAMO), set()
+    for points, width, category in rows:
+        if category in ("Mn", "Me"):
+            marks.update(points)
+        elif category == "Cf":
+            formats.update(points)
+        elif width in ("W", "F"):
+            wide.update(points)
+    return wide, marks, formats - VISIBLE_FORMATS
+
+
+def width_table(numbered, _):
+    sets = width_sets(width_rows(WIDTHS.name, WIDTHS.read_text(encoding="utf-8")))
+    whats = [
+        ("WIDE", "The characters that take two columns: East_Asian_Width is W or F."),
+        ("MARKS", "The characters that take no column: the categories Mn and Me, and the medial and final Hangul jamo."),
+        ("FORMATS", "The format characters that are invisible: the category Cf."),
+    ]
+    out = [
+        "//! The widths of characters in Unicode %d.%d, made by tools/unicode_tables.py. Of each range the first character and the" % numbered,
+        "//! one after the last stand in a row, so a character is in the set if the number of edges up to it is odd.",
+    ]
+    for (name, what), points in zip(whats, sets):
+        spans = ranges(points)
+        edges = [f"0x{edge + index % 2:X}" for index, edge in enumerate(spans)]
+        out += ["", f"/// {what}", "#[rustfmt::skip]", f"pub const {name}: [u32; {len(edges)}] = ["]
+        out += ["    " + ", ".join(edges[i : i + 12]) + "," for i in range(0, len(edges), 12)] + ["];"]
+    return "\n".join(out) + "\n"
+
+
 def files():
     """Every file that this script makes, with its text."""
     made = tables()
@@ -457,6 +510,7 @@ def files():
         (NAMED_SETS, named_sets),
         (DEFAULT_POLICY, default_policy),
         (DEFAULT_POLICY_SPECS, default_policy_specs),
+        (WIDTH_TABLE, width_table),
     ]
     return [(path, make(*made)) for path, make in makers]
 

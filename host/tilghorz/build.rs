@@ -35,6 +35,10 @@ fn main() {
             println!("cargo::rustc-link-lib=static=tilghorz");
             // For the test of the C header.
             println!("cargo::rustc-env=TILGHORZ_FOLDER={}", folder.display());
+            let note = fs::read_to_string(folder.join(MADE_FROM)).ok();
+            let kit = note.as_deref().and_then(noted_kit);
+            let kit = kit.unwrap_or("an unknown kit".to_owned());
+            println!("cargo::rustc-env=TILGHORZ_KIT={kit}");
         }
         Err(fault) => {
             for line in fault.lines() {

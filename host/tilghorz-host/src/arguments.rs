@@ -1,27 +1,31 @@
 //! The command line.
 
-use std::ffi::OsString;
+use std::ffi::{OsStr, OsString};
 use std::fmt::{self, Display, Formatter};
 use std::num::NonZero;
 
 use tilghorz::{Context, KeySet, Presentation};
 
 use crate::carry::Carry;
-use crate::fix::Fix;
+use crate::completions::{POLICY_WORDS, Shell};
+use crate::console::Colour;
+use crate::fix::{Choice, Fix};
 use crate::follow::Follow;
 use crate::format::Format;
 use crate::help::Topic;
+use crate::options::did_you_mean;
 use crate::place::Place;
 use crate::policy::{Edit, Policy, PolicyFile};
 use crate::repair::Repair;
 use crate::replace::InPlace;
-use crate::report::{Asked, Report};
+use crate::report::{Asked, Form, Report};
 use crate::rewriting::{Mode, Rewriting};
-use crate::show::Show;
+use crate::show::{Extent, Show};
 use crate::source::Source;
 use crate::tips::Tips;
+use crate::visible;
 use crate::walk::{Pattern, Selection};
-use crate::words::{Word, Words, unknown};
+use crate::words::{Word, Words};
 use crate::work::Manner;
 
 /// What the command is asked to do.
@@ -45,6 +49,10 @@ pub enum Command {
     Show(Show),
     /// `policy`.
     Policy(Policy),
+    /// `completions`.
+    Completions(Shell),
+    /// `man`.
+    Man,
 }
 
 /// What is wrong with a command line, and which help has more.
@@ -56,7 +64,8 @@ pub struct Wrong {
 
 impl Display for Wrong {
     fn fmt(&self, out: &mut Formatter<'_>) -> fmt::Result {
-        let message = &self.message;
+        // A word of the command line may have control characters.
+        let message = visible::text(&self.message);
         match &self.topic {
             None => write!(out, "{message}\ntry: tilghorz-host help"),
             Some(topic) => write!(out, "{topic}: {message}\ntry: tilghorz-host help {topic}"),
@@ -82,16 +91,25 @@ pub fn parse(words: impl IntoIterator<Item = OsString>) -> Result<Command, Wrong
         ("version" | "--version" | "-V", _) if words.is_empty() => Ok(Command::Version),
         ("version", _) if asks_for_help => Ok(Command::Help(Topic::All)),
         ("version" | "--version" | "-V", _) => Err(wrong("version takes no argument".to_owned())),
-        (_, Some(topic)) if asks_for_help => Ok(Command::Help(topic)),
-        (_, Some(topic)) => command(topic, Words::new(words)).map_err(|message| Wrong {
-            topic: Some(name),
-            message,
-        }),
-        (_, None) => Err(wrong(format!("{name}: not a command"))),
+        (_, Some(topic)) if topic.is_command() && asks_for_help => Ok(Command::Help(topic)),
+        (_, Some(topic)) if topic.is_command() => {
+            command(topic, Words::new(topic, words)).map_err(|message| Wrong {
+                topic: Some(name),
+                message,
+            })
+        }
+        _ => Err(wrong(no_command(&name, &[]))),
     }
 }
 
-/// Help on a topic that may be named. That of `help` and `version` is the help on all; `folders` is no command.
+/// The message that a word is no command. Beside the commands, these words may be meant.
+fn no_command(name: &str, more: &[&str]) -> String {
+    let commands = Topic::All.entries().map(|entry| entry.head);
+    let meant = did_you_mean(name, commands.chain(more.iter().copied()));
+    format!("{name}: not a command{meant}")
+}
+
+/// Help on a topic that may be named. That of `help` and `version` is the help on all.
 fn help(words: &[OsString]) -> Result<Command, String> {
     let name = match words {
         [] => return Ok(Command::Help(Topic::All)),
@@ -100,23 +118,46 @@ fn help(words: &[OsString]) -> Result<Command, String> {
     };
     let topic = match name.as_ref() {
         "help" | "version" => Some(Topic::All),
-        "folders" => Some(Topic::Folders),
         name => Topic::of(name),
     };
-    let topic = topic.ok_or(format!("{name}: not a command"))?;
+    let topic = topic.ok_or_else(|| no_command(&name, &["findings", "folders"]))?;
     Ok(Command::Help(topic))
 }
 
 /// Reads the words after a command's name.
 fn command(topic: Topic, words: Words) -> Result<Command, String> {
     match topic {
-        Topic::All | Topic::Folders => Ok(Command::Help(topic)),
+        Topic::All | Topic::Folders | Topic::Findings => Ok(Command::Help(topic)),
         Topic::Format => format(words),
         Topic::Repair => repair(words).map(Command::Repair),
         Topic::Report => report(words).map(Command::Report),
         Topic::Fix => fix(words).map(Command::Fix),
         Topic::Show => show(words).map(Command::Show),
         Topic::Policy => policy(words).map(Command::Policy),
+        Topic::Completions => completions(words).map(Command::Completions),
+        Topic::Man => match names(words)?.is_empty() {
+            true => Ok(Command::Man),
+            false => Err("it takes no argument".to_owned()),
+        },
+    }
+}
+
+/// The words of a command without options.
+fn names(mut words: Words) -> Result<Vec<OsString>, String> {
+    let mut names = Vec::new();
+    while let Some(word) = words.next()? {
+        match word {
+            Word::Name(name) => names.push(name),
+            Word::Option(option) => return words.unknown(&option),
+        }
+    }
+    Ok(names)
+}
+
+fn completions(words: Words) -> Result<Shell, String> {
+    match names(words)?.as_slice() {
+        [shell] => Shell::of(&shell.to_string_lossy()),
+        _ => Err("it takes one shell: bash, zsh or fish".to_owned()),
     }
 }
 
@@ -126,16 +167,34 @@ fn texts(
     mut words: Words,
     mut option: impl FnMut(&str, &mut Words) -> Result<bool, String>,
 ) -> Result<(Vec<Source>, PolicyFile), String> {
-    let (mut names, mut policy) = (Vec::new(), PolicyFile::default());
+    let (mut names, mut policy, mut input) = (Vec::new(), PolicyFile::default(), None);
     while let Some(word) = words.next()? {
         match word {
             Word::Name(name) => names.push(Source::of(&name)),
             Word::Option(name) if name == "--policy" => words.policy(&name, &mut policy)?,
+            Word::Option(name) if name == "--stdin-filename" => input = Some(words.value(&name)?),
             Word::Option(name) if option(&name, &mut words)? => {}
-            Word::Option(name) => return unknown(&name),
+            Word::Option(name) => return words.unknown(&name),
         }
     }
+    if let Some(input) = input {
+        name_input(&mut names, &input)?;
+    }
     Ok((names, policy))
+}
+
+/// Gives standard input a name.
+fn name_input(names: &mut Vec<Source>, name: &OsStr) -> Result<(), String> {
+    if names.is_empty() {
+        names.push(Source::Input);
+    }
+    if !names.contains(&Source::Input) {
+        return Err("--stdin-filename: standard input is not read".to_owned());
+    }
+    for source in names.iter_mut().filter(|source| **source == Source::Input) {
+        *source = Source::Named(name.into());
+    }
+    Ok(())
 }
 
 /// Sets a flag if the option is its name.
@@ -235,6 +294,8 @@ fn format(words: Words) -> Result<Command, String> {
         let others = [
             (repairs, REPAIR),
             (writing.check, "--check"),
+            (writing.diff, "--diff"),
+            (writing.null, "--null"),
             (writing.changing.in_place, "--in-place"),
             (writing.changing.new_owner, "--new-owner"),
             (writing.changing.no_sync, "--no-sync"),
@@ -250,9 +311,10 @@ fn format(words: Words) -> Result<Command, String> {
 
 fn repair(words: Words) -> Result<Repair, String> {
     let mut writing = Writing::default();
+    let unknown = words.unknown("--policy");
     let (names, policy) = texts(words, |option, words| writing.take(option, words))?;
     if policy.0.is_some() {
-        return unknown("--policy");
+        return unknown;
     }
     Ok(Repair {
         rewriting: writing.of(names)?,
@@ -266,6 +328,9 @@ const REPAIR: &str = "--repair";
 #[derive(Default)]
 struct Writing {
     check: bool,
+    null: bool,
+    diff: bool,
+    colour: Colour,
     changing: Changing,
     going: Going,
 }
@@ -273,7 +338,13 @@ struct Writing {
 impl Writing {
     /// Does what an option says, if it is one of these.
     fn take(&mut self, option: &str, words: &mut Words) -> Result<bool, String> {
+        if option == "--color" {
+            self.colour = Colour::of(&words.text(option)?)?;
+            return Ok(true);
+        }
         Ok(set(&mut self.check, "--check", option)
+            || set(&mut self.null, "--null", option)
+            || set(&mut self.diff, "--diff", option)
             || self.changing.take(option)
             || self.going.take(option, words)?)
     }
@@ -281,14 +352,21 @@ impl Writing {
     /// What is to be done with the texts of these names.
     fn of(self, names: Vec<Source>) -> Result<Rewriting, String> {
         self.going.test()?;
-        let mode = match (self.check, self.changing.in_place) {
-            (true, true) => {
+        let mode = match (self.check, self.diff, self.changing.in_place) {
+            (true, _, true) => {
                 return Err("--check and --in-place cannot be used together".to_owned());
             }
-            (true, false) => Mode::Check,
-            (false, true) => Mode::InPlace,
-            (false, false) => Mode::Write,
+            (_, true, true) => {
+                return Err("--diff and --in-place cannot be used together".to_owned());
+            }
+            (_, true, _) => Mode::Diff(self.colour.is_used()),
+            (true, ..) => Mode::Check { null: self.null },
+            (_, _, true) => Mode::InPlace,
+            _ => Mode::Write,
         };
+        if self.null && !matches!(mode, Mode::Check { .. }) {
+            return Err("--null can only be used with --check".to_owned());
+        }
         let Going {
             selection,
             mut manner,
@@ -323,14 +401,14 @@ fn follow(
 
 /// Whether names can be changed in place.
 fn are_files(names: &[Source]) -> Result<(), String> {
-    if names.is_empty() || names.contains(&Source::Input) {
+    if names.is_empty() || names.iter().any(Source::is_input) {
         return Err("--in-place: standard input cannot be changed in place".to_owned());
     }
     Ok(())
 }
 
 fn report(words: Words) -> Result<Report, String> {
-    let (mut json, mut items, mut repairs) = (false, false, false);
+    let (mut form, mut items, mut repairs) = (Form::Lines, false, false);
     let (mut at, mut from, mut to) = (None, None, None);
     let mut going = Going::default();
     let (names, policy) = texts(words, |option, words| {
@@ -338,9 +416,16 @@ fn report(words: Words) -> Result<Report, String> {
             "--at" => &mut at,
             "--from" => &mut from,
             "--to" => &mut to,
+            "--format" => {
+                form = Form::of(&words.text(option)?)?;
+                return Ok(true);
+            }
+            "--json" => {
+                form = Form::Json;
+                return Ok(true);
+            }
             _ => {
-                return Ok(set(&mut json, "--json", option)
-                    || set(&mut items, "--items", option)
+                return Ok(set(&mut items, "--items", option)
                     || set(&mut repairs, REPAIR, option)
                     || going.take(option, words)?);
             }
@@ -349,9 +434,12 @@ fn report(words: Words) -> Result<Report, String> {
         Ok(true)
     })?;
     going.test()?;
+    if items && form == Form::Short {
+        return Err("--items and --format short cannot be used together".to_owned());
+    }
     let Going { selection, manner } = going;
     Ok(Report {
-        json,
+        form,
         asked: asked(items, at, from, to)?,
         repairs,
         policy,
@@ -381,12 +469,21 @@ fn asked(
 }
 
 fn fix(words: Words) -> Result<Fix, String> {
-    let (mut at, mut decisions, mut changing) = (None, Vec::new(), Changing::default());
+    // Decisions before the first `--at` are those of the only one.
+    let (mut choices, mut early) = (Vec::<Choice>::new(), Vec::new());
+    let mut changing = Changing::default();
     let (mut repairs, mut binary) = (false, false);
     let (mut names, policy) = texts(words, |option, words| {
         match option {
-            "--at" => at = Some(offset(&words.text(option)?)?),
-            "--decide" => decide(words, &mut decisions)?,
+            "--at" => choices.push(Choice {
+                at: Place::of(option, &words.text(option)?)?,
+                decisions: Vec::new(),
+            }),
+            "--decide" => {
+                let last = choices.last_mut().map(|choice| &mut choice.decisions);
+                let last = last.unwrap_or(&mut early);
+                last.extend(decisions(&words.text(option)?)?);
+            }
             _ => {
                 return Ok(set(&mut repairs, REPAIR, option)
                     || set(&mut binary, "--binary", option)
@@ -396,12 +493,17 @@ fn fix(words: Words) -> Result<Fix, String> {
         Ok(true)
     })?;
     let in_place = changing.of(&names)?;
+    match choices.as_mut_slice() {
+        [] => return Err("--at PLACE is missing".to_owned()),
+        [only] => only.decisions.splice(..0, early).for_each(drop),
+        _ if !early.is_empty() => return Err("--decide: no --at before it".to_owned()),
+        _ => {}
+    }
     if names.len() > 1 {
         return Err("it takes one text only".to_owned());
     }
     Ok(Fix {
-        at: at.ok_or("--at OFFSET is missing")?,
-        decisions,
+        choices,
         repairs,
         binary,
         in_place,
@@ -410,41 +512,56 @@ fn fix(words: Words) -> Result<Fix, String> {
     })
 }
 
-/// An offset in decimal digits.
-fn offset(text: &str) -> Result<usize, String> {
-    text.parse()
-        .map_err(|_| format!("--at {text}: not an offset in bytes"))
-}
-
-/// The decisions after `--decide`: one, and all further words that are decisions.
-fn decide(words: &mut Words, decisions: &mut Vec<Presentation>) -> Result<(), String> {
+/// The decisions of a value of `--decide`, with commas between them.
+fn decisions(text: &str) -> Result<Vec<Option<Presentation>>, String> {
     let decision = |word: &str| match word {
-        "text" => Some(Presentation::Text),
-        "emoji" => Some(Presentation::Emoji),
-        _ => None,
+        "text" => Ok(Some(Presentation::Text)),
+        "emoji" => Ok(Some(Presentation::Emoji)),
+        "default" => Ok(None),
+        _ => Err(format!(
+            "--decide {text}: {word:?} is neither text, emoji nor default"
+        )),
     };
-    let first = words.text("--decide")?;
-    decisions.push(decision(&first).ok_or(format!("--decide {first}: neither text nor emoji"))?);
-    while let Some(further) = words.next_if_some(decision) {
-        decisions.push(further);
-    }
-    Ok(())
+    text.split(',').map(decision).collect()
 }
 
 fn show(words: Words) -> Result<Show, String> {
     let (mut repairs, mut going) = (false, Going::default());
+    let (mut all, mut context, mut colour) = (false, None, Colour::default());
     let (names, policy) = texts(words, |option, words| {
-        Ok(set(&mut repairs, REPAIR, option) || going.take(option, words)?)
+        match option {
+            "--context" => context = Some(lines(&words.text(option)?)?),
+            "--color" => colour = Colour::of(&words.text(option)?)?,
+            _ => {
+                return Ok(set(&mut all, "--all", option)
+                    || set(&mut repairs, REPAIR, option)
+                    || going.take(option, words)?);
+            }
+        }
+        Ok(true)
     })?;
     going.test()?;
     let Going { selection, manner } = going;
+    let extent = match (all, context) {
+        (true, Some(_)) => return Err("--all and --context cannot be used together".to_owned()),
+        (true, None) => Extent::All,
+        (false, context) => Extent::Around(context.unwrap_or(0)),
+    };
     Ok(Show {
+        extent,
+        is_coloured: colour.is_used(),
         repairs,
         policy,
         names,
         selection,
         manner,
     })
+}
+
+/// A number of lines.
+fn lines(text: &str) -> Result<usize, String> {
+    text.parse()
+        .map_err(|_| format!("--context {text}: not a number of lines"))
 }
 
 fn policy(mut words: Words) -> Result<Policy, String> {
@@ -463,7 +580,7 @@ fn policy(mut words: Words) -> Result<Policy, String> {
                 ("write", "--add" | "--take") => edits.push(edit(&mut words, &option)?),
                 ("print", "--members") => members = true,
                 ("carry", "--from") => words.policy(&option, &mut from)?,
-                _ => return unknown(&option),
+                _ => return words.unknown(&option),
             },
         }
     }
@@ -487,7 +604,10 @@ fn policy(mut words: Words) -> Result<Policy, String> {
                 .ok_or("carry: a file is missing")?,
         })),
         "write" => Ok(Policy::Write(first.unwrap_or_default(), edits)),
-        _ => Err(format!("unknown policy command {action}")),
+        _ => {
+            let meant = did_you_mean(&action, POLICY_WORDS);
+            Err(format!("unknown policy command {action}{meant}"))
+        }
     }
 }
 

@@ -15,6 +15,45 @@ pub enum Status {
     Fault = 2,
 }
 
+/// Whether what is written to standard output is coloured.
+#[derive(Debug, Default, Clone, Copy, PartialEq, Eq)]
+pub enum Colour {
+    /// If it is a terminal that has colours. The environment may say otherwise.
+    #[default]
+    Auto,
+    /// Always.
+    Always,
+    /// Never.
+    Never,
+}
+
+impl Colour {
+    /// The value of `--color`.
+    pub fn of(text: &str) -> Result<Self, String> {
+        match text {
+            "auto" => Ok(Self::Auto),
+            "always" => Ok(Self::Always),
+            "never" => Ok(Self::Never),
+            _ => Err(format!("--color {text}: neither auto, always nor never")),
+        }
+    }
+
+    /// Whether it is coloured now.
+    pub fn is_used(self) -> bool {
+        let variable = |name| std::env::var_os(name).filter(|value| !value.is_empty());
+        match self {
+            Self::Always => true,
+            Self::Never => false,
+            Self::Auto if variable("NO_COLOR").is_some() => false,
+            Self::Auto if variable("CLICOLOR_FORCE").is_some_and(|value| value != "0") => true,
+            Self::Auto => {
+                let is_dumb = variable("TERM").is_some_and(|value| value == "dumb");
+                io::stdout().is_terminal() && !is_dumb
+            }
+        }
+    }
+}
+
 /// The two outputs.
 pub struct Console {
     /// Standard output.
@@ -40,13 +79,6 @@ impl Console {
     pub fn print(&mut self, text: &str) -> io::Result<Status> {
         self.out.write_all(text.as_bytes())?;
         Ok(Status::Good)
-    }
-
-    /// Whether what standard output gets may be coloured: it is a terminal that has colours, and nobody said no.
-    pub fn has_colours() -> bool {
-        let is_set = |name| std::env::var_os(name).is_some_and(|value| !value.is_empty());
-        let is_dumb = std::env::var_os("TERM").is_some_and(|value| value == "dumb");
-        io::stdout().is_terminal() && !is_set("NO_COLOR") && !is_dumb
     }
 
     /// Writes a message with the command's name to standard error.

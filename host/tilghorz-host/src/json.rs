@@ -1,10 +1,14 @@
 //! The little of JSON that a report needs.
 
 use std::fmt::{self, Display, Formatter, Write};
+use std::str;
 
 use tilghorz::{Counts, Finding, Item, Refusal, Tip};
 
+use crate::help;
 use crate::report::kind_name;
+use crate::sha256::Digest;
+use crate::source::Source;
 
 /// A text in quotes.
 pub struct Quoted<'a>(pub &'a str);
@@ -23,8 +27,49 @@ impl Display for Quoted<'_> {
     }
 }
 
+/// How the object of a text begins: the file, and with what it was read.
+pub struct Head<'a> {
+    /// Where the text comes from.
+    pub source: &'a Source,
+    /// The digest of the policy.
+    pub policy: Digest,
+    /// The digest of the text as it was read, if it was read whole.
+    pub text: Option<Digest>,
+    /// How many bad places were replaced, if that was asked for.
+    pub replaced: Option<usize>,
+}
+
+impl Display for Head<'_> {
+    fn fmt(&self, out: &mut Formatter<'_>) -> fmt::Result {
+        let name = self.source.name();
+        write!(out, "\"file\":{}", Quoted(&String::from_utf8_lossy(name)))?;
+        if str::from_utf8(name).is_err() {
+            write!(out, ",\"file_hex\":\"")?;
+            name.iter().try_for_each(|byte| write!(out, "{byte:02x}"))?;
+            write!(out, "\"")?;
+        }
+        let (tool, unicode) = (help::TOOL, tilghorz::version());
+        write!(out, ",\"tool\":\"{tool}\",\"unicode\":\"{unicode}\"")?;
+        write!(out, ",\"policy_sha256\":\"{}\"", self.policy)?;
+        if let Some(text) = self.text {
+            write!(out, ",\"text_sha256\":\"{text}\"")?;
+        }
+        if let Some(replaced) = self.replaced {
+            write!(out, ",\"replaced\":{replaced}")?;
+        }
+        Ok(())
+    }
+}
+
 /// A finding as an object.
-pub struct FindingObject<'a>(pub &'a Finding);
+pub struct FindingObject<'a> {
+    /// The finding.
+    pub finding: &'a Finding,
+    /// The line and the column of its start.
+    pub place: (usize, usize),
+    /// What formatting makes of it.
+    pub replacement: &'a str,
+}
 
 impl Display for FindingObject<'_> {
     fn fmt(&self, out: &mut Formatter<'_>) -> fmt::Result {
@@ -36,12 +81,14 @@ impl Display for FindingObject<'_> {
             char_end,
             utf16_start,
             utf16_end,
-        } = self.0;
+        } = self.finding;
+        let (line, column) = self.place;
         write!(
             out,
-            "{{\"start\":{start},\"end\":{end},{},\"char_start\":{char_start},\"char_end\":{char_end},\
-             \"utf16_start\":{utf16_start},\"utf16_end\":{utf16_end}}}",
-            Members(counts)
+            "{{\"start\":{start},\"end\":{end},\"line\":{line},\"column\":{column},{},\"char_start\":{char_start},\
+             \"char_end\":{char_end},\"utf16_start\":{utf16_start},\"utf16_end\":{utf16_end},\"replacement\":{}}}",
+            Members(counts),
+            Quoted(self.replacement)
         )
     }
 }
@@ -120,16 +167,34 @@ impl Display for TipObject<'_> {
     }
 }
 
-/// A refusal as an object.
-pub struct RefusalObject(pub Refusal);
+/// Why there are no findings of a text, as an object.
+pub enum ErrorObject<'a> {
+    /// It was refused; where it is damaged, at this line and column.
+    Refused(Refusal, Option<(usize, usize)>),
+    /// It could not be read.
+    Unread(&'a str),
+    /// It does not have the place that was asked for.
+    NoPlace(&'a str),
+}
 
-impl Display for RefusalObject {
+impl Display for ErrorObject<'_> {
     fn fmt(&self, out: &mut Formatter<'_>) -> fmt::Result {
-        write!(out, "{{\"number\":{},", self.0.number())?;
-        if let Some(value) = self.0.value() {
-            write!(out, "\"value\":{value},")?;
+        let (kind, message) = match self {
+            Self::Refused(refusal, _) => ("refused", &*refusal.to_string()),
+            Self::Unread(message) => ("unread", *message),
+            Self::NoPlace(message) => ("no_place", *message),
+        };
+        write!(out, "{{\"kind\":\"{kind}\"")?;
+        if let Self::Refused(refusal, place) = self {
+            write!(out, ",\"number\":{}", refusal.number())?;
+            if let Some(value) = refusal.value() {
+                write!(out, ",\"value\":{value}")?;
+            }
+            if let Some((line, column)) = place {
+                write!(out, ",\"line\":{line},\"column\":{column}")?;
+            }
         }
-        write!(out, "\"message\":{}}}", Quoted(&self.0.to_string()))
+        write!(out, ",\"message\":{}}}", Quoted(message))
     }
 }
 

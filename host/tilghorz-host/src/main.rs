@@ -8,22 +8,29 @@
 
 mod arguments;
 mod carry;
+mod completions;
 mod console;
+mod diff;
+mod findings;
 mod fix;
 mod follow;
 mod format;
 mod glob;
 mod help;
+mod help_texts;
 mod ignore;
 mod intake;
 mod interrupt;
 mod json;
+mod man;
+mod options;
 mod place;
 mod policy;
 mod repair;
 mod replace;
 mod report;
 mod rewriting;
+mod sha256;
 mod sheet;
 mod show;
 mod source;
@@ -32,6 +39,7 @@ mod tally;
 mod tips;
 mod visible;
 mod walk;
+mod width_table;
 mod words;
 mod work;
 
@@ -57,7 +65,7 @@ fn main() -> ExitCode {
 /// Does what the command line asks. An error is one of standard output.
 fn run(command: &Command, console: &mut Console) -> io::Result<Status> {
     match command {
-        Command::Help(topic) => console.print(help::text(*topic)),
+        Command::Help(topic) => console.print(topic.text()),
         Command::Version => console.print(&help::version()),
         Command::Format(format) => format.run(console),
         Command::Repair(repair) => repair.run(console),
@@ -66,6 +74,8 @@ fn run(command: &Command, console: &mut Console) -> io::Result<Status> {
         Command::Fix(fix) => fix.run(console),
         Command::Show(show) => show.run(console),
         Command::Policy(policy) => policy.run(console),
+        Command::Completions(shell) => console.print(&shell.completions()),
+        Command::Man => console.print(&man::page()),
     }
 }
 

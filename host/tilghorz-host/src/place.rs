@@ -55,6 +55,42 @@ impl Place {
     }
 }
 
+/// Lines and columns of offsets in a text, counted from 1. From one offset to a later one only what is between is read.
+pub struct Positions<'a> {
+    text: &'a [u8],
+    offset: usize,
+    line: usize,
+    column: usize,
+}
+
+impl<'a> Positions<'a> {
+    /// At the start of a text.
+    pub fn new(text: &'a [u8]) -> Self {
+        Self {
+            text,
+            offset: 0,
+            line: 1,
+            column: 1,
+        }
+    }
+
+    /// The line and the column of an offset.
+    pub fn of(&mut self, offset: usize) -> (usize, usize) {
+        if offset < self.offset {
+            *self = Self::new(self.text);
+        }
+        for byte in self.text.iter().take(offset).skip(self.offset) {
+            match byte {
+                b'\n' => (self.line, self.column) = (self.line + 1, 1),
+                0x80..=0xBF => {}
+                _ => self.column += 1,
+            }
+        }
+        self.offset = offset;
+        (self.line, self.column)
+    }
+}
+
 #[cfg(test)]
 mod tests {
     use super::*;
@@ -86,5 +122,16 @@ mod tests {
         );
         assert_eq!(Place::Byte(99).offset(b"a"), Some(99));
         assert_eq!(Place::Line(1, 1).offset(b"\xFF"), Some(0));
+    }
+
+    #[test]
+    fn positions_are_those_of_places() {
+        let text = "ab\n\u{2764}\u{FE0F}c\n\nd";
+        let mut positions = Positions::new(text.as_bytes());
+        let offsets = || text.char_indices().map(|(at, _)| at).chain([text.len()]);
+        for at in offsets().chain(offsets().rev()) {
+            let (line, column) = positions.of(at);
+            assert_eq!(Place::Line(line, column).offset(text.as_bytes()), Some(at));
+        }
     }
 }

@@ -7,6 +7,7 @@ use std::io;
 use tilghorz::Repaired;
 
 use crate::console::{Console, Status};
+use crate::diff;
 use crate::intake::{self, Purpose};
 use crate::source::{Source, Text};
 use crate::tally::Outcome;
@@ -18,8 +19,13 @@ use crate::work::{self, Manner, Page};
 pub enum Mode {
     /// It is written to standard output.
     Write,
-    /// Its file is named if it differs.
-    Check,
+    /// Its file is named if it differs. After the name comes a line feed, or a byte 00.
+    Check {
+        /// A byte 00.
+        null: bool,
+    },
+    /// What differs is written, with colours or without.
+    Diff(bool),
     /// Its file is changed if it differs.
     InPlace,
 }
@@ -49,13 +55,15 @@ impl Rewriting {
         let is_folder = |name: &Source| matches!(name, Source::File(path) if path.is_dir());
         if self.mode == Mode::Write && (self.names.len() > 1 || self.names.iter().any(is_folder)) {
             console.complain(&format_args!(
-                "{name}: several texts can only be given with --in-place or --check: standard output takes one text"
+                "{name}: several texts can only be given with --in-place, --check or --diff: standard output takes one text"
             ));
             return Ok(Status::Fault);
         }
         let entries = Entries::of(&self.names, &self.selection, self.mode == Mode::InPlace);
         let words = match self.mode {
-            Mode::Check => ["would change", "would not", "would be repaired"],
+            Mode::Check { .. } | Mode::Diff(_) => {
+                ["would change", "would not", "would be repaired"]
+            }
             _ => ["changed", "unchanged", "repaired"],
         };
         let one = |source: &Source, text: &Text, page: &mut Page<'_, '_>| {
@@ -63,7 +71,7 @@ impl Rewriting {
         };
         let tally = work::each(&entries, words, self.manner, console, one)?;
         Ok(tally.status(match self.mode {
-            Mode::Check => Status::Different,
+            Mode::Check { .. } | Mode::Diff(_) => Status::Different,
             _ => Status::Good,
         }))
     }
@@ -89,9 +97,12 @@ impl Rewriting {
         match (self.mode, &new) {
             (Mode::Write, _) => page.out.write_all(&new)?,
             (_, Cow::Borrowed(_)) => {}
-            (Mode::Check, Cow::Owned(_)) => {
+            (Mode::Check { null }, Cow::Owned(_)) => {
                 page.out.write_all(source.name())?;
-                page.out.write_all(b"\n")?;
+                page.out.write_all(if null { b"\0" } else { b"\n" })?;
+            }
+            (Mode::Diff(is_coloured), Cow::Owned(bytes)) => {
+                diff::write(&source.label(), &text.bytes, bytes, is_coloured, page.out)?;
             }
             (Mode::InPlace, Cow::Owned(bytes)) => {
                 let fault = intake::fault(text, replaced, self.selection.binary);
@@ -117,7 +128,7 @@ impl Rewriting {
     /// What the texts are taken in for.
     const fn purpose(&self) -> Purpose {
         match self.mode {
-            Mode::Check => Purpose::Check,
+            Mode::Check { .. } | Mode::Diff(_) => Purpose::Check,
             Mode::Write | Mode::InPlace => Purpose::Write,
         }
     }

@@ -1,10 +1,14 @@
 //! `tilghorz-host show`.
 
+use std::collections::VecDeque;
 use std::io::{self, Write};
+use std::ops::Range;
+use std::str;
 
-use tilghorz::{Counts, Finding, Policy, Table};
+use tilghorz::{Finding, Policy};
 
 use crate::console::{Console, Status};
+use crate::findings::{self, Findings};
 use crate::intake::{self, Purpose};
 use crate::policy::PolicyFile;
 use crate::source::{Source, Text};
@@ -16,6 +20,10 @@ use crate::work::{self, Manner, Page};
 /// The command.
 #[derive(Debug, PartialEq, Eq)]
 pub struct Show {
+    /// Which lines are shown.
+    pub extent: Extent,
+    /// Whether they are coloured.
+    pub is_coloured: bool,
     /// Whether bad places are replaced first.
     pub repairs: bool,
     /// The policy.
@@ -26,6 +34,15 @@ pub struct Show {
     pub selection: Selection,
     /// How they are gone through.
     pub manner: Manner,
+}
+
+/// Which lines of a text are shown.
+#[derive(Debug, Clone, Copy, PartialEq, Eq)]
+pub enum Extent {
+    /// Those with findings, and this number of lines before and after each.
+    Around(usize),
+    /// All.
+    All,
 }
 
 /// What stands before and after the parts of a line: colours, or nothing.
@@ -56,6 +73,17 @@ const PLAIN: Style = Style {
     plain: "",
 };
 
+/// A line with more columns than these is shown in windows.
+const LONG: usize = 160;
+/// The columns of a window.
+const WINDOW: usize = 120;
+/// The columns before the first finding of a window.
+const BEFORE: usize = 40;
+/// The columns that a window may have more, where it would end inside a finding.
+const MORE: usize = 60;
+/// What stands where a line is cut.
+const CUT: &str = "...";
+
 impl Show {
     /// Shows the texts.
     pub fn run(&self, console: &mut Console) -> io::Result<Status> {
@@ -64,17 +92,10 @@ impl Show {
         };
         let entries = Entries::of(&self.names, &self.selection, false);
         console.keep_progress_off_terminal();
-        let style = if Console::has_colours() {
-            COLOURED
-        } else {
-            PLAIN
-        };
+        let style = if self.is_coloured { &COLOURED } else { &PLAIN };
         let words = ["with findings", "without", "repaired"];
         let one = |source: &Source, text: &Text, page: &mut Page<'_, '_>| {
-            if entries.are_many {
-                writeln!(page.out, "==> {source} <==")?;
-            }
-            self.one(source, text, &policy, &style, page)
+            self.one(source, text, &policy, style, entries.are_many, page)
         };
         let tally = work::each(&entries, words, self.manner, console, one)?;
         Ok(tally.status(Status::Good))
@@ -87,10 +108,11 @@ impl Show {
         text: &Text,
         policy: &Policy,
         style: &Style,
+        are_many: bool,
         page: &mut Page<'_, '_>,
     ) -> io::Result<Outcome> {
         let taken = intake::take_in(text, self.repairs);
-        let findings = match tilghorz::findings(&taken.text, policy) {
+        let mut findings = match Findings::of(&taken.text, policy) {
             Ok(findings) => findings,
             Err(refusal) => {
                 page.complain(intake::refused(source, refusal, &taken));
@@ -98,8 +120,23 @@ impl Show {
             }
         };
         page.tell_replaced(source, text, taken.replaced, Purpose::Read);
-        write_text(&taken.text, &findings, policy, style, page.out)?;
-        Ok(if findings.is_empty() {
+        let is_clean = findings.peek().is_none();
+        if are_many && (!is_clean || self.extent == Extent::All) {
+            writeln!(page.out, "==> {source} <==")?;
+        }
+        // A text that is not refused is UTF-8.
+        let shown = str::from_utf8(&taken.text).unwrap_or_default();
+        let mut sheet = Sheet {
+            text: shown,
+            policy,
+            style,
+            out: page.out,
+        };
+        match self.extent {
+            Extent::All => sheet.write_all(&mut findings)?,
+            Extent::Around(context) => sheet.write_around(&mut findings, context)?,
+        }
+        Ok(if is_clean {
             Outcome::Clean
         } else {
             Outcome::Found
@@ -107,72 +144,225 @@ impl Show {
     }
 }
 
-/// Writes the lines of a text, and under each its findings.
-fn write_text(
-    text: &[u8],
-    findings: &Table<Finding>,
-    policy: &Policy,
-    style: &Style,
-    out: &mut dyn Write,
-) -> io::Result<()> {
-    let shown = String::from_utf8_lossy(text);
-    let mut rest = findings.iter().peekable();
-    let mut start = 0;
-    for (index, line) in shown.split_inclusive('\n').enumerate() {
-        let end = start + line.len();
-        let mut in_line = Vec::new();
-        while let Some(finding) = rest.next_if(|finding| finding.start < end) {
-            in_line.push(finding);
-        }
-        let line = line.strip_suffix('\n').unwrap_or(line);
-        write_line(index + 1, line, start, &in_line, style, out)?;
-        for finding in in_line {
-            write_finding(&finding, text, policy, style, out)?;
-        }
-        start = end;
-    }
-    Ok(())
+/// A text and where it is shown.
+struct Sheet<'a> {
+    text: &'a str,
+    policy: &'a Policy,
+    style: &'a Style,
+    out: &'a mut dyn Write,
 }
 
-/// Writes a line that starts at an offset, and the marks of its findings under it.
-fn write_line(
+/// A line of a text.
+#[derive(Clone)]
+struct Line<'a> {
     number: usize,
-    line: &str,
+    /// Where it starts.
     start: usize,
-    findings: &[Finding],
-    style: &Style,
-    out: &mut dyn Write,
-) -> io::Result<()> {
-    let (mut shown, mut marks, mut column) = (String::new(), String::new(), 0);
-    let mut rest = findings;
-    for (index, character) in line.char_indices() {
-        let mark = mark_at(start + index, &mut rest);
-        let mut piece = String::new();
-        let Shown {
-            columns,
-            by_code_point,
-        } = visible::push(character, column, &mut piece);
-        if by_code_point {
-            shown.extend([style.code_point, &piece, style.plain]);
-        } else {
-            shown.push_str(&piece);
+    /// Where the next line starts.
+    end: usize,
+    /// It, without the line feed, and without the carriage return before that.
+    shown: &'a str,
+}
+
+/// The lines of a text.
+fn lines(text: &str) -> impl Iterator<Item = Line<'_>> {
+    let mut end = 0;
+    text.split_inclusive('\n')
+        .zip(1..)
+        .map(move |(line, number)| {
+            let start = end;
+            end += line.len();
+            let shown = line.strip_suffix("\r\n").or(line.strip_suffix('\n'));
+            Line {
+                number,
+                start,
+                end,
+                shown: shown.unwrap_or(line),
+            }
+        })
+}
+
+impl Sheet<'_> {
+    /// Writes all lines, with their findings.
+    fn write_all(&mut self, findings: &mut Findings<'_>) -> io::Result<()> {
+        lines(self.text).try_for_each(|line| self.write_line(&line, true, findings))
+    }
+
+    /// Writes the lines with findings, and some lines around them.
+    fn write_around(&mut self, findings: &mut Findings<'_>, context: usize) -> io::Result<()> {
+        // The last lines before this one that are not written, and how many are to be written after one with findings.
+        let (mut before, mut after) = (VecDeque::new(), 0);
+        // The number of the line after the last one that was written.
+        let mut next = 1;
+        for line in lines(self.text) {
+            let first = findings.peek().map(|finding| finding.start);
+            if first.is_none() && after == 0 {
+                return Ok(());
+            }
+            if first.is_some_and(|first| first < line.end) {
+                if context > 0 && next > 1 && next + before.len() < line.number {
+                    let Style { faint, plain, .. } = self.style;
+                    writeln!(self.out, "{faint}   {CUT} |{plain}")?;
+                }
+                for line in before.drain(..) {
+                    self.write_beginning(&line)?;
+                }
+                self.write_line(&line, !is_long(line.shown), findings)?;
+                (next, after) = (line.number + 1, context);
+            } else if after > 0 {
+                self.write_beginning(&line)?;
+                (next, after) = (line.number + 1, after - 1);
+            } else {
+                before.push_back(line);
+                if before.len() > context {
+                    before.pop_front();
+                }
+            }
         }
-        let further = if mark == '^' { '~' } else { mark };
-        marks.extend((0..columns).map(|column| if column == 0 { mark } else { further }));
-        column += columns;
+        Ok(())
     }
-    let Style {
-        faint, mark, plain, ..
-    } = style;
-    writeln!(out, "{faint}{number:>6} |{plain} {shown}")?;
-    if !findings.is_empty() {
-        writeln!(
-            out,
-            "{faint}       |{plain} {mark}{}{plain}",
-            marks.trim_end()
+
+    /// Writes a line without findings. Only the beginning of a long one is written.
+    fn write_beginning(&mut self, line: &Line<'_>) -> io::Result<()> {
+        let whole = line.shown.len();
+        let end = if is_long(line.shown) {
+            forward(line.shown, 0, WINDOW)
+        } else {
+            whole
+        };
+        self.write_window(line, 0..end, &[])
+    }
+
+    /// Writes a line with its findings: the whole line, or windows around the findings. A long line is written in windows
+    /// also if it is written whole.
+    fn write_line(
+        &mut self,
+        line: &Line<'_>,
+        is_whole: bool,
+        findings: &mut Findings<'_>,
+    ) -> io::Result<()> {
+        let columns = if is_long(line.shown) {
+            WINDOW
+        } else {
+            usize::MAX
+        };
+        // Where the last window ended, and the finding that it cut.
+        let (mut last, mut cut) = (None, None);
+        loop {
+            let shown = last.unwrap_or(0);
+            let first = findings.peek().filter(|finding| finding.start < line.end);
+            let start = match first {
+                Some(first) if !is_whole => {
+                    back(line.shown, first.start - line.start, BEFORE).max(shown)
+                }
+                _ if is_whole && (shown < line.shown.len() || last.is_none()) => shown,
+                _ => return Ok(()),
+            };
+            let mut end = forward(line.shown, start, columns);
+            let mut found = Vec::from_iter(cut.take());
+            let old = found.len();
+            while let Some(finding) = findings.next_before(line.start + end) {
+                found.push(finding);
+            }
+            let inside = found.last().map(|finding| finding.end - line.start);
+            if let Some(inside) = inside.filter(|inside| *inside > end) {
+                end = forward(line.shown, end, MORE).min(inside);
+            }
+            self.write_window(line, start..end, &found)?;
+            for finding in &found[old..] {
+                self.write_finding(finding)?;
+            }
+            cut = found.pop().filter(|finding| finding.end > line.start + end);
+            last = Some(end);
+        }
+    }
+
+    /// Writes a window of a line, and the marks of its findings under it.
+    fn write_window(
+        &mut self,
+        line: &Line<'_>,
+        window: Range<usize>,
+        findings: &[Finding],
+    ) -> io::Result<()> {
+        let (mut shown, mut marks, mut column) = (String::new(), String::new(), 0);
+        let mut rest = findings;
+        if window.start > 0 {
+            shown.push_str(CUT);
+            marks.extend(CUT.chars().map(|_| ' '));
+        }
+        for (index, character) in line.shown[window.clone()].char_indices() {
+            let mark = mark_at(line.start + window.start + index, &mut rest);
+            let at = shown.len();
+            let Shown {
+                columns,
+                by_code_point,
+            } = visible::push(character, column, &mut shown);
+            if by_code_point {
+                shown.insert_str(at, self.style.code_point);
+                shown.push_str(self.style.plain);
+            }
+            let further = if mark == '^' { '~' } else { mark };
+            marks.extend((0..columns).map(|column| if column == 0 { mark } else { further }));
+            column += columns;
+        }
+        if window.end < line.shown.len() {
+            shown.push_str(CUT);
+        }
+        let Style {
+            faint, mark, plain, ..
+        } = self.style;
+        writeln!(self.out, "{faint}{:>6} |{plain} {shown}", line.number)?;
+        if !findings.is_empty() {
+            let marks = marks.trim_end();
+            writeln!(self.out, "{faint}       |{plain} {mark}{marks}{plain}")?;
+        }
+        Ok(())
+    }
+
+    /// Writes what was found, and what formatting makes of it.
+    fn write_finding(&mut self, finding: &Finding) -> io::Result<()> {
+        let Finding { start, end, .. } = finding;
+        let Style { faint, plain, .. } = self.style;
+        let what = findings::in_words(&finding.counts);
+        write!(
+            self.out,
+            "{faint}       |{plain} bytes {start} to {end}: {what}"
         )?;
+        let replacement = findings::replacement(finding, self.text.as_bytes(), self.policy);
+        match replacement {
+            Some(replacement) => writeln!(self.out, "; {}", findings::becomes(&replacement)),
+            None => writeln!(self.out),
+        }
     }
-    Ok(())
+}
+
+/// Whether a line is long.
+fn is_long(line: &str) -> bool {
+    forward(line, 0, LONG) < line.len()
+}
+
+/// The offset that is a number of columns after another.
+fn forward(line: &str, from: usize, columns: usize) -> usize {
+    let mut left = columns;
+    for (index, character) in line[from..].char_indices() {
+        match left.checked_sub(visible::room(character)) {
+            Some(less) => left = less,
+            None => return from + index,
+        }
+    }
+    line.len()
+}
+
+/// The offset that is a number of columns before another.
+fn back(line: &str, from: usize, columns: usize) -> usize {
+    let (mut left, mut start) = (columns, from);
+    for (index, character) in line[..from].char_indices().rev() {
+        match left.checked_sub(visible::room(character)) {
+            Some(less) => (left, start) = (less, index),
+            None => break,
+        }
+    }
+    start
 }
 
 /// The mark of a byte: `^` where a finding starts, `~` inside one. Findings that end before it are taken off the front.
@@ -189,64 +379,26 @@ fn mark_at(offset: usize, findings: &mut &[Finding]) -> char {
     }
 }
 
-/// Writes what was found, and what formatting makes of it. The bytes of a finding are an item of their own, so
-/// formatting them alone gives its replacement.
-fn write_finding(
-    finding: &Finding,
-    text: &[u8],
-    policy: &Policy,
-    style: &Style,
-    out: &mut dyn Write,
-) -> io::Result<()> {
-    let Finding {
-        start, end, counts, ..
-    } = finding;
-    let Style { faint, plain, .. } = style;
-    write!(
-        out,
-        "{faint}       |{plain} bytes {start} to {end}: {}",
-        in_words(counts)
-    )?;
-    let replacement = text
-        .get(finding.span())
-        .and_then(|bytes| tilghorz::format(bytes, policy).ok());
-    if let Some(replacement) = replacement {
-        let replacement = String::from_utf8_lossy(&replacement);
-        let replacement = visible::text(&replacement);
-        let becomes = if replacement.is_empty() {
-            "nothing"
-        } else {
-            &replacement
-        };
-        write!(out, "; becomes {becomes}")?;
-    }
-    writeln!(out)
-}
-
-/// The counts that are not 0, in words.
-fn in_words(counts: &Counts) -> String {
-    let words = counts.named().filter(|(_, count)| *count > 0);
-    let words = words.map(|(name, count)| match (name, count) {
-        ("decisions", 1) => "1 decision".to_owned(),
-        _ => format!("{count} {name}"),
-    });
-    words.collect::<Vec<_>>().join(", ")
-}
-
 #[cfg(test)]
 mod tests {
     use super::*;
 
-    /// A text of one line as it is shown.
-    fn shown(text: &str, style: &Style) -> String {
+    /// A text as it is shown.
+    fn shown(text: &str, extent: Extent, style: &Style) -> String {
         let policy = Policy::default();
-        let findings = tilghorz::findings(text.as_bytes(), &policy).expect("a text");
-        let findings: Vec<Finding> = findings.iter().collect();
+        let mut findings = Findings::of(text.as_bytes(), &policy).expect("a text");
         let mut out = Vec::new();
-        write_line(1, text, 0, &findings, style, &mut out).expect("written");
-        for finding in &findings {
-            write_finding(finding, text.as_bytes(), &policy, style, &mut out).expect("written");
+        let mut sheet = Sheet {
+            text,
+            policy: &policy,
+            style,
+            out: &mut out,
+        };
+        match extent {
+            Extent::All => sheet.write_all(&mut findings),
+            Extent::Around(context) => sheet.write_around(&mut findings, context),
         }
+        .expect("written");
         String::from_utf8(out).expect("a text")
     }
 
@@ -258,17 +410,92 @@ mod tests {
        | bytes 5 to 8: 1 decision; becomes \u{2764}<FE0E>
        | bytes 8 to 10: 1 decision; becomes \u{A9}<FE0E>
 ";
-        assert_eq!(shown("1\u{FE0E} \u{2764}\u{A9}.", &PLAIN), expected);
+        let text = "1\u{FE0E} \u{2764}\u{A9}.";
+        for extent in [Extent::All, Extent::Around(0), Extent::Around(1)] {
+            assert_eq!(shown(text, extent, &PLAIN), expected);
+        }
     }
 
     #[test]
     fn colours_stand_around_code_points_and_marks() {
-        let text = shown("a\u{FE0F}", &COLOURED);
+        let text = shown("a\u{FE0F}", Extent::All, &COLOURED);
         assert!(text.contains("a\x1B[36m<FE0F>\x1B[0m\n"), "{text:?}");
         assert!(text.contains(" \x1B[33m ^~~~~~\x1B[0m\n"), "{text:?}");
         assert!(
             text.contains("1 unsanctioned; becomes nothing\n"),
             "{text:?}"
         );
+    }
+
+    /// The lines of what is shown that have a number, each up to its end.
+    fn numbered(shown: &str) -> Vec<&str> {
+        let has_number = |line: &&str| line[..6].trim() != "";
+        shown
+            .lines()
+            .filter(has_number)
+            .map(str::trim_start)
+            .collect()
+    }
+
+    #[test]
+    fn only_lines_with_findings_are_shown_and_some_around_them() {
+        let text = "a\nb\n\u{A9}\nc\nd\ne\nf\n\u{A9}\ng\n\n\u{A9}";
+        let lines = |extent| {
+            let shown = shown(text, extent, &PLAIN);
+            numbered(&shown).join("; ")
+        };
+        assert_eq!(
+            lines(Extent::Around(0)),
+            "3 | \u{A9}; 8 | \u{A9}; 11 | \u{A9}"
+        );
+        assert_eq!(
+            lines(Extent::Around(1)),
+            "2 | b; 3 | \u{A9}; 4 | c; ... |; 7 | f; 8 | \u{A9}; 9 | g; 10 | ; 11 | \u{A9}"
+        );
+        let all = "1 | a; 2 | b; 3 | \u{A9}; 4 | c; 5 | d; 6 | e; 7 | f; 8 | \u{A9}; 9 | g; 10 | ; 11 | \u{A9}";
+        assert_eq!(lines(Extent::All), all);
+        assert_eq!(lines(Extent::Around(2)), all);
+        assert_eq!(shown("plain\n", Extent::Around(9), &PLAIN), "");
+        assert_eq!(shown("", Extent::All, &PLAIN), "");
+    }
+
+    #[test]
+    fn the_end_of_a_line_is_not_shown() {
+        let shown = shown("a\r\n\r\nb\rc\r\n", Extent::All, &PLAIN);
+        assert_eq!(numbered(&shown), ["1 | a", "2 | ", "3 | b<000D>c"]);
+    }
+
+    #[test]
+    fn a_long_line_is_shown_as_windows() {
+        let plain = "x".repeat(200);
+        let text = format!("{plain}\u{A9}{plain}\u{A9}\u{A9}{plain}");
+        let around = shown(&text, Extent::Around(0), &PLAIN);
+        let (before, after) = ("x".repeat(40), "x".repeat(79));
+        let first = format!(
+            "     1 | ...{before}\u{A9}{after}...\n       |    {}^\n",
+            " ".repeat(40)
+        );
+        assert!(around.starts_with(&first), "{around}");
+        let second = format!("     1 | ...{before}\u{A9}\u{A9}{}...\n", &after[1..]);
+        assert!(around.contains(&second), "{around}");
+        assert_eq!(around.matches(" 1 decision").count(), 3);
+        let all = shown(&text, Extent::All, &PLAIN);
+        assert_eq!(numbered(&all).len(), 6);
+        assert_eq!(all.matches('x').count(), 600);
+        assert_eq!(all.matches(" 1 decision").count(), 3);
+    }
+
+    #[test]
+    fn a_long_finding_is_cut() {
+        let text = format!("a{}b", "\u{FE0F}".repeat(1000));
+        let around = shown(&text, Extent::Around(0), &PLAIN);
+        assert_eq!(numbered(&around).len(), 1);
+        assert!(around.lines().all(|line| line.len() < 200), "{around}");
+        assert!(around.contains("bytes 1 to 3001: 1000 unsanctioned; becomes nothing\n"));
+        let all = shown(&text, Extent::All, &PLAIN);
+        assert_eq!(all.matches("<FE0F>").count(), 1000);
+        assert_eq!(all.matches("unsanctioned").count(), 1);
+        assert_eq!(all.matches('^').count(), 1);
+        assert_eq!(all.matches('~').count(), 5999);
     }
 }

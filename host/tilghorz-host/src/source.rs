@@ -9,11 +9,15 @@ use std::path::{Path, PathBuf};
 
 use tilghorz::{LONGEST_TEXT, Refusal};
 
+use crate::visible;
+
 /// Where a text comes from.
 #[derive(Debug, Clone, PartialEq, Eq)]
 pub enum Source {
     /// Standard input.
     Input,
+    /// Standard input, under a name.
+    Named(PathBuf),
     /// A file.
     File(PathBuf),
 }
@@ -36,10 +40,15 @@ impl Source {
         }
     }
 
+    /// Whether it is standard input.
+    pub fn is_input(&self) -> bool {
+        !matches!(self, Self::File(_))
+    }
+
     /// Reads the text. More than the library needs to refuse it is not read.
     pub fn read(&self) -> io::Result<Text> {
         match self {
-            Self::Input => {
+            Self::Input | Self::Named(_) => {
                 let mut bytes = Vec::new();
                 io::stdin().lock().take(MOST).read_to_end(&mut bytes)?;
                 Ok(Text { bytes, file: None })
@@ -99,11 +108,19 @@ impl Source {
         }
     }
 
+    /// The name as it stands before a line and a column.
+    pub fn label(&self) -> String {
+        match self {
+            Self::Input => "-".to_owned(),
+            Self::Named(_) | Self::File(_) => self.to_string(),
+        }
+    }
+
     /// The bytes of its name.
     pub fn name(&self) -> &[u8] {
         match self {
             Self::Input => b"-",
-            Self::File(path) => path.as_os_str().as_bytes(),
+            Self::Named(path) | Self::File(path) => path.as_os_str().as_bytes(),
         }
     }
 }
@@ -130,18 +147,42 @@ pub fn line_of(text: &[u8], offset: usize) -> usize {
 }
 
 impl Display for Source {
-    /// The name for a person, with control characters made harmless.
+    /// The name for a person. One with control characters, invisible characters or characters that turn the direction of a
+    /// line, or that is not UTF-8, is quoted, with these escaped.
     fn fmt(&self, out: &mut Formatter<'_>) -> fmt::Result {
-        match self {
-            Self::Input => out.write_str("standard input"),
-            Self::File(path) => {
-                let name = path.to_string_lossy();
-                if name.contains(char::is_control) {
-                    write!(out, "{name:?}")
-                } else {
-                    out.write_str(&name)
-                }
-            }
+        let path = match self {
+            Self::Input => return out.write_str("standard input"),
+            Self::Named(path) | Self::File(path) => path,
+        };
+        match path.to_str() {
+            Some(name) if !name.contains(visible::is_harmful) => out.write_str(name),
+            _ => write!(out, "{path:?}"),
         }
+    }
+}
+
+#[cfg(test)]
+mod tests {
+    use super::*;
+
+    #[test]
+    fn names_are_harmless() {
+        let shown = |name: &[u8]| Source::of(OsStr::from_bytes(name)).to_string();
+        assert_eq!(shown(b"-"), "standard input");
+        assert_eq!(
+            shown("a b\u{E9}\"\u{2764}\u{FE0F}".as_bytes()),
+            "a b\u{E9}\"\u{2764}\u{FE0F}"
+        );
+        assert_eq!(
+            shown("\u{1F469}\u{200D}\u{1F4BB}".as_bytes()),
+            "\u{1F469}\u{200D}\u{1F4BB}"
+        );
+        assert_eq!(shown(b"a\nb\x1B[2J"), "\"a\\nb\\u{1b}[2J\"");
+        assert_eq!(shown("txt.\u{202E}exe".as_bytes()), "\"txt.\\u{202e}exe\"");
+        assert_eq!(
+            shown("a\u{2066}\u{200B}".as_bytes()),
+            "\"a\\u{2066}\\u{200b}\""
+        );
+        assert_eq!(shown(b"a\xFFb"), "\"a\\xFFb\"");
     }
 }

@@ -2,89 +2,25 @@
 
 use std::fmt::Write;
 
+use crate::width_table::{FORMATS, MARKS, WIDE};
+
 /// The columns from one tab stop to the next.
 const TAB: usize = 8;
 
-/// The ranges of characters that are shown by their code points, beside control characters: what is invisible, what
-/// joins its neighbours to one picture, and what turns the direction of a line.
-const BY_CODE_POINT: [(char, char); 12] = [
-    ('\u{AD}', '\u{AD}'),
-    ('\u{61C}', '\u{61C}'),
-    ('\u{180E}', '\u{180E}'),
-    ('\u{200B}', '\u{200F}'),
-    ('\u{2028}', '\u{202E}'),
-    ('\u{2060}', '\u{206F}'),
+/// The ranges of characters that are shown by their code points, beside control characters and invisible format
+/// characters: what is invisible for another reason, what joins its neighbours to one picture, and what ends a line.
+const BY_CODE_POINT: [(char, char); 11] = [
+    ('\u{34F}', '\u{34F}'),
+    ('\u{115F}', '\u{1160}'),
+    ('\u{17B4}', '\u{17B5}'),
+    ('\u{180B}', '\u{180F}'),
+    ('\u{2028}', '\u{2029}'),
     ('\u{20E3}', '\u{20E3}'),
+    ('\u{3164}', '\u{3164}'),
     ('\u{FE00}', '\u{FE0F}'),
-    ('\u{FEFF}', '\u{FEFF}'),
-    ('\u{FFF9}', '\u{FFFB}'),
+    ('\u{FFA0}', '\u{FFA0}'),
     ('\u{1F3FB}', '\u{1F3FF}'),
     ('\u{E0000}', '\u{E0FFF}'),
-];
-
-/// Ranges of characters that take two columns. Terminals differ; this is what most do.
-const WIDE: [(char, char); 45] = [
-    ('\u{1100}', '\u{115F}'),
-    ('\u{231A}', '\u{231B}'),
-    ('\u{23E9}', '\u{23EC}'),
-    ('\u{23F0}', '\u{23F0}'),
-    ('\u{23F3}', '\u{23F3}'),
-    ('\u{25FD}', '\u{25FE}'),
-    ('\u{2614}', '\u{2615}'),
-    ('\u{2648}', '\u{2653}'),
-    ('\u{267F}', '\u{267F}'),
-    ('\u{2693}', '\u{2693}'),
-    ('\u{26A1}', '\u{26A1}'),
-    ('\u{26AA}', '\u{26AB}'),
-    ('\u{26BD}', '\u{26BE}'),
-    ('\u{26C4}', '\u{26C5}'),
-    ('\u{26CE}', '\u{26CE}'),
-    ('\u{26D4}', '\u{26D4}'),
-    ('\u{26EA}', '\u{26EA}'),
-    ('\u{26F2}', '\u{26F3}'),
-    ('\u{26F5}', '\u{26F5}'),
-    ('\u{26FA}', '\u{26FA}'),
-    ('\u{26FD}', '\u{26FD}'),
-    ('\u{2705}', '\u{2705}'),
-    ('\u{270A}', '\u{270B}'),
-    ('\u{2728}', '\u{2728}'),
-    ('\u{274C}', '\u{274C}'),
-    ('\u{274E}', '\u{274E}'),
-    ('\u{2753}', '\u{2755}'),
-    ('\u{2757}', '\u{2757}'),
-    ('\u{2795}', '\u{2797}'),
-    ('\u{27B0}', '\u{27B0}'),
-    ('\u{27BF}', '\u{27BF}'),
-    ('\u{2B1B}', '\u{2B1C}'),
-    ('\u{2B50}', '\u{2B50}'),
-    ('\u{2B55}', '\u{2B55}'),
-    ('\u{2E80}', '\u{303E}'),
-    ('\u{3041}', '\u{A4CF}'),
-    ('\u{A960}', '\u{A97F}'),
-    ('\u{AC00}', '\u{D7A3}'),
-    ('\u{F900}', '\u{FAFF}'),
-    ('\u{FE30}', '\u{FE6F}'),
-    ('\u{FF00}', '\u{FF60}'),
-    ('\u{FFE0}', '\u{FFE6}'),
-    ('\u{16FE0}', '\u{1B2FB}'),
-    ('\u{1F300}', '\u{1FAFF}'),
-    ('\u{20000}', '\u{3FFFD}'),
-];
-
-/// Ranges of characters that take no column: marks on the one before. Those of the most used scripts.
-const MARKS: [(char, char); 12] = [
-    ('\u{300}', '\u{36F}'),
-    ('\u{483}', '\u{489}'),
-    ('\u{591}', '\u{5BD}'),
-    ('\u{610}', '\u{61A}'),
-    ('\u{64B}', '\u{65F}'),
-    ('\u{93C}', '\u{93C}'),
-    ('\u{941}', '\u{948}'),
-    ('\u{E34}', '\u{E3A}'),
-    ('\u{1AB0}', '\u{1AFF}'),
-    ('\u{1DC0}', '\u{1DFF}'),
-    ('\u{20D0}', '\u{20F0}'),
-    ('\u{FE20}', '\u{FE2F}'),
 ];
 
 /// A character as it is shown.
@@ -95,11 +31,52 @@ pub struct Shown {
     pub by_code_point: bool,
 }
 
-/// Whether a character is in one of some ranges.
-fn is_in(ranges: &[(char, char)], character: char) -> bool {
-    ranges
-        .iter()
-        .any(|(first, last)| (*first..=*last).contains(&character))
+/// Whether a character is in a set of the table of widths.
+fn is_in(edges: &[u32], character: char) -> bool {
+    edges.partition_point(|edge| *edge <= u32::from(character)) % 2 == 1
+}
+
+/// Whether a character is shown by its code point.
+fn is_by_code_point(character: char) -> bool {
+    let in_range = |(first, last): &(char, char)| (*first..=*last).contains(&character);
+    !matches!(character, ' '..='~')
+        && (character.is_control()
+            || is_in(&FORMATS, character)
+            || BY_CODE_POINT.iter().any(in_range))
+}
+
+/// Whether a character of a file name can mislead whoever reads it: a control character, the end of a line, or an invisible
+/// format character. The two that join and part letters are harmless.
+pub fn is_harmful(character: char) -> bool {
+    const JOINERS: [char; 2] = ['\u{200C}', '\u{200D}'];
+    const LINE_ENDS: [char; 2] = ['\u{2028}', '\u{2029}'];
+    character.is_control()
+        || LINE_ENDS.contains(&character)
+        || !JOINERS.contains(&character) && is_in(&FORMATS, character)
+}
+
+/// How many columns a character takes that is shown as it is. Terminals differ; this is what most do.
+fn columns_of(character: char) -> usize {
+    if character.is_ascii() {
+        1
+    } else if is_in(&MARKS, character) {
+        0
+    } else {
+        1 + usize::from(is_in(&WIDE, character))
+    }
+}
+
+/// How many columns a character is counted for where a line is cut. Each counts for one at least.
+pub fn room(character: char) -> usize {
+    match character {
+        '\t' => TAB,
+        ' '..='~' => 1,
+        _ if is_by_code_point(character) => {
+            // Two brackets and four digits at least.
+            2 + (u32::from(character).max(1).ilog2() as usize / 4 + 1).max(4)
+        }
+        _ => columns_of(character).max(1),
+    }
 }
 
 /// Appends a character as it is shown at a column.
@@ -113,7 +90,7 @@ pub fn push(character: char, column: usize, out: &mut String) -> Shown {
             by_code_point: false,
         };
     }
-    if character.is_control() || is_in(&BY_CODE_POINT, character) {
+    if is_by_code_point(character) {
         // Writing to a string does not fail.
         let _ = write!(out, "<{:04X}>", u32::from(character));
         return Shown {
@@ -122,15 +99,8 @@ pub fn push(character: char, column: usize, out: &mut String) -> Shown {
         };
     }
     out.push(character);
-    let columns = if character.is_ascii() {
-        1
-    } else if is_in(&MARKS, character) {
-        0
-    } else {
-        1 + usize::from(is_in(&WIDE, character))
-    };
     Shown {
-        columns,
+        columns: columns_of(character),
         by_code_point: false,
     }
 }
@@ -140,6 +110,25 @@ pub fn text(text: &str) -> String {
     let mut out = String::new();
     for character in text.chars() {
         push(character, 0, &mut out);
+    }
+    out
+}
+
+/// A line of bytes as it is shown, without its end. A byte that is not part of a character is shown by its two digits.
+pub fn line(bytes: &[u8]) -> String {
+    let bytes = bytes.strip_suffix(b"\n").unwrap_or(bytes);
+    let bytes = bytes.strip_suffix(b"\r").unwrap_or(bytes);
+    let mut out = String::new();
+    let mut column = 0;
+    for chunk in bytes.utf8_chunks() {
+        for character in chunk.valid().chars() {
+            column += push(character, column, &mut out).columns;
+        }
+        for byte in chunk.invalid() {
+            let digits = format!("<{byte:02X}>");
+            column += digits.len();
+            out.push_str(&digits);
+        }
     }
     out
 }
@@ -175,5 +164,49 @@ mod tests {
         assert_eq!(columns("\u{1F600}\u{4E2D}"), 4);
         assert_eq!(columns("e\u{301}"), 1);
         assert_eq!(columns("\u{1F1E9}\u{1F1EA}"), 2);
+    }
+
+    #[test]
+    fn columns_are_those_of_unicode() {
+        const TWO: &str = "\u{1F004}\u{1F0CF}\u{1F18E}\u{1F201}\u{1F21A}\u{1F250}\u{231A}\u{1F600}\
+                           \u{4E2D}\u{FF01}\u{1100}\u{3FFFD}";
+        const ONE: &str = "a\u{A9}\u{2764}\u{1F321}\u{1F336}\u{1F54A}\u{1F5E8}\u{1F6E0}\
+                           \u{915}\u{93E}\u{E01}\u{5D0}\u{FF66}\u{600}";
+        // Marks of Latin, Devanagari, Thai, Hebrew, Arabic and kana, and medial and final Hangul jamo.
+        const NONE: &str = "\u{301}\u{902}\u{94D}\u{962}\u{E31}\u{E48}\u{5C1}\u{5C7}\u{670}\u{6DC}\u{6E4}\
+                            \u{3099}\u{309A}\u{1161}\u{11A8}\u{D7B0}";
+        for (text, columns) in [(TWO, 2), (ONE, 1), (NONE, 0)] {
+            for character in text.chars() {
+                assert_eq!(
+                    columns_of(character),
+                    columns,
+                    "{:04X}",
+                    u32::from(character)
+                );
+            }
+        }
+    }
+
+    #[test]
+    fn the_room_of_a_character_is_what_it_takes() {
+        for character in
+            "a\u{1}\u{1B}\u{AD}\u{FE0F}\u{4E2D}\u{E0061}\u{10FFFF}\u{100000}\u{2764}".chars()
+        {
+            let shown = push(character, 0, &mut String::new());
+            assert_eq!(room(character), shown.columns, "{character:?}");
+        }
+        assert_eq!((room('\t'), room('\u{301}'), room('\0')), (8, 1, 6));
+    }
+
+    #[test]
+    fn the_tables_ascend_and_share_no_character() {
+        for edges in [&WIDE[..], &MARKS, &FORMATS] {
+            assert!(edges.is_sorted_by(|one, next| one < next));
+            assert_eq!(edges.len() % 2, 0);
+        }
+        for character in '\0'..=char::MAX {
+            let sets = [&WIDE[..], &MARKS, &FORMATS].map(|edges| is_in(edges, character));
+            assert!(sets.into_iter().filter(|is_in| *is_in).count() <= 1);
+        }
     }
 }

@@ -14,6 +14,7 @@ use crate::glob::{Glob, units};
 use crate::ignore::{self, Ignores};
 use crate::replace::is_left_over;
 use crate::source::Source;
+use crate::visible;
 
 /// Which files of folders are taken.
 #[derive(Debug, Default, PartialEq, Eq)]
@@ -46,8 +47,8 @@ pub enum Entry {
     },
     /// What is passed over in a folder.
     PassedOver(PathBuf, Why),
-    /// A folder that cannot be read, with the message.
-    Unread(String),
+    /// What keeps a folder from being gone through, and why.
+    Unread(Source, String),
     /// What a command that was killed has left, and is removed.
     LeftOver(PathBuf),
 }
@@ -78,7 +79,9 @@ impl Display for Why {
             Self::Ignored(file) => {
                 write!(out, "{} ignores it", Source::File(file.to_path_buf()))
             }
-            Self::Excluded(pattern) => write!(out, "--exclude {pattern} matches it"),
+            Self::Excluded(pattern) => {
+                write!(out, "--exclude {} matches it", visible::text(pattern))
+            }
             Self::NotIncluded => out.write_str("no --include matches it"),
         }
     }
@@ -205,8 +208,8 @@ impl Finder<'_> {
             ignores: Ignores::default(),
             root: fs::canonicalize(folder).ok(),
         };
-        if let Err(message) = self.look_above(&mut place) {
-            self.list.push(Entry::Unread(message));
+        if let Err((file, error)) = self.look_above(&mut place) {
+            self.unread(file, error.to_string());
             return;
         }
         self.enter(folder.to_owned(), false, &mut place);
@@ -242,7 +245,7 @@ impl Finder<'_> {
     }
 
     /// Reads the `.gitignore` files of the repository above the folder that was named.
-    fn look_above(&self, place: &mut Place) -> Result<(), String> {
+    fn look_above(&self, place: &mut Place) -> Result<(), (PathBuf, io::Error)> {
         let Some(root) = &place.root else {
             return Ok(());
         };
@@ -254,7 +257,7 @@ impl Finder<'_> {
             let file = folder.join(ignore::FILE);
             if fs::symlink_metadata(&file).is_ok_and(|file| file.is_file()) {
                 let added = place.ignores.add(folder, depth);
-                added.map_err(|error| format!("{}: {error}", Source::File(file)))?;
+                added.map_err(|error| (file, error))?;
             }
         }
         if let Some(top) = above.first() {
@@ -264,14 +267,18 @@ impl Finder<'_> {
         Ok(())
     }
 
+    /// Notes that something keeps a folder from being gone through.
+    fn unread(&mut self, path: PathBuf, message: String) {
+        self.list.push(Entry::Unread(Source::File(path), message));
+    }
+
     /// Goes into a folder, or notes that it cannot be read.
     fn enter(&mut self, folder: PathBuf, is_included: bool, place: &mut Place) {
         let ignores = place.ignores.len();
         let left = match entries(&folder) {
             Ok(left) => left,
             Err(error) => {
-                let message = format!("{}: {error}", Source::File(folder));
-                self.list.push(Entry::Unread(message));
+                self.unread(folder, error.to_string());
                 place.path.pop();
                 return;
             }
@@ -283,9 +290,8 @@ impl Finder<'_> {
             && !self.selection.no_ignore
             && let Err(error) = place.ignores.add(&folder, place.path.len())
         {
-            let file = Source::File(folder.join(ignore::FILE));
-            let message = format!("{file}: {error}, so its folder was passed over");
-            self.list.push(Entry::Unread(message));
+            let message = format!("{error}, so its folder was passed over");
+            self.unread(folder.join(ignore::FILE), message);
             place.path.pop();
             return;
         }

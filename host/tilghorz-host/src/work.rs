@@ -2,7 +2,7 @@
 
 use std::collections::BTreeMap;
 use std::fmt::Display;
-use std::io::{self, Write};
+use std::io::{self, ErrorKind, Write};
 use std::num::NonZero;
 use std::path::Path;
 use std::slice;
@@ -76,8 +76,21 @@ impl Page<'_, '_> {
 }
 
 /// What a command does with a text. An error is one of the output.
-pub trait Work: Fn(&Source, &Text, &mut Page<'_, '_>) -> io::Result<Outcome> + Sync {}
-impl<F: Fn(&Source, &Text, &mut Page<'_, '_>) -> io::Result<Outcome> + Sync> Work for F {}
+pub trait Work: Sync {
+    /// Does it.
+    fn text(&self, source: &Source, text: &Text, page: &mut Page<'_, '_>) -> io::Result<Outcome>;
+
+    /// Writes that a text could not be read, beside the message on standard error.
+    fn unread(&self, _: &Source, _: &str, _: &mut Page<'_, '_>) -> io::Result<()> {
+        Ok(())
+    }
+}
+
+impl<F: Fn(&Source, &Text, &mut Page<'_, '_>) -> io::Result<Outcome> + Sync> Work for F {
+    fn text(&self, source: &Source, text: &Text, page: &mut Page<'_, '_>) -> io::Result<Outcome> {
+        self(source, text, page)
+    }
+}
 
 /// What came of an entry.
 struct Done {
@@ -249,36 +262,43 @@ impl<W: Work> Go<'_, W> {
             if shared.is_over.load(Ordering::SeqCst) {
                 return;
             }
-            let done = self.part(part);
+            let done = self.part(part, number, shared);
             shared.lock().take(number, done, &shared.is_over);
             shared.turned.notify_all();
         }
     }
 
     /// Goes through a part.
-    fn part(&self, entries: &[Entry]) -> Vec<Done> {
+    fn part(&self, entries: &[Entry], number: usize, shared: &Shared<'_>) -> Vec<Done> {
         let mut batch = self.batch();
         let mut all: Vec<Done> = Vec::with_capacity(entries.len());
         // The places of those that wait to be committed.
         let mut waiting = Vec::new();
         for entry in entries {
-            let (mut out, mut messages) = (Vec::new(), Vec::new());
+            let (mut held, mut messages) = (Vec::new(), Vec::new());
             let (mut is_prepared, mut replaced) = (false, 0);
+            let mut turn = Turn {
+                shared,
+                number,
+                held: &mut held,
+                // What the entries before it in the part have written comes first.
+                may_write: entries.len() == 1,
+            };
             let page = Page {
-                out: &mut out,
+                out: &mut turn,
                 messages: &mut messages,
                 batch: batch.as_mut(),
                 is_prepared: &mut is_prepared,
                 replaced: &mut replaced,
             };
-            // Writing to memory does not fail.
+            // An error of standard output has been noted.
             let outcome = self.entry(entry, page).unwrap_or(Outcome::Failed);
             if is_prepared {
                 waiting.push(all.len());
             }
             all.push(Done {
                 outcome,
-                out,
+                out: held,
                 messages,
                 replaced,
             });
@@ -314,8 +334,9 @@ impl<W: Work> Go<'_, W> {
                 told(path, &format_args!("passed over: {why}"));
                 return Ok(why.into());
             }
-            Entry::Unread(message) => {
-                page.complain(message.clone());
+            Entry::Unread(source, message) => {
+                page.complain(format!("{source}: {message}"));
+                self.one.unread(source, message, &mut page)?;
                 return Ok(Outcome::Unread);
             }
             Entry::LeftOver(path) => {
@@ -329,7 +350,7 @@ impl<W: Work> Go<'_, W> {
             source.read_unless_binary()
         };
         let outcome = match text {
-            Ok(Some(text)) => (self.one)(source, &text, &mut page)?,
+            Ok(Some(text)) => self.one.text(source, &text, &mut page)?,
             Ok(None) => {
                 if self.manner.is_verbose {
                     page.complain(format!(
@@ -340,6 +361,7 @@ impl<W: Work> Go<'_, W> {
             }
             Err(error) => {
                 page.complain(format!("{source}: {error}"));
+                self.one.unread(source, &error.to_string(), &mut page)?;
                 Outcome::Failed
             }
         };
@@ -391,6 +413,51 @@ impl Order<'_> {
             self.console
                 .progress(&format_args!("{done} of {texts} files"));
         }
+        Ok(())
+    }
+}
+
+/// Where the output of a part goes: into memory, and, when that is much, to standard output as soon as it is its turn.
+struct Turn<'s, 'a> {
+    shared: &'s Shared<'a>,
+    number: usize,
+    held: &'s mut Vec<u8>,
+    /// Whether it may be written before the part is done.
+    may_write: bool,
+}
+
+impl Turn<'_, '_> {
+    /// The most bytes that are held, unless they must be.
+    const MOST: usize = 1 << 20;
+}
+
+impl Write for Turn<'_, '_> {
+    fn write(&mut self, bytes: &[u8]) -> io::Result<usize> {
+        self.held.extend_from_slice(bytes);
+        if self.held.len() > Self::MOST && self.may_write {
+            self.flush()?;
+        }
+        Ok(bytes.len())
+    }
+
+    fn flush(&mut self) -> io::Result<()> {
+        let Shared {
+            is_over, turned, ..
+        } = self.shared;
+        let waits =
+            |order: &mut Order<'_>| order.due < self.number && !is_over.load(Ordering::SeqCst);
+        let order = turned.wait_while(self.shared.lock(), waits);
+        let mut order = order.unwrap_or_else(PoisonError::into_inner);
+        if is_over.load(Ordering::SeqCst) {
+            return Err(ErrorKind::BrokenPipe.into());
+        }
+        if let Err(error) = order.console.print_page(self.held) {
+            order.error.get_or_insert(error);
+            is_over.store(true, Ordering::SeqCst);
+            turned.notify_all();
+            return Err(ErrorKind::BrokenPipe.into());
+        }
+        self.held.clear();
         Ok(())
     }
 }

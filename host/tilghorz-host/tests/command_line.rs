@@ -25,9 +25,18 @@ fn help_and_version_go_to_standard_output() {
             &["help", "folders"],
             "usage: tilghorz-host format|report|show|repair|policy tips ",
         ),
+        (
+            &["help", "findings"],
+            "usage: tilghorz-host help findings\n",
+        ),
         (&["help", "help"], "Puts the emoji selectors"),
         (&["help", "version"], "Puts the emoji selectors"),
         (&["version", "--help"], "Puts the emoji selectors"),
+        (
+            &["help", "completions"],
+            "usage: tilghorz-host completions ",
+        ),
+        (&["man", "--help"], "usage: tilghorz-host man\n"),
         (&["--version"], "tilghorz-host 0."),
     ] {
         let ran = folder.run(arguments);
@@ -42,11 +51,22 @@ fn wrong_command_lines_are_told_on_standard_error() {
     let folder = Folder::new("wrong");
     for (arguments, message) in [
         (&[][..], "no command"),
-        (&["fromat"], "fromat: not a command"),
-        (&["help", "fromat"], "fromat: not a command"),
+        (&["fromat"], "fromat: not a command; did you mean format?"),
+        (
+            &["help", "fromat"],
+            "fromat: not a command; did you mean format?",
+        ),
+        (
+            &["help", "finding"],
+            "finding: not a command; did you mean findings?",
+        ),
+        (&["banana"], "banana: not a command\n"),
         (&["help", "format", "fix"], "help takes at most one command"),
         (&["version", "format"], "version takes no argument"),
-        (&["format", "--chek"], "format: --chek: unknown option"),
+        (
+            &["format", "--chek"],
+            "format: --chek: unknown option; did you mean --check?",
+        ),
         (
             &["format", "--check=yes"],
             "format: --check: takes no value",
@@ -70,7 +90,7 @@ fn wrong_command_lines_are_told_on_standard_error() {
         ),
         (
             &["format", "a", "b"],
-            "format: several texts can only be given with --in-place or --check",
+            "format: several texts can only be given with --in-place, --check or --diff",
         ),
         (
             &["format", "--quiet", "--verbose", "a"],
@@ -92,6 +112,22 @@ fn wrong_command_lines_are_told_on_standard_error() {
             &["show", "--exclude", "[a", "a"],
             "show: --exclude [a: not a pattern: a bracket is not closed",
         ),
+        (
+            &["report", "--format", "xml"],
+            "report: --format xml: neither lines, short nor json",
+        ),
+        (
+            &["report", "--items", "--format", "short"],
+            "report: --items and --format short cannot be used together",
+        ),
+        (
+            &["show", "--context", "-1"],
+            "show: --context -1: not a number of lines",
+        ),
+        (
+            &["show", "--all", "--context", "1"],
+            "show: --all and --context cannot be used together",
+        ),
         (&["fix", "--jobs", "1"], "fix: --jobs: unknown option"),
         (
             &["report", "--repair=yes"],
@@ -104,7 +140,7 @@ fn wrong_command_lines_are_told_on_standard_error() {
         ),
         (
             &["repair", "a", "b"],
-            "repair: several texts can only be given with --in-place or --check",
+            "repair: several texts can only be given with --in-place, --check or --diff",
         ),
         (
             &["repair", "--in-place"],
@@ -114,7 +150,65 @@ fn wrong_command_lines_are_told_on_standard_error() {
             &["policy", "--repair"],
             "policy: unknown policy command --repair",
         ),
-        (&["folders"], "folders: not a command"),
+        (
+            &["policy", "prnt"],
+            "policy: unknown policy command prnt; did you mean print?",
+        ),
+        (&["folders"], "folders: not a command\n"),
+        (&["findings"], "findings: not a command\n"),
+        (&["format", "-x"], "format: -x: unknown option\n"),
+        (&["format", "-cx", "a"], "format: -x: unknown option\n"),
+        (&["report", "-c", "a"], "report: --check: unknown option\n"),
+        (&["format", "-j"], "format: --jobs: no value\n"),
+        (
+            &["format", "-ci", "a"],
+            "format: --check and --in-place cannot be used together",
+        ),
+        (
+            &["format", "-di", "a"],
+            "format: --diff and --in-place cannot be used together",
+        ),
+        (
+            &["format", "-0", "a"],
+            "format: --null can only be used with --check",
+        ),
+        (
+            &["format", "-d0", "a"],
+            "format: --null can only be used with --check",
+        ),
+        (
+            &["format", "-fd", "a"],
+            "format: --follow and --diff cannot be used together",
+        ),
+        (
+            &["show", "--color", "blue"],
+            "show: --color blue: neither auto, always nor never",
+        ),
+        (
+            &["report", "--color", "auto"],
+            "report: --color: unknown option",
+        ),
+        (
+            &["show", "--stdin-filename", "a", "b"],
+            "show: --stdin-filename: standard input is not read",
+        ),
+        (
+            &["format", "-i", "--stdin-filename", "a"],
+            "format: --in-place: standard input cannot be changed in place",
+        ),
+        (
+            &["completions"],
+            "completions: it takes one shell: bash, zsh or fish",
+        ),
+        (
+            &["completions", "bsh"],
+            "completions: bsh: neither bash, zsh nor fish; did you mean bash?",
+        ),
+        (&["man", "format"], "man: it takes no argument"),
+        (
+            &["fro\u{1B}mat\u{202E}"],
+            "fro<001B>mat<202E>: not a command",
+        ),
         (
             &["report", "--offset", "1"],
             "report: --offset: unknown option",
@@ -135,22 +229,29 @@ fn wrong_command_lines_are_told_on_standard_error() {
             &["report", "--items", "--at", "1"],
             "report: --items and --at cannot be used together",
         ),
-        (&["fix"], "fix: --at OFFSET is missing"),
-        (&["fix", "--at", "x"], "fix: --at x: not an offset in bytes"),
+        (&["fix"], "fix: --at PLACE is missing"),
         (
-            &["fix", "--at", "99999999999999999999"],
-            "fix: --at 99999999999999999999: not an offset",
+            &["fix", "--at", "x"],
+            "fix: --at x: neither an offset in bytes nor LINE:COLUMN",
         ),
         (
-            &["fix", "--at", "1", "--decide", "blue"],
-            "fix: --decide blue: neither text nor emoji",
+            &["fix", "--at", "99999999999999999999"],
+            "fix: --at 99999999999999999999: neither an offset",
+        ),
+        (
+            &["fix", "--at", "1", "--decide", "text,blue"],
+            "fix: --decide text,blue: \"blue\" is neither text, emoji nor default",
+        ),
+        (
+            &["fix", "--decide", "text", "--at", "1", "--at", "2"],
+            "fix: --decide: no --at before it",
         ),
         (
             &["fix", "--at", "1", "a", "b"],
             "fix: it takes one text only",
         ),
         (&["policy"], "policy: the policy command is missing"),
-        (&["policy", "show"], "policy: unknown policy command show"),
+        (&["policy", "show"], "policy: unknown policy command show\n"),
         (
             &["policy", "tips", "--check"],
             "policy: --check: unknown option",
@@ -262,6 +363,8 @@ fn no_input_ends_in_a_panic() {
             &["format", "--check"],
             &["report", "--json", "--items"],
             &["show"],
+            &["show", "--all"],
+            &["show", "--context", "1"],
             &["fix", "--at", &at, "--decide", "text"],
         ] {
             let ran = folder.run_with(arguments, &bytes);

@@ -4,8 +4,9 @@ mod support;
 
 use std::fs;
 use std::path::Path;
+use std::process::Command;
 
-use support::{FORMATTED, Folder, MESSAGE};
+use support::{COMMAND, FORMATTED, Folder, MESSAGE};
 
 /// A text with a character cut off in its second line.
 const DAMAGED: &[u8] = b"one\ntwo \xE2\x9D";
@@ -75,32 +76,110 @@ fn report_has_the_lines_of_document_01() {
 fn report_names_the_counts_in_json() {
     let folder = Folder::new("json");
     folder.write("a\"b", "a\u{FE0F}");
-    folder.write("damaged", DAMAGED);
-    let ran = folder.run(&["report", "--json", "--items", "a\"b", "damaged"]);
-    let counts = |unsanctioned| {
-        format!(
-            "\"unsanctioned\":{unsanctioned},\"modifier_defective\":0,\"additional_defective\":0,\
-             \"tag_conflicting\":0,\"tag_forced\":0,\"tag_redundant\":0,\"policy_redundant\":0,\"decisions\":0"
-        )
-    };
+    let ran = folder.run(&["report", "--json", "--items", "a\"b"]);
+    let counts = "\"unsanctioned\":1,\"modifier_defective\":0,\"additional_defective\":0,\"tag_conflicting\":0,\
+                  \"tag_forced\":0,\"tag_redundant\":0,\"policy_redundant\":0,\"decisions\":0";
     let places = |start: usize, end: usize| {
         format!(
             "\"char_start\":{start},\"char_end\":{end},\"utf16_start\":{start},\"utf16_end\":{end}"
         )
     };
     let expected = format!(
-        "{{\"file\":\"a\\\"b\",\"bytes\":4,\"findings\":[{{\"start\":1,\"end\":4,{},{}}}],\"totals\":{{{}}},\"items\":[\
+        "\"bytes\":4,\"findings\":[{{\"start\":1,\"end\":4,\"line\":1,\"column\":2,{counts},{},\"replacement\":\"\"}}],\
+         \"totals\":{{{counts}}},\"items\":[\
          {{\"start\":0,\"end\":1,\"kind\":\"passthrough\",\"tags_complete\":true,{}}},\
-         {{\"start\":1,\"end\":4,\"kind\":\"unsanctioned-selectors\",\"tags_complete\":true,{}}}]}}\n\
-         {{\"file\":\"damaged\",\"refused\":{{\"number\":3,\"value\":8,\
-         \"message\":\"not well-formed UTF-8 at byte 8\"}}}}\n",
-        counts(1),
+         {{\"start\":1,\"end\":4,\"kind\":\"unsanctioned-selectors\",\"tags_complete\":true,{}}}]}}\n",
         places(1, 2),
-        counts(1),
         places(0, 1),
         places(1, 2)
     );
-    assert_eq!((ran.status, ran.text()), (2, expected.as_str()));
+    let beginning = "{\"file\":\"a\\\"b\",\"tool\":\"tilghorz-host 0.1.0\",\"unicode\":\"15.0\",\"policy_sha256\":\"";
+    assert_eq!(ran.status, 0);
+    assert!(ran.text().starts_with(beginning), "{}", ran.text());
+    assert!(ran.text().ends_with(&expected), "{}", ran.text());
+}
+
+#[test]
+fn report_has_a_short_line_for_each_finding() {
+    let folder = Folder::new("short");
+    folder.write(
+        "message",
+        format!("Hi\n\u{4E2D} {MESSAGE} a\u{FE0F}").as_bytes(),
+    );
+    folder.write("damaged", DAMAGED);
+    let first = "message:2:3: 1 policy-redundant; becomes 1\n";
+    let second = "message:2:6: 1 decision; becomes \u{2764}<FE0E>\n";
+    let third = "message:2:9: 1 unsanctioned; becomes nothing\n";
+    let ran = folder.run(&["report", "--format", "short", "message"]);
+    assert_eq!(
+        (ran.status, ran.text()),
+        (0, &*[first, second, third].concat())
+    );
+    let ran = folder.run(&["report", "--format", "short", "--at", "2:5", "message"]);
+    assert_eq!((ran.status, ran.text()), (0, first));
+    let around = ["--from", "2:4", "--to", "2:9"];
+    let ran = folder.run(&[&["report", "--format=short", "message"], &around[..]].concat());
+    assert_eq!((ran.status, ran.text()), (0, &*[second, first].concat()));
+    let ran = folder.run(&["report", "--format", "short", "damaged", "missing"]);
+    let damaged = "damaged:2:5: refused 3: not well-formed UTF-8 at byte 8\n";
+    let missing = "missing:1:1: No such file or directory (os error 2)\n";
+    assert_eq!((ran.status, ran.text()), (2, &*[damaged, missing].concat()));
+    let ran = folder.run_with(&["report", "--format", "short"], MESSAGE.as_bytes());
+    assert!(ran.text().starts_with("-:1:1: 1 policy-redundant"));
+}
+
+/// The examples of `help findings` are what format does, each with the count of its name.
+#[test]
+fn the_findings_of_the_help_are_true() {
+    let folder = Folder::new("findings");
+    let help = folder.run(&["help", "findings"]);
+    let text = |shown: &str| {
+        let mut text = String::new();
+        for part in shown.split('<') {
+            match part.split_once('>') {
+                Some((code, rest)) => {
+                    let code = u32::from_str_radix(code, 16).expect("a code point");
+                    text.push(char::from_u32(code).expect("a character"));
+                    text.push_str(rest);
+                }
+                None => text.push_str(part),
+            }
+        }
+        text
+    };
+    let (mut name, mut seen) = ("", Vec::new());
+    for line in help.text().lines() {
+        if let Some(entry) = line
+            .strip_prefix("  ")
+            .filter(|entry| !entry.starts_with(' '))
+        {
+            name = entry.split(' ').next().expect("a name");
+        }
+        let Some((before, after)) = line.trim().split_once(" becomes ") else {
+            continue;
+        };
+        let before = text(before);
+        let ran = folder.run_with(&["format"], before.as_bytes());
+        assert_eq!(ran.text(), text(after), "{line}");
+        let ran = folder.run_with(&["report", "--json"], before.as_bytes());
+        let (_, totals) = ran.text().split_once("\"totals\"").expect("totals");
+        let count = format!("\"{}\":1", name.replace('-', "_"));
+        assert!(totals.contains(&count), "{count} {totals}");
+        seen.push(name);
+    }
+    assert_eq!(
+        seen,
+        [
+            "unsanctioned",
+            "modifier-defective",
+            "additional-defective",
+            "tag-conflicting",
+            "tag-forced",
+            "tag-redundant",
+            "policy-redundant",
+            "decisions"
+        ]
+    );
 }
 
 #[test]
@@ -183,8 +262,24 @@ fn fix_mends_one_finding() {
         "{}",
         ran.err
     );
-    let ran = fixed(&["5", "--decide", "text", "emoji"]);
+    assert!(
+        ran.err.ends_with(
+            "try: --decide text, with text, emoji or default for each; or --decide default for all\n"
+        ),
+        "{}",
+        ran.err
+    );
+    let ran = fixed(&["5", "--decide", "text,emoji"]);
     assert_eq!((ran.status, ran.text()), (2, ""));
+    let ran = fixed(&["0", "--decide", "default"]);
+    assert_eq!((ran.status, ran.text()), (0, "1 \u{2764}"));
+    let ran = fixed(&["0", "--decide", "text"]);
+    assert!(
+        ran.err
+            .ends_with("the finding has no decision; try it without --decide\n"),
+        "{}",
+        ran.err
+    );
     let ran = fixed(&["4"]);
     assert!(
         ran.err
@@ -204,21 +299,144 @@ fn fix_mends_one_finding() {
 }
 
 #[test]
+fn fix_mends_several_findings() {
+    let folder = Folder::new("fix_several");
+    let heart = "\u{2764}";
+    folder.write("text", format!("Hi\n{heart} 1\u{FE0E}\n{heart}{heart}"));
+    let fixed = |arguments: &[&str]| folder.run(&[&["fix"], arguments, &["text"]].concat());
+    // Every place is one of the text as it was, in any order.
+    for places in [["2:1", "2:3", "3:2"], ["3", "7", "15"]] {
+        let [first, second, third] = places;
+        let ran = fixed(&[
+            "--at",
+            third,
+            "--decide",
+            "default",
+            "--at",
+            first,
+            "--decide=emoji",
+            "--at",
+            second,
+        ]);
+        let expected = format!("Hi\n{heart}\u{FE0F} 1\n{heart}{heart}\u{FE0E}");
+        assert_eq!(
+            (ran.status, ran.text(), ran.err.as_str()),
+            (0, &*expected, "")
+        );
+    }
+    // If one cannot be mended, none is.
+    let ran = fixed(&["--at", "2:1", "--decide", "text", "--at", "2:2"]);
+    assert_eq!((ran.status, ran.text()), (2, ""));
+    assert_eq!(
+        ran.err,
+        "tilghorz-host: text: refused 4: no finding starts at this offset (--at 2:2)\n\
+         the nearest finding is from byte 3 to 6; try: --at 2:1\n"
+    );
+    let ran = fixed(&["--at", "4:1"]);
+    assert_eq!((ran.status, ran.text()), (2, ""));
+    assert!(
+        ran.err.contains("text: the text has no place 4:1\n"),
+        "{}",
+        ran.err
+    );
+    let ran = fixed(&["--at", "3", "--at", "2:1"]);
+    assert_eq!((ran.status, ran.text()), (2, ""));
+    assert!(
+        ran.err.contains("fix: --at 2:1: given twice\n"),
+        "{}",
+        ran.err
+    );
+    // A file can have the name of a decision.
+    let ran = folder.run(&["fix", "--at", "3", "--decide", "emoji", "text"]);
+    assert!(
+        ran.text().starts_with("Hi\n\u{2764}\u{FE0F} "),
+        "{}",
+        ran.err
+    );
+}
+
+/// A finding with three decisions, of which the policy decides one otherwise than the two others.
+#[test]
+fn fix_decides_as_the_policy_does() {
+    let folder = Folder::new("fix_default");
+    let (heart, cloud) = ("\u{2764}", "\u{2601}");
+    let text = format!("a {heart}\u{200D}{cloud}\u{200D}{heart}");
+    folder.write("text", &text);
+    let edits = ["--take", "bare_as_text", "ordinary", "2601"];
+    let own = folder.run(&[&["policy", "write"], &edits[..]].concat());
+    folder.write("own", &own.out);
+    let fixed = |list: &str| {
+        folder.run(&[
+            "fix", "--policy", "own", "--at", "2", "--decide", list, "text",
+        ])
+    };
+    let formatted = folder.run(&["format", "--policy", "own", "text"]);
+    assert_eq!(fixed("default").text(), formatted.text());
+    assert_eq!(fixed("default,default,default").text(), formatted.text());
+    assert_eq!(fixed("text,emoji,text").text(), formatted.text());
+    let other = fixed("emoji,default,default");
+    assert_eq!(other.text(), fixed("emoji,emoji,text").text());
+    let ran = fixed("default,default");
+    assert_eq!((ran.status, ran.text()), (2, ""));
+    assert!(ran.err.contains("needs exactly 3 decisions"), "{}", ran.err);
+}
+
+#[test]
 fn show_makes_selectors_visible() {
     let folder = Folder::new("show");
-    let ran = folder.run_with(&["show"], "Hi\n1\u{FE0E} \u{2764}\n".as_bytes());
-    let expected = "     1 | Hi
-     2 | 1<FE0E> \u{2764}
+    let text = "Hi\r\n1\u{FE0E} \u{2764}\r\n";
+    let found = "     2 | 1<FE0E> \u{2764}
        | ^~~~~~~ ^
-       | bytes 3 to 7: 1 policy-redundant; becomes 1
-       | bytes 8 to 11: 1 decision; becomes \u{2764}<FE0E>
+       | bytes 4 to 8: 1 policy-redundant; becomes 1
+       | bytes 9 to 12: 1 decision; becomes \u{2764}<FE0E>
 ";
-    assert_eq!(
-        (ran.status, ran.text(), ran.err.as_str()),
-        (0, expected, "")
-    );
+    let all = format!("     1 | Hi\n{found}");
+    for (arguments, expected) in [
+        (&["show"][..], found),
+        (&["show", "--context", "0"], found),
+        (&["show", "--context=1"], &all),
+        (&["show", "--all"], &all),
+    ] {
+        let ran = folder.run_with(arguments, text.as_bytes());
+        assert_eq!(
+            (ran.status, ran.text(), ran.err.as_str()),
+            (0, expected, "")
+        );
+    }
     let empty = folder.run(&["show"]);
     assert_eq!((empty.status, empty.text()), (0, ""));
+    // Of several files those without findings are named only if all is shown.
+    folder.write("found", "\u{A9}");
+    folder.write("clean", "plain");
+    let ran = folder.run(&["show", "--quiet", "clean", "found"]);
+    assert!(ran.text().starts_with("==> found <==\n     1 | \u{A9}\n"));
+    let ran = folder.run(&["show", "--quiet", "--all", "clean", "found"]);
+    assert!(
+        ran.text()
+            .starts_with("==> clean <==\n     1 | plain\n==> found <==\n")
+    );
+}
+
+/// A table of all findings of such a text would have 110 MiB, and so would what is shown of it.
+#[test]
+fn show_needs_memory_for_a_part_of_the_text() {
+    let folder = Folder::new("memory");
+    for (name, line_feeds) in [("lines", 64), ("line", usize::MAX)] {
+        let signs = (1..=1 << 20).map(|number| match number % line_feeds {
+            0 => "\u{A9}\n",
+            _ => "\u{A9}",
+        });
+        folder.write(name, signs.collect::<String>());
+    }
+    for names in [&["lines"][..], &["line"], &["line", "lines"]] {
+        let limited = "ulimit -v 49152; exec \"$0\" show --quiet --jobs 1 \"$@\" | tail -n 1";
+        let mut shell = Command::new("bash");
+        shell.args(["-o", "pipefail", "-c", limited, COMMAND]);
+        shell.args(names);
+        let ran = folder.run_command(shell, b"");
+        assert_eq!((ran.status, ran.err.as_str()), (0, ""));
+        assert!(ran.text().contains("1 decision; becomes"), "{}", ran.text());
+    }
 }
 
 #[test]
@@ -281,7 +499,11 @@ fn policies_of_another_version_and_without_one_are_named() {
         assert!(ran.err.contains(message), "{}", ran.err);
     }
     let ran = folder.run(&["version"]);
-    assert!(ran.text().ends_with(", Unicode 15.0\n"), "{}", ran.text());
+    let line = ran.text().strip_suffix('\n').expect("a line");
+    let parts: Vec<&str> = line.split(", ").collect();
+    assert!(parts[0].starts_with("tilghorz-host 0."), "{line}");
+    assert_eq!((parts[1], parts.len()), ("Unicode 15.0", 3));
+    assert!(parts[2].contains("kit"), "{line}");
 }
 
 /// `tests/programs` has what the proved programs write. Where they refuse, `format` writes nothing here.

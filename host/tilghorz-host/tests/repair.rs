@@ -79,7 +79,7 @@ fn offsets_are_those_of_the_repaired_text() {
     let lines = "12 15 0 0 0 0 0 0 0 1\ntotal 0 0 0 0 0 0 0 1\n";
     assert_eq!((ran.status, ran.text()), (0, lines));
     assert_eq!(ran.err, told);
-    let ran = folder.run(&["show", "--repair", "damaged"]);
+    let ran = folder.run(&["show", "--all", "--repair", "damaged"]);
     let lines = "     1 | one
      2 | \u{FFFD} two \u{2764} \u{FFFD}
        |       ^
@@ -114,21 +114,19 @@ fn json_has_the_number_of_replacements_if_it_was_asked_for() {
     let mut lines = ran.text().lines();
     let first = lines.next().expect("a line");
     assert!(
-        first.starts_with(
-            "{\"file\":\"a\",\"replaced\":2,\"bytes\":20,\"findings\":[{\"start\":12,"
-        ),
+        first.contains(",\"replaced\":2,\"bytes\":20,\"findings\":[{\"start\":12,"),
         "{first}"
     );
     let second = lines.next().expect("a line");
     assert!(
-        second.starts_with("{\"file\":\"b\",\"replaced\":0,\"bytes\":5,\"findings\":[]"),
+        second.contains(",\"replaced\":0,\"bytes\":5,\"findings\":[]"),
         "{second}"
     );
     let summary =
         "tilghorz-host: 2 files: 1 with findings, 1 without; repaired: 1 file, 2 bad places\n";
     assert_eq!(ran.err, told_with_offsets("a") + summary);
     let ran = folder.run(&["report", "--json", "b"]);
-    assert!(ran.text().starts_with("{\"file\":\"b\",\"bytes\":5,"));
+    assert!(!ran.text().contains("\"replaced\""), "{}", ran.text());
 }
 
 #[test]
@@ -308,8 +306,8 @@ fn a_text_may_be_too_long_before_or_after_the_repair() {
         assert_eq!(ran.err, message, "{arguments:?}");
     }
     let ran = folder.run(&["report", "--json", "--repair", "grows"]);
-    let object = "{\"file\":\"grows\",\"replaced\":1,\"refused\":{\"number\":1,";
-    assert!(ran.text().starts_with(object), "{}", ran.text());
+    let object = ",\"replaced\":1,\"error\":{\"kind\":\"refused\",\"number\":1,";
+    assert!(ran.text().contains(object), "{}", ran.text());
     let ran = folder.run(&["fix", "--at", "0", "--repair", "grows"]);
     assert_eq!((ran.status, ran.text()), (2, ""));
     assert!(ran.err.ends_with(message), "{}", ran.err);

@@ -80,3 +80,7 @@ pub use version::{Version, version};
 
 /// The length of the longest text that is not refused: [`Refusal::TextTooLong`].
 pub const LONGEST_TEXT: usize = 16_777_216;
+
+/// The kit that proved and made the linked library, as `rt version` prints it. Of a library that was made elsewhere it may be
+/// unknown.
+pub const KIT: &str = env!("TILGHORZ_KIT");

@@ -2,6 +2,8 @@
 
 #![allow(dead_code, reason = "each test file uses a part")]
 
+pub mod json;
+
 use std::ffi::OsStr;
 use std::fs;
 use std::io::Write;
