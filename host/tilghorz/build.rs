@@ -1,6 +1,7 @@
 //! Links the proved static library. One that the variable names must be there; without the variable it is the one that
-//! the repository makes. Where that is missing, or was made from other sources or with another kit, it is made now. A fault
-//! is told to cargo and ends the build.
+//! the repository makes. Where that is missing, or was made from other sources or with another kit, it is made now. The
+//! library is then put into cargo's own folder for this package, `OUT_DIR`, and is linked there. So what is linked stays as
+//! it is when `rt` makes its folder `target/` anew. A fault is told to cargo and ends the build.
 
 use std::collections::hash_map::DefaultHasher;
 use std::env;
@@ -28,9 +29,8 @@ const MAKE: [&str; 2] = ["staticlib", "tilghorz"];
 
 fn main() {
     println!("cargo::rerun-if-env-changed={VARIABLE}");
-    match library_folder() {
+    match library_in_own_folder() {
         Ok(folder) => {
-            println!("cargo::rerun-if-changed={}", folder.join(FILE).display());
             println!("cargo::rustc-link-search=native={}", folder.display());
             println!("cargo::rustc-link-lib=static=tilghorz");
             // For the test of the C header.
@@ -46,6 +46,27 @@ fn main() {
             }
         }
     }
+}
+
+/// Puts the library into cargo's folder for this package, and gives that folder.
+fn library_in_own_folder() -> Result<PathBuf, String> {
+    let found = library_folder()?;
+    println!("cargo::rerun-if-changed={}", found.join(FILE).display());
+    let own = env::var_os("OUT_DIR").map(PathBuf::from);
+    let own = own.ok_or("cargo names no folder for this package, OUT_DIR")?;
+    put(&found, &own)?;
+    Ok(own)
+}
+
+/// Puts the library of a folder into another one.
+///
+/// # Errors
+/// If the library cannot be copied.
+pub fn put(from: &Path, to: &Path) -> Result<(), String> {
+    let (from, to) = (from.join(FILE), to.join(FILE));
+    // A copy keeps the permissions, and one that may not be written could not be replaced.
+    let copied = fs::read(&from).and_then(|library| fs::write(&to, library));
+    copied.map_err(|error| format!("{} to {}: {error}", from.display(), to.display()))
 }
 
 /// The folder in which the library is.
@@ -85,6 +106,9 @@ fn watch(root: &Path) {
 }
 
 /// Makes the library, if it is missing or was made from other sources or with another kit; and says why, if it was there.
+///
+/// # Errors
+/// If the library cannot be made, or if the sources or the library cannot be read.
 pub fn bring_up_to_date(root: &Path, rt: &Path) -> Result<Option<&'static str>, String> {
     let (file, note) = (
         root.join(MADE_HERE).join(FILE),
@@ -162,6 +186,9 @@ pub enum Place {
 
 /// Where the library is to be, by the variable and the repository root, if there are such. An absolute name needs no
 /// repository.
+///
+/// # Errors
+/// If the package stands in no repository, and the variable names no folder by an absolute path.
 pub fn place(named: Option<OsString>, root: Option<PathBuf>) -> Result<Place, String> {
     const OUTSIDE: &str = "this package does not stand at host/tilghorz of its repository";
     match (named.map(PathBuf::from), root) {
@@ -189,12 +216,8 @@ fn repository_root() -> Option<PathBuf> {
 fn make(root: &Path, rt: &Path, why: &str) -> Result<(), String> {
     let command = format!("{RT} {}", MAKE.join(" "));
     let mut make = Command::new(rt);
-    let made = make
-        .args(MAKE)
-        .current_dir(root)
-        .stdin(Stdio::null())
-        .output();
-    let output = made.map_err(|error| {
+    make.args(MAKE).current_dir(root).stdin(Stdio::null());
+    let output = make.output().map_err(|error| {
         format!(
             "{MADE_HERE}/{FILE} {why}, and the command that makes it, {command}, cannot be run: {error}\n\
              install the Rattle kit (README.md, \"What it needs\"), or set {VARIABLE} to the folder of a library made \

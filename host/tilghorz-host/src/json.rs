@@ -81,6 +81,7 @@ impl Display for FindingObject<'_> {
             char_end,
             utf16_start,
             utf16_end,
+            ..
         } = self.finding;
         let (line, column) = self.place;
         write!(
@@ -130,6 +131,7 @@ impl Display for ItemObject<'_> {
             char_end,
             utf16_start,
             utf16_end,
+            ..
         } = self.0;
         let kind = kind_name(*kind);
         write!(

@@ -1,6 +1,25 @@
 //! The word that a C function answers: `include/tilghorz.h`, and crates/tilghorz/specs/AnswerWord.antt.
 
+use std::fmt::Display;
+
 use crate::Refusal;
+
+// A number of 64 bits is a size, and a size is a number of 64 bits. The static library is for x86-64.
+#[cfg(not(target_pointer_width = "64"))]
+compile_error!("the proved library is for machines of 64 bits");
+
+/// A number that the library gave, as a size.
+#[allow(clippy::cast_possible_truncation, reason = "a size has 64 bits")]
+pub const fn size(number: u64) -> usize {
+    number as usize
+}
+
+/// Stops: what the linked library answered is not in the header, so another library was linked.
+#[cold]
+#[track_caller]
+pub fn foreign(answered: impl Display) -> ! {
+    panic!("the linked library is not the proved one: it answers {answered}")
+}
 
 /// The number of an answer that wrote its result.
 const DONE: u64 = 0;
@@ -10,20 +29,25 @@ const NOTHING: u64 = 255;
 const NUMBER_SHIFT: u32 = 56;
 
 /// What a word says: the value of a call that is done, nothing where there was nothing to do, or the refusal.
-///
-/// A word with any other number is not the proved library's: then another library was linked, and there is no going on.
 pub fn read(word: u64) -> Result<Option<usize>, Refusal> {
     let (number, value) = (word >> NUMBER_SHIFT, word & ((1 << NUMBER_SHIFT) - 1));
-    let value = value as usize;
+    let value = size(value);
     match number {
         DONE => Ok(Some(value)),
         NOTHING => Ok(None),
         _ => match Refusal::of_row(number, value) {
             Some(refusal) => Err(refusal),
-            None => {
-                panic!("the linked library answers {word:#018X}, which tilghorz.h does not have")
-            }
+            None => foreign(format_args!("{word:#018X}")),
         },
+    }
+}
+
+/// Reads the word of a call that has one good answer, which is this value.
+pub fn expect(word: u64, value: usize) {
+    if read(word) != Ok(Some(value)) {
+        foreign(format_args!(
+            "{word:#018X} where it has {value} bytes to write"
+        ));
     }
 }
 
@@ -62,7 +86,9 @@ mod tests {
     }
 
     #[test]
-    #[should_panic(expected = "the linked library answers 0x6300000000000001")]
+    #[should_panic(
+        expected = "the linked library is not the proved one: it answers 0x6300000000000001"
+    )]
     fn another_word_stops() {
         let _ = read(0x6300_0000_0000_0001);
     }

@@ -2,11 +2,11 @@
 //! memberships that decide a text: document 02, (viii). Findings around the cursor: document 02, (ix).
 
 use std::borrow::Cow;
-use std::ops::Range;
+use std::ops::{Bound, RangeBounds};
 
 use crate::table::numbers;
 use crate::table::sealed::Read;
-use crate::{Finding, Item, LONGEST_TEXT, Policy, Refusal, Row, Table, Tip};
+use crate::{Finding, Item, LONGEST_TEXT, Policy, Presentation, Refusal, Row, Table, Tip};
 use crate::{answer, sys};
 
 /// The rows that a table has room for at first.
@@ -39,8 +39,17 @@ pub struct Repaired<'a> {
     pub replaced: usize,
 }
 
+/// What repairing into a buffer did.
+#[derive(Debug, Clone, Copy, PartialEq, Eq, Hash)]
+pub struct RepairedLen {
+    /// The length of the repaired text, which is at the front of the output.
+    pub len: usize,
+    /// The number of replacements.
+    pub replaced: usize,
+}
+
 /// The findings around a stretch of bytes.
-#[derive(Debug)]
+#[derive(Debug, Clone, PartialEq, Eq, Hash)]
 pub struct Around {
     /// Those that lie wholly inside it, in text order.
     pub inside: Table<Finding>,
@@ -49,7 +58,7 @@ pub struct Around {
 }
 
 /// The finding that is nearest to an offset.
-#[derive(Debug, Clone, PartialEq, Eq)]
+#[derive(Debug, Clone, PartialEq, Eq, Hash)]
 pub struct Nearest {
     /// The finding.
     pub finding: Finding,
@@ -58,32 +67,46 @@ pub struct Nearest {
     pub distance: usize,
 }
 
-/// How a base is shown: what a decision chooses.
-#[derive(Debug, Clone, Copy, PartialEq, Eq, Hash)]
-pub enum Presentation {
-    /// As text: FE0E, decision 0.
-    Text,
-    /// As emoji: FE0F, decision 1.
-    Emoji,
-}
-
-impl Presentation {
-    /// The byte of the decision, as it crosses.
-    #[must_use]
-    pub const fn decision(self) -> u8 {
-        match self {
-            Self::Text => 0,
-            Self::Emoji => 1,
-        }
-    }
-}
-
 /// The formatted text: the text itself where it needs no change.
 ///
+/// ```
+/// use tilghorz::{Policy, Refusal};
+///
+/// let policy = Policy::default();
+/// assert_eq!(&*tilghorz::format("1\u{FE0E}".as_bytes(), &policy)?, b"1");
+/// let damaged = tilghorz::format(b"good\xFF", &policy);
+/// assert_eq!(damaged, Err(Refusal::NotWellFormed { valid_up_to: 4 }));
+/// # Ok::<(), Refusal>(())
+/// ```
+///
 /// # Errors
-/// Refusals 1 and 3.
+/// [`Refusal::TextTooLong`] (1) and [`Refusal::NotWellFormed`] (3).
 pub fn format<'a>(text: &'a [u8], policy: &Policy) -> Result<Cow<'a, [u8]>, Refusal> {
     with_format_room(text, policy, |out| format_into(text, policy, out))
+}
+
+/// The formatted text of a string, which is well-formed: the string itself where it needs no change.
+///
+/// ```
+/// use std::borrow::Cow;
+/// use tilghorz::Policy;
+///
+/// let policy = Policy::default();
+/// assert_eq!(tilghorz::format_str("I \u{2764} it", &policy)?, "I \u{2764}\u{FE0E} it");
+/// assert!(matches!(tilghorz::format_str("plain", &policy)?, Cow::Borrowed("plain")));
+/// # Ok::<(), tilghorz::Refusal>(())
+/// ```
+///
+/// # Errors
+/// [`Refusal::TextTooLong`] (1).
+pub fn format_str<'a>(text: &'a str, policy: &Policy) -> Result<Cow<'a, str>, Refusal> {
+    Ok(match format(text.as_bytes(), policy)? {
+        Cow::Borrowed(_) => Cow::Borrowed(text),
+        Cow::Owned(bytes) => match String::from_utf8(bytes) {
+            Ok(formatted) => Cow::Owned(formatted),
+            Err(error) => answer::foreign(format_args!("a text with an {error}")),
+        },
+    })
 }
 
 /// Makes a call that formats a text, with enough room, and gives the text that is to be kept.
@@ -102,8 +125,20 @@ pub fn with_format_room<'a>(
 /// Formats into the caller's buffer. Four times the text's length is always enough room; under the default policy five
 /// halves of it are. What is after the formatted text stays as it was.
 ///
+/// ```
+/// use tilghorz::{Formatted, Policy};
+///
+/// let (policy, mut out) = (Policy::default(), [0; 64]);
+/// let heart = "\u{2764}".as_bytes();
+/// let formatted = tilghorz::format_into(heart, &policy, &mut out)?;
+/// assert_eq!(formatted, Formatted::Changed { len: 6 });
+/// assert_eq!(tilghorz::filed(heart, &out, formatted), "\u{2764}\u{FE0E}".as_bytes());
+/// # Ok::<(), tilghorz::Refusal>(())
+/// ```
+///
 /// # Errors
-/// Refusals 1, 3 and 8; the buffer is then as it was.
+/// [`Refusal::TextTooLong`] (1), [`Refusal::NotWellFormed`] (3) and [`Refusal::OutputTooShort`] (8); the buffer is then
+/// as it was.
 pub fn format_into(text: &[u8], policy: &Policy, out: &mut [u8]) -> Result<Formatted, Refusal> {
     let done = answer::read(sys::format(text, policy.as_bytes(), out))?;
     Ok(done.map_or(Formatted::Unchanged, |len| Formatted::Changed { len }))
@@ -122,11 +157,18 @@ pub fn filed<'a>(message: &'a [u8], buffer: &'a [u8], formatted: Formatted) -> &
 /// The text with FFFD for each bad place, and their number. The result may be longer than a text that the other
 /// functions take.
 ///
+/// ```
+/// let repaired = tilghorz::repair(b"cut off: \xE2\x9D")?;
+/// assert_eq!(&*repaired.text, "cut off: \u{FFFD}".as_bytes());
+/// assert_eq!(repaired.replaced, 1);
+/// # Ok::<(), tilghorz::Refusal>(())
+/// ```
+///
 /// # Errors
-/// Refusal 1.
+/// [`Refusal::TextTooLong`] (1).
 pub fn repair(text: &[u8]) -> Result<Repaired<'_>, Refusal> {
     let room = REPAIR_TIMES * text.len().min(LONGEST_TEXT);
-    let ((len, replaced), out) = with_room(room, 1, |out| repair_into(text, out))?;
+    let (RepairedLen { len, replaced }, out) = with_room(room, 1, |out| repair_into(text, out))?;
     let text = match replaced {
         0 => Cow::Borrowed(text),
         _ => Cow::Owned(front(out, len)),
@@ -134,20 +176,41 @@ pub fn repair(text: &[u8]) -> Result<Repaired<'_>, Refusal> {
     Ok(Repaired { text, replaced })
 }
 
-/// Writes the repaired text into the caller's buffer, and returns its length and the number of replacements. Three times
-/// the length of the text is always enough room. A text without a bad place is written too. The bytes after the repaired
-/// text are unchanged.
+/// Writes the repaired text into the caller's buffer. Three times the length of the text is always enough room. A text
+/// without a bad place is written too. The bytes after the repaired text are unchanged.
+///
+/// ```
+/// use tilghorz::RepairedLen;
+///
+/// let mut out = [0; 9];
+/// let done = tilghorz::repair_into(b"a\xFFb", &mut out)?;
+/// assert_eq!(done, RepairedLen { len: 5, replaced: 1 });
+/// assert_eq!(&out[..done.len], "a\u{FFFD}b".as_bytes());
+/// # Ok::<(), tilghorz::Refusal>(())
+/// ```
 ///
 /// # Errors
-/// Refusals 1 and 8; the buffer is then as it was.
-pub fn repair_into(text: &[u8], out: &mut [u8]) -> Result<(usize, usize), Refusal> {
-    answer::read_two(sys::repair(text, out))
+/// [`Refusal::TextTooLong`] (1) and [`Refusal::OutputTooShort`] (8); the buffer is then as it was.
+pub fn repair_into(text: &[u8], out: &mut [u8]) -> Result<RepairedLen, Refusal> {
+    let (len, replaced) = answer::read_two(sys::repair(text, out))?;
+    Ok(RepairedLen { len, replaced })
 }
 
 /// The findings, in text order.
 ///
+/// ```
+/// use tilghorz::Policy;
+///
+/// let findings = tilghorz::findings("1\u{FE0E} \u{2764}".as_bytes(), &Policy::default())?;
+/// for finding in &findings {
+///     println!("{:?}: {:?}", finding.span(), finding.counts);
+/// }
+/// assert_eq!((findings.len(), findings.totals().decisions), (2, 1));
+/// # Ok::<(), tilghorz::Refusal>(())
+/// ```
+///
 /// # Errors
-/// Refusals 1 and 3.
+/// [`Refusal::TextTooLong`] (1) and [`Refusal::NotWellFormed`] (3).
 pub fn findings(text: &[u8], policy: &Policy) -> Result<Table<Finding>, Refusal> {
     table(|table| sys::list(text, policy.as_bytes(), table))
 }
@@ -155,34 +218,68 @@ pub fn findings(text: &[u8], policy: &Policy) -> Result<Table<Finding>, Refusal>
 /// The findings that lie wholly inside a stretch of bytes, and those that only share a byte with it. A stretch that reaches
 /// past the text is cut at its end. An empty stretch has neither, and one that ends before its start is empty.
 ///
+/// ```
+/// use tilghorz::Policy;
+///
+/// let (text, policy) = ("1\u{FE0E} \u{2764}".as_bytes(), Policy::default());
+/// let around = tilghorz::around(text, &policy, 2..)?;
+/// assert_eq!(around.inside.get(0).map(|finding| finding.span()), Some(5..8));
+/// assert_eq!(around.sharing.get(0).map(|finding| finding.span()), Some(0..4));
+/// # Ok::<(), tilghorz::Refusal>(())
+/// ```
+///
 /// # Errors
-/// Refusals 1 and 3.
-pub fn around(text: &[u8], policy: &Policy, stretch: Range<usize>) -> Result<Around, Refusal> {
+/// [`Refusal::TextTooLong`] (1) and [`Refusal::NotWellFormed`] (3).
+pub fn around(
+    text: &[u8],
+    policy: &Policy,
+    stretch: impl RangeBounds<usize>,
+) -> Result<Around, Refusal> {
     let place = sys::FINDING_BYTES;
     let mut sharing = vec![0; MOST_SHARING * place];
-    let (from, to) = (stretch.start as u64, stretch.end as u64);
-    let mut inside = vec![0; FIRST_ROWS * place];
-    let mut call = |inside: &mut [u8]| {
+    let (from, to) = ends(&stretch);
+    let (rows, inside) = with_room(FIRST_ROWS * place, place, |inside| {
         let word = sys::around(text, policy.as_bytes(), from, to, inside, &mut sharing);
         answer::read_two(word)
-    };
-    let mut rows = call(&mut inside);
-    if let Err(Refusal::TableTooShort { places }) = rows {
-        inside = vec![0; places * place];
-        rows = call(&mut inside);
-    }
-    let (inside_rows, sharing_rows) = rows?;
+    })?;
+    let (inside_rows, sharing_rows) = rows;
     Ok(Around {
         inside: Table::new(inside, inside_rows),
         sharing: Table::new(sharing, sharing_rows),
     })
 }
 
+/// The offset of the first byte of a stretch, and the offset after its last one. A stretch without an end reaches past
+/// every text.
+fn ends(stretch: &impl RangeBounds<usize>) -> (u64, u64) {
+    let from = match stretch.start_bound() {
+        Bound::Included(start) => *start,
+        Bound::Excluded(before) => before.saturating_add(1),
+        Bound::Unbounded => 0,
+    };
+    let to = match stretch.end_bound() {
+        Bound::Included(last) => last.saturating_add(1),
+        Bound::Excluded(end) => *end,
+        Bound::Unbounded => usize::MAX,
+    };
+    (from as u64, to as u64)
+}
+
 /// The finding that is nearest to an offset, which may be past the text: the earlier of two that are equally near, or
 /// none if the text has no finding.
 ///
+/// ```
+/// use tilghorz::Policy;
+///
+/// let (text, policy) = ("1\u{FE0E} \u{2764}".as_bytes(), Policy::default());
+/// let nearest = tilghorz::nearest(text, &policy, 100)?.expect("a finding");
+/// assert_eq!((nearest.finding.start, nearest.distance), (5, 93));
+/// assert_eq!(tilghorz::nearest(b"plain", &policy, 0)?, None);
+/// # Ok::<(), tilghorz::Refusal>(())
+/// ```
+///
 /// # Errors
-/// Refusals 1 and 3.
+/// [`Refusal::TextTooLong`] (1) and [`Refusal::NotWellFormed`] (3).
 pub fn nearest(text: &[u8], policy: &Policy, offset: usize) -> Result<Option<Nearest>, Refusal> {
     let mut row = [0; sys::NEAREST_BYTES];
     let word = sys::nearest(text, policy.as_bytes(), offset as u64, &mut row);
@@ -222,8 +319,18 @@ pub fn cut(text: &[u8], offset: usize) -> Option<usize> {
 
 /// The items, in text order.
 ///
+/// ```
+/// use tilghorz::ItemKind;
+///
+/// let items = tilghorz::items("a \u{2764}\u{FE0F}".as_bytes())?;
+/// let kinds: Vec<ItemKind> = items.iter().map(|item| item.kind).collect();
+/// assert_eq!(kinds, [ItemKind::Passthrough, ItemKind::EmojiHeaded]);
+/// assert_eq!(items.get(1).map(|item| item.span()), Some(2..8));
+/// # Ok::<(), tilghorz::Refusal>(())
+/// ```
+///
 /// # Errors
-/// Refusals 1 and 3.
+/// [`Refusal::TextTooLong`] (1) and [`Refusal::NotWellFormed`] (3).
 pub fn items(text: &[u8]) -> Result<Table<Item>, Refusal> {
     table(|table| sys::scan(text, table))
 }
@@ -238,7 +345,7 @@ pub fn items(text: &[u8]) -> Result<Table<Item>, Refusal> {
 /// let heart = "\u{2764}".as_bytes();
 /// let tips = tilghorz::tips(heart, &policy)?;
 /// assert_eq!(tips.len(), 2);
-/// for tip in tips.iter() {
+/// for tip in &tips {
 ///     assert_eq!((tip.character, tip.context), ('\u{2764}', Context::Ordinary));
 /// }
 /// assert!(tilghorz::tips(b"no emoji", &policy)?.is_empty());
@@ -246,51 +353,107 @@ pub fn items(text: &[u8]) -> Result<Table<Item>, Refusal> {
 /// ```
 ///
 /// # Errors
-/// Refusals 1 and 3.
+/// [`Refusal::TextTooLong`] (1) and [`Refusal::NotWellFormed`] (3).
 pub fn tips(text: &[u8], policy: &Policy) -> Result<Table<Tip>, Refusal> {
     table(|table| sys::tips(text, policy.as_bytes(), table))
 }
 
 /// The whole text with the finding that starts at the offset mended. A finding takes as many decisions as its counts
-/// say.
+/// say. [`default_decisions`] has those that formatting makes.
+///
+/// ```
+/// use tilghorz::{Policy, Presentation, Refusal};
+///
+/// let (text, policy) = ("I \u{2764} it".as_bytes(), Policy::default());
+/// let mended = tilghorz::mend(text, &policy, 2, &[Presentation::Emoji])?;
+/// assert_eq!(mended, "I \u{2764}\u{FE0F} it".as_bytes());
+/// let wanted = Err(Refusal::WrongNumberOfDecisions { wanted: 1 });
+/// assert_eq!(tilghorz::mend(text, &policy, 2, &[]), wanted);
+/// # Ok::<(), Refusal>(())
+/// ```
 ///
 /// # Errors
-/// Refusals 1, 3, 4 and 5.
+/// [`Refusal::TextTooLong`] (1), [`Refusal::NotWellFormed`] (3), [`Refusal::NoFinding`] (4) and
+/// [`Refusal::WrongNumberOfDecisions`] (5).
 pub fn mend(
     text: &[u8],
     policy: &Policy,
     offset: usize,
     decisions: &[Presentation],
 ) -> Result<Vec<u8>, Refusal> {
-    let decisions: Vec<u8> = decisions
-        .iter()
-        .map(|decision| decision.decision())
-        .collect();
     let mended = with_room(any_room(text), 1, |out| {
-        mend_into(text, policy, offset, &decisions, out)
+        mend_into(text, policy, offset, decisions, out)
     });
     mended.map(|(len, out)| front(out, len))
 }
 
-/// Mends into the caller's buffer, with decisions as bytes, 0 text and 1 emoji, and gives the length of the mended
-/// text. What is after it stays as it was.
+/// Mends into the caller's buffer, and gives the length of the mended text. Four times the text's length is always enough
+/// room. What is after the mended text stays as it was.
+///
+/// ```
+/// use tilghorz::{Policy, Presentation};
+///
+/// let mut out = [0; 12];
+/// let heart = "\u{2764}".as_bytes();
+/// let len = tilghorz::mend_into(heart, &Policy::default(), 0, &[Presentation::Text], &mut out)?;
+/// assert_eq!(&out[..len], "\u{2764}\u{FE0E}".as_bytes());
+/// # Ok::<(), tilghorz::Refusal>(())
+/// ```
 ///
 /// # Errors
-/// Refusals 1, 3, 4, 5, 6 and 8; the buffer is then as it was.
+/// [`Refusal::TextTooLong`] (1), [`Refusal::NotWellFormed`] (3), [`Refusal::NoFinding`] (4),
+/// [`Refusal::WrongNumberOfDecisions`] (5) and [`Refusal::OutputTooShort`] (8); the buffer is then as it was.
 pub fn mend_into(
     text: &[u8],
     policy: &Policy,
     offset: usize,
-    decisions: &[u8],
+    decisions: &[Presentation],
     out: &mut [u8],
 ) -> Result<usize, Refusal> {
-    answer::read_done(sys::mend(
-        text,
-        policy.as_bytes(),
-        offset as u64,
-        decisions,
-        out,
-    ))
+    let decisions = sys::decision_bytes(decisions);
+    let word = sys::mend(text, policy.as_bytes(), offset as u64, decisions, out);
+    answer::read_done(word)
+}
+
+/// The decisions that formatting makes in the finding that starts at the offset: one for each bare base that needs a
+/// selector, in text order.
+///
+/// ```
+/// use tilghorz::{Policy, Presentation};
+///
+/// let (text, policy) = ("I \u{2764} it".as_bytes(), Policy::default());
+/// let decisions = tilghorz::default_decisions(text, &policy, 2)?;
+/// assert_eq!(decisions, [Presentation::Text]);
+/// let mended = tilghorz::mend(text, &policy, 2, &decisions)?;
+/// assert_eq!(mended, *tilghorz::format(text, &policy)?);
+/// # Ok::<(), tilghorz::Refusal>(())
+/// ```
+///
+/// # Errors
+/// [`Refusal::TextTooLong`] (1), [`Refusal::NotWellFormed`] (3) and [`Refusal::NoFinding`] (4).
+pub fn default_decisions(
+    text: &[u8],
+    policy: &Policy,
+    offset: usize,
+) -> Result<Vec<Presentation>, Refusal> {
+    let nearest = nearest(text, policy, offset)?.filter(|nearest| nearest.finding.start == offset);
+    let finding = nearest.ok_or(Refusal::NoFinding)?.finding;
+    // The bytes of a finding are an item of their own.
+    let item = text.get(finding.span()).unwrap_or_default();
+    let mended = |all| mend(item, policy, 0, &vec![all; finding.counts.decisions]);
+    let (as_text, as_emoji) = (mended(Presentation::Text)?, mended(Presentation::Emoji)?);
+    let formatted = format(item, policy)?;
+    // The two differ in the last byte of each selector that a decision adds.
+    let selectors = as_text.iter().zip(&as_emoji).zip(formatted.iter());
+    let decided = selectors.filter(|((text, emoji), _)| text != emoji);
+    let decisions = decided.map(|((text, _), default)| {
+        if default == text {
+            Presentation::Text
+        } else {
+            Presentation::Emoji
+        }
+    });
+    Ok(decisions.collect())
 }
 
 /// Room for the formatted text. Under the default policy "twice the formatted length is at most five times the input
@@ -333,11 +496,11 @@ pub(crate) fn with_room<T>(
 ) -> Result<(T, Vec<u8>), Refusal> {
     let mut buffer = vec![0; room];
     let answer = call(&mut buffer);
-    let (Err(Refusal::OutputTooShort { wanted: places }) | Err(Refusal::TableTooShort { places })) =
+    let Err(Refusal::OutputTooShort { wanted: places } | Refusal::TableTooShort { places }) =
         answer
     else {
         return answer.map(|answer| (answer, buffer));
     };
-    buffer = vec![0; places * place];
+    buffer = vec![0; places.saturating_mul(place)];
     call(&mut buffer).map(|answer| (answer, buffer))
 }

@@ -48,12 +48,8 @@ impl Feed {
     #[must_use]
     pub fn new(policy: &Policy) -> Self {
         let mut bytes = [0; sys::FEED_BYTES];
-        let written = answer::read_done(sys::feed_begin(policy.as_bytes(), &mut bytes));
-        assert_eq!(
-            written,
-            Ok(bytes.len()),
-            "the linked library has another length of a feed"
-        );
+        let word = sys::feed_begin(policy.as_bytes(), &mut bytes);
+        answer::expect(word, bytes.len());
         Self { bytes, fed: 0 }
     }
 
@@ -67,7 +63,8 @@ impl Feed {
     /// parts, so that the output is made no longer than a part needs.
     ///
     /// # Errors
-    /// Refusals 9, 1 and 3; the feed and the output are then as they were.
+    /// [`Refusal::FeedEnded`] (9), [`Refusal::TextTooLong`] (1) and [`Refusal::NotWellFormed`] (3); the feed and the
+    /// output are then as they were.
     pub fn write(&mut self, piece: &[u8], out: &mut Vec<u8>) -> Result<usize, Refusal> {
         if piece.len() <= PART {
             return append(Self::room_for(piece.len()), out, |out| {
@@ -94,7 +91,8 @@ impl Feed {
     /// result stays as it was.
     ///
     /// # Errors
-    /// Refusals 9, 1, 3 and 8; the feed and the buffer are then as they were.
+    /// [`Refusal::FeedEnded`] (9), [`Refusal::TextTooLong`] (1), [`Refusal::NotWellFormed`] (3) and
+    /// [`Refusal::OutputTooShort`] (8); the feed and the buffer are then as they were.
     pub fn write_into(&mut self, piece: &[u8], out: &mut [u8]) -> Result<usize, Refusal> {
         let length = answer::read_done(sys::feed_piece(&mut self.bytes, piece, out))?;
         self.fed += piece.len();
@@ -104,7 +102,8 @@ impl Feed {
     /// Ends the thread, adds what is left to the output, and gives how many bytes that is. The totals can still be read.
     ///
     /// # Errors
-    /// Refusals 9 and 10; the feed and the output are then as they were, and after 10 the thread can go on.
+    /// [`Refusal::FeedEnded`] (9) and [`Refusal::UnfinishedCharacter`] (10); the feed and the output are then as they
+    /// were, and after 10 the thread can go on.
     pub fn finish(&mut self, out: &mut Vec<u8>) -> Result<usize, Refusal> {
         append(Self::room_for(0), out, |out| self.finish_into(out))
     }
@@ -113,7 +112,8 @@ impl Feed {
     /// buffer must have 16 bytes.
     ///
     /// # Errors
-    /// Refusals 9, 10 and 8; the feed and the buffer are then as they were.
+    /// [`Refusal::FeedEnded`] (9), [`Refusal::UnfinishedCharacter`] (10) and [`Refusal::OutputTooShort`] (8); the feed
+    /// and the buffer are then as they were.
     pub fn finish_into(&mut self, out: &mut [u8]) -> Result<usize, Refusal> {
         answer::read_done(sys::feed_end(&mut self.bytes, out))
     }
@@ -122,12 +122,8 @@ impl Feed {
     #[must_use]
     pub fn totals(&self) -> Counts {
         let mut totals = [0; sys::TOTALS_BYTES];
-        let written = answer::read_done(sys::feed_totals(&self.bytes, &mut totals));
-        assert_eq!(
-            written,
-            Ok(totals.len()),
-            "the linked library has no totals"
-        );
+        let word = sys::feed_totals(&self.bytes, &mut totals);
+        answer::expect(word, totals.len());
         Counts::of(table::numbers(&totals))
     }
 
@@ -219,8 +215,9 @@ pub struct FeedWriter<W> {
     has_ended: bool,
 }
 
-impl<W: Write> FeedWriter<W> {
+impl<W> FeedWriter<W> {
     /// A writer that formats under a policy.
+    #[must_use]
     pub fn new(policy: &Policy, inner: W) -> Self {
         Self {
             feed: Feed::new(policy),
@@ -231,11 +228,31 @@ impl<W: Write> FeedWriter<W> {
         }
     }
 
+    /// The feed, which has the totals.
+    #[must_use]
+    pub const fn feed(&self) -> &Feed {
+        &self.feed
+    }
+
+    /// The other writer.
+    #[must_use]
+    pub const fn get_ref(&self) -> &W {
+        &self.inner
+    }
+
+    /// The other writer. What [`finish`](Self::finish) has not written is lost.
+    #[must_use]
+    pub fn into_inner(self) -> W {
+        self.inner
+    }
+}
+
+impl<W: Write> FeedWriter<W> {
     /// Ends the thread: writes what is left, and flushes the other writer. It may be called again after an error of that
     /// writer.
     ///
     /// # Errors
-    /// Those of the other writer, and refusal 10.
+    /// Those of the other writer, and [`Refusal::UnfinishedCharacter`] (10) in an error of the kind `UnexpectedEof`.
     pub fn finish(&mut self) -> io::Result<()> {
         self.hand_on()?;
         if !self.has_ended {
@@ -245,27 +262,13 @@ impl<W: Write> FeedWriter<W> {
         self.flush()
     }
 
-    /// The feed, which has the totals.
-    pub const fn feed(&self) -> &Feed {
-        &self.feed
-    }
-
-    /// The other writer.
-    pub const fn get_ref(&self) -> &W {
-        &self.inner
-    }
-
-    /// The other writer. What [`finish`](Self::finish) has not written is lost.
-    pub fn into_inner(self) -> W {
-        self.inner
-    }
-
     /// Hands on what is formatted. After an error the rest is still there.
     fn hand_on(&mut self) -> io::Result<()> {
         while self.written < self.formatted.len() {
             match self.inner.write(&self.formatted[self.written..]) {
                 Ok(0) => return Err(ErrorKind::WriteZero.into()),
-                Ok(length) => self.written += length,
+                // A writer may say that it took more than it was given.
+                Ok(length) => self.written = self.written.saturating_add(length),
                 Err(error) if error.kind() == ErrorKind::Interrupted => {}
                 Err(error) => return Err(error),
             }
@@ -320,8 +323,9 @@ pub struct FeedReader<R> {
     end: Option<Result<(), Refusal>>,
 }
 
-impl<R: Read> FeedReader<R> {
+impl<R> FeedReader<R> {
     /// A reader that formats under a policy.
+    #[must_use]
     pub fn new(policy: &Policy, inner: R) -> Self {
         Self {
             feed: Feed::new(policy),
@@ -335,15 +339,25 @@ impl<R: Read> FeedReader<R> {
     }
 
     /// The feed, which has the totals.
+    #[must_use]
     pub const fn feed(&self) -> &Feed {
         &self.feed
     }
 
     /// The other reader.
+    #[must_use]
+    pub const fn get_ref(&self) -> &R {
+        &self.inner
+    }
+
+    /// The other reader. What was read of it and not given is lost.
+    #[must_use]
     pub fn into_inner(self) -> R {
         self.inner
     }
+}
 
+impl<R: Read> FeedReader<R> {
     /// Feeds what was read, or reads once more. At the end of the other reader the thread ends.
     fn go_on(&mut self) -> io::Result<()> {
         if self.fed < self.read.len() {

@@ -1,12 +1,15 @@
 //! Findings: document 01, "Counts and finding"; document 02, (v).
 
-use std::ops::{AddAssign, Range};
+use std::array;
+use std::iter::Sum;
+use std::ops::{Add, AddAssign, Range};
 
 use crate::sys;
 use crate::table::{self, Row, Table, sealed::Read};
 
 /// A finding: an item of the text with a count that is not 0.
-#[derive(Debug, Clone, PartialEq, Eq)]
+#[derive(Debug, Clone, PartialEq, Eq, Hash)]
+#[non_exhaustive]
 pub struct Finding {
     /// The offset of its first byte.
     pub start: usize,
@@ -46,7 +49,18 @@ impl Finding {
 
 /// The eight counts, in document 01's order. `tag_forced` and `decisions` add a selector each, the other six remove one
 /// each.
-#[derive(Debug, Clone, Copy, Default, PartialEq, Eq)]
+///
+/// Sums stop at the largest number, as those of document 01 do. The counts of texts do not reach it.
+///
+/// ```
+/// use tilghorz::Counts;
+///
+/// let one = Counts { decisions: 1, ..Counts::default() };
+/// let other = Counts { tag_forced: 2, ..Counts::default() };
+/// assert_eq!((one + other).numbers(), [0, 0, 0, 0, 2, 0, 0, 1]);
+/// assert_eq!([one, other, one].iter().sum::<Counts>().decisions, 2);
+/// ```
+#[derive(Debug, Clone, Copy, Default, PartialEq, Eq, Hash)]
 pub struct Counts {
     /// Selectors where none may stand.
     pub unsanctioned: usize,
@@ -124,16 +138,32 @@ impl Counts {
     }
 }
 
+impl Add for Counts {
+    type Output = Self;
+
+    fn add(self, other: Self) -> Self {
+        let (left, right) = (self.numbers(), other.numbers());
+        Self::of(array::from_fn(|count| {
+            left[count].saturating_add(right[count])
+        }))
+    }
+}
+
 impl AddAssign for Counts {
     fn add_assign(&mut self, other: Self) {
-        self.unsanctioned += other.unsanctioned;
-        self.modifier_defective += other.modifier_defective;
-        self.additional_defective += other.additional_defective;
-        self.tag_conflicting += other.tag_conflicting;
-        self.tag_forced += other.tag_forced;
-        self.tag_redundant += other.tag_redundant;
-        self.policy_redundant += other.policy_redundant;
-        self.decisions += other.decisions;
+        *self = *self + other;
+    }
+}
+
+impl Sum for Counts {
+    fn sum<I: Iterator<Item = Self>>(counts: I) -> Self {
+        counts.fold(Self::default(), Add::add)
+    }
+}
+
+impl<'a> Sum<&'a Self> for Counts {
+    fn sum<I: Iterator<Item = &'a Self>>(counts: I) -> Self {
+        counts.copied().sum()
     }
 }
 
@@ -143,12 +173,14 @@ impl Read for Finding {
     const BYTES: usize = sys::FINDING_BYTES;
 
     fn read(bytes: &[u8]) -> Self {
-        let [start, end, a, b, c, d, e, f, g, h, positions @ ..] = table::numbers::<14>(bytes);
-        let [char_start, char_end, utf16_start, utf16_end] = positions;
+        let (span, rest) = bytes.split_at_checked(16).unwrap_or_default();
+        let (counts, positions) = rest.split_at_checked(sys::TOTALS_BYTES).unwrap_or_default();
+        let [start, end] = table::numbers(span);
+        let [char_start, char_end, utf16_start, utf16_end] = table::numbers(positions);
         Self {
             start,
             end,
-            counts: Counts::of([a, b, c, d, e, f, g, h]),
+            counts: Counts::of(table::numbers(counts)),
             char_start,
             char_end,
             utf16_start,
@@ -161,8 +193,6 @@ impl Table<Finding> {
     /// The sums of the counts over the findings.
     #[must_use]
     pub fn totals(&self) -> Counts {
-        let mut totals = Counts::default();
-        self.iter().for_each(|finding| totals += finding.counts);
-        totals
+        self.iter().map(|finding| finding.counts).sum()
     }
 }

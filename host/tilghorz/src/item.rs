@@ -1,12 +1,14 @@
 //! Items: document 01, "Item"; document 02, (i) and (v).
 
+use std::fmt::{self, Display, Formatter};
 use std::ops::Range;
 
-use crate::sys;
 use crate::table::{self, Row, sealed::Read};
+use crate::{answer, sys};
 
 /// An item. The items of a text tile it, in bytes, in characters and in UTF-16 units, and none is empty.
-#[derive(Debug, Clone, PartialEq, Eq)]
+#[derive(Debug, Clone, PartialEq, Eq, Hash)]
+#[non_exhaustive]
 pub struct Item {
     /// The offset of its first byte.
     pub start: usize,
@@ -60,6 +62,34 @@ pub enum ItemKind {
     EmojiHeaded,
 }
 
+impl ItemKind {
+    /// All four, in the order of their numbers.
+    pub const ALL: [Self; 4] = [
+        Self::Passthrough,
+        Self::UnsanctionedSelectors,
+        Self::LinksOnly,
+        Self::EmojiHeaded,
+    ];
+
+    /// Its name in a report.
+    #[must_use]
+    pub const fn name(self) -> &'static str {
+        match self {
+            Self::Passthrough => "passthrough",
+            Self::UnsanctionedSelectors => "unsanctioned-selectors",
+            Self::LinksOnly => "links-only",
+            Self::EmojiHeaded => "emoji-headed",
+        }
+    }
+}
+
+impl Display for ItemKind {
+    /// Its name.
+    fn fmt(&self, out: &mut Formatter<'_>) -> fmt::Result {
+        out.pad(self.name())
+    }
+}
+
 impl Row for Item {}
 
 impl Read for Item {
@@ -76,19 +106,13 @@ impl Read for Item {
             utf16_start,
             utf16_end,
         ] = table::numbers(bytes);
-        let kind = match kind {
-            0 => ItemKind::Passthrough,
-            1 => ItemKind::UnsanctionedSelectors,
-            2 => ItemKind::LinksOnly,
-            3 => ItemKind::EmojiHeaded,
-            other => panic!(
-                "the linked library answers an item of kind {other}, which tilghorz.h does not have"
-            ),
+        let Some(kind) = ItemKind::ALL.get(kind) else {
+            answer::foreign(format_args!("an item of kind {kind}"))
         };
         Self {
             start,
             end,
-            kind,
+            kind: *kind,
             tags_complete: tags_complete == 1,
             char_start,
             char_end,

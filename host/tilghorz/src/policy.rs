@@ -1,12 +1,12 @@
 //! Policies: document 01, "Key set and policy". Policy sheets: document 02, (vi). Policies of other tables: (xii).
 
-use std::error::Error;
 use std::fmt::{self, Debug, Display, Formatter};
 use std::str::FromStr;
 use std::sync::LazyLock;
 
 use crate::calls::{front, with_room};
-use crate::{Refusal, answer, sys};
+use crate::key::{self, Context, Key, KeySet, NoEntry, variation_entries};
+use crate::{Presentation, Refusal, answer, sys};
 
 /// The bytes of the version, with which a policy begins.
 const VERSION_BYTES: usize = 8;
@@ -47,24 +47,6 @@ pub struct Policy {
     bytes: [u8; sys::POLICY_BYTES],
 }
 
-/// One of the two key sets of a policy.
-#[derive(Debug, Clone, Copy, PartialEq, Eq, PartialOrd, Ord, Hash)]
-pub enum KeySet {
-    /// The bases that are best written bare.
-    PreferBare,
-    /// The bases that are text when they are bare.
-    BareAsText,
-}
-
-/// Where a base stands.
-#[derive(Debug, Clone, Copy, PartialEq, Eq, PartialOrd, Ord, Hash)]
-pub enum Context {
-    /// Not before 20E3.
-    Ordinary,
-    /// Before 20E3, as the base of a keycap.
-    Keycap,
-}
-
 /// What a policy says of a base.
 #[derive(Debug, Clone, Copy, PartialEq, Eq, Hash)]
 pub enum SingletonRule {
@@ -78,35 +60,33 @@ pub enum SingletonRule {
     TextToBare,
 }
 
-/// A character that is no variation entry, so that no key set can hold it.
-#[derive(Debug, Clone, Copy, PartialEq, Eq, Hash)]
-pub struct NoEntry(pub char);
-
-impl KeySet {
-    /// Both, in the order of a policy's bytes.
-    pub const ALL: [Self; 2] = [Self::PreferBare, Self::BareAsText];
+impl SingletonRule {
+    /// The decision that formatting makes for a bare base, if there is one to make: "one decision, with that default".
+    #[must_use]
+    pub const fn default_decision(self) -> Option<Presentation> {
+        match self {
+            Self::BareToEmoji => Some(Presentation::Emoji),
+            Self::BareToText => Some(Presentation::Text),
+            Self::EmojiToBare | Self::TextToBare => None,
+        }
+    }
 
     /// Its name in document 01.
     #[must_use]
     pub const fn name(self) -> &'static str {
         match self {
-            Self::PreferBare => "prefer_bare",
-            Self::BareAsText => "bare_as_text",
+            Self::BareToEmoji => "BareToEmoji",
+            Self::BareToText => "BareToText",
+            Self::EmojiToBare => "EmojiToBare",
+            Self::TextToBare => "TextToBare",
         }
     }
 }
 
-impl Context {
-    /// Both, in the order of a key set's bytes.
-    pub const ALL: [Self; 2] = [Self::Ordinary, Self::Keycap];
-
-    /// Its name in document 01.
-    #[must_use]
-    pub const fn name(self) -> &'static str {
-        match self {
-            Self::Ordinary => "ordinary",
-            Self::Keycap => "keycap",
-        }
+impl Display for SingletonRule {
+    /// Its name.
+    fn fmt(&self, out: &mut Formatter<'_>) -> fmt::Result {
+        out.pad(self.name())
     }
 }
 
@@ -114,22 +94,17 @@ impl Default for Policy {
     /// The default policy, as the library has it.
     fn default() -> Self {
         let mut bytes = [0; sys::POLICY_BYTES];
-        let written = answer::read_done(sys::default_policy(&mut bytes));
-        assert_eq!(
-            written,
-            Ok(bytes.len()),
-            "the linked library has another length of a policy"
-        );
+        answer::expect(sys::default_policy(&mut bytes), bytes.len());
         Self { bytes }
     }
 }
 
 impl Policy {
     /// The policy of its bytes: 25 words of 8 bytes, lowest byte first. The library itself tests them, with an empty
-    /// text.
+    /// text. `TryFrom` does the same.
     ///
     /// # Errors
-    /// Refusals 2 and 15.
+    /// [`Refusal::NotAPolicy`] (2) and [`Refusal::OtherVersion`] (15).
     pub fn from_bytes(bytes: &[u8]) -> Result<Self, Refusal> {
         answer::read(sys::format(&[], bytes, &mut []))?;
         let bytes = bytes.try_into().map_err(|_| Refusal::NotAPolicy)?;
@@ -152,15 +127,12 @@ impl Policy {
     /// The policy of a sheet, in bytes.
     ///
     /// # Errors
-    /// Refusals 1, 11 and 12.
+    /// [`Refusal::TextTooLong`] (1), [`Refusal::NotASheet`] (11) and [`Refusal::NotAnEntry`] (12).
     pub fn from_sheet(sheet: &[u8]) -> Result<Self, Refusal> {
         let mut bytes = [0; sys::POLICY_BYTES];
-        let written = answer::read_done(sys::read_sheet(sheet, &mut bytes))?;
-        assert_eq!(
-            written,
-            bytes.len(),
-            "the linked library has another length of a policy"
-        );
+        let word = sys::read_sheet(sheet, &mut bytes);
+        answer::read(word)?;
+        answer::expect(word, bytes.len());
         Ok(Self { bytes })
     }
 
@@ -204,7 +176,7 @@ impl Policy {
     pub fn to_sheet(&self) -> Vec<u8> {
         match with_room(sys::SHEET_ROOM, 1, |out| self.write_sheet_into(out)) {
             Ok((len, out)) => front(out, len),
-            Err(refusal) => panic!("the linked library refuses its own policy: {refusal}"),
+            Err(refusal) => answer::foreign(format_args!("to its own policy: {refusal}")),
         }
     }
 
@@ -212,7 +184,7 @@ impl Policy {
     /// enough room. What is after the sheet stays as it was.
     ///
     /// # Errors
-    /// Refusal 8; the buffer is then as it was.
+    /// [`Refusal::OutputTooShort`] (8); the buffer is then as it was.
     pub fn write_sheet_into(&self, out: &mut [u8]) -> Result<usize, Refusal> {
         answer::read_done(sys::write_sheet(&self.bytes, out))
     }
@@ -226,7 +198,7 @@ impl Policy {
     /// Adds a base to a key set. True if it was not in it.
     ///
     /// # Errors
-    /// If the character is no variation entry.
+    /// [`NoEntry`] if the character is no variation entry.
     pub fn add(&mut self, set: KeySet, character: char, context: Context) -> Result<bool, NoEntry> {
         let (byte, bit) = place(set, character, context)?;
         let is_new = self.bytes[byte] & bit == 0;
@@ -237,7 +209,7 @@ impl Policy {
     /// Takes a base out of a key set. True if it was in it.
     ///
     /// # Errors
-    /// If the character is no variation entry.
+    /// [`NoEntry`] if the character is no variation entry.
     pub fn take(
         &mut self,
         set: KeySet,
@@ -259,16 +231,60 @@ impl Policy {
     /// What the policy says of a base. Nothing of a character that is no variation entry.
     #[must_use]
     pub fn singleton_rule(&self, character: char, context: Context) -> Option<SingletonRule> {
-        variation_entries().binary_search(&character).ok()?;
-        let holds = |set| self.contains(set, character, context);
-        Some(
-            match (holds(KeySet::PreferBare), holds(KeySet::BareAsText)) {
-                (false, false) => SingletonRule::BareToEmoji,
-                (false, true) => SingletonRule::BareToText,
-                (true, false) => SingletonRule::EmojiToBare,
-                (true, true) => SingletonRule::TextToBare,
-            },
-        )
+        Some(self.rule(Key::new(character, context).ok()?))
+    }
+
+    /// What the policy says of a key.
+    #[must_use]
+    pub fn rule(&self, key: Key) -> SingletonRule {
+        match KeySet::ALL.map(|set| self.holds(set, key)) {
+            [false, false] => SingletonRule::BareToEmoji,
+            [false, true] => SingletonRule::BareToText,
+            [true, false] => SingletonRule::EmojiToBare,
+            [true, true] => SingletonRule::TextToBare,
+        }
+    }
+
+    /// Whether a key set holds a key.
+    #[must_use]
+    pub fn holds(&self, set: KeySet, key: Key) -> bool {
+        self.contains(set, key.character(), key.context())
+    }
+
+    /// Flips a membership: a key that the set holds is taken out, another one is added. True if the set then holds it.
+    ///
+    /// ```
+    /// use tilghorz::{Context, Key, KeySet, NoEntry, Policy};
+    ///
+    /// let mut policy = Policy::default();
+    /// let heart = Key::new('\u{2764}', Context::Ordinary)?;
+    /// assert!(policy.flip(KeySet::PreferBare, heart));
+    /// assert!(policy.holds(KeySet::PreferBare, heart) && !policy.is_default());
+    /// assert!(!policy.flip(KeySet::PreferBare, heart));
+    /// assert!(policy.is_default());
+    /// # Ok::<(), NoEntry>(())
+    /// ```
+    pub fn flip(&mut self, set: KeySet, key: Key) -> bool {
+        if let Ok((byte, bit)) = place(set, key.character(), key.context()) {
+            self.bytes[byte] ^= bit;
+        }
+        self.holds(set, key)
+    }
+}
+
+impl TryFrom<&[u8]> for Policy {
+    type Error = Refusal;
+
+    /// The policy of its bytes.
+    fn try_from(bytes: &[u8]) -> Result<Self, Refusal> {
+        Self::from_bytes(bytes)
+    }
+}
+
+impl AsRef<[u8]> for Policy {
+    /// Its bytes.
+    fn as_ref(&self) -> &[u8] {
+        &self.bytes
     }
 }
 
@@ -300,36 +316,10 @@ impl Debug for Policy {
     }
 }
 
-impl Display for NoEntry {
-    fn fmt(&self, out: &mut Formatter<'_>) -> fmt::Result {
-        let code_point = u32::from(self.0);
-        write!(
-            out,
-            "U+{code_point:04X} has no variation sequence, so a policy cannot speak of it"
-        )
-    }
-}
-
-impl Error for NoEntry {}
-
-/// The variation entries, in ascending order, as the library has them.
-#[must_use]
-pub fn variation_entries() -> &'static [char] {
-    static ENTRIES: LazyLock<Vec<char>> = LazyLock::new(|| {
-        let entry = |index| answer::read(sys::variation_entry(index)).ok().flatten();
-        let code_points = (0..).map_while(entry);
-        let character = |code_point| u32::try_from(code_point).ok().and_then(char::from_u32);
-        code_points.filter_map(character).collect()
-    });
-    &ENTRIES
-}
-
 /// The byte of a key, and its bit. "Entry i at bit i mod 64 of word i/64", and a word has its lowest byte first; so it
 /// is at bit i mod 8 of byte i/8. The four character sets stand in the order of the two `ALL`, after the version.
 fn place(set: KeySet, character: char, context: Context) -> Result<(usize, u8), NoEntry> {
-    let entry = variation_entries()
-        .binary_search(&character)
-        .map_err(|_| NoEntry(character))?;
+    let entry = key::entry(character)?;
     let before =
         2 * usize::from(set == KeySet::BareAsText) + usize::from(context == Context::Keycap);
     let byte = VERSION_BYTES + before * SET_BYTES + entry / 8;

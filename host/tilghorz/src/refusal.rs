@@ -8,11 +8,20 @@ use crate::version;
 
 /// Why a call was turned back. It then wrote to no buffer.
 ///
+/// ```
+/// use tilghorz::{Policy, Refusal};
+///
+/// let refusal = tilghorz::format(b"good\xFF", &Policy::default()).expect_err("it is damaged");
+/// assert_eq!((refusal.number(), refusal.value()), (3, Some(4)));
+/// assert_eq!(refusal.to_string(), "not well-formed UTF-8 at byte 4");
+/// ```
+///
 /// The tests come in the order of the numbers, each only in calls that take the thing. A call on a feed tests 9 and 10
 /// first, reading a sheet tests 11 and 12 before 8, and beginning a store tests its buffer, 8, first. Of a policy, the
 /// length (2) is tested first, then the version (15), then the unused bits (2). Carrying a policy over tests 16 first, and
 /// not 15.
 #[derive(Debug, Clone, Copy, PartialEq, Eq, Hash)]
+#[non_exhaustive]
 pub enum Refusal {
     /// 1: the text is over 16,777,216 bytes.
     TextTooLong,

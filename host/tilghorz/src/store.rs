@@ -47,23 +47,20 @@ impl Store {
     /// the reserve 0.
     ///
     /// # Errors
-    /// Refusal 13 for more than 16 reserves, and 14 with the capacity if the reserves sum to more.
+    /// [`Refusal::BadClientOrNumber`] (13) for more than 16 reserves, and [`Refusal::DoesNotFit`] (14) with the capacity if
+    /// the reserves sum to more.
     pub fn new(capacity: u64, reserves: &[u64]) -> Result<Self, Refusal> {
         let reserves: Vec<u8> = reserves.iter().flat_map(|of| of.to_le_bytes()).collect();
         let mut bytes = vec![0; sys::STORE_BYTES].into_boxed_slice();
-        let begun = answer::read_done(sys::store_begin(capacity, &reserves, &mut bytes));
-        match begun {
+        let word = sys::store_begin(capacity, &reserves, &mut bytes);
+        match answer::read(word) {
             // A word has 56 bits for the capacity.
             Err(Refusal::DoesNotFit { .. }) => Err(Refusal::DoesNotFit {
-                fits: capacity as usize,
+                fits: answer::size(capacity),
             }),
             Err(refusal) => Err(refusal),
-            Ok(length) => {
-                assert_eq!(
-                    length,
-                    bytes.len(),
-                    "the linked library has another length of a store"
-                );
+            Ok(_) => {
+                answer::expect(word, bytes.len());
                 Ok(Self { bytes })
             }
         }
@@ -73,7 +70,8 @@ impl Store {
     /// change.
     ///
     /// # Errors
-    /// Refusals 1, 3, 13 and 14; the store is then as it was.
+    /// [`Refusal::TextTooLong`] (1), [`Refusal::NotWellFormed`] (3), [`Refusal::BadClientOrNumber`] (13) and
+    /// [`Refusal::DoesNotFit`] (14); the store is then as it was.
     pub fn file<'a>(
         &mut self,
         text: &'a [u8],
@@ -90,7 +88,8 @@ impl Store {
     /// text's length is always enough room. What is after the formatted text stays as it was.
     ///
     /// # Errors
-    /// Refusals 1, 3, 8, 13 and 14; the store and the buffer are then as they were.
+    /// [`Refusal::TextTooLong`] (1), [`Refusal::NotWellFormed`] (3), [`Refusal::OutputTooShort`] (8),
+    /// [`Refusal::BadClientOrNumber`] (13) and [`Refusal::DoesNotFit`] (14); the store and the buffer are then as they were.
     pub fn file_into(
         &mut self,
         text: &[u8],
@@ -114,7 +113,7 @@ impl Store {
     /// Releases the message that a client filed under a number, and gives how many bytes that gives back.
     ///
     /// # Errors
-    /// Refusal 13; the store is then as it was.
+    /// [`Refusal::BadClientOrNumber`] (13); the store is then as it was.
     pub fn release(&mut self, client: u64, number: u64) -> Result<usize, Refusal> {
         answer::read_done(sys::store_release(&mut self.bytes, client, number))
     }
@@ -122,7 +121,7 @@ impl Store {
     /// How many bytes are charged to a client.
     ///
     /// # Errors
-    /// Refusal 13 for a client above 15.
+    /// [`Refusal::BadClientOrNumber`] (13) for a client above 15.
     pub fn used(&self, client: u64) -> Result<usize, Refusal> {
         answer::read_done(sys::store_used(&self.bytes, client))
     }

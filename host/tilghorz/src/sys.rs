@@ -9,6 +9,10 @@
 
 #![allow(unsafe_code)]
 
+use std::slice;
+
+use crate::Presentation;
+
 /// The bytes of a policy.
 pub const POLICY_BYTES: usize = 200;
 /// The bytes of a finding in a table.
@@ -200,6 +204,12 @@ pub fn mend(text: &[u8], policy: &[u8], offset: u64, decisions: &[u8], out: &mut
             out.len(),
         )
     }
+}
+
+/// The bytes of decisions, as [`mend`] takes them.
+pub(crate) const fn decision_bytes(decisions: &[Presentation]) -> &[u8] {
+    // SAFETY: a decision is one byte, 0 or 1 (`repr(u8)`), so the slice is as many bytes, borrowed as long.
+    unsafe { slice::from_raw_parts(decisions.as_ptr().cast(), decisions.len()) }
 }
 
 /// `tilghorz_scan`: lists the items.

@@ -1,8 +1,8 @@
 //! The single memberships of a policy that decide a text: document 02, (viii).
 
-use crate::policy::{Context, KeySet};
-use crate::sys;
+use crate::key::{Context, Key, KeySet, NoEntry};
 use crate::table::{self, Row, sealed::Read};
+use crate::{answer, sys};
 
 /// A membership of a policy whose flip alone alters the formatted text: a base that a key set holds in a context, or does
 /// not. The order is that of the list: by code point, ordinary before keycap, `prefer_bare` before `bare_as_text`.
@@ -16,6 +16,16 @@ pub struct Tip {
     pub set: KeySet,
 }
 
+impl Tip {
+    /// The base in its context.
+    ///
+    /// # Errors
+    /// [`NoEntry`] if the character is no variation entry. That of a listed membership is one.
+    pub fn key(&self) -> Result<Key, NoEntry> {
+        Key::new(self.character, self.context)
+    }
+}
+
 impl Row for Tip {}
 
 impl Read for Tip {
@@ -27,7 +37,9 @@ impl Read for Tip {
         let (Some(character), Some(context), Some(set)) =
             (character, Context::ALL.get(context), KeySet::ALL.get(set))
         else {
-            panic!("the linked library answers a membership that tilghorz.h does not have");
+            answer::foreign(format_args!(
+                "the membership {code_point:X} {context} {set}"
+            ))
         };
         Self {
             character,

@@ -19,7 +19,7 @@ impl Version {
     pub const fn of_word(word: u64) -> Self {
         Self {
             major: word / 256,
-            minor: (word % 256) as u8,
+            minor: word.to_le_bytes()[0],
         }
     }
 
@@ -47,6 +47,9 @@ impl Display for Version {
 /// ```
 #[must_use]
 pub fn version() -> Version {
-    let word = answer::read_done(sys::version()).expect("the function refuses nothing");
-    Version::of_word(word as u64)
+    let word = sys::version();
+    match answer::read(word) {
+        Ok(Some(version)) => Version::of_word(version as u64),
+        _ => answer::foreign(format_args!("{word:#018X} for its version")),
+    }
 }

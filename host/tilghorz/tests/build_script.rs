@@ -8,7 +8,7 @@ use std::fs::{self, Permissions};
 use std::os::unix::fs::PermissionsExt;
 use std::path::{Path, PathBuf};
 
-use build_script::{Place, VARIABLE, bring_up_to_date, place};
+use build_script::{Place, VARIABLE, bring_up_to_date, place, put};
 
 /// Where the library is to be, by the variable and the root.
 fn placed(named: Option<&str>, root: Option<&str>) -> Result<Place, String> {
@@ -132,4 +132,25 @@ fn a_stale_library_is_not_linked() {
         assert!(fault.contains("failed"), "{fault}");
         assert!(fault.ends_with("\nwhy"), "{fault}");
     }
+}
+
+/// What is linked is cargo's own copy.
+#[test]
+fn the_library_is_put_into_another_folder() {
+    let repository = Repository::new("put");
+    let own = repository.0.join("own");
+    let fault = put(&repository.0.join("target/staticlib"), &own).expect_err("a fault");
+    assert!(fault.contains("libtilghorz.a"), "{fault}");
+    repository.write("own/other", "");
+    for _ in 0..2 {
+        assert_eq!(repository.made(), 1);
+        put(&repository.0.join("target/staticlib"), &own).expect("put");
+        let copy = fs::read_to_string(own.join("libtilghorz.a")).expect("a copy");
+        assert_eq!(copy, "\n");
+    }
+    fs::remove_dir_all(repository.0.join("target")).expect("gone");
+    assert!(own.join("libtilghorz.a").is_file());
+    // The one that this test was linked with.
+    let linked = Path::new(env!("TILGHORZ_FOLDER"));
+    assert!(linked.join("libtilghorz.a").is_file() && linked.ends_with("out"));
 }

@@ -13,9 +13,9 @@ fn the_example_in_c_formats_a_text() {
     compiler.args(["-std=c99", "-pedantic", "-Wall", "-Wextra", "-Werror"]);
     compiler.args(["-I", INCLUDE, &format!("{INCLUDE}/example.c")]);
     compiler.args(["-L", env!("TILGHORZ_FOLDER"), "-ltilghorz", "-o"]);
-    let compiled = compiler.arg(&program).output().expect("a C compiler");
-    let said = String::from_utf8_lossy(&compiled.stderr);
-    assert!(compiled.status.success(), "{said}");
+    let output = compiler.arg(&program).output().expect("a C compiler");
+    let said = String::from_utf8_lossy(&output.stderr);
+    assert!(output.status.success(), "{said}");
     let ran = Command::new(&program).output().expect("run");
     let written = String::from_utf8_lossy(&ran.stdout);
     assert_eq!(written, "changed: 31 20 E2 9D A4 EF B8 8E\n");

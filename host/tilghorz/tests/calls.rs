@@ -2,11 +2,12 @@
 
 use std::borrow::Cow;
 use std::fs;
-use std::ops::Range;
+use std::ops::{Bound, Range};
 use std::path::Path;
 
 use tilghorz::{
     Counts, Finding, Formatted, Item, ItemKind, LONGEST_TEXT, Policy, Presentation, Refusal,
+    RepairedLen,
 };
 
 /// The greatest number of bytes that the program `format` reads, and that the program `report` reads.
@@ -15,10 +16,16 @@ const LONGEST_TO_REPORT: usize = 12_288;
 
 /// What becomes of a text under the default policy.
 fn formatted(text: &str) -> Cow<'_, str> {
-    match tilghorz::format(text.as_bytes(), &Policy::default()).expect("a text") {
-        Cow::Borrowed(_) => Cow::Borrowed(text),
-        Cow::Owned(bytes) => Cow::Owned(String::from_utf8(bytes).expect("a text")),
-    }
+    let policy = Policy::default();
+    let formatted = tilghorz::format_str(text, &policy).expect("a text");
+    let bytes = tilghorz::format(text.as_bytes(), &policy).expect("a text");
+    assert_eq!(bytes, formatted.as_bytes());
+    let borrowed = [
+        matches!(bytes, Cow::Borrowed(_)),
+        matches!(formatted, Cow::Borrowed(_)),
+    ];
+    assert_eq!(borrowed, [text == formatted; 2]);
+    formatted
 }
 
 /// The totals of a text under the default policy.
@@ -90,29 +97,19 @@ fn the_worked_texts_come_out() {
 #[test]
 fn items_tile_the_text() {
     let text = "a\u{231A}\u{200D}\u{200D}\u{231A}\u{E0061}b\u{FE0F}";
-    let items: Vec<Item> = tilghorz::items(text.as_bytes())
-        .expect("a text")
-        .iter()
-        .collect();
-    let item =
-        |bytes: Range<usize>, chars: Range<usize>, units: Range<usize>, kind, tags_complete| Item {
-            start: bytes.start,
-            end: bytes.end,
-            kind,
-            tags_complete,
-            char_start: chars.start,
-            char_end: chars.end,
-            utf16_start: units.start,
-            utf16_end: units.end,
-        };
+    let items = tilghorz::items(text.as_bytes()).expect("a text");
+    let row = |item: Item| {
+        let spans = [item.span(), item.char_span(), item.utf16_span()];
+        (spans, item.kind, item.tags_complete)
+    };
     let expected = [
-        item(0..1, 0..1, 0..1, ItemKind::Passthrough, true),
-        item(1..10, 1..4, 1..4, ItemKind::EmojiHeaded, true),
-        item(10..17, 4..6, 4..7, ItemKind::EmojiHeaded, false),
-        item(17..18, 6..7, 7..8, ItemKind::Passthrough, true),
-        item(18..21, 7..8, 8..9, ItemKind::UnsanctionedSelectors, true),
+        ([0..1, 0..1, 0..1], ItemKind::Passthrough, true),
+        ([1..10, 1..4, 1..4], ItemKind::EmojiHeaded, true),
+        ([10..17, 4..6, 4..7], ItemKind::EmojiHeaded, false),
+        ([17..18, 6..7, 7..8], ItemKind::Passthrough, true),
+        ([18..21, 7..8, 8..9], ItemKind::UnsanctionedSelectors, true),
     ];
-    assert_eq!(items, expected);
+    assert!(items.iter().map(row).eq(expected), "{items:?}");
 }
 
 #[test]
@@ -128,12 +125,12 @@ fn spans_are_counted_three_times() {
         assert!(part.encode_utf16().eq(units[utf16].iter().copied()));
     };
     let items = tilghorz::items(text.as_bytes()).expect("a text");
-    for item in items.iter() {
+    for item in &items {
         holds(item.span(), item.char_span(), item.utf16_span());
     }
     let findings = tilghorz::findings(text.as_bytes(), &Policy::default()).expect("a text");
     assert_eq!(findings.iter().count(), 4);
-    for finding in findings.iter() {
+    for finding in &findings {
         holds(finding.span(), finding.char_span(), finding.utf16_span());
     }
 }
@@ -178,6 +175,63 @@ fn mending_takes_the_decisions() {
     assert_eq!(mended(usize::MAX, &[]), Err(Refusal::NoFinding));
 }
 
+/// Document 01: "one decision, with that default". Under this policy a heart is text by default, and other bases are emoji.
+#[test]
+fn mending_with_the_default_decisions_formats_a_finding() {
+    let hearts = Policy::from_sheet(b"30-39\n\n2764\n\n").expect("a sheet");
+    let text = "a \u{2764}\u{200D}\u{A9}\u{FE0F}\u{FE0F}\u{200D}\u{231A} 1\u{FE0F} \u{2764}";
+    let decisions = |offset| tilghorz::default_decisions(text.as_bytes(), &hearts, offset);
+    let (as_text, as_emoji) = (Presentation::Text, Presentation::Emoji);
+    assert_eq!(decisions(2), Ok(vec![as_text, as_emoji]));
+    assert_eq!(decisions(23), Ok(vec![]));
+    assert_eq!(decisions(28), Ok(vec![as_text]));
+    for offset in [0, 3, 22, 24, 31, usize::MAX] {
+        assert_eq!(decisions(offset), Err(Refusal::NoFinding));
+    }
+    let damaged = tilghorz::default_decisions(b"\xFF", &hearts, 0);
+    assert_eq!(damaged, Err(Refusal::NotWellFormed { valid_up_to: 0 }));
+
+    let path = Path::new(env!("CARGO_MANIFEST_DIR")).join("../../tests/programs/thread.in");
+    let thread = fs::read(path).expect("a stored run");
+    for policy in [&Policy::default(), &hearts] {
+        for finding in tilghorz::findings(&thread, policy).expect("a text") {
+            let decisions = tilghorz::default_decisions(&thread, policy, finding.start);
+            let decisions = decisions.expect("a finding");
+            assert_eq!(decisions.len(), finding.counts.decisions);
+            let item = &thread[finding.span()];
+            let mended = tilghorz::mend(item, policy, 0, &decisions).expect("a finding");
+            assert_eq!(mended, *tilghorz::format(item, policy).expect("a text"));
+        }
+    }
+}
+
+#[test]
+fn a_stretch_is_any_range() {
+    let (text, policy) = ("1\u{FE0E} \u{2764}".as_bytes(), Policy::default());
+    let all = tilghorz::findings(text, &policy).expect("a text");
+    let around = |stretch: (Bound<usize>, Bound<usize>)| {
+        let around = tilghorz::around(text, &policy, stretch).expect("a text");
+        (around.inside.len(), around.sharing.len())
+    };
+    let whole = tilghorz::around(text, &policy, ..).expect("a text");
+    assert_eq!((whole.inside, whole.sharing.len()), (all, 0));
+    assert_eq!(
+        tilghorz::around(text, &policy, 5..=7),
+        tilghorz::around(text, &policy, 5..8)
+    );
+    assert_eq!(around((Bound::Excluded(4), Bound::Included(7))), (1, 0));
+    assert_eq!(around((Bound::Excluded(5), Bound::Included(7))), (0, 1));
+    assert_eq!(
+        around((Bound::Excluded(usize::MAX), Bound::Unbounded)),
+        (0, 0)
+    );
+    assert_eq!(
+        around((Bound::Included(0), Bound::Included(usize::MAX))),
+        (2, 0)
+    );
+    assert_eq!(around((Bound::Included(7), Bound::Excluded(2))), (0, 0));
+}
+
 #[test]
 fn refusals_leave_the_callers_buffer() {
     let policy = Policy::default();
@@ -186,12 +240,12 @@ fn refusals_leave_the_callers_buffer() {
     let too_short = Err(Refusal::OutputTooShort { wanted: 6 });
     assert_eq!(tilghorz::format_into(text, &policy, &mut out), too_short);
     let too_short = Err(Refusal::OutputTooShort { wanted: 6 });
-    assert_eq!(
-        tilghorz::mend_into(text, &policy, 0, &[1], &mut out),
-        too_short
-    );
-    let bad = Err(Refusal::BadDecision { index: 0 });
-    assert_eq!(tilghorz::mend_into(text, &policy, 0, &[2], &mut out), bad);
+    let emoji = &[Presentation::Emoji][..];
+    let mended = tilghorz::mend_into(text, &policy, 0, emoji, &mut out);
+    assert_eq!(mended, too_short);
+    // Of the decisions of this library, none is above 1. The linked one refuses such a byte by 6.
+    let word = tilghorz::sys::mend(text, policy.as_bytes(), 0, &[2], &mut out);
+    assert_eq!(word, 6 << 56);
     let damaged = Err(Refusal::NotWellFormed { valid_up_to: 3 });
     assert_eq!(
         tilghorz::format_into(b"\xE2\x9D\xA4\xE2\x9D", &policy, &mut out),
@@ -199,7 +253,8 @@ fn refusals_leave_the_callers_buffer() {
     );
     assert_eq!(out, [0xA5; 5]);
     let mut out = [0xA5; 8];
-    assert_eq!(tilghorz::mend_into(text, &policy, 0, &[1], &mut out), Ok(6));
+    let mended = tilghorz::mend_into(text, &policy, 0, emoji, &mut out);
+    assert_eq!(mended, Ok(6));
     assert_eq!(out, [0xE2, 0x9D, 0xA4, 0xEF, 0xB8, 0x8F, 0xA5, 0xA5]);
     assert_eq!(
         tilghorz::format_into(b"a", &policy, &mut []),
@@ -232,19 +287,14 @@ fn results_of_any_length_find_room() {
     let text = "\u{A9}".repeat(100_000);
     let findings = tilghorz::findings(text.as_bytes(), &policy).expect("a text");
     assert_eq!(findings.len(), 100_000);
-    let last = Finding {
-        start: 199_998,
-        end: 200_000,
-        counts: Counts {
-            decisions: 1,
-            ..Counts::default()
-        },
-        char_start: 99_999,
-        char_end: 100_000,
-        utf16_start: 99_999,
-        utf16_end: 100_000,
+    let last = findings.get(99_999).expect("a finding");
+    let one = Counts {
+        decisions: 1,
+        ..Counts::default()
     };
-    assert_eq!(findings.get(99_999), Some(last));
+    assert_eq!((last.span(), last.counts), (199_998..200_000, one));
+    let others = (last.char_span(), last.utf16_span());
+    assert_eq!(others, (99_999..100_000, 99_999..100_000));
     assert_eq!(findings.totals().decisions, 100_000);
     assert_eq!(formatted(&text), "\u{A9}\u{FE0E}".repeat(100_000));
     assert_eq!(
@@ -336,7 +386,7 @@ fn formatting_each_finding_alone_formats_the_text() {
     let path = Path::new(env!("CARGO_MANIFEST_DIR")).join("../../tests/programs/thread.in");
     let text = fs::read(path).expect("a stored run");
     let (mut pieces, mut end) = (Vec::<u8>::new(), 0);
-    for finding in tilghorz::findings(&text, &policy).expect("a text").iter() {
+    for finding in tilghorz::findings(&text, &policy).expect("a text") {
         pieces.extend(&text[end..finding.start]);
         pieces.extend(&*tilghorz::format(&text[finding.span()], &policy).expect("a text"));
         end = finding.end;
@@ -403,7 +453,11 @@ fn repairing_tests_the_length_and_then_the_room() {
     let short = Err(Refusal::OutputTooShort { wanted: 5 });
     assert_eq!(tilghorz::repair_into(b"a\xFFb", &mut out[..4]), short);
     assert_eq!(out, [7; 6]);
-    assert_eq!(tilghorz::repair_into(b"a\xFFb", &mut out), Ok((5, 1)));
+    let done = RepairedLen {
+        len: 5,
+        replaced: 1,
+    };
+    assert_eq!(tilghorz::repair_into(b"a\xFFb", &mut out), Ok(done));
     assert_eq!(out, *b"a\xEF\xBF\xBDb\x07");
     let longest = vec![0xFF; LONGEST_TEXT + 1];
     assert_eq!(tilghorz::repair(&longest), Err(Refusal::TextTooLong));

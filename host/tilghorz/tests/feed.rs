@@ -35,12 +35,12 @@ fn pieces_of_every_length_give_the_formatted_thread() {
     let expected = formatted(THREAD.as_bytes());
     for length in 1..=THREAD.len() {
         let (mut feed, mut out) = fed(b"");
-        let mut fed = 0;
+        let mut end = 0;
         for piece in THREAD.as_bytes().chunks(length) {
             feed.write(piece, &mut out).expect("taken");
             assert!(expected.starts_with(&out));
-            fed += piece.len();
-            let whole = THREAD.floor_char_boundary(fed);
+            end += piece.len();
+            let whole = THREAD.floor_char_boundary(end);
             assert_eq!(feed.totals(), totals(&THREAD.as_bytes()[..whole]));
         }
         feed.finish(&mut out).expect("an end");
@@ -149,10 +149,10 @@ struct Slow {
 impl Slow {
     fn turn(&mut self) -> io::Result<()> {
         self.is_interrupted = !self.is_interrupted;
-        match self.is_interrupted {
-            true => Err(ErrorKind::Interrupted.into()),
-            false => Ok(()),
+        if self.is_interrupted {
+            return Err(ErrorKind::Interrupted.into());
         }
+        Ok(())
     }
 }
 
