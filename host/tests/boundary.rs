@@ -137,6 +137,10 @@ impl Calls for WholeWords {
         Reference.write_sheet(policy, out)
     }
 
+    fn carry_policy(&self, entries: &[u8], policy: &[u8], out: &mut [u8]) -> u64 {
+        Reference.carry_policy(entries, policy, out)
+    }
+
     fn tips(&self, text: &[u8], policy: &[u8], table: &mut [u8]) -> u64 {
         Reference.tips(text, policy, table)
     }

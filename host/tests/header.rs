@@ -257,7 +257,7 @@ fn the_refusals_agree_with_the_source() {
     assert_eq!(numbers, (1..=16).collect::<Vec<u64>>());
     assert_eq!(refusals(&file("tilghorz/src/refusal.rs"), "Self::"), source);
     let header = file("../include/tilghorz.h");
-    for (name, number) in source {
+    for (name, number) in &source {
         let mut lines = header.lines();
         assert!(lines.any(|line| line.starts_with(&format!(" *   {number:<11}"))));
         let define = format!("\n#define TILGHORZ_{} {number}\n", screaming(name));
