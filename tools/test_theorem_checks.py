@@ -82,7 +82,8 @@ every-list policy calls = list-claim policy calls
 pub worked : Worked
 worked = (refl, refl)
 """,
-    "docs/DECISIONS.md": "The answer is an `Answer`, and not an `Option`, as `Same` says.\n",
+    "docs/DECISIONS.md": "The answer is an `Answer`, and not an `Option`, as `Same` says. In Rust it is a `Reply`.\n",
+    "host/tilghorz/src/reply.rs": "/// What a call answers.\npub struct Reply(u64);\n",
     "docs/AUDIT.md": """
 `EveryList` is about `Some`, `Answer`, `Done` and `LIMIT`, and not about Rust's `Vec`; its proof is in `Laws`.
 `others` and `number` of `ListClaim`, `again` in `FormattedClaim`, which is `FormattedClaim` (`again`).
@@ -230,6 +231,7 @@ class Checks(unittest.TestCase):
         self.finds("`Other` is nowhere", checks.unknown_names, ("AUDIT.md", "about `Some`", "about `Other`"))
         self.finds("DECISIONS.md: `Sum` is nowhere", checks.unknown_names, ("DECISIONS.md", "`Same`", "`Sum`"))
         self.finds("`Answer` is nowhere", checks.unknown_names, ("lib.rt", "enum Answer", "enum Question"))
+        self.finds("`Reply` is nowhere", checks.unknown_names, ("reply.rs", "pub struct", "struct"))
 
     def test_statement_without_claim(self):
         self.finds("nothing proves Same", checks.unproved_statements, ("Claims.antt", "pub same : Same\n", "same : Same\n"))

@@ -50,7 +50,10 @@ CLAIMED_RECORDS = {
     "WriteCall": "EveryWriteCall",
 }
 # Names of Rust's standard library that docs/AUDIT.md and docs/DECISIONS.md quote from document 01 or from evfmt.
-OF_RUST = {"Clone", "Debug", "Hash", "Option", "PartialEq", "Peekable", "String", "Vec", "VecDeque"}
+OF_RUST = {
+    *("Clone", "Copy", "Debug", "Default", "FromStr", "Hash", "Option", "PartialEq", "Peekable", "String", "Vec", "VecDeque"),
+    "OUT_DIR",  # a variable of cargo
+}
 
 
 def statements(crate):
@@ -233,8 +236,9 @@ def other_statements(root):
 
 def unknown_names(root):
     """The names in docs/AUDIT.md and docs/DECISIONS.md that are declared nowhere: one that begins with a capital letter and is neither in
-    specs/ nor in src/ nor a file of proofs/; in docs/AUDIT.md also one after its place, as in base/Refusals: `written`, that
-    crates/base/specs/Refusals.antt does not declare, and one that is called a clause of a claimed record and is none."""
+    specs/ nor in src/ nor a file of proofs/ nor a type of the library for Rust; in docs/AUDIT.md also one after its place, as in
+    base/Refusals: `written`, that crates/base/specs/Refusals.antt does not declare, and one that is called a clause of a claimed record
+    and is none."""
     audit = (root / "docs" / "AUDIT.md").read_text(encoding="utf-8")
     known = set(OF_RUST)
     for path in root.glob("crates/*/proofs/**/*.antt"):
@@ -243,6 +247,8 @@ def unknown_names(root):
         known.update(name for _, name, _, _ in declarations(antt(path)))
     for path in root.glob("crates/*/src/**/*.rt"):
         known.update(re.findall(r"(?:\b(?:enum|struct|const|type) |^ *)([A-Z]\w*)", rattle(path), re.M))
+    for path in root.glob("host/tilghorz/src/*.rs"):
+        known.update(re.findall(r"^pub (?:enum|struct|trait) ([A-Z]\w*)", path.read_text(encoding="utf-8"), re.M))
     decisions = (root / "docs" / "DECISIONS.md").read_text(encoding="utf-8")
     for document, text in (("AUDIT", audit), ("DECISIONS", decisions)):
         for name in sorted(set(re.findall(r"`([A-Z][\w-]*)`", text)) - known):
