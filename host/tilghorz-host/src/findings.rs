@@ -27,22 +27,15 @@ pub struct Findings<'a> {
 impl<'a> Findings<'a> {
     /// The findings of a text, or the refusal of listing them.
     pub fn of(text: &'a [u8], policy: &'a Policy) -> Result<Self, Refusal> {
+        // This call makes the tests on the whole text, and lists nothing.
         let first = tilghorz::nearest(text, policy, 0)?;
-        let mut findings = Self::of_part(text, policy);
-        if first.is_none() {
-            findings.listed[0] = text.len();
-        }
-        Ok(findings)
-    }
-
-    /// The findings of a part of a text that is not refused. The part starts and ends where items do.
-    pub fn of_part(text: &'a [u8], policy: &'a Policy) -> Self {
-        Self {
+        let listed = first.map_or(text.len(), |_| 0);
+        Ok(Self {
             text,
             policy,
-            listed: [0; 3],
+            listed: [listed, 0, 0],
             ready: VecDeque::new(),
-        }
+        })
     }
 
     /// The next finding, which stays.

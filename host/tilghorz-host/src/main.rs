@@ -37,6 +37,7 @@ mod source;
 mod system;
 mod tally;
 mod tips;
+mod view;
 mod visible;
 mod walk;
 mod width_table;
