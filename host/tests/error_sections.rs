@@ -6,7 +6,7 @@ use std::fs;
 use std::path::Path;
 
 /// The functions of the library, each with the C function that it calls.
-const FUNCTIONS: [(&str, &str, &str); 21] = [
+const FUNCTIONS: [(&str, &str, &str); 20] = [
     ("calls", "format", "tilghorz_format"),
     ("calls", "format_into", "tilghorz_format"),
     ("calls", "findings", "tilghorz_list"),
@@ -27,8 +27,10 @@ const FUNCTIONS: [(&str, &str, &str); 21] = [
     ("store", "file_into", "tilghorz_store_file"),
     ("store", "release", "tilghorz_store_release"),
     ("store", "used", "tilghorz_store_used"),
-    ("policy", "from_bytes", "policy"),
 ];
+
+/// The functions that take a policy as bytes, and so give its refusals.
+const OF_BYTES: [&str; 1] = ["from_bytes"];
 
 /// The refusals that a function with typed arguments cannot give: of a policy, and of a decision.
 const TYPED: [u64; 2] = [2, 6];
@@ -97,21 +99,21 @@ fn the_error_sections_name_the_refusals_of_the_calls() {
     let (_, table) = readme
         .split_once("## Which function makes which tests")
         .expect("a table");
-    for (source, name, function) in FUNCTIONS {
+    let found = |source, name: &str| {
         let found = sections(&file(&format!("tilghorz/src/{source}.rs")));
-        let found: Vec<u64> = found[name].iter().map(|(_, number)| *number).collect();
-        let expected = match function {
-            "policy" => vec![2, 15],
-            _ => numbers(table, function),
-        };
-        let takes_buffer = name.ends_with("_into");
+        let numbers = found[name].iter().map(|(_, number)| *number);
+        numbers.collect::<Vec<u64>>()
+    };
+    for (source, name, function) in FUNCTIONS {
         let given = |number: &u64| {
-            (function == "policy" || !TYPED.contains(number))
-                && (takes_buffer || !ROOM.contains(number))
+            (OF_BYTES.contains(&name) || !TYPED.contains(number))
+                && (name.ends_with("_into") || !ROOM.contains(number))
         };
-        let expected: Vec<u64> = expected.into_iter().filter(given).collect();
-        assert_eq!(found, expected, "{source}::{name}");
+        let expected: Vec<u64> = numbers(table, function).into_iter().filter(given).collect();
+        assert_eq!(found(source, name), expected, "{source}::{name}");
     }
+    // The bytes are tested by formatting an empty text.
+    assert_eq!(found("policy", "from_bytes"), [2, 15]);
 }
 
 #[test]
