@@ -59,14 +59,14 @@ impl<'a> Findings<'a> {
         // The whole text was tested, so no part of it is refused.
         if let Ok(table) = tilghorz::findings(part, self.policy) {
             let [bytes, characters, units] = self.listed;
-            self.ready.extend(table.iter().map(|finding| Finding {
-                start: bytes + finding.start,
-                end: bytes + finding.end,
-                counts: finding.counts,
-                char_start: characters + finding.char_start,
-                char_end: characters + finding.char_end,
-                utf16_start: units + finding.utf16_start,
-                utf16_end: units + finding.utf16_end,
+            self.ready.extend(table.iter().map(|mut finding| {
+                finding.start += bytes;
+                finding.end += bytes;
+                finding.char_start += characters;
+                finding.char_end += characters;
+                finding.utf16_start += units;
+                finding.utf16_end += units;
+                finding
             }));
         }
         let listed = self.listed.iter_mut().zip(lengths(part));

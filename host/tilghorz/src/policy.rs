@@ -157,17 +157,14 @@ impl Policy {
     /// ```
     ///
     /// # Errors
-    /// Refusals 16 and 2.
+    /// [`Refusal::NotAnEntryList`] (16) and [`Refusal::NotAPolicy`] (2).
     pub fn carried(entries: &[char], stored: &[u8]) -> Result<Self, Refusal> {
         let entries = entries.iter().map(|entry| u64::from(*entry).to_le_bytes());
         let entries: Vec<u8> = entries.flatten().collect();
         let mut bytes = [0; sys::POLICY_BYTES];
-        let written = answer::read_done(sys::carry_policy(&entries, stored, &mut bytes))?;
-        assert_eq!(
-            written,
-            bytes.len(),
-            "the linked library has another length of a policy"
-        );
+        let word = sys::carry_policy(&entries, stored, &mut bytes);
+        answer::read(word)?;
+        answer::expect(word, bytes.len());
         Ok(Self { bytes })
     }
 
