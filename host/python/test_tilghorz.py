@@ -248,6 +248,17 @@ class Calls(unittest.TestCase):
             with self.assertRaises(ValueError):
                 default.holds("prefer_bare", other)
 
+    def test_policies_of_other_tables(self):
+        default = tilghorz.Policy()
+        entries = tilghorz.variation_entries()
+        self.assertEqual(tilghorz.Policy.carried(entries, bytes(8) + default.bytes[8:]), default)
+        self.assertEqual(tilghorz.Policy.carried("", bytes(8)), default)
+        # The second of two entries is in prefer_bare, and all other entries are new.
+        carried = tilghorz.Policy.carried(f"#{HEART}", bytes(8) + b"\2" + bytes(31))
+        self.assertEqual([carried.holds("prefer_bare", of) for of in f"#{HEART}*"], [False, True, True])
+        self.refused("NOT_AN_ENTRY_LIST", None, tilghorz.Policy.carried, f"{HEART}#", bytes(40))
+        self.refused("NOT_A_POLICY", None, tilghorz.Policy.carried, "#", b"\xff" * 40)
+
     def test_tips_are_the_flips_that_alter_the_text(self):
         text, policy = f"1 2\ufe0e\u20e3 {HEART}\ufe0f {WATCH} {SIGN}", tilghorz.Policy()
         expected = []

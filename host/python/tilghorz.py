@@ -65,6 +65,7 @@ FUNCTIONS = {
     "tilghorz_feed_totals": (READ, WRITE),
     "tilghorz_read_sheet": (READ, WRITE),
     "tilghorz_write_sheet": (READ, WRITE),
+    "tilghorz_carry_policy": (READ, READ, WRITE),
     "tilghorz_tips": (READ, READ, WRITE),
     "tilghorz_store_begin": (NUMBER, READ, WRITE),
     "tilghorz_store_file": (WRITE, READ, READ, NUMBER, NUMBER, WRITE),
@@ -92,6 +93,7 @@ REFUSALS = {
     13: ("BAD_CLIENT_OR_NUMBER", "the client or the number is out of range, or the number is in use, or not in use"),
     14: ("DOES_NOT_FIT", "the store has no room for it: {} bytes would fit"),
     15: ("OTHER_VERSION", "the policy is of another Unicode version than the tables"),
+    16: ("NOT_AN_ENTRY_LIST", "the old entries do not ascend, or the old policy has another number of words than they want"),
 }
 DONE, NOTHING_TO_DO = 0, 255
 
@@ -314,6 +316,12 @@ class Policy:
         """The policy of a sheet: four lines, with code points and ranges of them."""
         buffer = _room(POLICY_BYTES)
         return cls(_front(buffer, _call("tilghorz_read_sheet", _bytes(sheet), buffer)))
+
+    @classmethod
+    def carried(cls, entries, stored):
+        """The policy for our tables of bytes that were stored under other tables, whose entries are these characters."""
+        buffer, packed = _room(POLICY_BYTES), b"".join(ord(entry).to_bytes(8, "little") for entry in entries)
+        return cls(_front(buffer, _call("tilghorz_carry_policy", packed, bytes(stored), buffer)))
 
     def sheet(self):
         """Its sheet."""

@@ -6,7 +6,7 @@ use std::fs;
 use std::path::Path;
 
 /// The functions of the library, each with the C function that it calls.
-const FUNCTIONS: [(&str, &str, &str); 20] = [
+const FUNCTIONS: [(&str, &str, &str); 21] = [
     ("calls", "format", "tilghorz_format"),
     ("calls", "format_into", "tilghorz_format"),
     ("calls", "findings", "tilghorz_list"),
@@ -27,10 +27,11 @@ const FUNCTIONS: [(&str, &str, &str); 20] = [
     ("store", "file_into", "tilghorz_store_file"),
     ("store", "release", "tilghorz_store_release"),
     ("store", "used", "tilghorz_store_used"),
+    ("policy", "carried", "tilghorz_carry_policy"),
 ];
 
 /// The functions that take a policy as bytes, and so give its refusals.
-const OF_BYTES: [&str; 1] = ["from_bytes"];
+const OF_BYTES: [&str; 2] = ["from_bytes", "carried"];
 
 /// The refusals that a function with typed arguments cannot give: of a policy, and of a decision.
 const TYPED: [u64; 2] = [2, 6];
