@@ -49,7 +49,7 @@ fn refused_first(
             let word = calls.carry_policy(entries, old_policy, &mut vec![0; bytes]);
             (Answer::of_word(word).number == Answer::DONE).then_some(Answer::new(15, 0))
         }
-        Fault::BitsBeforeList if entries.len() % 8 != 0 => {
+        Fault::BitsBeforeList if !entries.len().is_multiple_of(8) => {
             let whole = &entries[..entries.len() / 8 * 8];
             let word = calls.carry_policy(whole, old_policy, &mut vec![0; bytes]);
             (Answer::of_word(word).number == 2).then_some(Answer::new(2, 0))
