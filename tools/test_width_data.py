@@ -47,7 +47,7 @@ class Reading(unittest.TestCase):
 
 
 class Committed(unittest.TestCase):
-    @unittest.skipUnless(has_source(), "neither Debian's unicode-data 15.0 nor libicu72 is installed")
+    @unittest.skipUnless(has_source(), "Debian's unicode-data 15.0 is not installed")
     def test_the_file_is_what_the_script_makes(self):
         self.assertEqual(maker.FILE.read_text(encoding="utf-8"), maker.data(*maker.properties()))
         self.assertEqual(maker.main(["--check"]), 0)

@@ -6,12 +6,10 @@
 
 The file has the two properties of Unicode's that say how many columns of a terminal a character takes: East_Asian_Width and
 General_Category, for each character that is wide (W or F), a mark (Mn or Me) or a format character (Cf). FOLDER has
-EastAsianWidth.txt and UnicodeData.txt; Debian's package unicode-data puts them into /usr/share/unicode. Without FOLDER the script
-takes them from there, or else asks ICU 72 (Debian's libicu72), which has the same properties. Only Unicode 15.0 is taken.
-tools/unicode_tables.py makes the table of the command from the file.
+EastAsianWidth.txt and UnicodeData.txt; without FOLDER it is /usr/share/unicode, where Debian's package unicode-data puts them. Only
+Unicode 15.0 is taken. tools/unicode_tables.py makes the table of the command from the file.
 """
 
-import ctypes
 import pathlib
 import re
 import sys
@@ -21,12 +19,8 @@ FILE = ROOT / "host" / "tilghorz-host" / "data" / "widths.txt"
 INSTALLED = pathlib.Path("/usr/share/unicode")
 VERSION = (15, 0)
 LAST = 0x10FFFF
-# The part of ICU that has the properties, and the number at the end of the names of its functions.
-ICU = ("libicuuc.so.72", "_72")
-# Numbers of ICU: the property East_Asian_Width and its values, and the categories that matter.
-ICU_EAST_ASIAN_WIDTH = 0x1004
-ICU_WIDTHS = {1: "A", 3: "F", 2: "H", 0: "N", 4: "Na", 5: "W"}
-ICU_CATEGORIES = {6: "Mn", 7: "Me", 16: "Cf"}
+# The categories that matter: marks that take no column, and format characters.
+CATEGORIES = ("Mn", "Me", "Cf")
 # What EastAsianWidth.txt says of code points that it does not list.
 UNLISTED_WIDE = [(0x3400, 0x4DBF), (0x4E00, 0x9FFF), (0xF900, 0xFAFF), (0x20000, 0x2FFFD), (0x30000, 0x3FFFD)]
 
@@ -60,39 +54,15 @@ def categories(text):
         fields = line.split(";")
         if len(fields) != 15:
             raise Malformed(f"UnicodeData.txt, line {number}: it does not have 15 fields")
-        if fields[2] in ICU_CATEGORIES.values():
+        if fields[2] in CATEGORIES:
             found[int(fields[0], 16)] = fields[2]
     return found
 
 
-def of_folder(folder):
+def properties(folder=INSTALLED):
     """The two properties, of the files in a folder."""
     texts = [(folder / name).read_text(encoding="utf-8") for name in ("EastAsianWidth.txt", "UnicodeData.txt")]
     return widths(texts[0]), categories(texts[1])
-
-
-def of_icu():
-    """The two properties, of ICU."""
-    name, suffix = ICU
-    library = ctypes.CDLL(name)
-    version = (ctypes.c_uint8 * 4)()
-    library["u_getUnicodeVersion" + suffix](version)
-    if tuple(version[:2]) != VERSION:
-        raise Malformed(f"{name} is not that of Unicode %d.%d" % VERSION)
-    width, category = library["u_getIntPropertyValue" + suffix], library["u_charType" + suffix]
-    points = range(LAST + 1)
-    kinds = {point: ICU_CATEGORIES.get(category(point) & 0xFF) for point in points}
-    return (
-        {point: ICU_WIDTHS[width(point, ICU_EAST_ASIAN_WIDTH)] for point in points},
-        {point: kind for point, kind in kinds.items() if kind},
-    )
-
-
-def properties(folder=None):
-    """The two properties, of a folder, of the installed files, or of ICU."""
-    if folder is None and (INSTALLED / "EastAsianWidth.txt").is_file():
-        folder = INSTALLED
-    return of_icu() if folder is None else of_folder(folder)
 
 
 def rows(width_of, category_of):
@@ -127,7 +97,7 @@ def main(arguments):
         print(__doc__, file=sys.stderr)
         return 2
     is_check = arguments == ["--check"]
-    folder = pathlib.Path(arguments[0]) if arguments and not is_check else None
+    folder = pathlib.Path(arguments[0]) if arguments and not is_check else INSTALLED
     try:
         made = data(*properties(folder))
     except (Malformed, OSError) as error:
