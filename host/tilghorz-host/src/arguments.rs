@@ -13,6 +13,7 @@ use crate::fix::{Choice, Fix};
 use crate::follow::Follow;
 use crate::format::Format;
 use crate::help::Topic;
+use crate::in_parts::InParts;
 use crate::options::did_you_mean;
 use crate::place::Place;
 use crate::policy::{Edit, Policy, PolicyFile};
@@ -22,6 +23,7 @@ use crate::report::{Asked, Form, Report};
 use crate::rewriting::{Mode, Rewriting};
 use crate::show::Show;
 use crate::source::Source;
+use crate::split::Split;
 use crate::tips::Tips;
 use crate::view::Extent;
 use crate::visible;
@@ -42,6 +44,10 @@ pub enum Command {
     Repair(Repair),
     /// `format --follow`.
     Follow(Follow),
+    /// `format --parts`.
+    InParts(InParts),
+    /// `split`.
+    Split(Split),
     /// `report`.
     Report(Report),
     /// `fix`.
@@ -135,6 +141,7 @@ fn command(topic: Topic, words: Words) -> Result<Command, String> {
         Topic::Fix => fix(words).map(Command::Fix),
         Topic::Show => show(words).map(Command::Show),
         Topic::Policy => policy(words).map(Command::Policy),
+        Topic::Split => split(words).map(Command::Split),
         Topic::Completions => completions(words).map(Command::Completions),
         Topic::Man => match names(words)?.is_empty() {
             true => Ok(Command::Man),
@@ -245,8 +252,13 @@ fn pattern(option: &str, words: &mut Words) -> Result<Pattern, String> {
 
 /// A number of threads.
 fn jobs(text: &str) -> Result<NonZero<usize>, String> {
+    at_least_one("--jobs", text)
+}
+
+/// The value of an option that is a number.
+fn at_least_one(option: &str, text: &str) -> Result<NonZero<usize>, String> {
     text.parse()
-        .map_err(|_| format!("--jobs {text}: not a number of at least 1"))
+        .map_err(|_| format!("{option} {text}: not a number of at least 1"))
 }
 
 /// The options on changing files.
@@ -284,13 +296,18 @@ impl Changing {
 }
 
 fn format(words: Words) -> Result<Command, String> {
-    let (mut repairs, mut is_followed) = (false, false);
+    let (mut repairs, mut is_followed, mut is_in_parts) = (false, false, false);
     let mut writing = Writing::default();
     let (names, policy) = texts(words, |option, words| {
         Ok(set(&mut repairs, REPAIR, option)
             || set(&mut is_followed, "--follow", option)
+            || set(&mut is_in_parts, "--parts", option)
             || writing.take(option, words)?)
     })?;
+    if is_in_parts {
+        let others = [(repairs, REPAIR), (is_followed, "--follow")];
+        return in_parts(policy, writing.of(names)?, &others).map(Command::InParts);
+    }
     if is_followed {
         let others = [
             (repairs, REPAIR),
@@ -398,6 +415,53 @@ fn follow(
         policy,
         source: names.pop().unwrap_or(Source::Input),
     })
+}
+
+/// A text that is formatted in parts. These other options cannot be used with it.
+fn in_parts(
+    policy: PolicyFile,
+    mut rewriting: Rewriting,
+    others: &[(bool, &str)],
+) -> Result<InParts, String> {
+    if let Some((_, other)) = others.iter().find(|(is_given, _)| *is_given) {
+        return Err(format!("--parts and {other} cannot be used together"));
+    }
+    if matches!(rewriting.mode, Mode::Diff(_)) {
+        return Err("--parts and --diff cannot be used together".to_owned());
+    }
+    if rewriting.names.len() > 1 {
+        return Err("--parts takes standard input or one file, and no number".to_owned());
+    }
+    Ok(InParts {
+        policy,
+        source: rewriting.names.pop().unwrap_or(Source::Input),
+        mode: rewriting.mode,
+        jobs: rewriting.manner.jobs,
+        in_place: rewriting.manner.in_place,
+        is_whole: false,
+    })
+}
+
+fn split(mut words: Words) -> Result<Split, String> {
+    let (mut parts, mut names) = (None, Vec::new());
+    while let Some(word) = words.next()? {
+        match word {
+            Word::Name(name) => names.push(name.into()),
+            Word::Option(option) if option == "--parts" => {
+                parts = Some(at_least_one(&option, &words.text(&option)?)?);
+            }
+            Word::Option(option) => return words.unknown(&option),
+        }
+    }
+    let parts = parts.ok_or("--parts N is missing")?;
+    match <[_; 2]>::try_from(names) {
+        Ok([folder, file]) => Ok(Split {
+            parts,
+            folder,
+            file,
+        }),
+        Err(_) => Err("it takes a folder that it makes, and a file".to_owned()),
+    }
 }
 
 /// Whether names can be changed in place.

@@ -19,6 +19,8 @@ pub enum Topic {
     Repair,
     /// `policy`.
     Policy,
+    /// `split`.
+    Split,
     /// `completions`.
     Completions,
     /// `man`.
@@ -31,7 +33,7 @@ pub enum Topic {
 
 impl Topic {
     /// Each, in the order of the manual page.
-    pub const ALL: [Self; 11] = [
+    pub const ALL: [Self; 12] = [
         Self::All,
         Self::Format,
         Self::Report,
@@ -39,6 +41,7 @@ impl Topic {
         Self::Show,
         Self::Repair,
         Self::Policy,
+        Self::Split,
         Self::Completions,
         Self::Man,
         Self::Findings,
@@ -55,6 +58,7 @@ impl Topic {
             Self::Show => "show",
             Self::Repair => "repair",
             Self::Policy => "policy",
+            Self::Split => "split",
             Self::Completions => "completions",
             Self::Man => "man",
             Self::Findings => "findings",
@@ -83,6 +87,7 @@ impl Topic {
             Self::Show => texts::SHOW,
             Self::Repair => texts::REPAIR,
             Self::Policy => texts::POLICY,
+            Self::Split => texts::SPLIT,
             Self::Completions => texts::COMPLETIONS,
             Self::Man => texts::MAN,
             Self::Findings => texts::FINDINGS,

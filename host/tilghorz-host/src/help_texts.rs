@@ -16,6 +16,7 @@ usage: tilghorz-host COMMAND [OPTIONS] [FILES]
   show         show the lines with findings, with the selectors made visible
   repair       replace the bad places of damaged texts by U+FFFD
   policy       print, compare, write and carry over policies, and list the single memberships that decide texts
+  split        cut a file of any length into parts that can be formatted apart and joined
   completions  write the completions for a shell
   man          write the manual page
   help         show this text, or the help of a command, as in tilghorz-host help format; also help findings and help
@@ -37,6 +38,7 @@ compare). It is 2 if a text was refused, a file could not be read or written, or
 /// `format`.
 pub const FORMAT: &str = "\
 usage: tilghorz-host format [--check | --diff | --in-place | --follow] [--repair] [--policy FILE] [OPTIONS] [FILES]
+       tilghorz-host format --parts [--check | --in-place] [--jobs N] [--policy FILE] [FILE]
 
 Formats texts. Without an option it writes one text to standard output. If the text is refused, it writes nothing.
 
@@ -57,6 +59,11 @@ Formats texts. Without an option it writes one text to standard output. If the t
                          part can no longer change is written at once. The text ends with standard input, or at SIGINT,
                          SIGTERM or SIGHUP; then the rest is written. If the text is refused, what comes before the
                          damaged place has been written
+  --parts                format one text of any length, also over 16,777,216 bytes, in parts of about a mebibyte. The
+                         result is that of the whole text. Parts are read, formatted by --jobs threads and written in
+                         turn, so little memory is needed. If a part is refused, the parts before it have been written;
+                         with --in-place the file is as it was. A stretch of 16,777,216 bytes without an allowed cut is
+                         refused: tilghorz-host help split
   -p, --policy FILE      the policy: a sheet, or the 200 bytes that tilghorz-host policy write makes: tilghorz-host help
                          policy. Without this option it is the default policy
   --stdin-filename NAME  the name of standard input, for messages and for what is written
@@ -113,8 +120,9 @@ change the exit status. A file that is named itself is always taken.
   --no-ignore     also take what a .gitignore ignores
   --binary        also take binary files. Only with this option is a file with a byte 00 and bad places repaired in
                   place
-  -j, --jobs N    use N threads, at most 256. Without this option there are as many as processors. The output is the
-                  same for every N
+  -j, --jobs N    use N threads, at most 256, over files and within a file: format lets free threads work on a text of a
+                  mebibyte or more. Without this option there are as many as processors. The output is the same for
+                  every N
   -q, --quiet     write no summary and no progress; messages about errors stay
   -v, --verbose   name each file that is passed over, and why
 
@@ -283,6 +291,24 @@ line and column.
 
 More OPTIONS of tips: --exclude, --include, --no-ignore, --binary, --jobs, --quiet, --verbose: tilghorz-host help
 folders.
+";
+
+/// `split`.
+pub const SPLIT: &str = "\
+usage: tilghorz-host split --parts N DIR FILE
+
+Cuts a file of any length into N parts: the files part-1 to part-N of the new folder DIR, with as many digits as N has,
+so that they sort in their order. The parts formatted apart and joined are the file formatted, under each policy. GNU
+parallel with --keep-order formats and joins them.
+
+A cut is allowed before each character that is no selector, modifier, 20E3 or tag, and at the end. The longest part is
+as short as it can be; the last parts may be empty. The text is not tested: a damaged part is refused when it is
+formatted.
+
+A line for each part is written to standard output: its start and its end in bytes, and its name. If a part would have
+more than 16,777,216 bytes, nothing is made, and a message names the least N. After a fault or a signal there is no DIR.
+
+  --parts N  the number of parts
 ";
 
 /// `completions`.

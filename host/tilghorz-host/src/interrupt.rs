@@ -25,27 +25,45 @@ static CHANGED: AtomicUsize = AtomicUsize::new(0);
 
 /// From now on, signals end the command in this way. It is called once, before there are other threads.
 pub fn watch(total: usize) {
+    end_by(move |name| {
+        for path in &*BESIDE.lock().unwrap_or_else(PoisonError::into_inner) {
+            // What cannot be taken away stays; a later run takes it.
+            let _ = fs::remove_file(path);
+        }
+        let (done, changed) = (DONE.load(Ordering::SeqCst), CHANGED.load(Ordering::SeqCst));
+        format!(
+            "ended by {name} after {done} of {total} files: {changed} changed, the others are as they were"
+        )
+    });
+}
+
+/// From now on, signals end the command, and a folder goes away with all that is in it. It is called once, before there are
+/// other threads.
+pub fn watch_folder(folder: &Path) {
+    let folder = folder.to_owned();
+    end_by(move |name| {
+        // What cannot be taken away stays.
+        let _ = fs::remove_dir_all(folder);
+        format!("ended by {name}, and nothing was written")
+    });
+}
+
+/// From now on, signals end the command after a function, which gets the signal's name and gives a message. It is called when
+/// no file is being made or renamed.
+fn end_by(last: impl FnOnce(&str) -> String + Send + 'static) {
     let held = Held::new();
     let wait = move || {
         let Some(signal) = held.wait() else {
             return;
         };
         let _kept = CHANGES.write().unwrap_or_else(PoisonError::into_inner);
-        for path in &*BESIDE.lock().unwrap_or_else(PoisonError::into_inner) {
-            // What cannot be taken away stays; a later run takes it.
-            let _ = fs::remove_file(path);
-        }
-        let (done, changed) = (DONE.load(Ordering::SeqCst), CHANGED.load(Ordering::SeqCst));
+        let message = last(signal.name);
         let line = if io::stderr().is_terminal() {
             "\r\x1B[K"
         } else {
             ""
         };
-        let name = signal.name;
-        let message = format!(
-            "{line}tilghorz-host: ended by {name} after {done} of {total} files: {changed} changed, the others are as \
-             they were\n"
-        );
+        let message = format!("{line}tilghorz-host: {message}\n");
         let _ = io::stderr().write_all(message.as_bytes());
         held.end_by(signal)
     };

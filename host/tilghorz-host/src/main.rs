@@ -7,9 +7,11 @@
 #![warn(missing_docs)]
 
 mod arguments;
+mod by_threads;
 mod carry;
 mod completions;
 mod console;
+mod cutter;
 mod diff;
 mod findings;
 mod fix;
@@ -19,6 +21,8 @@ mod glob;
 mod help;
 mod help_texts;
 mod ignore;
+mod in_order;
+mod in_parts;
 mod intake;
 mod interrupt;
 mod json;
@@ -34,8 +38,10 @@ mod sha256;
 mod sheet;
 mod show;
 mod source;
+mod split;
 mod system;
 mod tally;
+mod threads;
 mod tips;
 mod view;
 mod visible;
@@ -71,6 +77,8 @@ fn run(command: &Command, console: &mut Console) -> io::Result<Status> {
         Command::Format(format) => format.run(console),
         Command::Repair(repair) => repair.run(console),
         Command::Follow(follow) => follow.run(console),
+        Command::InParts(in_parts) => in_parts.run(console),
+        Command::Split(split) => split.run(console),
         Command::Report(report) => report.run(console),
         Command::Fix(fix) => fix.run(console),
         Command::Show(show) => show.run(console),

@@ -3,8 +3,9 @@
 use std::io;
 
 use crate::console::{Console, Status};
-use crate::rewriting::Rewriting;
+use crate::rewriting::{Rewriting, Rewritten};
 use crate::source::{Source, Text};
+use crate::threads::Threads;
 
 /// The command.
 #[derive(Debug, PartialEq, Eq)]
@@ -21,6 +22,12 @@ impl Repair {
 }
 
 /// Repairs a text.
-fn rewrite<'t>(source: &Source, text: &'t Text) -> Result<tilghorz::Repaired<'t>, String> {
-    tilghorz::repair(&text.bytes).map_err(|refusal| source.refused(refusal, &text.bytes))
+fn rewrite<'t>(source: &Source, text: &'t Text, _: &Threads) -> Result<Rewritten<'t>, String> {
+    match tilghorz::repair(&text.bytes) {
+        Ok(taken) => Ok(Rewritten {
+            taken,
+            stretches: None,
+        }),
+        Err(refusal) => Err(source.refused(refusal, &text.bytes)),
+    }
 }

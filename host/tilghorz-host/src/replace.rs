@@ -89,6 +89,16 @@ impl<'a> Batch<'a> {
     /// Writes new bytes beside the file from which a text was read, with its permissions, owner, group and extended
     /// attributes. Of a symbolic link it is the file that it leads to.
     pub fn prepare(&mut self, source: &Source, text: &Text, bytes: &[u8]) -> io::Result<()> {
+        self.prepare_by(source, text, |file| file.write_all(bytes))
+    }
+
+    /// The same with the bytes that a function writes.
+    pub fn prepare_by(
+        &mut self,
+        source: &Source,
+        text: &Text,
+        write: impl FnOnce(&mut File) -> io::Result<()>,
+    ) -> io::Result<()> {
         let (Source::File(path), Some((read, seen))) = (source, &text.file) else {
             return Err(fault("it is not a regular file"));
         };
@@ -99,13 +109,13 @@ impl<'a> Batch<'a> {
             path.clone()
         };
         let (mut file, beside) = Beside::create(&folder_of(&path))?;
-        file.write_all(bytes)?;
+        write(&mut file)?;
         let own = file.metadata()?;
         let is_owner_kept = keep_owner(&file, &own, seen, self.how.new_owner)?;
         keep_attributes(read, &file)?;
         file.set_permissions(permissions(seen, is_owner_kept))?;
         let unsynced = self.sync_or_note(file, own.dev())?;
-        self.length += bytes.len();
+        self.length = self.length.saturating_add(own.len() as usize);
         self.files.push(Prepared {
             path,
             seen: seen.clone(),

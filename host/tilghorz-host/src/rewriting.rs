@@ -3,14 +3,17 @@
 
 use std::borrow::Cow;
 use std::io;
+use std::ops::Range;
 
 use tilghorz::Repaired;
 
+use crate::by_threads::Stretch;
 use crate::console::{Console, Status};
 use crate::diff;
 use crate::intake::{self, Purpose};
 use crate::source::{Source, Text};
 use crate::tally::Outcome;
+use crate::threads::Threads;
 use crate::walk::{Entries, Selection};
 use crate::work::{self, Manner, Page};
 
@@ -43,14 +46,42 @@ pub struct Rewriting {
     pub manner: Manner,
 }
 
+/// A new text.
+pub struct Rewritten<'t> {
+    /// The text as it was taken in.
+    pub taken: Repaired<'t>,
+    /// What became of it after that, if something did.
+    pub stretches: Option<Vec<Stretch>>,
+}
+
+impl Rewritten<'_> {
+    /// Whether it differs from the text that was read.
+    fn is_changed(&self) -> bool {
+        self.stretches.is_some() || matches!(self.taken.text, Cow::Owned(_))
+    }
+
+    /// Its bytes, in pieces that follow each other.
+    fn pieces(&self) -> Vec<&[u8]> {
+        let text = &*self.taken.text;
+        let piece = |stretch| match stretch {
+            &Stretch::Same(Range { start, end }) => &text[start..end],
+            Stretch::New(bytes) => bytes,
+        };
+        match &self.stretches {
+            None => vec![text],
+            Some(stretches) => stretches.iter().map(piece).collect(),
+        }
+    }
+}
+
 impl Rewriting {
-    /// Rewrites the texts, for the command of this name, by a function. It makes the new text, with the number of bad places
-    /// that were replaced in it, or says why the text is refused.
+    /// Rewrites the texts, for the command of this name, by a function, which may let free threads work. It makes the new text,
+    /// or says why the text is refused.
     pub fn run(
         &self,
         name: &str,
         console: &mut Console,
-        rewrite: impl for<'t> Fn(&Source, &'t Text) -> Result<Repaired<'t>, String> + Sync,
+        rewrite: impl for<'t> Fn(&Source, &'t Text, &Threads) -> Result<Rewritten<'t>, String> + Sync,
     ) -> io::Result<Status> {
         let is_folder = |name: &Source| matches!(name, Source::File(path) if path.is_dir());
         if self.mode == Mode::Write && (self.names.len() > 1 || self.names.iter().any(is_folder)) {
@@ -67,7 +98,7 @@ impl Rewriting {
             _ => ["changed", "unchanged", "repaired"],
         };
         let one = |source: &Source, text: &Text, page: &mut Page<'_, '_>| {
-            self.one(source, text, rewrite(source, text), page)
+            self.one(source, text, rewrite(source, text, page.threads), page)
         };
         let tally = work::each(&entries, words, self.manner, console, one)?;
         Ok(tally.status(match self.mode {
@@ -81,35 +112,38 @@ impl Rewriting {
         &self,
         source: &Source,
         text: &Text,
-        rewritten: Result<Repaired<'_>, String>,
+        rewritten: Result<Rewritten<'_>, String>,
         page: &mut Page<'_, '_>,
     ) -> io::Result<Outcome> {
-        let Repaired {
-            text: new,
-            replaced,
-        } = match rewritten {
-            Ok(rewritten) => rewritten,
+        let new = match rewritten {
+            Ok(new) => new,
             Err(refused) => {
                 page.complain(refused);
                 return Ok(Outcome::Refused);
             }
         };
-        match (self.mode, &new) {
-            (Mode::Write, _) => page.out.write_all(&new)?,
-            (_, Cow::Borrowed(_)) => {}
-            (Mode::Check { null }, Cow::Owned(_)) => {
+        let replaced = new.taken.replaced;
+        match (self.mode, new.is_changed()) {
+            (Mode::Write, _) => {
+                for piece in new.pieces() {
+                    page.out.write_all(piece)?;
+                }
+            }
+            (_, false) => {}
+            (Mode::Check { null }, true) => {
                 page.out.write_all(source.name())?;
                 page.out.write_all(if null { b"\0" } else { b"\n" })?;
             }
-            (Mode::Diff(is_coloured), Cow::Owned(bytes)) => {
-                diff::write(&source.label(), &text.bytes, bytes, is_coloured, page.out)?;
+            (Mode::Diff(is_coloured), true) => {
+                let bytes = new.pieces().concat();
+                diff::write(&source.label(), &text.bytes, &bytes, is_coloured, page.out)?;
             }
-            (Mode::InPlace, Cow::Owned(bytes)) => {
+            (Mode::InPlace, true) => {
                 let fault = intake::fault(text, replaced, self.selection.binary);
                 let done = match fault {
                     Some(fault) => Err(fault),
                     None => page
-                        .replace(source, text, bytes)
+                        .replace(source, text, &new.pieces())
                         .map_err(|error| error.to_string()),
                 };
                 if let Err(fault) = done {
@@ -119,9 +153,10 @@ impl Rewriting {
             }
         }
         page.tell_replaced(source, text, replaced, self.purpose());
-        Ok(match new {
-            Cow::Borrowed(_) => Outcome::Clean,
-            Cow::Owned(_) => Outcome::Found,
+        Ok(if new.is_changed() {
+            Outcome::Found
+        } else {
+            Outcome::Clean
         })
     }
 

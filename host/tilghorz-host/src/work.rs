@@ -16,6 +16,7 @@ use crate::interrupt;
 use crate::replace::{Batch, Folders, InPlace};
 use crate::source::{Source, Text};
 use crate::tally::{Outcome, Tally};
+use crate::threads::{Taken, Threads};
 use crate::walk::{Entries, Entry};
 
 /// How a command goes through texts.
@@ -31,13 +32,12 @@ pub struct Manner {
     pub in_place: Option<InPlace>,
 }
 
-/// The most threads that work.
-const MOST_JOBS: usize = 256;
-
 /// What is written and said of a text, and the files that change with it.
 pub struct Page<'a, 'b> {
     /// What goes to standard output.
     pub out: &'a mut dyn Write,
+    /// The threads, of which this one works.
+    pub threads: &'a Threads,
     messages: &'a mut Vec<String>,
     batch: Option<&'a mut Batch<'b>>,
     is_prepared: &'a mut bool,
@@ -64,12 +64,14 @@ impl Page<'_, '_> {
         *self.replaced = replaced;
     }
 
-    /// Changes the file of a text, with others.
-    pub fn replace(&mut self, source: &Source, text: &Text, bytes: &[u8]) -> io::Result<()> {
+    /// Changes the file of a text, with others, to bytes in pieces.
+    pub fn replace(&mut self, source: &Source, text: &Text, pieces: &[&[u8]]) -> io::Result<()> {
         let Some(batch) = &mut self.batch else {
             return Err(io::ErrorKind::Unsupported.into());
         };
-        batch.prepare(source, text, bytes)?;
+        batch.prepare_by(source, text, |file| {
+            pieces.iter().try_for_each(|piece| file.write_all(piece))
+        })?;
         *self.is_prepared = true;
         Ok(())
     }
@@ -121,6 +123,7 @@ pub fn each(
     let folders = Folders::default();
     let go = Go {
         manner,
+        threads: Threads::new(manner.jobs),
         folders: &folders,
         one,
     };
@@ -154,6 +157,7 @@ pub fn each(
 /// What is the same for all threads.
 struct Go<'a, W> {
     manner: Manner,
+    threads: Threads,
     folders: &'a Folders,
     one: W,
 }
@@ -186,12 +190,14 @@ struct Shared<'a> {
 impl<W: Work> Go<'_, W> {
     /// Goes through one entry, and writes as it goes.
     fn alone(&self, entry: &Entry, order: &mut Order<'_>) -> io::Result<()> {
+        let _own = self.threads.take(1);
         let mut batch = self.batch();
         let (mut messages, mut is_prepared, mut replaced) = (Vec::new(), false, 0);
         let outcome = self.entry(
             entry,
             Page {
                 out: &mut order.console.out,
+                threads: &self.threads,
                 messages: &mut messages,
                 batch: batch.as_mut(),
                 is_prepared: &mut is_prepared,
@@ -213,9 +219,7 @@ impl<W: Work> Go<'_, W> {
 
     /// Goes through all entries in parts, with several threads.
     fn all<'a>(&self, entries: &[Entry], order: Order<'a>) -> io::Result<Order<'a>> {
-        let processors = || thread::available_parallelism().unwrap_or(NonZero::<usize>::MIN);
-        let jobs = self.manner.jobs.unwrap_or_else(processors).get();
-        let jobs = jobs.min(MOST_JOBS);
+        let jobs = self.threads.number();
         let length = match self.manner.in_place {
             None => 1,
             Some(_) => entries.len().div_ceil(jobs).clamp(1, Batch::MOST_FILES),
@@ -227,15 +231,21 @@ impl<W: Work> Go<'_, W> {
             next: AtomicUsize::new(0),
             is_over: AtomicBool::new(false),
         };
+        // All are taken before the first works, which may take those that are left for a text.
+        let mut taken: Vec<Taken<'_>> = (0..jobs.min(parts.len()))
+            .map(|_| self.threads.take(1))
+            .collect();
+        let own = taken.pop();
         thread::scope(|scope| {
-            for _ in 1..jobs.min(parts.len()) {
+            let (parts, shared) = (&parts, &shared);
+            for each in taken {
                 // Where a thread cannot be started the others do its work.
-                let work = || self.take_parts(&parts, jobs, &shared);
+                let work = move || self.take_parts(parts, Some(each), shared);
                 if thread::Builder::new().spawn_scoped(scope, work).is_err() {
                     break;
                 }
             }
-            self.take_parts(&parts, jobs, &shared);
+            self.take_parts(parts, own, shared);
         });
         let order = shared.order.into_inner();
         let mut order = order.unwrap_or_else(PoisonError::into_inner);
@@ -245,8 +255,8 @@ impl<W: Work> Go<'_, W> {
         }
     }
 
-    /// Takes parts until there is none.
-    fn take_parts(&self, parts: &[&[Entry]], jobs: usize, shared: &Shared<'_>) {
+    /// Takes parts until there is none. Then the thread is free for others.
+    fn take_parts(&self, parts: &[&[Entry]], _own: Option<Taken<'_>>, shared: &Shared<'_>) {
         // How many parts may wait for their turn, for each thread.
         const AHEAD: usize = 4;
         let _guard = OverOnPanic(shared);
@@ -256,7 +266,8 @@ impl<W: Work> Go<'_, W> {
                 return;
             };
             let is_ahead = |order: &mut Order<'_>| {
-                number > order.due + AHEAD * jobs && !shared.is_over.load(Ordering::SeqCst)
+                number > order.due + AHEAD * self.threads.number()
+                    && !shared.is_over.load(Ordering::SeqCst)
             };
             drop(shared.turned.wait_while(shared.lock(), is_ahead));
             if shared.is_over.load(Ordering::SeqCst) {
@@ -286,6 +297,7 @@ impl<W: Work> Go<'_, W> {
             };
             let page = Page {
                 out: &mut turn,
+                threads: &self.threads,
                 messages: &mut messages,
                 batch: batch.as_mut(),
                 is_prepared: &mut is_prepared,

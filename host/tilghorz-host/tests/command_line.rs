@@ -21,6 +21,7 @@ fn help_and_version_go_to_standard_output() {
         (&["help", "show"], "usage: tilghorz-host show "),
         (&["help", "repair"], "usage: tilghorz-host repair "),
         (&["help", "policy"], "usage: tilghorz-host policy "),
+        (&["help", "split"], "usage: tilghorz-host split "),
         (
             &["help", "folders"],
             "usage: tilghorz-host format|report|show|repair|policy tips ",
@@ -209,6 +210,41 @@ fn wrong_command_lines_are_told_on_standard_error() {
             &["fro\u{1B}mat\u{202E}"],
             "fro<001B>mat<202E>: not a command",
         ),
+        (&["split"], "split: --parts N is missing"),
+        (
+            &["split", "--parts", "0", "a", "b"],
+            "split: --parts 0: not a number of at least 1",
+        ),
+        (
+            &["split", "--parts", "2", "a"],
+            "split: it takes a folder that it makes, and a file",
+        ),
+        (&["split", "--jobs", "2"], "split: --jobs: unknown option"),
+        (
+            &["format", "--parts", "8", "a"],
+            "format: --parts takes standard input or one file, and no number",
+        ),
+        (
+            &["format", "--parts=8", "a"],
+            "format: --parts: takes no value",
+        ),
+        (
+            &["format", "--parts", "--follow"],
+            "format: --parts and --follow cannot be used together",
+        ),
+        (
+            &["format", "--parts", "--diff"],
+            "format: --parts and --diff cannot be used together",
+        ),
+        (
+            &["format", "--parts", "--repair"],
+            "format: --parts and --repair cannot be used together",
+        ),
+        (
+            &["format", "--parts", "--in-place"],
+            "format: --in-place: standard input cannot be changed in place",
+        ),
+        (&["report", "--parts"], "report: --parts: unknown option"),
         (
             &["report", "--offset", "1"],
             "report: --offset: unknown option",

@@ -36,7 +36,7 @@
 //! - A [`Finding`] and an [`Item`] have their start and end in bytes, in characters and in UTF-16 units.
 //! - [`around`] has the findings inside a stretch of bytes and those that only share a byte with it; [`nearest`] has the
 //!   finding nearest to an offset.
-//! - [`cut`] says where a text may be cut for two workers.
+//! - [`cut`] says where a text may be cut for two workers; [`parts()`] cuts it for several.
 //! - [`repair`] takes damaged text in, which the others refuse; [`repair_into`] writes to the caller's buffer.
 //! - [`Feed`] formats a thread that comes in pieces; [`FeedWriter`] and [`FeedReader`] do it between a writer or a
 //!   reader and another.
@@ -78,6 +78,7 @@ mod finding;
 mod item;
 mod key;
 mod names;
+mod parts;
 mod policy;
 mod presentation;
 mod refusal;
@@ -97,6 +98,7 @@ pub use finding::{Counts, Finding};
 pub use item::{Item, ItemKind};
 pub use key::{Context, Key, KeySet, NoEntry, ParseKeyError, variation_entries};
 pub use names::ParseNameError;
+pub use parts::{Parts, parts};
 pub use policy::{Policy, SingletonRule};
 pub use presentation::Presentation;
 pub use refusal::Refusal;
