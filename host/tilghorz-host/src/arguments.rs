@@ -15,6 +15,7 @@ use crate::format::Format;
 use crate::help::Topic;
 use crate::in_parts::InParts;
 use crate::options::did_you_mean;
+use crate::page::Page;
 use crate::place::Place;
 use crate::policy::{Edit, Policy, PolicyFile};
 use crate::repair::Repair;
@@ -54,6 +55,8 @@ pub enum Command {
     Fix(Fix),
     /// `show`.
     Show(Show),
+    /// `page`.
+    Page(Page),
     /// `policy`.
     Policy(Policy),
     /// `completions`.
@@ -140,6 +143,7 @@ fn command(topic: Topic, words: Words) -> Result<Command, String> {
         Topic::Report => report(words).map(Command::Report),
         Topic::Fix => fix(words).map(Command::Fix),
         Topic::Show => show(words).map(Command::Show),
+        Topic::Page => page(words).map(Command::Page),
         Topic::Policy => policy(words).map(Command::Policy),
         Topic::Split => split(words).map(Command::Split),
         Topic::Completions => completions(words).map(Command::Completions),
@@ -621,6 +625,38 @@ fn show(words: Words) -> Result<Show, String> {
         selection,
         manner,
     })
+}
+
+fn page(words: Words) -> Result<Page, String> {
+    let (mut repairs, mut going) = (false, Going::default());
+    let (mut output, mut most) = (None, Page::MOST);
+    let (names, policy) = texts(words, |option, words| {
+        match option {
+            "--output" => output = Some(Source::of(&words.value(option)?)),
+            "--most" => most = number_of_findings(&words.text(option)?)?,
+            _ => {
+                return Ok(set(&mut repairs, REPAIR, option) || going.take(option, words)?);
+            }
+        }
+        Ok(true)
+    })?;
+    going.test()?;
+    let Going { selection, manner } = going;
+    Ok(Page {
+        output: output.ok_or("--output FILE is missing")?,
+        most,
+        repairs,
+        policy,
+        names,
+        selection,
+        manner,
+    })
+}
+
+/// A number of findings.
+fn number_of_findings(text: &str) -> Result<usize, String> {
+    text.parse()
+        .map_err(|_| format!("--most {text}: not a number of findings"))
 }
 
 /// A number of lines.

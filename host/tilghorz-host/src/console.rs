@@ -1,7 +1,9 @@
 //! What a person sees: standard output, messages and the progress line on standard error, and the status at the end.
 
 use std::fmt::Display;
+use std::fs::File;
 use std::io::{self, BufWriter, IsTerminal, Stdout, Write};
+use std::mem;
 use std::time::{Duration, Instant};
 
 /// How the command ends. The greatest of several texts is the status of all.
@@ -54,10 +56,39 @@ impl Colour {
     }
 }
 
+/// Where results go.
+pub enum Output {
+    /// Standard output.
+    Standard(Stdout),
+    /// A file, for a while.
+    File(File),
+}
+
+impl Write for Output {
+    fn write(&mut self, bytes: &[u8]) -> io::Result<usize> {
+        match self {
+            Self::Standard(output) => output.write(bytes),
+            Self::File(file) => file.write(bytes),
+        }
+    }
+
+    fn flush(&mut self) -> io::Result<()> {
+        match self {
+            Self::Standard(output) => output.flush(),
+            Self::File(file) => file.flush(),
+        }
+    }
+}
+
+/// An output with a buffer.
+fn buffered(output: Output) -> BufWriter<Output> {
+    BufWriter::with_capacity(1 << 16, output)
+}
+
 /// The two outputs.
 pub struct Console {
-    /// Standard output.
-    pub out: BufWriter<Stdout>,
+    /// The results, mostly on standard output.
+    pub out: BufWriter<Output>,
     /// When the progress line was last written, if it can be.
     progress: Option<Instant>,
     /// Whether the progress line stands there now.
@@ -69,10 +100,24 @@ impl Console {
     pub fn new() -> Self {
         let on_terminal = io::stderr().is_terminal();
         Self {
-            out: BufWriter::with_capacity(1 << 16, io::stdout()),
+            out: buffered(Output::Standard(io::stdout())),
             progress: on_terminal.then(Instant::now),
             is_shown: false,
         }
+    }
+
+    /// Runs something with a file in the place of standard output.
+    pub fn writing_to<T>(
+        &mut self,
+        file: File,
+        run: impl FnOnce(&mut Self) -> io::Result<T>,
+    ) -> io::Result<T> {
+        self.out.flush()?;
+        let before = mem::replace(&mut self.out, buffered(Output::File(file)));
+        let done = run(self);
+        let done = done.and_then(|done| self.out.flush().map(|()| done));
+        self.out = before;
+        done
     }
 
     /// Writes a text to standard output.

@@ -4,11 +4,12 @@
 //! part ends after a line feed, which no finding contains, or where its last item starts: what comes after a part cannot change
 //! the items before its last one.
 
+use std::array;
 use std::collections::VecDeque;
-use std::fmt::Write;
 
 use tilghorz::{Counts, Finding, Policy, Refusal};
 
+use crate::help::Topic;
 use crate::visible;
 
 /// How many bytes a part has at most, unless one item is longer.
@@ -119,14 +120,28 @@ pub fn in_words(counts: &Counts) -> String {
     let mut words = String::new();
     for (name, count) in counts.named().filter(|(_, count)| *count > 0) {
         let comma = if words.is_empty() { "" } else { ", " };
-        let name = match (name, count) {
-            ("decisions", 1) => "decision",
-            _ => name,
-        };
-        // Writing to a string does not fail.
-        let _ = write!(words, "{comma}{count} {name}");
+        words = words + comma + &counted(name, count);
     }
     words
+}
+
+/// A count with its name.
+pub fn counted(name: &str, count: usize) -> String {
+    let name = match (name, count) {
+        ("decisions", 1) => "decision",
+        _ => name,
+    };
+    format!("{count} {name}")
+}
+
+/// What each count means, in plain words, and an example: the help on findings.
+pub fn reasons() -> [(String, &'static str); 8] {
+    let mut entries = Topic::Findings.entries();
+    array::from_fn(|_| {
+        let mut lines = entries.next().map_or_else(Vec::new, |entry| entry.lines);
+        let example = lines.pop().unwrap_or_default();
+        (lines.join(" "), example)
+    })
 }
 
 /// What formatting makes of a finding. Its bytes are an item of their own, so they are formatted alone.
@@ -198,6 +213,15 @@ mod tests {
     fn a_refusal_is_that_of_the_text() {
         let refusal = Findings::of(b"a\n\xFF", &Policy::default()).err();
         assert_eq!(refusal, Some(Refusal::NotWellFormed { valid_up_to: 2 }));
+    }
+
+    #[test]
+    fn every_count_has_its_reason_and_an_example() {
+        let names: Vec<&str> = Topic::Findings.entries().map(|entry| entry.head).collect();
+        assert_eq!(names, Counts::NAMES);
+        for (reason, example) in reasons() {
+            assert!(!reason.is_empty() && example.contains(" becomes "));
+        }
     }
 
     #[test]

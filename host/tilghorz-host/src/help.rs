@@ -15,6 +15,8 @@ pub enum Topic {
     Fix,
     /// `show`.
     Show,
+    /// `page`.
+    Page,
     /// `repair`.
     Repair,
     /// `policy`.
@@ -33,12 +35,13 @@ pub enum Topic {
 
 impl Topic {
     /// Each, in the order of the manual page.
-    pub const ALL: [Self; 12] = [
+    pub const ALL: [Self; 13] = [
         Self::All,
         Self::Format,
         Self::Report,
         Self::Fix,
         Self::Show,
+        Self::Page,
         Self::Repair,
         Self::Policy,
         Self::Split,
@@ -56,6 +59,7 @@ impl Topic {
             Self::Report => "report",
             Self::Fix => "fix",
             Self::Show => "show",
+            Self::Page => "page",
             Self::Repair => "repair",
             Self::Policy => "policy",
             Self::Split => "split",
@@ -85,6 +89,7 @@ impl Topic {
             Self::Report => texts::REPORT,
             Self::Fix => texts::FIX,
             Self::Show => texts::SHOW,
+            Self::Page => texts::PAGE,
             Self::Repair => texts::REPAIR,
             Self::Policy => texts::POLICY,
             Self::Split => texts::SPLIT,

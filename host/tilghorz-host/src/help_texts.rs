@@ -14,6 +14,7 @@ usage: tilghorz-host COMMAND [OPTIONS] [FILES]
   report       list the findings: where a text would change, and why
   fix          mend single findings, with the decisions that you make
   show         show the lines with findings, with the selectors made visible
+  page         write texts and their findings as one page of HTML
   repair       replace the bad places of damaged texts by U+FFFD
   policy       print, compare, write and carry over policies, and list the single memberships that decide texts
   split        cut a file of any length into parts that can be formatted apart and joined
@@ -99,15 +100,15 @@ the old one.
   --stdin-filename NAME   the name of standard input, as in format
   --color WHEN            when it is coloured: always, never or auto, as in format
 
-With --repair, format, report, show and fix do the same before their own work. Offsets are then those of the repaired
-text.
+With --repair, format, report, show, page and fix do the same before their own work. Offsets are then those of the
+repaired text.
 
 More OPTIONS: --exclude, --include, --no-ignore, --binary, --jobs, --quiet, --verbose: tilghorz-host help folders.
 ";
 
 /// Folders.
 pub const FOLDERS: &str = "\
-usage: tilghorz-host format|report|show|repair|policy tips [OPTIONS] FOLDER ..
+usage: tilghorz-host format|report|show|page|repair|policy tips [OPTIONS] FOLDER ..
 
 The command takes every file in a folder and in the folders below it, in the order of their paths. It passes over names
 that begin with a full stop, symbolic links, special files, what a .gitignore ignores, what --exclude matches, what
@@ -245,6 +246,32 @@ around the findings are shown. For a text without findings nothing is shown.
   -p, --policy FILE      the policy, as in format
   --stdin-filename NAME  the name of standard input, as in format
   --color WHEN           when it is coloured: always, never or auto, as in format
+
+More OPTIONS: --exclude, --include, --no-ignore, --binary, --jobs, --quiet, --verbose: tilghorz-host help folders.
+";
+
+/// `page`.
+pub const PAGE: &str = "\
+usage: tilghorz-host page --output FILE [--most N] [--repair] [--policy FILE] [OPTIONS] [FILES]
+
+Writes texts and their findings as one page of HTML, for a browser or for paper. The page loads nothing and runs no
+script. It has each text before and after formatting, side by side, with a badge for each selector and each invisible
+character. Each finding is marked, and has an anchor, its place, its reason and its choices. Lines without findings are
+folded.
+
+The page begins with the texts that were refused, and the bytes around the damage. Then it has the totals, in how many
+files each count occurs, the memberships that decide most texts, the policy, and the versions. Each text has the
+SHA-256 of its bytes before and after, and the policy has its own. The same texts give the same page, byte for byte.
+
+  -o, --output FILE      where the page is written. A file that is there is only replaced if it is a page or is empty,
+                         and a page in a folder of texts is not one of them. - means standard output
+  --most N               describe at most N findings of each text, and count the others. Without this option it is 200
+  -r, --repair           first replace each bad place by U+FFFD: tilghorz-host help repair. Offsets are those of the
+                         repaired text
+  -p, --policy FILE      the policy, as in format
+  --stdin-filename NAME  the name of standard input, as in format
+
+The status is 2 if a text was refused or could not be read; the page is then written too.
 
 More OPTIONS: --exclude, --include, --no-ignore, --binary, --jobs, --quiet, --verbose: tilghorz-host help folders.
 ";

@@ -28,6 +28,7 @@ mod interrupt;
 mod json;
 mod man;
 mod options;
+mod page;
 mod place;
 mod policy;
 mod repair;
@@ -82,6 +83,7 @@ fn run(command: &Command, console: &mut Console) -> io::Result<Status> {
         Command::Report(report) => report.run(console),
         Command::Fix(fix) => fix.run(console),
         Command::Show(show) => show.run(console),
+        Command::Page(page) => page.run(console),
         Command::Policy(policy) => policy.run(console),
         Command::Completions(shell) => console.print(&shell.completions()),
         Command::Man => console.print(&man::page()),

@@ -3,7 +3,7 @@
 use std::io::{self, Write};
 use std::path::PathBuf;
 
-use tilghorz::{Context, KeySet, Refusal, Version, variation_entries};
+use tilghorz::{Context, Key, KeySet, Refusal, SingletonRule, Version, variation_entries};
 
 use crate::carry::Carry;
 use crate::console::{Console, Status};
@@ -174,22 +174,25 @@ fn members(policy: &tilghorz::Policy, out: &mut impl Write) -> io::Result<Status
     Ok(Status::Good)
 }
 
+/// The bases and contexts with two rules, and the rules.
+pub fn differences(
+    first: &tilghorz::Policy,
+    second: &tilghorz::Policy,
+) -> impl Iterator<Item = (Key, [SingletonRule; 2])> {
+    Key::all()
+        .map(|key| (key, [first.rule(key), second.rule(key)]))
+        .filter(|(_, [one, other])| one != other)
+}
+
 /// Prints the bases and contexts with two rules.
 fn compare(
     first: &tilghorz::Policy,
     second: &tilghorz::Policy,
     out: &mut impl Write,
 ) -> io::Result<Status> {
-    for &base in variation_entries() {
-        for context in Context::ALL {
-            let rules = [first, second].map(|policy| policy.singleton_rule(base, context));
-            if let [Some(one), Some(other)] = rules
-                && one != other
-            {
-                let context = context.name();
-                writeln!(out, "{:04X} {context}: {one:?}, {other:?}", u32::from(base))?;
-            }
-        }
+    for (key, [one, other]) in differences(first, second) {
+        let (base, context) = (u32::from(key.character()), key.context().name());
+        writeln!(out, "{base:04X} {context}: {one:?}, {other:?}")?;
     }
     Ok(if first == second {
         Status::Good

@@ -47,7 +47,7 @@ struct Prepared {
 }
 
 /// A file beside another. It goes away, unless it is renamed.
-struct Beside {
+pub struct Beside {
     path: PathBuf,
     is_renamed: bool,
 }
@@ -108,7 +108,7 @@ impl<'a> Batch<'a> {
         } else {
             path.clone()
         };
-        let (mut file, beside) = Beside::create(&folder_of(&path))?;
+        let (mut file, beside) = Beside::create(&folder_of(&path), OWN)?;
         write(&mut file)?;
         let own = file.metadata()?;
         let is_owner_kept = keep_owner(&file, &own, seen, self.how.new_owner)?;
@@ -178,8 +178,7 @@ impl Prepared {
         let _old = held(&self.path);
         let _turn = interrupt::turn();
         is_as_seen(&self.path, &self.seen)?;
-        fs::rename(&beside.path, &self.path)?;
-        beside.is_renamed = true;
+        beside.rename(&self.path)?;
         interrupt::count_changed();
         Ok(())
     }
@@ -197,15 +196,15 @@ fn held(path: &Path) -> Option<File> {
 }
 
 impl Beside {
-    /// A new file in a folder, that only this user can read.
-    fn create(folder: &Path) -> io::Result<(File, Self)> {
+    /// A new file in a folder, with the permissions of a mode.
+    pub fn create(folder: &Path, mode: u32) -> io::Result<(File, Self)> {
         const MOST_TRIES: u32 = 1000;
         static NUMBER: AtomicU64 = AtomicU64::new(0);
         for _ in 0..MOST_TRIES {
             let number = NUMBER.fetch_add(1, Ordering::Relaxed);
             let path = folder.join(format!("{BEGINNING}{}-{number}{END}", process::id()));
             let mut options = OpenOptions::new();
-            options.write(true).create_new(true).mode(0o600);
+            options.read(true).write(true).create_new(true).mode(mode);
             let _turn = interrupt::turn();
             match options.open(&path) {
                 Ok(file) => {
@@ -218,6 +217,13 @@ impl Beside {
             }
         }
         Err(fault("no name for a temporary file in its folder is free"))
+    }
+
+    /// Gives it a name of its own. A file of that name is replaced.
+    pub fn rename(&mut self, path: &Path) -> io::Result<()> {
+        fs::rename(&self.path, path)?;
+        self.is_renamed = true;
+        Ok(())
     }
 }
 
@@ -268,6 +274,9 @@ fn is_passed_over(error: &Error) -> bool {
     )
 }
 
+/// The mode of a file that only this user can read.
+pub const OWN: u32 = 0o600;
+
 /// The beginning of the name of a file beside another; the number of the process and a number follow.
 const BEGINNING: &str = ".tilghorz-";
 /// The end of its name.
@@ -306,7 +315,7 @@ fn system_tells() -> bool {
 }
 
 /// The folder in which a file is.
-fn folder_of(path: &Path) -> PathBuf {
+pub fn folder_of(path: &Path) -> PathBuf {
     match path.parent() {
         Some(folder) if folder != Path::new("") => folder.to_owned(),
         _ => PathBuf::from("."),

@@ -34,7 +34,7 @@ pub struct Tips {
 }
 
 /// In how many texts each membership decides something.
-type Numbers = BTreeMap<Tip, usize>;
+pub type Numbers = BTreeMap<Tip, usize>;
 
 impl Tips {
     /// Counts, over the texts, in how many each membership decides something, and writes the numbers.
@@ -90,7 +90,7 @@ impl Tips {
 }
 
 /// The memberships that decide most texts first. Those with equal numbers are in document 02's order.
-fn most_first(numbers: Numbers) -> Vec<(Tip, usize)> {
+pub fn most_first(numbers: Numbers) -> Vec<(Tip, usize)> {
     let mut sorted: Vec<(Tip, usize)> = numbers.into_iter().collect();
     sorted.sort_by_key(|(tip, number)| (Reverse(*number), *tip));
     sorted
@@ -104,16 +104,20 @@ fn is_held(tip: &Tip, policy: &Policy) -> bool {
 /// Writes a line for each membership: in how many texts, and the flip as an option of `policy write`.
 fn write_lines(tips: &[(Tip, usize)], policy: &Policy, out: &mut impl Write) -> io::Result<()> {
     for (tip, number) in tips {
-        let option = if is_held(tip, policy) {
-            "--take"
-        } else {
-            "--add"
-        };
-        let (set, context) = (tip.set.name(), tip.context.name());
-        let code_point = u32::from(tip.character);
-        writeln!(out, "{number} {option} {set} {context} {code_point:04X}")?;
+        writeln!(out, "{number} {}", flip(tip, policy))?;
     }
     Ok(())
+}
+
+/// The flip of a membership, as an option of `policy write`.
+pub fn flip(tip: &Tip, policy: &Policy) -> String {
+    let option = if is_held(tip, policy) {
+        "--take"
+    } else {
+        "--add"
+    };
+    let (set, context) = (tip.set.name(), tip.context.name());
+    format!("{option} {set} {context} {:04X}", u32::from(tip.character))
 }
 
 /// Writes the list as a JSON array on one line.

@@ -71,18 +71,19 @@ pub struct View<'a> {
 
 /// A line of a text.
 #[derive(Clone)]
-struct Line<'a> {
-    number: usize,
+pub struct Line<'a> {
+    /// Its number, from 1.
+    pub number: usize,
     /// Where it starts.
-    start: usize,
+    pub start: usize,
     /// Where the next line starts.
-    end: usize,
+    pub end: usize,
     /// It, without the line feed, and without the carriage return before that.
-    shown: &'a str,
+    pub shown: &'a str,
 }
 
 /// The lines of a text.
-fn lines(text: &str) -> impl Iterator<Item = Line<'_>> {
+pub fn lines(text: &str) -> impl Iterator<Item = Line<'_>> {
     let mut end = 0;
     text.split_inclusive('\n')
         .zip(1..)

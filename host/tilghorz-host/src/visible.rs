@@ -37,7 +37,7 @@ fn is_in(edges: &[u32], character: char) -> bool {
 }
 
 /// Whether a character is shown by its code point.
-fn is_by_code_point(character: char) -> bool {
+pub fn is_by_code_point(character: char) -> bool {
     let in_range = |(first, last): &(char, char)| (*first..=*last).contains(&character);
     !matches!(character, ' '..='~')
         && (character.is_control()

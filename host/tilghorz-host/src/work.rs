@@ -38,6 +38,8 @@ pub struct Page<'a, 'b> {
     pub out: &'a mut dyn Write,
     /// The threads, of which this one works.
     pub threads: &'a Threads,
+    /// The place of the entry in the list.
+    pub place: usize,
     messages: &'a mut Vec<String>,
     batch: Option<&'a mut Batch<'b>>,
     is_prepared: &'a mut bool,
@@ -198,6 +200,7 @@ impl<W: Work> Go<'_, W> {
             Page {
                 out: &mut order.console.out,
                 threads: &self.threads,
+                place: 0,
                 messages: &mut messages,
                 batch: batch.as_mut(),
                 is_prepared: &mut is_prepared,
@@ -273,14 +276,20 @@ impl<W: Work> Go<'_, W> {
             if shared.is_over.load(Ordering::SeqCst) {
                 return;
             }
-            let done = self.part(part, number, shared);
+            let done = self.part(part, number, parts[0].len() * number, shared);
             shared.lock().take(number, done, &shared.is_over);
             shared.turned.notify_all();
         }
     }
 
-    /// Goes through a part.
-    fn part(&self, entries: &[Entry], number: usize, shared: &Shared<'_>) -> Vec<Done> {
+    /// Goes through a part, whose first entry has this place in the list.
+    fn part(
+        &self,
+        entries: &[Entry],
+        number: usize,
+        first: usize,
+        shared: &Shared<'_>,
+    ) -> Vec<Done> {
         let mut batch = self.batch();
         let mut all: Vec<Done> = Vec::with_capacity(entries.len());
         // The places of those that wait to be committed.
@@ -298,6 +307,7 @@ impl<W: Work> Go<'_, W> {
             let page = Page {
                 out: &mut turn,
                 threads: &self.threads,
+                place: first + all.len(),
                 messages: &mut messages,
                 batch: batch.as_mut(),
                 is_prepared: &mut is_prepared,

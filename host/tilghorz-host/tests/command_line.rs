@@ -24,7 +24,7 @@ fn help_and_version_go_to_standard_output() {
         (&["help", "split"], "usage: tilghorz-host split "),
         (
             &["help", "folders"],
-            "usage: tilghorz-host format|report|show|repair|policy tips ",
+            "usage: tilghorz-host format|report|show|page|repair|policy tips ",
         ),
         (
             &["help", "findings"],
@@ -401,6 +401,7 @@ fn no_input_ends_in_a_panic() {
             &["show"],
             &["show", "--all"],
             &["show", "--context", "1"],
+            &["page", "--output", "-", "--most", "3"],
             &["fix", "--at", &at, "--decide", "text"],
         ] {
             let ran = folder.run_with(arguments, &bytes);
@@ -423,6 +424,7 @@ fn no_input_ends_in_a_panic() {
             &["format", "--repair"],
             &["report", "--json", "--repair"],
             &["show", "--repair"],
+            &["page", "--output", "-", "--repair"],
         ] {
             let ran = folder.run_with(arguments, &bytes);
             assert_eq!(ran.status, 0, "{arguments:?} {bytes:X?} {}", ran.err);
