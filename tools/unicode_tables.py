@@ -487,7 +487,8 @@ def width_table(numbered, _):
         ("FORMATS", "The format characters that are invisible: the category Cf."),
     ]
     out = [
-        "//! The widths of characters in Unicode %d.%d, made by tools/unicode_tables.py. Of each range the first character and the" % numbered,
+        "//! The widths of characters in Unicode %d.%d, made by tools/unicode_tables.py. "
+        "Of each range the first character and the" % numbered,
         "//! one after the last stand in a row, so a character is in the set if the number of edges up to it is odd.",
     ]
     for (name, what), points in zip(whats, sets):

@@ -25,7 +25,7 @@
 //! | [`reduce`] | makes a text or a list with a difference smaller |
 //! | [`run`], [`report`] | runs all of it, within bounds, and reports the first difference |
 //! | [`programs`] | compares the two programs |
-//! | [`faults`], [`faulty`], [`faulty_carry`], [`faulty_cut`], [`faulty_feed`], [`faulty_near`], [`faulty_sheet`], [`faulty_store`] | faults that are planted into calls |
+//! | [`faults`], [`faulty`] and the modules whose names begin with `faulty_` | faults that are planted into calls |
 //! | [`command`] | the command line of the program |
 
 pub mod carry_case;

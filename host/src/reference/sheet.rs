@@ -128,8 +128,9 @@ pub fn no_entry(sheet: &[u8]) -> Option<usize> {
     no_entries.next().map(|(offset, _)| offset)
 }
 
-/// The bytes of the policy: "the sheet reader writes the tables' own version into it"; each line is a set, and "a range includes only the variation entries inside it". The table
-/// is ascending, so these are the entries from that of the start to that of the end.
+/// The bytes of the policy: "the sheet reader writes the tables' own version into it". Each line is a set, and "a range
+/// includes only the variation entries inside it". The table is ascending, so these are the entries from that of the start to
+/// that of the end.
 fn meaning(sheet: &[u8]) -> Vec<u8> {
     let mut sets = [(); LINES].map(|()| vec![0; policy::words()]);
     for piece in pieces(sheet) {
