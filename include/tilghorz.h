@@ -50,11 +50,12 @@
  * four to six hexadecimal digits in upper case. A range stands for the variation entries in it; its two ends must be entries. The pieces
  * of a line may come in any order and may overlap. tilghorz_write_sheet writes one sheet for each policy.
  *
- * Feeds. A feed formats a thread as it arrives. It is 320 bytes, which tilghorz_feed_begin writes. The caller hands these bytes on
+ * Feeds. A feed formats a thread as it arrives. It is 528 bytes, which tilghorz_feed_begin writes. The caller hands these bytes on
  * from call to call and changes none of them. Each call of tilghorz_feed_piece takes the next bytes of the thread, cut at any place, and
  * writes what can be written; tilghorz_feed_end writes the rest. The joined outputs and the totals are then those of the whole thread
- * formatted at once by tilghorz_format (whose "nothing to do" means the text itself). The limit of 16,777,216 bytes is on the thread. A
- * refused call changes nothing, so another piece may follow. If the bytes of a feed are not such bytes, a piece and an end return 9, or
+ * formatted at once by tilghorz_format (whose "nothing to do" means the text itself). tilghorz_feed_policy changes the policy between two
+ * pieces; each base is then judged by the policy in force when its last byte was fed. The limit of 16,777,216 bytes is on the thread. A
+ * refused call changes nothing, so another piece may follow. If the bytes of a feed are not such bytes, a piece, an end and a change return 9, or
  * they take the bytes as some feed; the totals are then 0, or those of that feed.
  *
  * Stores. Up to 16 clients share a store of a capacity of C bytes. Each client has a reserve; the reserves sum to at most C, and the common
@@ -84,7 +85,7 @@ extern "C" {
 #define TILGHORZ_NEAREST_BYTES 120   /* the length of the row of tilghorz_nearest */
 #define TILGHORZ_ITEM_BYTES 64       /* the length of a row of tilghorz_scan */
 #define TILGHORZ_TIP_BYTES 24        /* the length of a row of tilghorz_tips */
-#define TILGHORZ_FEED_BYTES 320      /* the length of a feed */
+#define TILGHORZ_FEED_BYTES 528      /* the length of a feed */
 #define TILGHORZ_TOTALS_BYTES 64     /* the length of the totals of tilghorz_feed_totals */
 #define TILGHORZ_SHEET_ROOM 9916     /* no sheet of tilghorz_write_sheet is longer */
 #define TILGHORZ_STORE_BYTES 33032   /* the length of a store */
@@ -183,6 +184,11 @@ uint64_t tilghorz_feed_piece(uint8_t *feed, size_t feed_len, const uint8_t *piec
 /* Ends a feed: writes the base that is still held. Numbers: 9; 10 if the thread ends inside a character; 8 with 16. Value: the number of
  * bytes written, at most 7. */
 uint64_t tilghorz_feed_end(uint8_t *feed, size_t feed_len, uint8_t *out, size_t out_len);
+
+/* Changes the policy of a feed. The bases whose last byte is fed after this call are judged by it; a base that is held keeps its policy, in
+ * the output and in the totals. Numbers: 9 if the feed has ended; 2 if the policy has another length; 15; 2 if an unused bit is set.
+ * Value: 0. */
+uint64_t tilghorz_feed_policy(uint8_t *feed, size_t feed_len, const uint8_t *policy, size_t policy_len);
 
 /* Writes the eight totals of the whole characters fed so far, as if the thread ended there, in the order of the counts of tilghorz_list. It
  * may be called at any time, also after the end. Number: 8 with 64. Value: 64. A total is 8 bytes, lowest byte first. */

@@ -25,7 +25,7 @@ from crate_files import ANTT, RATTLE, listed, without_comments
 
 LIST = "\n## Reading list\n"
 # The parts of the list. The sum of each is below its limit.
-LIMITS = {"The calls of document 01": 1550, "The changes of document 02": 1800, "Beside the calls": 700}
+LIMITS = {"The calls of document 01": 1550, "The changes of document 02": 2000, "Beside the calls": 700}
 # A row: the file, the names, and for definitions that must be read the number of lines.
 ROW = re.compile(r"^\| (crates/\S+) \| ([^|]*) \| (?:(\d+) \| )?([^|]*) \|$")
 SAID = re.compile(r"\babout ([\d,]+) lines\s+in\s+all\b")

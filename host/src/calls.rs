@@ -59,6 +59,8 @@ pub trait Calls {
     fn feed_piece(&self, feed: &mut [u8], piece: &[u8], out: &mut [u8]) -> u64;
     /// `tilghorz_feed_end`.
     fn feed_end(&self, feed: &mut [u8], out: &mut [u8]) -> u64;
+    /// `tilghorz_feed_policy`.
+    fn feed_policy(&self, feed: &mut [u8], policy: &[u8]) -> u64;
     /// `tilghorz_feed_totals`.
     fn feed_totals(&self, feed: &[u8], totals: &mut [u8]) -> u64;
     /// `tilghorz_read_sheet`.
@@ -209,6 +211,10 @@ impl Calls for Reference {
 
     fn feed_end(&self, feed: &mut [u8], out: &mut [u8]) -> u64 {
         kept::end(feed, out).word()
+    }
+
+    fn feed_policy(&self, feed: &mut [u8], policy: &[u8]) -> u64 {
+        kept::change_policy(feed, policy).word()
     }
 
     fn feed_totals(&self, feed: &[u8], totals: &mut [u8]) -> u64 {

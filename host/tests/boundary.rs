@@ -125,6 +125,10 @@ impl Calls for WholeWords {
         Reference.feed_end(feed, out)
     }
 
+    fn feed_policy(&self, feed: &mut [u8], policy: &[u8]) -> u64 {
+        Reference.feed_policy(feed, policy)
+    }
+
     fn feed_totals(&self, feed: &[u8], totals: &mut [u8]) -> u64 {
         Reference.feed_totals(feed, totals)
     }

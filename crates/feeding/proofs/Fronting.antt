@@ -31,7 +31,7 @@ use Rattle.feeding.proofs.Taking.{and-then, next-room, taken-none}
 
 -- ---- the completed character
 
-char-few : (n : ℕ) → length (charOf n) ≤ 1
+pub char-few : (n : ℕ) → length (charOf n) ≤ 1
 char-few n = go (eqb n 0)
   where
     go : (b : Bool) → length (cond b [] (n / 8 ∷ [])) ≤ 1
@@ -44,7 +44,7 @@ map-append : (a b : List Presentation) → map asSelector (a ++ b) ≡ map asSel
 map-append [] b = refl
 map-append (q ∷ a) b = ap (λ (l : List ℕ). asSelector q ∷ l) (map-append a b)
 
-fed-length : (p : Policy) (cs : List ℕ) → length (fedAs p cs) ≡ length cs
+pub fed-length : (p : Policy) (cs : List ℕ) → length (fedAs p cs) ≡ length cs
 fed-length p [] = refl
 fed-length p (c ∷ cs) = omega (arith, fed-length p cs)
 

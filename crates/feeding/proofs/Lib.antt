@@ -11,4 +11,6 @@ pub mod Scanning
 pub mod Resting
 pub mod Fronting
 pub mod Pieces
+pub mod LaterParts
+pub mod LaterPieces
 pub mod Copying

@@ -4,6 +4,7 @@
 // characters that are formatted by themselves, and the last base, which is held. The definition takes the characters one after the other
 // (`takeChars` of crate feed, specs/Feed.antt).
 mod ascii;
+pub mod later;
 mod middle;
 mod scan;
 mod tail;
@@ -76,7 +77,7 @@ pub(crate) const END_ROOM: usize = 16;
 const TOTALS_BYTES: usize = 64;
 
 // Writes the words of a state at the front of a feed.
-fn put_state(feed: &mut [u8], state: State)
+pub(crate) fn put_state(feed: &mut [u8], state: State)
     requires { ⌜ 120 ≤ length (now feed) ⌝ }
     ensures { λ _. ⌜ PutAt (now (feed .entry)) 0 (bytesOf (stateWords state)) (now (feed .exit)) 120 ⌝ }
 {
@@ -84,7 +85,7 @@ fn put_state(feed: &mut [u8], state: State)
 }
 
 // A base without selectors, or no base (0).
-fn new_held(base: u32) -> Held
+pub(crate) fn new_held(base: u32) -> Held
     ensures { λ r. ⌜ r ≡ record { base = base; first = FromSelector.NoSelector; count = 0 } ⌝ }
 {
     Held {
@@ -183,7 +184,7 @@ fn held_counts(policy: &[u8], held: Held, next: Class) -> NonCanonicality
 }
 
 // Writes the held base with the selector that the rules give it before a character of the class. The caller has tested that there is room.
-fn put_held(policy: &[u8], held: Held, next: Class, out: &mut [u8], at: usize) -> Settled
+pub(crate) fn put_held(policy: &[u8], held: Held, next: Class, out: &mut [u8], at: usize) -> Settled
     requires { ⌜ (isScalar (held .base) ≡ true)
         × (at + length (encodeAll (settle (pendingOf (policyOf (now policy)) held) next .text)) ≤ length (now out)) ⌝ }
     ensures text { λ r. ⌜ PutAt (now (out .entry)) at (encodeAll (settle (pendingOf (policyOf (now (policy .entry))) held) next .text))
@@ -347,10 +348,10 @@ pub(crate) fn joined_char(n: usize, rest: usize, piece: &[u8], k: usize) -> u32
 }
 
 // The bytes after the well-formed ones: whether they are unfinished, how many they are, and the number that they encode.
-struct Left {
-    good: bool,
-    len: usize,
-    bytes: usize,
+pub(crate) struct Left {
+    pub(crate) good: bool,
+    pub(crate) len: usize,
+    pub(crate) bytes: usize,
 }
 
 // Returns the number that three bytes encode, lowest byte first.
@@ -361,7 +362,7 @@ fn three(a: u8, b: u8, d: u8) -> usize
 }
 
 // Returns the bytes that are left after an offset.
-fn left_after(n: usize, rest: usize, piece: &[u8], at: usize) -> Left
+pub(crate) fn left_after(n: usize, rest: usize, piece: &[u8], at: usize) -> Left
     requires { ⌜ (n ≤ 3) × (length (now piece) ≤ 16777216) × (at ≤ n + length (now piece)) ⌝ }
     ensures { λ r. ⌜ LeftAt (littleEndian n rest ++ now (piece .entry)) at r ⌝ }
 {
@@ -389,10 +390,10 @@ fn left_after(n: usize, rest: usize, piece: &[u8], at: usize) -> Left
 }
 
 // The held base after characters that were taken, where their text ends in the output, and the counts.
-struct Taken {
-    held: Held,
-    end: usize,
-    counts: NonCanonicality,
+pub(crate) struct Taken {
+    pub(crate) held: Held,
+    pub(crate) end: usize,
+    pub(crate) counts: NonCanonicality,
 }
 
 // Returns the first selector of a base when one more follows.
@@ -435,7 +436,7 @@ fn take_selector(taken: Taken, presentation: Presentation) -> Taken
 }
 
 // Takes a character that is no selector: it settles the held base, and then it is held or written.
-fn take_other(policy: &[u8], taken: Taken, ch: u32, out: &mut [u8]) -> Taken
+pub(crate) fn take_other(policy: &[u8], taken: Taken, ch: u32, out: &mut [u8]) -> Taken
     requires { ⌜ (isScalar (taken .held .base) ≡ true) × (isScalar ch ≡ true) × (fromSelector ch ≡ FromSelector.NoSelector)
         × (total (taken .counts) + taken .held .count ≤ 1000000000000)
         × (taken .end + length (encodeAll (takeChars (pendingOf (policyOf (now policy)) (taken .held))
@@ -474,13 +475,13 @@ fn take_char(policy: &[u8], taken: Taken, ch: u32, out: &mut [u8]) -> Taken
 }
 
 // Selectors at the front of a piece that were taken, and the offset after them.
-struct Front {
-    taken: Taken,
-    at: usize,
+pub(crate) struct Front {
+    pub(crate) taken: Taken,
+    pub(crate) at: usize,
 }
 
 // Takes the completed character, given as one number, if it is not 0.
-fn take_first(
+pub(crate) fn take_first(
     policy: &[u8],
     held: Held,
     counts: NonCanonicality,
@@ -506,7 +507,7 @@ fn take_first(
 }
 
 // Takes the selectors that begin at an offset of a piece.
-fn take_selectors(start: Taken, piece: &[u8], from: usize) -> Front
+pub(crate) fn take_selectors(start: Taken, piece: &[u8], from: usize) -> Front
     requires { ⌜ (isScalar (start .held .base) ≡ true) × (total (start .counts) + start .held .count ≤ 300000000)
         × (length (now piece) ≤ textLimit) × (from ≤ length (now piece)) ⌝ }
     ensures { λ r. ⌜ FrontTaken (now (piece .entry)) from start r ⌝ }
@@ -548,7 +549,7 @@ fn put_part(piece: &[u8], from: usize, to: usize, out: &mut [u8], at: usize) -> 
 // Takes the characters of a piece between two offsets. They end the well-formed bytes of the piece, and the first is no selector. It
 // settles the held base. The last base that has a variation entry is held, with its selectors. The characters between are formatted by
 // themselves. `plain` means that nothing is counted in them.
-fn take_rest(
+pub(crate) fn take_rest(
     policy: &[u8],
     taken: Taken,
     piece: &[u8],
@@ -622,7 +623,7 @@ fn take_all(
 }
 
 // Returns the difference, or 0 if it is negative.
-fn minus(a: usize, b: usize) -> usize
+pub(crate) fn minus(a: usize, b: usize) -> usize
     ensures { λ r. ⌜ r ≡ a - b ⌝ }
 {
     if a < b {
@@ -632,7 +633,7 @@ fn minus(a: usize, b: usize) -> usize
 }
 
 // Returns what is held in one form: without a base there is no selector.
-fn kept_held(held: Held) -> Held
+pub(crate) fn kept_held(held: Held) -> Held
     ensures { λ r. ⌜ ((p : GivenPolicy) → r ≡ heldFor (pendingOf p held)) ⌝ }
 {
     if held.base == 0 {
@@ -642,7 +643,7 @@ fn kept_held(held: Held) -> Held
 }
 
 // Returns the state of a feed that goes on.
-fn open_state(
+pub(crate) fn open_state(
     held: Held,
     rest_len: usize,
     rest: usize,

@@ -1,7 +1,7 @@
 -- The values of the answers of a feed's calls are small, for any bytes.
-use mathlib.Core.Path.{_≡_, refl}
+use mathlib.Core.Path.{_≡_, refl, subst}
 use mathlib.Core.Bool.{Bool, true, false, cond}
-use mathlib.Core.List.{List, _++_}
+use mathlib.Core.List.{List, [], _++_}
 use mathlib.Core.Option.{none, some}
 use Prim.Native.Nat.{ℕ, _≤_}
 use native.Mathlib.Omega.{arith}
@@ -20,8 +20,23 @@ use Rattle.utf8.proofs.Unfinished.{unfinished-few}
 use Rattle.policy.specs.PolicyBytes.{isPolicy, policyFault, policyRefusal}
 use Rattle.policy.proofs.Refusals.{fault-value}
 use Rattle.scanner.specs.declared.char_class.Class.the-variants.{Other as other}
-use Rattle.feed.specs.Bytes.{begun, called, eightWords, feedOf, feedRow, isFeed, leaves, newBytes, outOf, refuses, totalsOf}
-use Rattle.feed.specs.Calls.{Answer, Call, Feed, after, answer}
+use Rattle.feed.specs.Bytes.{eightWords, feedOf, feedRow, leaves, outOf, refuses}
+use Rattle.feed.specs.Calls.{Answer, Call, Feed, after, answer, refused, wrote}
+use Rattle.feed.specs.Calls as Feed
+use Rattle.policy_change.specs.Calls as Changes
+use Rattle.policy_change.specs.Calls.{afterCall, answerTo}
+use Rattle.policy_change.specs.Bytes.{
+  begunChanging,
+  calledOn,
+  changingFeed,
+  changingTotals,
+  feedPart,
+  isChanging,
+  leavesAfter,
+  newChanging,
+  outOf as outBefore,
+}
+use Rattle.feed.specs.declared.FeedAnswer.{FeedAnswer}
 use Rattle.feed.specs.declared.FeedAnswer.the-variants.{Refused, Written}
 use Rattle.feed.proofs.Answered.{
   Answered,
@@ -37,15 +52,16 @@ use Rattle.feed.proofs.Answered.{
   piece-taken,
 }
 use Rattle.feed.proofs.PieceRoom.{held-few, piece-bytes, settle-bytes}
+use Rattle.feeding.proofs.LaterPieces.{part-feed}
 use Rattle.feeding.proofs.Settling.{feed-unfinished, short-len}
 use Rattle.tilghorz.proofs.SmallAnswers.{most}
 
-pub begun-small : (policy feed : List ℕ) → feedRow (begun policy feed .answer) .value ≤ most
-unfolding begun feedRow policyRefusal
-begun-small policy feed = go (isPolicy policy) (leb 320 (length feed))
+pub begun-small : (policy feed : List ℕ) → feedRow (begunChanging policy feed .answer) .value ≤ most
+unfolding begunChanging feedRow policyRefusal
+begun-small policy feed = go (isPolicy policy) (leb 528 (length feed))
   where
     go : (a b : Bool) → feedRow (orElse (cond a none (some (policyFault policy))) (λ r. unwritten (Refused r) feed)
-        (cond b (written (Written 320) (newBytes policy) feed) (unwritten (Refused (OutputTooShort 320)) feed)) .answer) .value ≤ most
+        (cond b (written (Written 528) (newChanging policy) feed) (unwritten (Refused (OutputTooShort 528)) feed)) .answer) .value ≤ most
     go true true = omega arith
     go true false = omega arith
     go false b = omega (arith, fault-value policy)
@@ -65,25 +81,57 @@ answer-small f l u bs (end-10 h n) = omega arith
 answer-small f l u bs (end-8 h n r) = omega arith
 answer-small f l u bs (end-taken h n r) = omega (arith, settle-bytes (f .pending) other, held-few (f .pending))
 
-pub called-small : (bs : List ℕ) (c : Call) → feedRow (called bs c .answer) .value ≤ most
-unfolding called feedRow feedOf
-called-small bs c = go (isFeed bs) refl
-  where
-    f : Feed
-    f = feedOf bs
+same-answer : (bs out : List ℕ) (c : Changes.Call) (f g : Feed) (a : Answer) → leaves bs out f a .answer ≡ leavesAfter bs c g a .answer
+same-answer bs out c f g (wrote o) = refl
+same-answer bs out c f g (refused r) = refl
 
-    go : (t : Bool) → isFeed bs ≡ t
-        → feedRow (cond t (leaves bs (outOf c) (after (feedOf bs) c (answer (feedOf bs) c)) (answer (feedOf bs) c))
-        (refuses (Refused FeedEnded) bs (outOf c)) .answer) .value ≤ most
-    go true e = answer-small (feedOf bs) (short-len bs e) (feed-unfinished bs e) bs (answered (feedOf bs) c)
-    go false e = omega arith
+module _ (bs : List ℕ) (c : Changes.Call) where
+  abbrev f : Feed
+  f = changingFeed bs
 
-pub totals-small : (feed out : List ℕ) → writeRow (answerOf (bytesOf (eightWords (totalsOf feed))) out) .value ≤ most
+  len : isChanging bs ≡ true → changingFeed bs .len ≤ 16777216
+  unfolding changingFeed feedOf
+  len e = short-len (feedPart bs) (part-feed bs e)
+
+  rest : isChanging bs ≡ true → unfinished (changingFeed bs .rest) ≡ true
+  unfolding changingFeed feedOf
+  rest e = feed-unfinished (feedPart bs) (part-feed bs e)
+
+  fed : isChanging bs ≡ true → (d : Call) (g : Feed) → feedRow (leavesAfter bs c g (answer f d) .answer) .value ≤ most
+  fed e d g =
+      subst (λ (x : FeedAnswer). feedRow x .value ≤ most) (same-answer bs (outOf d) c (after f d (answer f d)) g (answer f d))
+      (answer-small f (len e) (rest e) bs (answered f d))
+
+  changed : (policy : List ℕ) (t o : Bool) (g : Feed) → feedRow (leavesAfter bs c g
+      (cond t (refused FeedEnded) (orElse (cond o none (some (policyFault policy))) refused (wrote []))) .answer) .value ≤ most
+  unfolding feedRow
+  changed policy true o g = omega arith
+  changed policy false true g = omega arith
+  changed policy false false g = omega (arith, fault-value policy)
+
+  on : isChanging bs ≡ true → (d : Changes.Call) (g : Feed) → feedRow (leavesAfter bs c g (answerTo f d) .answer) .value ≤ most
+  unfolding answerTo policyRefusal
+  on e (Changes.piece b out) g = fed e (Feed.piece b out) g
+  on e (Changes.end out) g = fed e (Feed.end out) g
+  on e (Changes.change policy) g = changed policy (f .ended) (isPolicy policy) g
+
+  tested : (t : Bool) → isChanging bs ≡ t
+      → feedRow (cond t (leavesAfter bs c (afterCall f c (answerTo f c)) (answerTo f c)) (refuses (Refused FeedEnded) bs
+      (outBefore c)) .answer) .value ≤ most
+  unfolding feedRow
+  tested true e = on e c (afterCall f c (answerTo f c))
+  tested false e = omega arith
+
+  pub called-small : feedRow (calledOn bs c .answer) .value ≤ most
+  unfolding calledOn
+  called-small = tested (isChanging bs) refl
+
+pub totals-small : (feed out : List ℕ) → writeRow (answerOf (bytesOf (eightWords (changingTotals feed))) out) .value ≤ most
 unfolding answerOf writeRow
-totals-small feed out = go (leb (length B) (length out)) (length-bytesOf (eightWords (totalsOf feed)))
+totals-small feed out = go (leb (length B) (length out)) (length-bytesOf (eightWords (changingTotals feed)))
   where
     B : List ℕ
-    B = bytesOf (eightWords (totalsOf feed))
+    B = bytesOf (eightWords (changingTotals feed))
 
     go : (b : Bool) → length B ≡ 64 → writeRow (cond b (Write.Written (length B)) (Write.TooShort (length B))) .value ≤ most
     go true h = omega arith

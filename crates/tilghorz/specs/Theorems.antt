@@ -16,8 +16,9 @@ use Rattle.formatter.specs.Mend.{Call, mendCall}
 use Rattle.analysis.specs.Decisions.{mendRow}
 use Rattle.base.specs.Answers.{done, listRow, writeRow}
 use Rattle.formatter.specs.Format.{formatRow}
-use Rattle.feed.specs.Bytes.{begun, called, eightWords, feedRow, totalsOf}
-use Rattle.feed.specs.Calls as Feed
+use Rattle.feed.specs.Bytes.{eightWords, feedRow}
+use Rattle.policy_change.specs.Bytes.{begunChanging, calledOn, changingTotals}
+use Rattle.policy_change.specs.Calls as Feed
 use Rattle.policy_migration.specs.Carry.{carryCall, carryRow}
 use Rattle.policy_sheet.specs.Calls.{readCall, sheetRow, writeCall}
 use Rattle.membership_flips.specs.Flips.{listTips}
@@ -41,9 +42,9 @@ pub record WordsDetermine {I A : Type 0} (row : A → RefusalRow) (answer : I �
   pub value : (i : I) → word (row (answer i)) % 2 ^ 56 ≡ row (answer i) .value
 
 -- The words of each C function determine its answers. In order: formatting, listing findings, mending, listing items, the default policy,
--- a variation entry, repairing, beginning a feed, a piece or an end of a feed, the totals of a feed, reading a sheet, writing a sheet,
--- listing the flips that tip a text, the findings around a stretch, the nearest finding, filing into a store, carrying a policy over, the
--- largest cut at or below an offset.
+-- a variation entry, repairing, beginning a feed, a piece or an end of a feed or a change of its policy, the totals of a feed, reading a
+-- sheet, writing a sheet, listing the flips that tip a text, the findings around a stretch, the nearest finding, filing into a store,
+-- carrying a policy over, the largest cut at or below an offset.
 unfoldable pub WordsDetermineAnswers : Type 0
 WordsDetermineAnswers =
     WordsDetermine formatRow (λ (c : List ℕ × List ℕ × List ℕ). format (c .0) (c .1) (c .2) .answer)
@@ -53,9 +54,9 @@ WordsDetermineAnswers =
     × WordsDetermine writeRow (λ (out : List ℕ). answerOf (policyBytes defaultPolicy) out)
     × WordsDetermine entryRow variationEntry
     × WordsDetermine repairRow (λ (c : List ℕ × List ℕ). repair (c .0) (c .1) .answer)
-    × WordsDetermine feedRow (λ (c : List ℕ × List ℕ). begun (c .0) (c .1) .answer)
-    × WordsDetermine feedRow (λ (c : List ℕ × Feed.Call). called (c .0) (c .1) .answer)
-    × WordsDetermine writeRow (λ (c : List ℕ × List ℕ). answerOf (bytesOf (eightWords (totalsOf (c .0)))) (c .1))
+    × WordsDetermine feedRow (λ (c : List ℕ × List ℕ). begunChanging (c .0) (c .1) .answer)
+    × WordsDetermine feedRow (λ (c : List ℕ × Feed.Call). calledOn (c .0) (c .1) .answer)
+    × WordsDetermine writeRow (λ (c : List ℕ × List ℕ). answerOf (bytesOf (eightWords (changingTotals (c .0)))) (c .1))
     × WordsDetermine sheetRow (λ (c : List ℕ × List ℕ). readCall (c .0) (c .1) .answer)
     × WordsDetermine sheetRow (λ (c : List ℕ × List ℕ). writeCall (c .0) (c .1) .answer)
     × WordsDetermine listRow (λ (c : List ℕ × List ℕ × List ℕ). listTips (c .0) (c .1) (c .2) .answer)

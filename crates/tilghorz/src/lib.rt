@@ -17,8 +17,9 @@ ghost use Rattle.analysis.specs.Decisions.{mendRow};
 ghost use Rattle.base.specs.Answers.{done, listRow, writeRow};
 ghost use Rattle.formatter.specs.Format.{formatRow};
 ghost use Rattle.repair.specs.Repair.{repair, repairRow};
-ghost use Rattle.feed.specs.Bytes.{begun, called, eightWords, feedRow, totalsOf};
-ghost use Rattle.feed.specs.Calls as Calls;
+ghost use Rattle.feed.specs.Bytes.{eightWords, feedRow};
+ghost use Rattle.policy_change.specs.Bytes.{begunChanging, calledOn, changingTotals};
+ghost use Rattle.policy_change.specs.Calls as Calls;
 ghost use Rattle.policy_migration.specs.Carry.{carryCall, carryRow};
 ghost use Rattle.policy_sheet.specs.Calls.{readCall, sheetRow, writeCall};
 ghost use Rattle.membership_flips.specs.Flips.{listTips};
@@ -152,10 +153,10 @@ pub extern "C" fn tilghorz_cut(bytes: &[u8], offset: u64) -> u64
 // Begins a feed under a policy in a lent buffer. It may answer the refusals 2 and 8. Its value is the number of bytes of a feed.
 #[no_mangle]
 pub extern "C" fn tilghorz_feed_begin(policy: &[u8], feed: &mut [u8]) -> u64
-    ensures word { λ r. ⌜ r ≡ word (feedRow (begun (now (policy .entry)) (now (feed .entry)) .answer)) ⌝ }
-    ensures bytes { λ _. ⌜ now (feed .exit) ≡ begun (now (policy .entry)) (now (feed .entry)) .buffer ⌝ }
+    ensures word { λ r. ⌜ r ≡ word (feedRow (begunChanging (now (policy .entry)) (now (feed .entry)) .answer)) ⌝ }
+    ensures bytes { λ _. ⌜ now (feed .exit) ≡ begunChanging (now (policy .entry)) (now (feed .entry)) .buffer ⌝ }
 {
-    feed_word(feeding::begin(policy, feed))
+    feed_word(feed_calls::begin(policy, feed))
 }
 
 // Takes the next piece of a thread and writes all but an unfinished character and a last base that has a variation entry, with its
@@ -163,30 +164,41 @@ pub extern "C" fn tilghorz_feed_begin(policy: &[u8], feed: &mut [u8]) -> u64
 #[no_mangle]
 pub extern "C" fn tilghorz_feed_piece(feed: &mut [u8], piece: &[u8], out: &mut [u8]) -> u64
     ensures word { λ r. ⌜ r ≡ word (feedRow
-        (called (now (feed .entry)) (Calls.piece (now (piece .entry)) (now (out .entry))) .answer)) ⌝ }
-    ensures state { λ _. ⌜ now (feed .exit) ≡ called (now (feed .entry)) (Calls.piece (now (piece .entry)) (now (out .entry))) .feed ⌝ }
-    ensures bytes { λ _. ⌜ now (out .exit) ≡ called (now (feed .entry)) (Calls.piece (now (piece .entry)) (now (out .entry))) .out ⌝ }
+        (calledOn (now (feed .entry)) (Calls.piece (now (piece .entry)) (now (out .entry))) .answer)) ⌝ }
+    ensures state { λ _. ⌜ now (feed .exit) ≡ calledOn (now (feed .entry)) (Calls.piece (now (piece .entry)) (now (out .entry))) .feed ⌝ }
+    ensures bytes { λ _. ⌜ now (out .exit) ≡ calledOn (now (feed .entry)) (Calls.piece (now (piece .entry)) (now (out .entry))) .out ⌝ }
 {
-    feed_word(feeding::piece(feed, piece, out))
+    feed_word(feed_calls::piece(feed, piece, out))
 }
 
 // Ends a feed and writes the held base. It may answer the refusals 9, 10 and 8.
 #[no_mangle]
 pub extern "C" fn tilghorz_feed_end(feed: &mut [u8], out: &mut [u8]) -> u64
-    ensures word { λ r. ⌜ r ≡ word (feedRow (called (now (feed .entry)) (Calls.end (now (out .entry))) .answer)) ⌝ }
-    ensures state { λ _. ⌜ now (feed .exit) ≡ called (now (feed .entry)) (Calls.end (now (out .entry))) .feed ⌝ }
-    ensures bytes { λ _. ⌜ now (out .exit) ≡ called (now (feed .entry)) (Calls.end (now (out .entry))) .out ⌝ }
+    ensures word { λ r. ⌜ r ≡ word (feedRow (calledOn (now (feed .entry)) (Calls.end (now (out .entry))) .answer)) ⌝ }
+    ensures state { λ _. ⌜ now (feed .exit) ≡ calledOn (now (feed .entry)) (Calls.end (now (out .entry))) .feed ⌝ }
+    ensures bytes { λ _. ⌜ now (out .exit) ≡ calledOn (now (feed .entry)) (Calls.end (now (out .entry))) .out ⌝ }
 {
-    feed_word(feeding::end(feed, out))
+    feed_word(feed_calls::end(feed, out))
+}
+
+// Changes the policy of a feed. A held base keeps its policy. It may answer the refusals 9, 2 and 15. Its value is 0.
+#[no_mangle]
+pub extern "C" fn tilghorz_feed_policy(feed: &mut [u8], policy: &[u8]) -> u64
+    ensures word { λ r. ⌜ r ≡ word (feedRow (calledOn (now (feed .entry)) (Calls.change (now (policy .entry))) .answer)) ⌝ }
+    ensures state { λ _. ⌜ now (feed .exit) ≡ calledOn (now (feed .entry)) (Calls.change (now (policy .entry))) .feed ⌝ }
+{
+    feed_word(feed_calls::change(feed, policy))
 }
 
 // Writes the eight totals of a feed, 8 bytes each. It may answer refusal 8.
 #[no_mangle]
 pub extern "C" fn tilghorz_feed_totals(feed: &[u8], totals: &mut [u8]) -> u64
-    ensures word { λ r. ⌜ r ≡ word (writeRow (answerOf (bytesOf (eightWords (totalsOf (now (feed .entry))))) (now (totals .entry)))) ⌝ }
-    ensures bytes { λ _. ⌜ now (totals .exit) ≡ bufferOf (bytesOf (eightWords (totalsOf (now (feed .entry))))) (now (totals .entry)) ⌝ }
+    ensures word { λ r. ⌜ r ≡ word (writeRow
+        (answerOf (bytesOf (eightWords (changingTotals (now (feed .entry))))) (now (totals .entry)))) ⌝ }
+    ensures bytes { λ _. ⌜ now (totals .exit)
+        ≡ bufferOf (bytesOf (eightWords (changingTotals (now (feed .entry))))) (now (totals .entry)) ⌝ }
 {
-    write_word(feeding::totals(feed, totals))
+    write_word(feed_calls::totals(feed, totals))
 }
 
 // Reads a policy sheet and writes the bytes of its policy. It may answer the refusals 1, 11, 12 and 8. Its value is the number of bytes

@@ -67,6 +67,10 @@ impl Calls for Library {
         sys::feed_end(feed, out)
     }
 
+    fn feed_policy(&self, feed: &mut [u8], policy: &[u8]) -> u64 {
+        sys::feed_policy(feed, policy)
+    }
+
     fn feed_totals(&self, feed: &[u8], totals: &mut [u8]) -> u64 {
         sys::feed_totals(feed, totals)
     }

@@ -38,6 +38,7 @@ impl Boundary<'_> {
         for before in BEFORE {
             let begun = self.begun(bytes, before)?;
             self.ends(&begun)?;
+            self.changes(&begun)?;
             for length in 0..=SMALL {
                 for piece in texts(length) {
                     self.pieces(&begun, &piece)?;
@@ -107,6 +108,28 @@ impl Boundary<'_> {
                     self.calls.feed_piece(feed, placed.bytes(), out)
                 })?;
                 let stays = placed.is_as_made(piece, spot);
+                same(|| name() + ": it stays", &true, &stays, bool::to_string)?;
+            }
+        }
+        Ok(())
+    }
+
+    /// Changes of the policy after a beginning: to policies, to bytes of every length that are none, and after the end.
+    fn changes(&mut self, begun: &Begun) -> Result<(), Difference> {
+        let default = default_policy();
+        let longer = [default, default].concat();
+        for length in (0..=default.len() + PAST).chain([longer.len()]) {
+            let policy = &longer[..length];
+            let draft = feed::draft(&begun.reading.change(policy).map(feed::changed));
+            for spot in self.spots() {
+                let placed = Placed::new(policy, spot);
+                let margins = [spot.before, spot.after()];
+                self.made += 1;
+                let name = || format!("a change to {length} bytes at {spot:?}");
+                lend_feed([margins; 2], name, &begun.bytes, &draft, 0, |feed, _| {
+                    self.calls.feed_policy(feed, placed.bytes())
+                })?;
+                let stays = placed.is_as_made(policy, spot);
                 same(|| name() + ": it stays", &true, &stays, bool::to_string)?;
             }
         }

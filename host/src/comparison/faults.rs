@@ -113,6 +113,12 @@ pub enum Fault {
     TotalsWithoutHeld,
     /// After the end the totals are zeros.
     NoTotalsAfterEnd,
+    /// A change of the policy judges the held base anew.
+    JudgesHeldAnew,
+    /// A change of the policy is taken after the end.
+    ChangesAfterEnd,
+    /// A change tests the version after the unused bits.
+    ChangeVersionLate,
     /// A code point of three digits is taken.
     ThreeDigits,
     /// A code point of seven digits is taken, if the first is 0.
@@ -250,7 +256,7 @@ pub enum Fault {
 }
 
 /// The faults with their names.
-pub const FAULTS: [(&str, Fault); 122] = [
+pub const FAULTS: [(&str, Fault); 125] = [
     ("keycap-rule", Fault::KeycapRule),
     ("finding-span", Fault::FindingSpan),
     ("item-span", Fault::ItemSpan),
@@ -306,6 +312,9 @@ pub const FAULTS: [(&str, Fault); 122] = [
     ("takes-after-end", Fault::TakesAfterEnd),
     ("totals-without-held", Fault::TotalsWithoutHeld),
     ("no-totals-after-end", Fault::NoTotalsAfterEnd),
+    ("judges-held-anew", Fault::JudgesHeldAnew),
+    ("changes-after-end", Fault::ChangesAfterEnd),
+    ("change-version-late", Fault::ChangeVersionLate),
     ("three-digits", Fault::ThreeDigits),
     ("seventh-digit", Fault::SeventhDigit),
     ("small-digits", Fault::SmallDigits),

@@ -409,6 +409,10 @@ impl Calls for Faulty<'_> {
         self.feed.end(feed, out).word()
     }
 
+    fn feed_policy(&self, feed: &mut [u8], policy: &[u8]) -> u64 {
+        self.feed.change(feed, policy).word()
+    }
+
     fn feed_totals(&self, feed: &[u8], totals: &mut [u8]) -> u64 {
         self.feed.totals(feed, totals).word()
     }

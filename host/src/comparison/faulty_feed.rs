@@ -7,6 +7,7 @@ use super::faulty::flip;
 use crate::calls::{Answer, Calls};
 use crate::reference::calls::LONGEST_TEXT;
 use crate::reference::feed::{TOTALS_BYTES, held, room, totals, totals_bytes};
+use crate::reference::policy::{Policy, default_policy};
 use crate::reference::utf8;
 
 /// What a fault needs to know of the feed that was begun last.
@@ -98,6 +99,30 @@ impl<'a> FaultyFeed<'a> {
         answer
     }
 
+    /// A change of the policy.
+    pub fn change(&self, feed: &mut [u8], policy: &[u8]) -> Answer {
+        let mut answer = Answer::of_word(self.calls.feed_policy(feed, policy));
+        let fed = &mut *self.fed.borrow_mut();
+        match (self.fault, answer.number) {
+            (Fault::JudgesHeldAnew, Answer::DONE) => {
+                // The whole thread goes into a new feed, so that its last base is judged by the new policy.
+                let mut out = vec![0; room(fed.thread.len())];
+                let _ = self.calls.feed_begin(policy, feed);
+                let _ = self.calls.feed_piece(feed, &fed.thread, &mut out);
+            }
+            (Fault::ChangesAfterEnd, 9) => answer = Answer::new(Answer::DONE, 0),
+            (Fault::ChangeVersionLate, 15) if has_unused_bit(policy) => {
+                answer = Answer::new(2, 0);
+            }
+            _ => {}
+        }
+        if answer.number == Answer::DONE {
+            fed.policy = policy.to_vec();
+        }
+        self.spoil_refused(answer, feed, &mut []);
+        answer
+    }
+
     /// The totals.
     pub fn totals(&self, feed: &[u8], out: &mut [u8]) -> Answer {
         let answer = Answer::of_word(self.calls.feed_totals(feed, out));
@@ -163,4 +188,11 @@ impl<'a> FaultyFeed<'a> {
             _ => {}
         }
     }
+}
+
+/// Whether an unused bit is set in bytes that are a policy but for it and for their version.
+fn has_unused_bit(policy: &[u8]) -> bool {
+    let (version, _) = default_policy().split_at(8);
+    policy.len() == default_policy().len()
+        && Policy::read(&[version, &policy[8..]].concat()).is_err()
 }

@@ -12,7 +12,7 @@ use crate::reference::policy::default_policy;
 use crate::reference::rules::Counts;
 
 /// The most bytes of a feed.
-const MOST_BYTES: u64 = 512;
+const MOST_BYTES: u64 = 1024;
 
 /// The totals of a thread up to this length are held to the crate's after each call, and those of a longer one at the end.
 const SHORT_THREAD: usize = 200;
@@ -34,6 +34,11 @@ pub enum Step {
     End {
         /// The output's length.
         room: usize,
+    },
+    /// `tilghorz_feed_policy`.
+    Policy {
+        /// The policy.
+        bytes: Vec<u8>,
     },
 }
 
@@ -58,6 +63,7 @@ impl Display for Step {
                 write!(out, "piece of {}, room {room}", hexadecimal(bytes))
             }
             Self::End { room } => write!(out, "end, room {room}"),
+            Self::Policy { bytes } => write!(out, "policy {}", hexadecimal(bytes)),
         }
     }
 }
@@ -154,6 +160,7 @@ impl Thread<'_> {
         let (taken, room) = match step {
             Step::Piece { bytes, room } => (self.reading.piece(bytes), *room),
             Step::End { room } => (self.reading.end(), *room),
+            Step::Policy { bytes } => (self.reading.change(bytes).map(feed::changed), 0),
         };
         let draft = feed::draft(&taken);
         let name = || format!("call {number} of the list");
@@ -166,6 +173,7 @@ impl Thread<'_> {
             |feed, out| match step {
                 Step::Piece { bytes, .. } => self.calls.feed_piece(feed, bytes, out),
                 Step::End { .. } => self.calls.feed_end(feed, out),
+                Step::Policy { bytes } => self.calls.feed_policy(feed, bytes),
             },
         )?;
         let (answer, written) = draft.with_room(room);
@@ -176,7 +184,7 @@ impl Thread<'_> {
             self.beside_the_crate(number)?;
         }
         match step {
-            Step::Piece { .. } => self.totals(number, &[TOTALS_BYTES]),
+            Step::Piece { .. } | Step::Policy { .. } => self.totals(number, &[TOTALS_BYTES]),
             Step::End { .. } => self.totals(number, &[0, TOTALS_BYTES - 1, TOTALS_BYTES, 77]),
         }
     }
@@ -199,7 +207,8 @@ impl Thread<'_> {
         let (Ok(text), Some(policy)) = (str::from_utf8(whole), &self.policy.beside) else {
             return Ok(());
         };
-        if !has_ended && text.len() > SHORT_THREAD {
+        // The crate formats under one policy.
+        if self.reading.has_changed() || !has_ended && text.len() > SHORT_THREAD {
             return Ok(());
         }
         let totals = crate_totals(text, policy);

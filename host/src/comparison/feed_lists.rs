@@ -1,6 +1,8 @@
-//! Lists of calls on a feed: threads cut in every way and at random, with refused calls between, and around the limit.
+//! Lists of calls on a feed: threads cut in every way and at random, with refused calls and changes of the policy between,
+//! and around the limit.
 
 use super::feed_case::Step;
+use super::policies::{self, Policy};
 use super::texts::{Alphabet, SPOILS};
 use crate::Random;
 use crate::reference::calls::LONGEST_TEXT;
@@ -24,6 +26,18 @@ pub fn cut(thread: &[u8], bits: usize) -> Vec<Step> {
     list
 }
 
+/// A thread cut so, with a change to another of the policies after each piece.
+#[must_use]
+pub fn cut_with_changes(thread: &[u8], bits: usize, policies: &[Policy]) -> Vec<Step> {
+    let mut list = Vec::new();
+    for (number, step) in cut(thread, bits).into_iter().enumerate() {
+        list.push(step);
+        let bytes = policies[(number + bits) % policies.len()].bytes.clone();
+        list.push(Step::Policy { bytes });
+    }
+    list
+}
+
 /// A thread byte by byte, and its end.
 #[must_use]
 pub fn byte_by_byte(thread: &[u8]) -> Vec<Step> {
@@ -42,12 +56,16 @@ pub fn drawn(random: &mut Random, alphabet: &Alphabet) -> Vec<Step> {
         length => most.max(length / 40),
     };
     let refused_in = random.element(&[2, 6, 1000]);
+    let changes_in = random.element(&[2, 8, 1 << 20]);
     let mut list = Vec::new();
     let mut rest = &thread[..];
     while !rest.is_empty() {
         if random.below(refused_in) == 0 {
             list.push(between(random, rest));
             continue;
+        }
+        if random.below(changes_in) == 0 {
+            list.push(change(random));
         }
         let (piece, after) = rest.split_at(rest.len().min(1 + random.below(most)));
         let more = random.element(&[0, 0, 1, 100]);
@@ -59,11 +77,23 @@ pub fn drawn(random: &mut Random, alphabet: &Alphabet) -> Vec<Step> {
     }
     list.push(Step::End { room: room(0) - 1 });
     list.extend([Step::END, Step::END, Step::piece(b"a"), Step::piece(b"")]);
+    list.push(change(random));
     list.push(Step::Piece {
         bytes: vec![0xFF],
         room: 0,
     });
     list
+}
+
+/// A change to a drawn policy, or to bytes that are none.
+fn change(random: &mut Random) -> Step {
+    let policy = match random.below(4) {
+        0 => policies::refused(random),
+        _ => policies::drawn(random),
+    };
+    Step::Policy {
+        bytes: policy.bytes,
+    }
 }
 
 /// A drawn thread, most often short, well-formed or damaged.

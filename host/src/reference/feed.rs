@@ -1,26 +1,65 @@
 //! Document 02, (iii): "A feed takes the next bytes and writes all but an unfinished character and a last base that has a
 //! variation entry, with its selectors."
 //!
-//! This feed keeps the whole thread, and formats it anew in each call. So it says what is written, and not how a feed
-//! can know it from what it remembers.
+//! (xii): "An open feed may change policy between two pieces. A base is judged by the policy in force when its last byte
+//! was fed. In (iii) joined outputs and totals now equal those of a formatting that picks each base's policy so."
+//!
+//! This feed keeps the whole thread and every policy, and formats the thread anew in each call. So it says what is
+//! written, and not how a feed can know it from what it remembers.
 
-use super::calls::{self, Draft, LONGEST_TEXT};
+use super::calls::{Draft, LONGEST_TEXT};
 use super::characters::{properties, selector};
 use super::items::items;
 use super::policy::Policy;
 use super::repair::is_unfinished;
-use super::rules::{Counts, finding};
+use super::rules::{Counts, finding, finding_by};
 use super::utf8;
 use crate::calls::Answer;
 
-/// A feed: the policy that it began with, the thread so far, how much of the formatted thread is written, and whether
-/// it has ended.
+/// A feed: its policies, the thread so far, how much of the formatted thread is written, and whether it has ended.
 #[derive(Debug, Clone, PartialEq, Eq)]
 pub struct Feed {
-    policy: Vec<u8>,
+    policies: Policies,
     thread: Vec<u8>,
     written: usize,
     has_ended: bool,
+}
+
+/// The policies of a feed, each with the offset in the thread from which it is in force. The first is that which the feed
+/// began with.
+#[derive(Debug, Clone, PartialEq, Eq)]
+struct Policies(Vec<(usize, Policy)>);
+
+impl Policies {
+    /// The policy that was in force when this byte was fed.
+    fn at(&self, byte: usize) -> &Policy {
+        let Self(policies) = self;
+        let from = policies.partition_point(|(from, _)| *from <= byte);
+        &policies[from.max(1) - 1].1
+    }
+
+    /// The formatted text of a well-formed one.
+    fn formatted(&self, text: &[u8]) -> Vec<u8> {
+        let mut out = Vec::with_capacity(text.len());
+        for item in items(text) {
+            match finding_by(&item, |byte| self.at(byte)) {
+                None => out.extend(&text[item.start..item.end]),
+                Some(analysis) => out.extend(analysis.default_replacement()),
+            }
+        }
+        out
+    }
+
+    /// The totals of a well-formed text.
+    fn totals(&self, text: &[u8]) -> Counts {
+        let mut totals = Counts::default();
+        for analysis in items(text).filter_map(|item| finding_by(&item, |byte| self.at(byte))) {
+            for (total, count) in totals.iter_mut().zip(analysis.counts) {
+                *total += count;
+            }
+        }
+        totals
+    }
 }
 
 /// What a call does that no test before that of the room refuses: what it writes, and the feed after it.
@@ -44,13 +83,24 @@ pub const fn room(piece: usize) -> usize {
 impl Feed {
     /// A feed begun new, or the refusal of bytes that are no policy.
     pub fn begin(policy: &[u8]) -> Result<Self, Answer> {
-        Policy::read(policy)?;
+        let policy = Policy::read(policy)?;
         Ok(Self {
-            policy: policy.to_vec(),
+            policies: Policies(vec![(0, policy)]),
             thread: Vec::new(),
             written: 0,
             has_ended: false,
         })
+    }
+
+    /// The feed after a change of its policy, or the refusal: 9, or that of bytes that are no policy.
+    pub fn change(&self, policy: &[u8]) -> Result<Self, Answer> {
+        if self.has_ended {
+            return Err(Answer::new(9, 0));
+        }
+        let policy = Policy::read(policy)?;
+        let mut feed = self.clone();
+        feed.policies.0.push((self.thread.len(), policy));
+        Ok(feed)
     }
 
     /// A piece, or its refusal: 9, 1 or 3.
@@ -66,7 +116,7 @@ impl Feed {
         if !rest.is_empty() && !is_unfinished(rest) {
             return Err(Answer::new(3, whole.len() as u64));
         }
-        let decided = formatted(&whole[..held(whole)], &self.policy);
+        let decided = self.policies.formatted(&whole[..held(whole)]);
         Ok(self.taken(thread, &decided, room(piece.len()), false))
     }
 
@@ -79,7 +129,7 @@ impl Feed {
         if !rest.is_empty() {
             return Err(Answer::new(10, 0));
         }
-        let all = formatted(whole, &self.policy);
+        let all = self.policies.formatted(whole);
         Ok(self.taken(self.thread.clone(), &all, room(0), true))
     }
 
@@ -87,7 +137,7 @@ impl Feed {
     fn taken(&self, thread: Vec<u8>, formatted: &[u8], wanted: usize, has_ended: bool) -> Taken {
         let bytes = formatted[self.written..].to_vec();
         let feed = Self {
-            policy: self.policy.clone(),
+            policies: self.policies.clone(),
             thread,
             written: formatted.len(),
             has_ended,
@@ -100,7 +150,7 @@ impl Feed {
     /// ended there."
     #[must_use]
     pub fn totals(&self) -> Counts {
-        totals(self.whole(), &self.policy)
+        self.policies.totals(self.whole())
     }
 
     /// The whole characters fed so far.
@@ -121,11 +171,27 @@ impl Feed {
         self.thread.len()
     }
 
+    /// Whether its policy was changed.
+    #[must_use]
+    pub const fn has_changed(&self) -> bool {
+        self.policies.0.len() > 1
+    }
+
     /// Whether it has ended.
     #[must_use]
     pub const fn has_ended(&self) -> bool {
         self.has_ended
     }
+}
+
+/// A change of the policy as a call that writes nothing.
+#[must_use]
+pub const fn changed(feed: Feed) -> Taken {
+    let draft = Draft::WritesWithin {
+        bytes: Vec::new(),
+        wanted: 0,
+    };
+    Taken { draft, feed }
 }
 
 /// What a call on a feed does but for the test of the room.
@@ -180,13 +246,5 @@ pub fn held(text: &[u8]) -> usize {
     match last {
         Some((at, base)) if properties(base).entry.is_some() => at,
         _ => text.len(),
-    }
-}
-
-/// The formatted text of an accepted one.
-fn formatted(text: &[u8], policy: &[u8]) -> Vec<u8> {
-    match calls::format(text, policy) {
-        Draft::Writes { bytes, .. } | Draft::WritesWithin { bytes, .. } => bytes,
-        _ => text.to_vec(),
     }
 }

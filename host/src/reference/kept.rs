@@ -59,6 +59,18 @@ pub fn end(bytes: &mut [u8], out: &mut [u8]) -> Answer {
     change(bytes, out, Feed::end)
 }
 
+/// A change of the policy. Bytes that are no feed are answered as a feed that has ended.
+pub fn change_policy(bytes: &mut [u8], policy: &[u8]) -> Answer {
+    let changed = find(bytes).map_or(Err(Answer::new(9, 0)), |feed| feed.change(policy));
+    match changed {
+        Err(refusal) => refusal,
+        Ok(feed) => {
+            keep(feed, bytes);
+            Answer::new(Answer::DONE, 0)
+        }
+    }
+}
+
 /// The totals. Those of bytes that are no feed are zeros.
 pub fn totals(bytes: &[u8], out: &mut [u8]) -> Answer {
     let totals = find(bytes).map_or([0; 8], |feed| feed.totals());

@@ -173,7 +173,14 @@ impl Analysis {
 /// What is found in an item, if some count is not 0.
 #[must_use]
 pub fn finding(item: &Item, policy: &Policy) -> Option<Analysis> {
+    finding_by(item, |_| policy)
+}
+
+/// The same, where each base has the policy of the offset of its last byte.
+#[must_use]
+pub fn finding_by<'a>(item: &Item, policy: impl Fn(usize) -> &'a Policy) -> Option<Analysis> {
     let mut analysis = Analysis::default();
+    let mut at = item.start;
     if item.kind == Kind::Selectors {
         // Each selector is three bytes.
         analysis.counts[UNSANCTIONED] = (item.end - item.start) as u64 / 3;
@@ -183,7 +190,10 @@ pub fn finding(item: &Item, policy: &Policy) -> Option<Analysis> {
         let next = item.parts.get(number + 1).map(|part| part.role);
         let is_modification =
             |role: &Role| matches!(role, Role::Modifier | Role::Keycap | Role::Tag);
-        analysis.push(part, next.filter(is_modification), policy);
+        let length = char::from_u32(part.character).map_or(1, char::len_utf8);
+        analysis.push(part, next.filter(is_modification), policy(at + length - 1));
+        // Each selector is three bytes.
+        at += length + 3 * part.selectors.len();
     }
     (analysis.counts != [0; 8]).then_some(analysis)
 }

@@ -53,6 +53,15 @@ impl Feed {
         Self { bytes, fed: 0 }
     }
 
+    /// Changes the policy. It judges the bases whose last byte is fed after this; a base that was fed before, and is not
+    /// written yet, keeps its policy.
+    ///
+    /// # Errors
+    /// Refusal 9; the feed is then as it was.
+    pub fn set_policy(&mut self, policy: &Policy) -> Result<(), Refusal> {
+        answer::read_done(sys::feed_policy(&mut self.bytes, policy.as_bytes())).map(|_| ())
+    }
+
     /// The room that the output of a piece must have: 4 times its bytes and 16. The end counts as a piece of 0 bytes.
     #[must_use]
     pub const fn room_for(piece: usize) -> usize {

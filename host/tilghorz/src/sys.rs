@@ -24,7 +24,7 @@ pub const ITEM_BYTES: usize = 64;
 /// The bytes of a membership in a table.
 pub const TIP_BYTES: usize = 24;
 /// The bytes of a feed.
-pub const FEED_BYTES: usize = 320;
+pub const FEED_BYTES: usize = 528;
 /// The bytes of the totals of a feed.
 pub const TOTALS_BYTES: usize = 64;
 /// No sheet that is written has more bytes.
@@ -99,6 +99,12 @@ unsafe extern "C" {
         out_len: usize,
     ) -> u64;
     fn tilghorz_feed_end(feed: *mut u8, feed_len: usize, out: *mut u8, out_len: usize) -> u64;
+    fn tilghorz_feed_policy(
+        feed: *mut u8,
+        feed_len: usize,
+        policy: *const u8,
+        policy_len: usize,
+    ) -> u64;
     fn tilghorz_feed_totals(
         feed: *const u8,
         feed_len: usize,
@@ -307,6 +313,13 @@ pub fn feed_piece(feed: &mut [u8], piece: &[u8], out: &mut [u8]) -> u64 {
 pub fn feed_end(feed: &mut [u8], out: &mut [u8]) -> u64 {
     // SAFETY: as the head of this file says.
     unsafe { tilghorz_feed_end(feed.as_mut_ptr(), feed.len(), out.as_mut_ptr(), out.len()) }
+}
+
+/// `tilghorz_feed_policy`: changes the policy of a feed.
+#[must_use]
+pub fn feed_policy(feed: &mut [u8], policy: &[u8]) -> u64 {
+    // SAFETY: as the head of this file says.
+    unsafe { tilghorz_feed_policy(feed.as_mut_ptr(), feed.len(), policy.as_ptr(), policy.len()) }
 }
 
 /// `tilghorz_feed_totals`: writes the totals of a thread so far.

@@ -31,12 +31,17 @@ impl Run<'_> {
                 let mut ways = 0..1 << thread.len().saturating_sub(1);
                 ways.try_for_each(|bits| {
                     let policy = &self.policies[bits % self.policies.len()];
-                    lists += 1;
-                    self.feed("feeds", policy, &feed_lists::cut(thread.as_bytes(), bits))
+                    lists += 2;
+                    let thread = thread.as_bytes();
+                    self.feed("feeds", policy, &feed_lists::cut(thread, bits))?;
+                    let list = feed_lists::cut_with_changes(thread, bits, &self.policies);
+                    self.feed("feeds", policy, &list)
                 })
             })?;
         }
-        let what = format!("threads of up to {most} characters, cut in every way");
+        let what = format!(
+            "threads of up to {most} characters, cut in every way, without and with changes of the policy"
+        );
         self.told("feeds", lists, &what)?;
         let all = (0..=3).map(|length| (&repair_case::EDGES[..], length));
         let damaged = all.chain([(&repair_case::FEWER_EDGES[..], 4)]);

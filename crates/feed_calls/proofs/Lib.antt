@@ -1,0 +1,2 @@
+-- The laws of the calls of a feed whose policy may change.
+pub mod Parts

@@ -1,0 +1,328 @@
+-- A call on the first 320 bytes of a feed whose policy may change is the call on all of it: the end always, and a piece if the policy has
+-- not changed since the held base was fed. The outcomes of `begin` and of a change, by their tests.
+use mathlib.Core.Path.{_≡_, refl, ap, ap₂, sym, _∙_, subst}
+use mathlib.Core.Bool.{Bool, true, false, cond, not, _&&_, _||_}
+use mathlib.Core.List.{List, [], _++_, append-assoc, append-nil}
+use Prim.Native.Nat.{ℕ, _+_, _≤_, _<_}
+use native.Mathlib.Omega.{arith}
+use lib.Dec.{eqb}
+use lib.ListN.{drop, length, length-append, length-drop, take, take-append-drop}
+use lib.Seq.{drop-drop, length-sets, length-take-le, sets, sets-eq}
+use borrow.Author.Tests.{eq-eqb, le-leb, lt-leb, ne-eqb}
+use Rattle.base.specs.Output.{Wrote, roomFor}
+use Rattle.base.specs.Refusals.{After, unwritten}
+use Rattle.base.specs.Words.{bytesOf, hasRoom, number, wordBytes}
+use Rattle.base.specs.declared.WriteAnswer.{WriteAnswer}
+use Rattle.base.specs.declared.Refusal.{Refusal}
+use Rattle.base.specs.declared.Refusal.the-variants.{FeedEnded, OutputTooShort}
+use Rattle.base.proofs.Output.{bytes-put}
+use Rattle.base.proofs.Words.{length-wordBytes, word-put}
+use Rattle.policy.specs.PolicyBytes.{isPolicy, policyFault, policyOf, policyRefusal}
+use Rattle.policy.specs.declared.Policy.{Policy}
+use Rattle.analysis.specs.Counts.{empty}
+use Rattle.analysis.specs.declared.types.NonCanonicality.{NonCanonicality}
+use Rattle.feed.specs.Calls.{Answer, Feed, after, answer, refused, totalsNow, wrote}
+use Rattle.feed.specs.Calls as Feed
+use Rattle.feed.specs.Bytes.{
+  Called,
+  EndsCalled,
+  begun,
+  bytesFor,
+  called,
+  eightWords,
+  feedOf,
+  isFeed,
+  leaves,
+  newBytes,
+  refuses,
+  stateFor,
+  stateOf,
+  stateWords,
+  totalsOf,
+}
+use Rattle.feed.specs.declared.FeedAnswer.{FeedAnswer}
+use Rattle.feed.specs.declared.FeedAnswer.the-variants.{Refused, Written}
+use Rattle.feed.specs.declared.State.{State}
+use Rattle.feed.proofs.Kept.{policy-length}
+use Rattle.feed.proofs.Writing.{words-many}
+use Rattle.policy_change.specs.Calls.{answerTo, change, end, piece, under}
+use Rattle.policy_change.specs.Bytes.{
+  begunChanging,
+  calledOn,
+  changingFeed,
+  changingTotals,
+  feedPart,
+  isChanged,
+  isChanging,
+  keptBytes,
+  laterPolicy,
+  leavesAfter,
+  newChanging,
+  onlySelectors,
+  settledBytes,
+}
+use Rattle.utf8.specs.Rfc3629.{chars}
+use Rattle.feeding.proofs.Ending.{ends-called}
+use Rattle.feeding.proofs.LaterPieces.{part-feed, seam}
+
+-- The answer and both buffers that the definition gives.
+pub ends : {said : Called} {r : FeedAnswer} {feed out : List ℕ} → _≡_ {A = Called} (record { answer = r; feed = feed; out = out }) said
+    → EndsCalled said r feed out
+ends e = ends-called e
+
+-- Equal totals are written alike.
+pub same-totals : {m n : NonCanonicality} {o o′ : List ℕ} {r : WriteAnswer} → m ≡ n → Wrote (bytesOf (eightWords m)) o o′ r
+    → Wrote (bytesOf (eightWords n)) o o′ r
+same-totals {m} {n} {o} {o′} {r} e w = subst (λ (k : NonCanonicality). Wrote (bytesOf (eightWords k)) o o′ r) e w
+
+-- Whether the policy has changed, by the word.
+pub changed-by : (bs : List ℕ) {w : ℕ} → w ≡ number (take 8 (drop 320 bs)) → (w ≡ 0 → ⊥) → isChanged bs ≡ true
+changed-by bs e n = ap not (ne-eqb (number (take 8 (drop 320 bs))) 0 (λ z. n (e ∙ z)))
+
+pub unchanged-by : (bs : List ℕ) {w : ℕ} → w ≡ number (take 8 (drop 320 bs)) → w ≡ 0 → isChanged bs ≡ false
+unchanged-by bs e z = ap not (eq-eqb (number (take 8 (drop 320 bs))) 0 (sym e ∙ z))
+
+and-true : (b : Bool) → (b && true) ≡ b
+and-true true = refl
+and-true false = refl
+
+-- ---- a call on the first part
+
+module _ (bs : List ℕ) where
+  abbrev A : List ℕ
+  A = feedPart bs
+
+  abbrev D : List ℕ
+  D = drop 320 bs
+
+  abbrev pub glued : Called → Called
+  glued r = record { answer = r .answer; feed = r .feed ++ drop 320 bs; out = r .out }
+
+  pub glue-ends : {x said : Called} {r : FeedAnswer} {ys out : List ℕ} → EndsCalled x r ys out → glued x ≡ said
+      → EndsCalled said r (ys ++ drop 320 bs) out
+  glue-ends {x} {said} {r} {ys} {out} h e =
+      subst (λ (y : Called). EndsCalled y r (ys ++ drop 320 bs) out) e (record {
+        answer = h .answer;
+        feed-bytes = ap (λ (l : List ℕ). l ++ drop 320 bs) (h .feed-bytes);
+        out-bytes = h .out-bytes;
+      })
+
+  refused-glued : (r : Refusal) (out : List ℕ) → refuses (Refused r) bs out ≡ glued (refuses (Refused r) A out)
+  refused-glued r out = ap (λ (l : List ℕ). refuses (Refused r) l out) (sym (take-append-drop 320 bs))
+
+  pub no-feed : (out : List ℕ) → isChanging bs ≡ false → refuses (Refused FeedEnded) bs out ≡ calledOn bs (end out)
+  unfolding calledOn
+  no-feed out e = sym (simp e)
+
+  module _ (out : List ℕ) where
+    end-same : (p : Policy) (g : Feed) (a : Answer)
+        → leavesAfter bs (end out) (after (under p g) (Feed.end out) a) a ≡ glued (leaves A out (after g (Feed.end out) a) a)
+    unfolding bytesFor stateFor
+    end-same p g (wrote o) = refl
+    end-same p g (refused r) = refused-glued r out
+
+    pub end-glued : isChanging bs ≡ true → glued (called A (Feed.end out)) ≡ calledOn bs (end out)
+    unfolding calledOn called answerTo changingFeed answer
+    end-glued e =
+        let g = feedOf A in
+        let a = answer g (Feed.end out) in
+        let p = cond (isChanged bs) (policyOf (laterPolicy bs)) (g .policy) in
+        ap (λ (t : Bool). glued (cond t (leaves A out (after g (Feed.end out) a) a) (refuses (Refused FeedEnded) A out))) (part-feed bs e)
+        ∙ sym (end-same p g a)
+        ∙ sym (ap (λ (t : Bool). cond t (leavesAfter bs (end out) (after (under p g) (Feed.end out) a) a)
+        (refuses (Refused FeedEnded) bs out)) e)
+
+  -- A piece, if the policy has not changed.
+  module _ (h : length bs ≡ 528) (c : isChanged bs ≡ false) (b out : List ℕ) where
+    same-test : isChanging bs ≡ isFeed A
+    unfolding isChanging
+    same-test =
+        ap (λ (t : Bool). t && (isFeed A && (not (isChanged bs) || isPolicy (laterPolicy bs)))) (eq-eqb (length bs) 528 h)
+        ∙ ap (λ (t : Bool). isFeed A && (not t || isPolicy (laterPolicy bs))) c ∙ and-true (isFeed A)
+
+    same-feed : changingFeed bs ≡ feedOf A
+    unfolding changingFeed
+    same-feed = ap (λ (t : Bool). under (cond t (policyOf (laterPolicy bs)) (feedOf A .policy)) (feedOf A)) c
+
+    piece-same : (g : Feed) (a : Answer) → leavesAfter bs (piece b out) (after g (Feed.piece b out) a) a
+        ≡ glued (leaves A out (after g (Feed.piece b out) a) a)
+    piece-same g (wrote o) =
+        let f = after g (Feed.piece b out) (wrote o) in
+        ap (λ (t : Bool). record {
+          answer = Written (length o);
+          feed = cond (t && not (onlySelectors (chars (changingFeed bs .rest ++ b)))) (settledBytes bs f) (keptBytes bs f);
+          out = o ++ drop (length o) out;
+        }) c
+    piece-same g (refused r) = refused-glued r out
+
+    pub piece-glued : glued (called A (Feed.piece b out)) ≡ calledOn bs (piece b out)
+    unfolding calledOn called answerTo
+    piece-glued =
+        sym (ap₂ (λ (t : Bool) (g : Feed). cond t (leavesAfter bs (piece b out) (after g (Feed.piece b out) (answer g (Feed.piece b out)))
+        (answer g (Feed.piece b out))) (refuses (Refused FeedEnded) bs out)) same-test same-feed
+        ∙ go (isFeed A) (answer (feedOf A) (Feed.piece b out)))
+      where
+        go : (t : Bool) (a : Answer) → cond t (leavesAfter bs (piece b out) (after (feedOf A) (Feed.piece b out) a) a)
+            (refuses (Refused FeedEnded) bs out)
+            ≡ glued (cond t (leaves A out (after (feedOf A) (Feed.piece b out) a) a) (refuses (Refused FeedEnded) A out))
+        go true a = piece-same (feedOf A) a
+        go false a = refused-glued FeedEnded out
+
+  pub other-piece : (b out : List ℕ) → (length bs ≡ 528 → ⊥) → refuses (Refused FeedEnded) bs out ≡ calledOn bs (piece b out)
+  unfolding calledOn isChanging
+  other-piece b out h = sym (simp (ne-eqb (length bs) 528 h))
+
+  -- ---- the totals
+
+  pub totals-part : isChanging bs ≡ true → totalsOf (feedPart bs) ≡ changingTotals bs
+  unfolding totalsOf changingTotals changingFeed
+  totals-part e =
+      ap (λ (t : Bool). cond t (totalsNow (feedOf A)) empty) (part-feed bs e)
+      ∙ sym (ap (λ (t : Bool). cond t (totalsNow (feedOf A)) empty) e)
+
+  pub totals-none : isChanging bs ≡ false → totalsOf [] ≡ changingTotals bs
+  unfolding totalsOf changingTotals isFeed
+  totals-none e = sym (ap (λ (t : Bool). cond t (totalsNow (changingFeed bs)) empty) e)
+
+  -- ---- a change
+
+  module _ (policy : List ℕ) where
+    pub change-0 : isChanging bs ≡ false → refuses (Refused FeedEnded) bs [] ≡ calledOn bs (change policy)
+    unfolding calledOn
+    change-0 e = sym (simp e)
+
+    pub change-9 : {s : State} → isChanging bs ≡ true → s ≡ stateOf (feedPart bs) → s .ended ≡ true
+        → refuses (Refused FeedEnded) bs [] ≡ calledOn bs (change policy)
+    unfolding calledOn answerTo changingFeed feedOf
+    change-9 e i t = let d : stateOf A .ended ≡ true = ap (λ (y : State). y .ended) (sym i) ∙ t in sym (simp (e, d))
+
+    pub change-2 : {s : State} {r : Refusal} → isChanging bs ≡ true → s ≡ stateOf (feedPart bs) → s .ended ≡ false → isPolicy policy ≡ false
+        → r ≡ policyFault policy → refuses (Refused r) bs [] ≡ calledOn bs (change policy)
+    unfolding calledOn answerTo changingFeed feedOf policyRefusal
+    change-2 e i t o q =
+        let d : stateOf A .ended ≡ false = ap (λ (y : State). y .ended) (sym i) ∙ t in
+        ap (λ (x : Refusal). refuses (Refused x) bs []) q ∙ sym (simp (e, d, o))
+
+    abbrev changed : ℕ → List ℕ
+    changed n = cond (eqb n 0) (take 120 bs ++ (policy ++ (wordBytes 0 ++ policy))) (feedPart bs ++ (wordBytes 1 ++ policy))
+
+    pub change-done : {s : State} {bs′ : List ℕ} → isChanging bs ≡ true → s ≡ stateOf (feedPart bs) → s .ended ≡ false
+        → isPolicy policy ≡ true → bs′ ≡ changed (s .held .base)
+        → _≡_ {A = Called} (record { answer = Written 0; feed = bs′; out = [] }) (calledOn bs (change policy))
+    unfolding calledOn answerTo changingFeed feedOf policyRefusal
+    change-done e i t o w =
+        let d : stateOf A .ended ≡ false = ap (λ (y : State). y .ended) (sym i) ∙ t in
+        ap (λ (l : List ℕ). record { answer = Written 0; feed = l; out = [] }) (w ∙ ap (λ (y : State). changed (y .held .base)) i)
+        ∙ sym (simp (e, d, o))
+
+    -- What is written.
+    module _ (h : length bs ≡ 528) (l : length policy ≡ 200) where
+      part-length : length A ≡ 320
+      part-length = length-take-le 320 bs (omega arith)
+
+      tail-parted : (w : List ℕ) → length w ≡ 8 → {b₁ : List ℕ} (X : List ℕ) → length X ≡ 320 → b₁ ≡ sets (X ++ D) 320 w
+          → {b₂ : List ℕ} → b₂ ≡ sets b₁ 328 policy → b₂ ≡ X ++ (w ++ policy)
+      tail-parted w m {b₁} X k e {b₂} g =
+          let T = take 8 D in
+          let P = drop 8 D in
+          let ld : length D ≡ 208 = omega (arith, length-drop 320 bs) in
+          let lt : length T ≡ 8 = length-take-le 8 D (omega arith) in
+          let lp : length P ≡ 200 = omega (arith, length-drop 8 D) in
+          let xw : length (X ++ w) ≡ 328 = omega (arith, length-append X w) in
+          g ∙ ap (λ (y : List ℕ). sets y 328 policy)
+          (e ∙ ap (λ (y : List ℕ). sets (X ++ y) 320 w) (sym (take-append-drop 8 D)) ∙ seam X T P w 320 k (omega arith)
+          ∙ ap (λ (y : List ℕ). X ++ (w ++ y)) (sym (append-nil P)) ∙ sym (append-assoc X w (P ++ [])))
+          ∙ seam (X ++ w) P [] policy 328 xw (omega arith)
+          ∙ ap (λ (y : List ℕ). (X ++ w) ++ y) (append-nil policy) ∙ append-assoc X w policy
+
+      pub held-put : {b₁ b₂ : List ℕ} {n : ℕ} → (n ≡ 0 → ⊥) → b₁ ≡ cond (hasRoom bs 320) (sets bs 320 (wordBytes 1)) bs
+          → b₂ ≡ cond (roomFor policy b₁ 328) (sets b₁ 328 policy) b₁ → b₂ ≡ changed n
+      held-put {b₁} {b₂} {n} z e g =
+          let a = word-put bs b₁ 320 1 (omega arith) e .bytes in
+          let k : length b₁ ≡ 528 = ap length a ∙ length-sets bs 320 (wordBytes 1) ∙ h in
+          let b = bytes-put b₁ b₂ 328 policy (omega arith) g .bytes in
+          tail-parted (wordBytes 1) (length-wordBytes 1) A part-length
+          (a ∙ ap (λ (y : List ℕ). sets y 320 (wordBytes 1)) (sym (take-append-drop 320 bs))) b
+          ∙ sym (ap (λ (t : Bool). cond t (take 120 bs ++ (policy ++ (wordBytes 0 ++ policy))) (A ++ (wordBytes 1 ++ policy)))
+          (ne-eqb n 0 z))
+
+      pub none-put : {b₁ b₂ b₃ : List ℕ} {n : ℕ} → n ≡ 0 → b₁ ≡ cond (roomFor policy bs 120) (sets bs 120 policy) bs
+          → b₂ ≡ cond (hasRoom b₁ 320) (sets b₁ 320 (wordBytes 0)) b₁ → b₃ ≡ cond (roomFor policy b₂ 328) (sets b₂ 328 policy) b₂
+          → b₃ ≡ changed n
+      none-put {b₁} {b₂} {b₃} {n} z e g y =
+          let a = bytes-put bs b₁ 120 policy (omega arith) e .bytes in
+          let k : length b₁ ≡ 528 = ap length a ∙ length-sets bs 120 policy ∙ h in
+          let b = word-put b₁ b₂ 320 0 (omega arith) g .bytes in
+          let m : length b₂ ≡ 528 = ap length b ∙ length-sets b₁ 320 (wordBytes 0) ∙ k in
+          let d = bytes-put b₂ b₃ 328 policy (omega arith) y .bytes in
+          let W = take 120 bs in
+          let lw : length W ≡ 120 = length-take-le 120 bs (omega arith) in
+          let wp : length (W ++ policy) ≡ 320 = omega (arith, length-append W policy) in
+          let f : sets bs 120 policy ≡ (W ++ policy) ++ D = sets-eq policy bs 120 (omega arith)
+          ∙ ap (λ (i : ℕ). (W ++ policy) ++ drop i bs) (ap (λ (i : ℕ). 120 + i) l) in
+          tail-parted (wordBytes 0) (length-wordBytes 0) (W ++ policy) wp (b ∙ ap (λ (y : List ℕ). sets y 320 (wordBytes 0)) (a ∙ f)) d
+          ∙ append-assoc W policy (wordBytes 0 ++ policy)
+          ∙ sym (ap (λ (t : Bool). cond t (W ++ (policy ++ (wordBytes 0 ++ policy))) (A ++ (wordBytes 1 ++ policy))) (eq-eqb n 0 z))
+
+-- ---- a new feed
+
+module _ (policy feed : List ℕ) where
+  pub begin-2 : {r : Refusal} → isPolicy policy ≡ false → r ≡ policyFault policy
+      → _≡_ {A = After FeedAnswer ℕ} (unwritten (Refused r) feed) (begunChanging policy feed)
+  unfolding begunChanging policyRefusal
+  begin-2 e q = ap (λ (r : Refusal). unwritten (Refused r) feed) q ∙ sym (simp e)
+
+  pub begin-8 : isPolicy policy ≡ true → length feed < 528
+      → _≡_ {A = After FeedAnswer ℕ} (unwritten (Refused (OutputTooShort 528)) feed) (begunChanging policy feed)
+  unfolding begunChanging policyRefusal
+  begin-8 e h = sym (simp (e, lt-leb 528 (length feed) h))
+
+  new-length : isPolicy policy ≡ true → length (newBytes policy) ≡ 320
+  unfolding newBytes bytesFor
+  new-length e =
+      omega (
+        arith,
+        length-append (bytesOf (stateWords (stateFor (Feed.newFeed (policyOf policy))))) policy,
+        words-many (stateFor (Feed.newFeed (policyOf policy))),
+        policy-length policy e,
+      )
+
+  begun-is : isPolicy policy ≡ true → 528 ≤ length feed → begun policy feed .buffer
+      ≡ newBytes policy ++ drop (length (newBytes policy)) feed
+  unfolding begun policyRefusal
+  begun-is e h = simp (e, le-leb 320 (length feed) (omega arith))
+
+  pub begin-done : isPolicy policy ≡ true → 528 ≤ length feed → {b₁ b₂ b₃ : List ℕ} → b₁ ≡ begun policy feed .buffer
+      → b₂ ≡ cond (hasRoom b₁ 320) (sets b₁ 320 (wordBytes 0)) b₁ → b₃ ≡ cond (roomFor policy b₂ 328) (sets b₂ 328 policy) b₂
+      → _≡_ {A = After FeedAnswer ℕ} (record { answer = Written 528; buffer = b₃ }) (begunChanging policy feed)
+  unfolding begunChanging policyRefusal newChanging
+  begin-done e h {b₁} {b₂} {b₃} a b d =
+      let N = newBytes policy in
+      let n = new-length e in
+      let l = policy-length policy e in
+      let w = wordBytes 0 in
+      let lw = length-wordBytes 0 in
+      let R = drop 320 feed in
+      let T = take 8 R in
+      let P = take 200 (drop 8 R) in
+      let Z = drop 200 (drop 8 R) in
+      let lr : 208 ≤ length R = omega (arith, length-drop 320 feed) in
+      let lt : length T ≡ 8 = length-take-le 8 R (omega arith) in
+      let lq : length P ≡ 200 = length-take-le 200 (drop 8 R) (omega (arith, length-drop 8 R)) in
+      let r : R ≡ T ++ (P ++ Z) = sym (take-append-drop 8 R) ∙ ap (λ (x : List ℕ). T ++ x) (sym (take-append-drop 200 (drop 8 R))) in
+      let b₁-is : b₁ ≡ N ++ (T ++ (P ++ Z)) = a ∙ begun-is e h ∙ ap (λ (i : ℕ). N ++ drop i feed) n ∙ ap (λ (x : List ℕ). N ++ x) r in
+      let k₁ : 528 ≤ length b₁ = omega (arith, ap length b₁-is, length-append N (T ++ (P ++ Z)), ap length r) in
+      let x₂ = word-put b₁ b₂ 320 0 (omega arith) b .bytes in
+      let b₂-is : b₂ ≡ (N ++ w) ++ (P ++ Z) = x₂ ∙ ap (λ (x : List ℕ). sets x 320 w) b₁-is ∙ seam N T (P ++ Z) w 320 n (omega arith)
+      ∙ sym (append-assoc N w (P ++ Z)) in
+      let k₂ : length b₂ ≡ length b₁ = ap length x₂ ∙ length-sets b₁ 320 w in
+      let nw : length (N ++ w) ≡ 328 = omega (arith, length-append N w) in
+      let b₃-is : b₃ ≡ (N ++ w) ++ (policy ++ Z) = bytes-put b₂ b₃ 328 policy (omega arith) d .bytes
+      ∙ ap (λ (x : List ℕ). sets x 328 policy) b₂-is ∙ seam (N ++ w) P Z policy 328 nw (omega arith) in
+      let M = N ++ (w ++ policy) in
+      let lm : length M ≡ 528 = omega (arith, length-append N (w ++ policy), length-append w policy) in
+      let z : Z ≡ drop (length M) feed = drop-drop 200 8 R ∙ drop-drop 208 320 feed ∙ ap (λ (i : ℕ). drop i feed) (sym lm) in
+      let s : b₃ ≡ M ++ drop (length M) feed =
+      b₃-is ∙ sym (append-assoc (N ++ w) policy Z) ∙ ap (λ (x : List ℕ). x ++ Z) (append-assoc N w policy)
+      ∙ ap (λ (x : List ℕ). M ++ x) z in
+      ap (λ (x : List ℕ). record { answer = Written 528; buffer = x }) s ∙ sym (simp (e, le-leb 528 (length feed) h))
