@@ -288,6 +288,16 @@ class Calls(unittest.TestCase):
         self.refused("UNFINISHED_CHARACTER", None, feed.finish)
         self.assertEqual(feed.write(b"\xa4.") + feed.finish(), f"{HEART}\ufe0e.".encode())
 
+    def test_feed_with_two_policies(self):
+        emoji = tilghorz.Policy.parse("\n\n\n\n")
+        for cut in range(4):
+            feed = tilghorz.Feed()
+            out = feed.write(HEART.encode()[:cut])
+            feed.set_policy(emoji)
+            out += feed.write(HEART.encode()[cut:]) + feed.finish()
+            self.assertEqual(out.decode(), HEART + ("\ufe0e" if cut == 3 else "\ufe0f"))
+            self.refused("FEED_ENDED", None, feed.set_policy)
+
     def test_store(self):
         store = tilghorz.Store(20, [8, 4])
         self.assertEqual(store.file(HEART, 0, 7), f"{HEART}\ufe0e")

@@ -43,7 +43,7 @@ FINDING_BYTES = 112
 NEAREST_BYTES = 120
 ITEM_BYTES = 64
 TIP_BYTES = 24
-FEED_BYTES = 320
+FEED_BYTES = 528
 TOTALS_BYTES = 64
 SHEET_ROOM = 9916
 STORE_BYTES = 33032
@@ -62,6 +62,7 @@ FUNCTIONS = {
     "tilghorz_feed_begin": (READ, WRITE),
     "tilghorz_feed_piece": (WRITE, READ, WRITE),
     "tilghorz_feed_end": (WRITE, WRITE),
+    "tilghorz_feed_policy": (WRITE, READ),
     "tilghorz_feed_totals": (READ, WRITE),
     "tilghorz_read_sheet": (READ, WRITE),
     "tilghorz_write_sheet": (READ, WRITE),
@@ -465,6 +466,12 @@ class Feed:
         buffer = _room(16)
         with self._lock:
             return _front(buffer, _call("tilghorz_feed_end", self._feed, buffer))
+
+    def set_policy(self, policy=None):
+        """Changes the policy, for the bases whose last byte comes after this call. A base that is held keeps its policy."""
+        policy = _policy(policy)
+        with self._lock:
+            _call("tilghorz_feed_policy", self._feed, policy)
 
     def totals(self):
         """The totals of the whole characters so far, as if the thread ended there."""

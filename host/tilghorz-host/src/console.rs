@@ -131,6 +131,11 @@ impl Console {
         self.say(&format_args!("tilghorz-host: {message}"));
     }
 
+    /// Writes a message with the command's name to standard error, for a command that has no progress line.
+    pub fn warn(message: &dyn Display) {
+        let _ = io::stderr().write_all(format!("tilghorz-host: {message}\n").as_bytes());
+    }
+
     /// Writes a line to standard error, in one piece. Where that fails there is nowhere to say so.
     pub fn say(&mut self, line: &dyn Display) {
         self.clear();

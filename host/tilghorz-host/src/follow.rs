@@ -1,7 +1,7 @@
 //! `tilghorz-host format --follow`: a text is formatted as it comes.
 //!
-//! One thread reads, another waits for signals, and both tell the one that writes. So a signal ends the text also while
-//! nothing comes.
+//! One thread reads, another waits for signals, and both tell the one that writes. So a signal ends the text, or has the
+//! policy read again, also while nothing comes.
 
 use std::fs::File;
 use std::io::{self, ErrorKind, Read, Write};
@@ -36,6 +36,8 @@ pub struct Follow {
 enum Event {
     /// These bytes have come.
     Piece(Vec<u8>),
+    /// The file of the policy is to be read again.
+    Policy,
     /// Nothing more comes.
     End,
     /// It cannot be read further.
@@ -64,9 +66,14 @@ impl Follow {
                 return Ok(Status::Fault);
             }
         };
-        let events = start(input)?;
+        // Without a file there is no policy to read again, and SIGUSR1 does what it does of itself.
+        let held = match self.policy.0 {
+            Some(_) => Held::with_asking(),
+            None => Held::new(),
+        };
+        let events = start(input, held)?;
         let mut writer = FeedWriter::new(&policy, &mut console.out);
-        let fault = write(&events, source, &mut writer)?;
+        let fault = self.write(&events, &mut writer)?;
         writer.flush()?;
         Ok(match fault {
             None => Status::Good,
@@ -76,17 +83,71 @@ impl Follow {
             }
         })
     }
+
+    /// Formats and writes what comes, each piece at once. What is wrong with the text is told as a message; an error is one
+    /// of standard output.
+    fn write(
+        &self,
+        events: &Receiver<Event>,
+        writer: &mut FeedWriter<impl Write>,
+    ) -> io::Result<Option<String>> {
+        let source = &self.source;
+        let mut line = 1;
+        for event in events {
+            let written = match event {
+                Event::Piece(bytes) => {
+                    let before = writer.feed().fed();
+                    let written = writer.write_all(&bytes).and_then(|()| writer.flush());
+                    let fed = bytes.iter().take(writer.feed().fed() - before);
+                    line += fed.filter(|byte| **byte == b'\n').count();
+                    written
+                }
+                Event::Policy => {
+                    self.change_policy(writer);
+                    continue;
+                }
+                Event::End => {
+                    return refusal(writer.finish()).map(|refusal| told(source, refusal, line));
+                }
+                Event::Unread(error) => return Ok(Some(format!("{source}: {error}"))),
+            };
+            if let Some(message) = told(source, refusal(written)?, line) {
+                return Ok(Some(message));
+            }
+        }
+        Ok(None)
+    }
+
+    /// Reads the file of the policy again. If it is none now, the policy stays.
+    fn change_policy(&self, writer: &mut FeedWriter<impl Write>) {
+        let policy = self.policy.read();
+        let changed = policy.and_then(|policy| {
+            let changed = writer.set_policy(&policy);
+            changed.map_err(|refusal| refusal.to_string())
+        });
+        if let Err(message) = changed {
+            Console::warn(&format_args!("{message}; the policy stays as it was"));
+        }
+    }
 }
 
 /// Starts the threads that tell what happens.
-fn start(input: Input) -> io::Result<Receiver<Event>> {
+fn start(input: Input, held: Held) -> io::Result<Receiver<Event>> {
     let (sender, events) = sync_channel(WAITING);
-    let (held, signals) = (Held::new(), sender.clone());
+    let signals = sender.clone();
     let wait = move || {
-        if held.wait().is_some() {
-            // A second signal ends the command at once, also where nobody takes what it writes.
-            held.release();
-            let _ = signals.send(Event::End);
+        while let Some(signal) = held.wait() {
+            let event = match signal.is_asking() {
+                true => Event::Policy,
+                false => {
+                    // A second signal ends the command at once, also where nobody takes what it writes.
+                    held.release();
+                    Event::End
+                }
+            };
+            if signals.send(event).is_err() || !signal.is_asking() {
+                break;
+            }
         }
         loop {
             thread::park();
@@ -118,35 +179,6 @@ fn read(mut input: Input, sender: &SyncSender<Event>) {
             return;
         }
     }
-}
-
-/// Formats and writes what comes, each piece at once. What is wrong with the text is told as a message; an error is one of
-/// standard output.
-fn write(
-    events: &Receiver<Event>,
-    source: &Source,
-    writer: &mut FeedWriter<impl Write>,
-) -> io::Result<Option<String>> {
-    let mut line = 1;
-    for event in events {
-        let written = match event {
-            Event::Piece(bytes) => {
-                let before = writer.feed().fed();
-                let written = writer.write_all(&bytes).and_then(|()| writer.flush());
-                let fed = bytes.iter().take(writer.feed().fed() - before);
-                line += fed.filter(|byte| **byte == b'\n').count();
-                written
-            }
-            Event::End => {
-                return refusal(writer.finish()).map(|refusal| told(source, refusal, line));
-            }
-            Event::Unread(error) => return Ok(Some(format!("{source}: {error}"))),
-        };
-        if let Some(message) = told(source, refusal(written)?, line) {
-            return Ok(Some(message));
-        }
-    }
-    Ok(None)
 }
 
 /// The message of a refusal.

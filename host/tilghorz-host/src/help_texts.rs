@@ -59,7 +59,9 @@ Formats texts. Without an option it writes one text to standard output. If the t
   -f, --follow           format a text as it arrives, from standard input or from one file that grows. What the next
                          part can no longer change is written at once. The text ends with standard input, or at SIGINT,
                          SIGTERM or SIGHUP; then the rest is written. If the text is refused, what comes before the
-                         damaged place has been written
+                         damaged place has been written. At SIGUSR1 the file of --policy is read again. Each base is
+                         judged by the policy in force when its last byte came. If the file is no policy then, a
+                         message says so and the policy stays
   --parts                format one text of any length, also over 16,777,216 bytes, in parts of about a mebibyte. The
                          result is that of the whole text. Parts are read, formatted by --jobs threads and written in
                          turn, so little memory is needed. If a part is refused, the parts before it have been written;

@@ -49,27 +49,25 @@ impl PolicyFile {
     /// Reads the policy, or says why it is none. A file with a byte 00 is a stored policy: each has such bytes, since its
     /// unused bits fill whole bytes. Any other file is a sheet.
     pub fn read_or_complain(&self, console: &mut Console) -> Option<tilghorz::Policy> {
+        self.read()
+            .inspect_err(|message| console.complain(message))
+            .ok()
+    }
+
+    /// Reads the policy. The error is the message that says why it is none.
+    pub fn read(&self) -> Result<tilghorz::Policy, String> {
         let Some(path) = &self.0 else {
-            return Some(tilghorz::Policy::default());
+            return Ok(tilghorz::Policy::default());
         };
         let source = Source::File(path.clone());
-        let bytes = match source.read() {
-            Ok(text) => text.bytes,
-            Err(error) => {
-                console.complain(&format_args!("{source}: {error}"));
-                return None;
-            }
-        };
+        let text = source.read();
+        let bytes = text.map_err(|error| format!("{source}: {error}"))?.bytes;
         let policy = if bytes.contains(&0) {
             tilghorz::Policy::from_bytes(&bytes)
         } else {
             tilghorz::Policy::from_sheet(&bytes)
         };
-        let complain = |refusal: &tilghorz::Refusal| {
-            let message = refused(&source, *refusal, &bytes);
-            console.complain(&(message + &explanation(&bytes, *refusal)));
-        };
-        policy.inspect_err(complain).ok()
+        policy.map_err(|refusal| refused(&source, refusal, &bytes) + &explanation(&bytes, refusal))
     }
 }
 

@@ -46,6 +46,8 @@ unsafe extern "C" {
 
 /// The signals that end the command, with their names.
 const SIGNALS: [(c_int, &str); 3] = [(1, "SIGHUP"), (2, "SIGINT"), (15, "SIGTERM")];
+/// The signal that asks for something without an end.
+const ASKING: (c_int, &str) = (10, "SIGUSR1");
 /// What a signal does of itself.
 const DEFAULT: usize = 0;
 /// A signal is ignored.
@@ -65,16 +67,33 @@ pub struct Signal {
     pub name: &'static str,
 }
 
+impl Signal {
+    /// Whether it asks for something. Else it ends the command.
+    pub const fn is_asking(self) -> bool {
+        self.number == ASKING.0
+    }
+}
+
 impl Held {
     /// Holds back the signals that end the command, for this thread and those that it starts. One that is ignored, as
     /// under nohup, stays so.
     pub fn new() -> Self {
+        Self::of(&SIGNALS)
+    }
+
+    /// Holds back SIGUSR1 too.
+    pub fn with_asking() -> Self {
+        Self::of(&[SIGNALS[0], SIGNALS[1], SIGNALS[2], ASKING])
+    }
+
+    /// Holds back these signals.
+    fn of(signals: &[(c_int, &str)]) -> Self {
         let mut set = SignalSet([0; 16]);
         // SAFETY: the set is valid and has more room than a set of signals takes. `signal` gets a handler that is a
         // constant of the system.
         unsafe {
             sigemptyset(&mut set);
-            for (number, _) in SIGNALS {
+            for &(number, _) in signals {
                 if signal(number, DEFAULT) == IGNORED {
                     signal(number, IGNORED);
                 } else {
@@ -91,7 +110,8 @@ impl Held {
         let mut number = 0;
         // SAFETY: both are valid, and live through the call.
         let answer = unsafe { sigwait(&self.0, &mut number) };
-        let known = SIGNALS.into_iter().find(|(known, _)| *known == number);
+        let mut all = SIGNALS.into_iter().chain([ASKING]);
+        let known = all.find(|(known, _)| *known == number);
         known
             .filter(|_| answer == 0)
             .map(|(number, name)| Signal { number, name })

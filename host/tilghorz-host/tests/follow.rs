@@ -130,6 +130,33 @@ fn a_signal_ends_the_text() {
 }
 
 #[test]
+fn a_signal_has_the_policy_read_again() {
+    let folder = Folder::new("follow-policy");
+    folder.write("live.sheet", "\n\n2764\n\n");
+    let mut following = Following::start(&folder, &["--policy", "live.sheet"]);
+    let heart = "\u{2764}".as_bytes();
+    following.send(heart);
+    following.expect(b"");
+    // The heart is held, and keeps the policy under which it came.
+    folder.write("live.sheet", "\n\n\n\n");
+    following.signal("-USR1");
+    following.expect(b"");
+    following.send(heart);
+    following.expect("\u{2764}\u{FE0E}".as_bytes());
+    following.send(b".");
+    following.expect("\u{2764}\u{FE0F}.".as_bytes());
+    folder.write("live.sheet", "no sheet");
+    following.signal("-USR1");
+    following.expect(b"");
+    following.send(heart);
+    following.input = None;
+    let (rest, said, status) = following.end();
+    assert_eq!((rest, status), ("\u{2764}\u{FE0F}".as_bytes().to_vec(), 0));
+    assert!(said.starts_with("tilghorz-host: live.sheet: refused 11: "));
+    assert!(said.ends_with("; the policy stays as it was\n"), "{said}");
+}
+
+#[test]
 fn a_file_is_followed_while_it_grows() {
     let folder = Folder::new("follow-file");
     folder.write("log", MESSAGE);

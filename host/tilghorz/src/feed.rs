@@ -53,11 +53,26 @@ impl Feed {
         Self { bytes, fed: 0 }
     }
 
-    /// Changes the policy. It judges the bases whose last byte is fed after this; a base that was fed before, and is not
-    /// written yet, keeps its policy.
+    /// Changes the policy. It judges the bases whose last byte is fed after this call. A base that was fed before and is
+    /// not written yet keeps its policy, in the output and in the totals.
+    ///
+    /// ```
+    /// use tilghorz::{Feed, Policy, Refusal};
+    ///
+    /// let mut feed = Feed::new(&Policy::default());
+    /// let mut out = Vec::new();
+    /// feed.write("\u{2764}".as_bytes(), &mut out)?;
+    /// // Under a policy with no member each bare base becomes an emoji.
+    /// feed.set_policy(&"\n\n\n\n".parse()?)?;
+    /// feed.write("\u{2764}".as_bytes(), &mut out)?;
+    /// feed.finish(&mut out)?;
+    /// assert_eq!(out, "\u{2764}\u{FE0E}\u{2764}\u{FE0F}".as_bytes());
+    /// assert_eq!(feed.set_policy(&Policy::default()), Err(Refusal::FeedEnded));
+    /// # Ok::<(), Refusal>(())
+    /// ```
     ///
     /// # Errors
-    /// Refusal 9; the feed is then as it was.
+    /// [`Refusal::FeedEnded`] (9); the feed is then as it was.
     pub fn set_policy(&mut self, policy: &Policy) -> Result<(), Refusal> {
         answer::read_done(sys::feed_policy(&mut self.bytes, policy.as_bytes())).map(|_| ())
     }
@@ -241,6 +256,14 @@ impl<W> FeedWriter<W> {
     #[must_use]
     pub const fn feed(&self) -> &Feed {
         &self.feed
+    }
+
+    /// Changes the policy for what is written after this call, as [`Feed::set_policy`] does.
+    ///
+    /// # Errors
+    /// [`Refusal::FeedEnded`] (9); the feed is then as it was.
+    pub fn set_policy(&mut self, policy: &Policy) -> Result<(), Refusal> {
+        self.feed.set_policy(policy)
     }
 
     /// The other writer.

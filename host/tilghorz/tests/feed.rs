@@ -113,6 +113,56 @@ fn the_limit_is_on_the_whole_thread() {
     assert_eq!(out.len(), LONGEST_TEXT + 3);
 }
 
+/// A policy under which each bare base becomes an emoji.
+fn emoji_policy() -> Policy {
+    "\n\n\n\n".parse().expect("a sheet")
+}
+
+#[test]
+fn a_base_is_judged_by_the_policy_in_force_when_its_last_byte_was_fed() {
+    let heart = "\u{2764}".as_bytes();
+    for cut in 0..=3 {
+        let (mut feed, mut out) = fed(&heart[..cut]);
+        feed.set_policy(&emoji_policy()).expect("open");
+        feed.write(&heart[cut..], &mut out).expect("taken");
+        assert_eq!(feed.totals().decisions, 1);
+        feed.finish(&mut out).expect("an end");
+        let selector = if cut == 3 { "\u{FE0E}" } else { "\u{FE0F}" };
+        assert_eq!(out, ["\u{2764}", selector].concat().as_bytes(), "{cut}");
+    }
+}
+
+#[test]
+fn a_held_base_keeps_its_policy_through_selectors_and_changes() {
+    // FE0F after a heart is redundant where the heart is bare as an emoji, and stays under the other policies.
+    let bare: Policy = "2764\n\n\n\n".parse().expect("a sheet");
+    let (mut feed, mut out) = (Feed::new(&bare), Vec::new());
+    feed.write("\u{2764}".as_bytes(), &mut out).expect("taken");
+    feed.set_policy(&emoji_policy()).expect("open");
+    feed.write(b"\xEF\xB8", &mut out).expect("taken");
+    feed.set_policy(&Policy::default()).expect("open");
+    feed.write(b"\x8F", &mut out).expect("taken");
+    assert_eq!(feed.totals().policy_redundant, 1);
+    feed.write("\u{2764}.".as_bytes(), &mut out).expect("taken");
+    assert_eq!(out, "\u{2764}\u{2764}\u{FE0E}.".as_bytes());
+    feed.finish(&mut out).expect("an end");
+    assert_eq!(feed.set_policy(&bare), Err(Refusal::FeedEnded));
+    assert_eq!(feed.totals().decisions, 1);
+}
+
+#[test]
+fn a_writer_changes_its_policy() {
+    let mut writer = FeedWriter::new(&Policy::default(), Vec::new());
+    write!(writer, "\u{2764}").expect("written");
+    writer.set_policy(&emoji_policy()).expect("open");
+    write!(writer, "\u{2764}").expect("written");
+    writer.finish().expect("an end");
+    let late = writer.set_policy(&emoji_policy());
+    assert_eq!(late, Err(Refusal::FeedEnded));
+    let expected = "\u{2764}\u{FE0E}\u{2764}\u{FE0F}";
+    assert_eq!(writer.into_inner(), expected.as_bytes());
+}
+
 #[test]
 fn a_feed_goes_to_another_thread_and_a_clone_goes_on_by_itself() {
     let (feed, out) = fed("a\u{2764}".as_bytes());
