@@ -289,7 +289,7 @@ class Calls(unittest.TestCase):
         self.assertEqual(feed.write(b"\xa4.") + feed.finish(), f"{HEART}\ufe0e.".encode())
 
     def test_feed_with_two_policies(self):
-        emoji = tilghorz.Policy.parse("\n\n\n\n")
+        emoji = tilghorz.Policy.from_sheet("\n\n\n\n")
         for cut in range(4):
             feed = tilghorz.Feed()
             out = feed.write(HEART.encode()[:cut])

@@ -9,6 +9,7 @@
 //! cargo run --offline --release --package compare --bin benchmark -- --repairing   # damaged texts alone
 //! cargo run --offline --release --package compare --bin benchmark -- --tipping     # memberships alone
 //! cargo run --offline --release --package compare --bin benchmark -- --near        # stretches and offsets alone
+//! cargo run --offline --release --package compare --bin benchmark -- --calls       # every call once
 //! TILGHORZ_LIBRARY=FOLDER cargo run ..                                             # another libtilghorz.a
 //! ```
 //!
@@ -21,6 +22,7 @@
 //! The answers on each text of 1 MiB are compared with the crate's before anything is measured. Times are those for
 //! which the thread had a processor.
 
+mod calls;
 mod clock;
 mod feeding;
 mod inputs;
@@ -42,7 +44,7 @@ use work::Work;
 
 /// How the program is called.
 const USAGE: &str = "\
-usage: benchmark [--rounds N] [--growth | --repairing | --feeding | --tipping | --near] [INPUT ..]
+usage: benchmark [--rounds N] [--growth | --repairing | --feeding | --tipping | --near | --calls] [INPUT ..]
        benchmark repeat format|list|mend|scan|tips|repair|repair-damaged|feed|around|nearest INPUT BYTES TIMES
   --rounds N   the rounds of each measurement (15)
   --growth     only the cost at 64 KiB, 1 MiB and 16 MiB
@@ -50,6 +52,7 @@ usage: benchmark [--rounds N] [--growth | --repairing | --feeding | --tipping | 
   --feeding    only the table of feeding
   --tipping    only the table of the memberships that decide a text
   --near       only the table of stretches and the nearest finding
+  --calls      only the table of every call
   repeat       one call of the library, TIMES times, and nothing else: for counts of instructions. feed is a thread in
                pieces of 4 KiB, around is the whole text";
 
@@ -62,6 +65,7 @@ enum Tables {
     Feeding,
     Tipping,
     Near,
+    Calls,
 }
 
 /// What the program is asked to do.
@@ -107,6 +111,7 @@ fn parse(words: &[&str]) -> Result<Command, String> {
             "--feeding" => command.tables = Tables::Feeding,
             "--tipping" => command.tables = Tables::Tipping,
             "--near" => command.tables = Tables::Near,
+            "--calls" => command.tables = Tables::Calls,
             _ => command.inputs.push(input(word)?),
         }
     }
@@ -138,6 +143,9 @@ fn run(command: &Command) -> Result<(), String> {
     }
     if is_printed(Tables::Near) {
         tables::near(inputs, rounds)?;
+    }
+    if is_printed(Tables::Calls) {
+        tables::calls(input("mixed")?, rounds);
     }
     if is_printed(Tables::Growth) {
         tables::growth(inputs, rounds);

@@ -1,5 +1,6 @@
 //! The tables that are printed.
 
+use crate::calls::{Each, NAMES};
 use crate::feeding::{Feeding, PIECES};
 use crate::inputs::Input;
 use crate::near::Near;
@@ -47,6 +48,11 @@ The findings around a stretch, and the one nearest to the middle of the text, co
 stretch is the whole text; middle: it is a tenth in the middle; first: it is the first three bytes. counted: the whole text, and the
 second table has no row; exact: the last finding lies across the end of the stretch, and the first table has just the rows that are
 wanted. ratios: the time of the call divided by that of the listing, by the medians and by the best; at most 1.2 is wanted.";
+
+/// The text above the table of every call.
+const CALLS: &str = "\
+Every call on a message of 48 bytes and on 64 KiB of mixed text, under the default policy: nanoseconds, the best of the
+rounds, and the ratio to formatting the same text. No table and no output is too short.";
 
 /// Formatting beside the crate's, the standard library's test of a text, and a copy.
 pub fn formatting(inputs: &[&Input], rounds: usize) -> Result<(), String> {
@@ -265,6 +271,33 @@ pub fn near(inputs: &[&Input], rounds: usize) -> Result<(), String> {
         );
     }
     Ok(())
+}
+
+/// Every call on a message of 48 bytes and on a text of 64 KiB, beside formatting it.
+pub fn calls(input: &Input, rounds: usize) {
+    println!("\n{CALLS}");
+    println!(
+        "{:<36} {:>9} {:>9} {:>11} {:>9}",
+        "call", "48 bytes", "ratio", "64 KiB", "ratio"
+    );
+    let [short, long] = [(48, 4096), (1 << 16, 4)].map(|(length, times)| {
+        let text = input.make(length);
+        let mut each = Each::new(text.as_bytes());
+        let measured: [Times; NAMES.len()] = interleaved(rounds, |number| {
+            for _ in 0..times {
+                each.call(number);
+            }
+        });
+        measured.map(|time| 1e9 * time.best / f64::from(times))
+    });
+    for (number, name) in NAMES.into_iter().enumerate() {
+        let (here, there) = (short[number], long[number]);
+        println!(
+            "{name:<36} {here:>9.1} {:>9.2} {there:>11.1} {:>9.2}",
+            here / short[0],
+            there / long[0]
+        );
+    }
 }
 
 /// The cost of a byte at three lengths: it stays the same where the time grows as the length does.
