@@ -13,8 +13,8 @@ definitions, or `all`, and a number of lines. A row without a number names defin
 - a definition that must be read uses one that is in no table, or one of a row below its own. Types, contracts of functions and
   definitions of specs/ all count as definitions.
 
-In specs/ a definition is the paragraph that declares it, with its comment. In src/ it is a type, or the head of a function, with its
-comment and without its body. Functions of one name in one file count together. Blank lines and imports do not count.
+In specs/ a definition is the paragraph that declares it. In src/ it is a type, or the head of a function, without its body. Functions of
+one name in one file count together. Comments, blank lines and imports do not count.
 """
 
 import pathlib
@@ -24,8 +24,8 @@ import sys
 from crate_files import ANTT, RATTLE, listed, without_comments
 
 LIST = "\n## Reading list\n"
-# The parts of the list. The sum of each is below its limit.
-LIMITS = {"The calls of document 01": 1550, "The changes of document 02": 2000, "Beside the calls": 700}
+# The parts of the list. The sum of each is below its limit. The two documents have fewer than 2,500 lines together.
+LIMITS = {"The calls of document 01": 1180, "The changes of document 02": 1320, "Beside the calls": 400}
 # A row: the file, the names, and for definitions that must be read the number of lines.
 ROW = re.compile(r"^\| (crates/\S+) \| ([^|]*) \| (?:(\d+) \| )?([^|]*) \|$")
 SAID = re.compile(r"\babout ([\d,]+) lines\s+in\s+all\b")
@@ -37,6 +37,7 @@ OF_SRC = re.compile(r"^use (\w+(?:::\w+)*)::(\w+);$", re.M)
 DEFINES = re.compile(r"^ *(?:(?:unfoldable|abbrev|opaque) pub|pub record|pub data) ([^\s(){}]+)", re.M)
 HAS = re.compile(r"^ +(?:pub )?([^\s(){}]+) : ", re.M)
 ITEM = re.compile(r'^( *)(?:pub(?:\(crate\))? )?(?:extern "C" )?(fn|struct|enum) (\w+)')
+NO_CODE = re.compile(r"\s*(?:--|//|$)")
 WORD = r"[^\s(){}.;,@⌜⌝:&\[\]<>!]+"
 
 
@@ -53,7 +54,7 @@ class File:
             imports.update(range(first, first + found[0].count("\n")))
             self.read_import(root, " ".join(found[0].split()))
         lines = text.split("\n")
-        self.all = {at for at, line in enumerate(lines) if line.strip() and at not in imports}
+        self.all = {at for at, line in enumerate(lines) if not NO_CODE.match(line) and at not in imports}
         if name.endswith(".rt"):
             self.read_items(lines)
         else:

@@ -95,14 +95,14 @@ m ⊕ n = m
 
 ### One
 
-There are about 25 lines in all.
+There are about 18 lines in all.
 
 | file | what to read | lines | what it says |
 |---|---|---|---|
-| crates/base/src/lib.rt | `Answer` | 5 | the answers |
-| crates/base/specs/Answers.antt | `numberOf`, `limit` | 7 | their numbers |
-| crates/base/src/lib.rt | `number` | 4 | the contract |
-| crates/items/specs/Items.antt | all | 9 | items |
+| crates/base/src/lib.rt | `Answer` | 4 | the answers |
+| crates/base/specs/Answers.antt | `numberOf`, `limit` | 5 | their numbers |
+| crates/base/src/lib.rt | `number` | 3 | the contract |
+| crates/items/specs/Items.antt | all | 6 | items |
 
 Not to be read:
 
@@ -112,11 +112,11 @@ Not to be read:
 
 ### Two
 
-These are about 6 lines in all.
+These are about 4 lines in all.
 
 | file | what to read | lines | what it says |
 |---|---|---|---|
-| crates/items/src/lib.rt | `answer`, `states` | 6 | the contracts |
+| crates/items/src/lib.rt | `answer`, `states` | 4 | the contracts |
 
 ## Next
 
@@ -125,6 +125,7 @@ These are about 6 lines in all.
 }
 AUDIT = "docs/AUDIT.md"
 LIMITS = {"One": 30, "Two": 10}
+REAL_LIMITS = dict(reading_list.LIMITS)
 
 
 @unittest.mock.patch.object(reading_list, "LIMITS", LIMITS)
@@ -152,35 +153,43 @@ class ReadingList(unittest.TestCase):
             files = reading_list.Files(root)
             return [[len(lines) for _, _, lines, _, _ in reading_list.read_rows(files, text)] for text in reading_list.parts(root).values()]
 
-        self.assertEqual(self.in_repository(counts), [[5, 7, 4, 9, 6], [6]])
+        self.assertEqual(self.in_repository(counts), [[4, 5, 3, 6, 5], [4]])
 
     def test_missing(self):
         self.finds("crates/items/specs/Item.antt: there is no such file", AUDIT, "Items.antt", "Item.antt")
         self.finds("crates/base/specs/Answers.antt: it does not define numberof", AUDIT, "numberOf", "numberof")
         self.finds("crates/items/specs/Automaton.antt: it does not define state", AUDIT, "`states`", "`state`")
         self.finds("the row names no definition", AUDIT, "`Answer`", "Answer")
-        self.finds("| crates/items/specs/Items.antt | all: there is no such file, or no such row", AUDIT, " | 9 | items |", "")
+        self.finds("| crates/items/specs/Items.antt | all: there is no such file, or no such row", AUDIT, " | 6 | items |", "")
         self.finds("crates/base/specs/Answers.antt: limit is listed twice", AUDIT, "`limit`", "`limit`, `limit`")
 
     def test_lines(self):
-        self.finds("Items.antt: the row says 13 lines, and there are 9", AUDIT, "| 9 |", "| 13 |")
-        self.finds("Answers.antt: the row says 7 lines, and there are 11", "crates/base/specs/Answers.antt", "-- The limit.", "-- The\n-- limit\n-- of\n-- it\n-- .")
+        self.finds("Items.antt: the row says 13 lines, and there are 6", AUDIT, "| 6 |", "| 13 |")
+        self.finds("Answers.antt: the row says 5 lines, and there are 9", "crates/base/specs/Answers.antt", "limit = 8", "limit =\n    1 +\n    2 +\n    3 +\n    2")
+        comment = "-- The\n-- limit\n-- of\n-- it\n-- ."
+        sound = self.in_repository(lambda root: list(reading_list.faults(root)), "crates/base/specs/Answers.antt", "-- The limit.", comment)
+        self.assertEqual(sound, [])
 
     def test_sum(self):
-        self.finds("One: the text must say once how many lines there are in all, about 25", AUDIT, "about 25 lines in all", "few lines")
-        self.finds("One: the text must say once", AUDIT, "about 25 lines", "about 40 lines")
-        self.finds("Two: the text must say once", AUDIT, "about 6 lines", "about 4 lines")
+        self.finds("One: the text must say once how many lines there are in all, about 18", AUDIT, "about 18 lines in all", "few lines")
+        self.finds("One: the text must say once", AUDIT, "about 18 lines", "about 40 lines")
+        self.finds("Two: the text must say once", AUDIT, "about 4 lines", "about 2 lines")
         self.finds("One: the lines to read are 0", AUDIT, SOUND[AUDIT], SOUND[AUDIT].replace("| crates/", "| elsewhere/"))
-        with unittest.mock.patch.object(reading_list, "LIMITS", {"One": 26, "Two": 6}):
-            self.finds("Two: the lines to read are 6; there must be fewer than 6")
+        with unittest.mock.patch.object(reading_list, "LIMITS", {"One": 26, "Two": 4}):
+            self.finds("Two: the lines to read are 4; there must be fewer than 4")
+
+    def test_limits(self):
+        # The lines of both documents are fewer than 2,500.
+        first, second, _ = REAL_LIMITS.values()
+        self.assertLessEqual(first + second, 2500)
 
     def test_parts(self):
         self.finds("One: the lines to read are 0", AUDIT, "## Reading list", "## What to read")
         self.finds("Two: the lines to read are 0", AUDIT, "### Two", "### Three")
-        self.finds("Three: the lines to read are 6; there must be fewer than 0", AUDIT, "### Two", "### Three")
+        self.finds("Three: the lines to read are 4; there must be fewer than 0", AUDIT, "### Two", "### Three")
 
     def test_unlisted(self):
-        self.finds("number uses Answer of crates/base/src/lib.rt, which is in no table", AUDIT, "`Answer` | 5", "`number` | 4")
+        self.finds("number uses Answer of crates/base/src/lib.rt, which is in no table", AUDIT, "`Answer` | 4", "`number` | 3")
         self.finds("numberOf uses limit of crates/base/specs/Answers.antt, which is in no table", AUDIT, ", `limit`", "")
         self.finds("count uses states of crates/items/specs/Automaton.antt, which is in no table", AUDIT, "`states`, ", "")
         self.finds("count uses _⊕_ of crates/items/specs/Automaton.antt, which is in no table", AUDIT, ", `_⊕_`", "")
@@ -188,8 +197,8 @@ class ReadingList(unittest.TestCase):
         self.finds("states uses states of crates/items/specs/Automaton.antt, which is in no table", AUDIT, "`states`, `_⊕_`", "`_⊕_`")
 
     def test_order(self):
-        row = "| crates/base/src/lib.rt | `Answer` | 5 | the answers |\n"
-        later = "| crates/base/src/lib.rt | `number` | 4 | the contract |\n"
+        row = "| crates/base/src/lib.rt | `Answer` | 4 | the answers |\n"
+        later = "| crates/base/src/lib.rt | `number` | 3 | the contract |\n"
         text = SOUND[AUDIT].replace(row, "").replace(later, later + row)
         self.finds("numberOf uses Answer of crates/base/src/lib.rt, which is listed below it", AUDIT, SOUND[AUDIT], text)
 
@@ -202,7 +211,7 @@ class ReadingList(unittest.TestCase):
 
         self.assertEqual(run(), (0, []))
         status, lines = run("lines")
-        self.assertEqual((status, lines[0].split(), lines[-1].split()), (0, ["5", "crates/base/src/lib.rt"], ["6", "in", "all:", "Two"]))
+        self.assertEqual((status, lines[0].split(), lines[-1].split()), (0, ["4", "crates/base/src/lib.rt"], ["4", "in", "all:", "Two"]))
         self.assertEqual(run("more")[0], 2)
 
 
