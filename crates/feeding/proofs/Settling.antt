@@ -16,7 +16,6 @@ use Rattle.unicode.specs.Presentation.{asSelector}
 use Rattle.unicode.specs.declared.presentation.FromSelector.{FromSelector}
 use Rattle.unicode.specs.declared.presentation.FromSelector.the-variants.{NoSelector, Selector}
 use Rattle.unicode.specs.declared.presentation.Presentation.{Presentation}
-use Rattle.unicode.specs.declared.presentation.Presentation.the-variants.{Emoji, Text}
 use Rattle.policy.specs.PolicyBytes.{isPolicy}
 use Rattle.policy.specs.declared.Policy.{Policy}
 use Rattle.scanner.specs.declared.char_class.Class.{Class}
@@ -64,9 +63,6 @@ module _ (bs : List ℕ) (h : isFeed bs ≡ true) where
 
   pub feed-unfinished : unfinished (restOf (stateOf bs)) ≡ true
   feed-unfinished = tests .3
-
-  pub feed-policy : isPolicy (drop 120 bs) ≡ true
-  feed-policy = tests .4
 
 small-at : (bs : List ℕ) (n k : ℕ) → smallTo n bs ≡ true → k < n → wordAt k bs ≤ textLimit
 unfolding smallTo
@@ -117,12 +113,6 @@ run-few : (f : FromSelector) (n : ℕ) → length (runWith f n) ≤ n + 1
 unfolding runWith
 run-few NoSelector n = omega arith
 run-few (Selector q) n = omega (arith, length-replicate (n - 1) q)
-
-pub selector-few : (f : FromSelector) → length (encodeAll (map asSelector (runWith f 1))) ≤ 3
-unfolding runWith encodeAll encode asSelector
-selector-few NoSelector = omega arith
-selector-few (Selector Text) = omega arith
-selector-few (Selector Emoji) = omega arith
 
 module _ (p : Policy) (h : Held) (k : Class) where
   abbrev O : Outcome

@@ -9,10 +9,9 @@ use denote.Enum.Declared.{tagOf}
 use Rattle.scanner.proofs.char_class.Class.{the-type as the-class}
 use Rattle.scanner.specs.RunKinds.{inRun}
 use Rattle.scanner.specs.declared.char_runs.RunKind.{RunKind}
-use Rattle.scanner.specs.declared.state.Next.{Next}
 use Rattle.scanner.proofs.state.State.{the-type as the-state}
 use Rattle.scanner.specs.Classes.{Class, selector, link, ri, modifier, emoji, keycap, tag, other}
-use Rattle.scanner.specs.Items.{State, plain, selectors, links, oneRi, unit, joined, leftOver, nextOf, transition}
+use Rattle.scanner.specs.Items.{State, plain, selectors, links, oneRi, unit, joined, leftOver}
 
 -- The property X, if the arm names the variant; otherwise nothing is to be shown.
 abbrev pub When : Bool → Type 0 → Type 0
@@ -58,14 +57,6 @@ state-arm ks P e oneRi h = named ks 3 (P oneRi) (e .3) h
 state-arm ks P e unit h = named ks 4 (P unit) (e .4) h
 state-arm ks P e joined h = named ks 5 (P joined) (e .5) h
 state-arm ks P e leftOver h = named ks 6 (P leftOver) (e .6) h
-
--- ---- a match on a state and then on a class
-
-pub transition-arm : (ks : List ℕ) (q : State) (n : Next) → OfClasses ks (λ k. n ≡ nextOf (transition q k)) → (p : State) (k : Class) → p
-    ≡ q
-    → OneOf ks (tagOf the-class k) → n ≡ nextOf (transition p k)
-transition-arm ks q n h p k e o = class-arm ks (λ k. n ≡ nextOf (transition q k)) h k o
-    ∙ ap (λ (x : State). nextOf (transition x k)) (sym e)
 
 -- ---- a match on a run kind and then on a class
 
