@@ -2,7 +2,10 @@
 """The checks of the must-fail edits. rt ci checks that the prover refuses each edit; these checks are about how it does.
 repository_checks.py runs them.
 
-    tools/edit_checks.py    prints what refuses each edit: the places of the errors in its log that follow from no other error
+    tools/edit_checks.py                   prints what refuses each edit: the places of the errors in its log that follow from no
+                                           other error
+    tools/edit_checks.py try NAME/LABEL    tries one edit alone, on a copy of the crates and of what is proved, and prints what
+                                           refuses it. Status 1 says that nothing does, or that another place does
 
 An edit is a file crates/NAME/must-fail/LABEL.edit. A line `file: F` names the file for the pairs of lines `old: ..` and `new: ..`
 after it. A line `refused by: PLACE: NAME` says what must refuse the edit. Other lines describe the edit. PLACE is a function, for
@@ -14,7 +17,10 @@ rt ci applies an edit to a copy of the crate, and writes the prover's output to 
 
 import pathlib
 import re
+import shutil
+import subprocess
 import sys
+import tempfile
 
 from crate_files import antt, rattle
 
@@ -145,11 +151,47 @@ def telling_nothing(root):
                 yield f"{where}: {': '.join(refuser)} does not refuse it; {places(found)} does"
 
 
+def copied(root, edit, to):
+    """Copies the crates, what is proved of them, and one edit alone."""
+    shutil.copy(root / "crates.txt", to)
+    shutil.copytree(root / "crates", to / "crates", ignore=shutil.ignore_patterns("must-fail"))
+    for part in ("rlib", "stamp", "log"):
+        if (root / "target" / part).is_dir():
+            shutil.copytree(root / "target" / part, to / "target" / part)
+    (to / edit.parent.relative_to(root)).mkdir()
+    shutil.copy(edit, to / edit.relative_to(root))
+
+
+def try_one(root, name):
+    """Tries one edit alone, and prints what refuses it."""
+    edit = root / "crates" / name.partition("/")[0] / "must-fail" / f"{name.partition('/')[2]}.edit"
+    if not edit.is_file():
+        print(f"{name}: there is no such edit", file=sys.stderr)
+        return 2
+    with tempfile.TemporaryDirectory() as folder:
+        to = pathlib.Path(folder)
+        copied(root, edit, to)
+        ran = subprocess.run(["rt", "must-fail", edit.parent.parent.name], cwd=to, capture_output=True, text=True, check=False)
+        [(_, log)] = tried(to)
+        if log is None:
+            print(ran.stdout + ran.stderr)
+            return 1
+        found, faults = own_errors(log, edit.parent.parent.name, edit.stem), list(telling_nothing(to))
+    print(f"{name}: {edit.read_text(encoding='utf-8').splitlines()[0]}")
+    print(f"refused by {places(found)}: {first_error(log).partition(': error: ')[2]}")
+    for fault in faults:
+        print(fault, file=sys.stderr)
+    return 1 if faults or ran.returncode else 0
+
+
 def main(arguments):
+    root = pathlib.Path(__file__).resolve().parent.parent
+    if len(arguments) == 2 and arguments[0] == "try":
+        return try_one(root, arguments[1])
     if arguments:
         print(__doc__, file=sys.stderr)
         return 2
-    for edit, log in tried(pathlib.Path(__file__).resolve().parent.parent):
+    for edit, log in tried(root):
         if log is not None:
             crate, label = edit.parent.parent.name, edit.stem
             print(f"{crate}/{label}: {places(own_errors(log, crate, label))}")

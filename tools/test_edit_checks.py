@@ -1,8 +1,12 @@
 """Tests of edit_checks.py: it finds planted faults of must-fail edits and of their logs."""
 
+import contextlib
+import io
+import os
 import pathlib
 import tempfile
 import unittest
+import unittest.mock
 
 import edit_checks as checks
 
@@ -137,6 +141,36 @@ class Checks(unittest.TestCase):
             (root / "crates/one/must-fail").mkdir(parents=True)
             (root / "crates/one/must-fail/wrong.edit").write_text("", encoding="utf-8")
             self.assertEqual(list(checks.telling_nothing(root)), ["crates/one/must-fail/wrong.edit: it was not tried"])
+
+    def trying(self, name, log=SOUND["target/must-fail/one/wrong/.log"], status=0):
+        """What trying one edit gives, with a program in place of rt that writes this log: the status, and what is printed."""
+        with tempfile.TemporaryDirectory() as folder:
+            root = pathlib.Path(folder)
+            texts = {**SOUND, "crates.txt": "one:\n", "crates/one/must-fail/other.edit": "", "target/rlib/one.rlib": "proved", "log": log}
+            texts["bin/rt"] = f"""#!/bin/sh
+[ "$*" = "must-fail one" ] && [ ! -e crates/one/must-fail/other.edit ] && grep -q proved target/rlib/one.rlib || exit 9
+mkdir -p target/must-fail/one/wrong
+cp {root}/log target/must-fail/one/wrong/.log
+exit {status}
+"""
+            for file, text in texts.items():
+                (root / file).parent.mkdir(parents=True, exist_ok=True)
+                (root / file).write_text(text, encoding="utf-8")
+            (root / "bin" / "rt").chmod(0o755)
+            path, said = f"{root / 'bin'}{os.pathsep}{os.environ['PATH']}", io.StringIO()
+            with unittest.mock.patch.dict(os.environ, PATH=path), contextlib.redirect_stdout(said), contextlib.redirect_stderr(said):
+                return checks.try_one(root, name), said.getvalue().splitlines()
+
+    def test_one_edit_alone(self):
+        status, lines = self.trying("one/wrong")
+        self.assertEqual((status, len(lines)), (0, 2))
+        self.assertEqual(lines[0], "one/wrong: Another number comes back, of both.")
+        self.assertIn("same: returns: `returns`: the two types differ", lines[1])
+
+    def test_one_edit_that_nothing_refuses(self):
+        self.assertEqual(self.trying("one/wrong", "logic=proved\n", 1)[0], 1)
+        self.assertEqual(self.trying("one/wrong", status=1)[0], 1)
+        self.assertEqual(self.trying("one/wrung")[0], 2)
 
 
 if __name__ == "__main__":
