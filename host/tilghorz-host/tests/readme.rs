@@ -1,5 +1,5 @@
-//! The examples of README.md: each line after `$ ` is run as it stands, and must write what stands below it. Those that call
-//! `./tilghorz` are run by tools/program_runs.py, which has the programs at hand.
+//! The examples of README.md and of docs/FIRST-HOUR.md: each line after `$ ` is run as it stands, and must write what stands
+//! below it. Those that call `./tilghorz` are run by tools/program_runs.py, which has the programs at hand.
 
 mod support;
 
@@ -29,10 +29,20 @@ fn examples(readme: &str) -> Vec<(String, String)> {
 
 #[test]
 fn the_examples_write_what_the_readme_says() {
-    let readme = Path::new(env!("CARGO_MANIFEST_DIR")).join("../../README.md");
-    let examples = examples(&fs::read_to_string(readme).expect("README.md"));
-    assert!(examples.len() > 10, "{} examples", examples.len());
-    let folder = Folder::new("readme");
+    run_examples("README.md", 50);
+}
+
+#[test]
+fn the_examples_write_what_the_first_hour_says() {
+    run_examples("docs/FIRST-HOUR.md", 8);
+}
+
+/// Runs the examples of a document, which has at least so many, in a folder of its own.
+fn run_examples(document: &str, fewest: usize) {
+    let root = Path::new(env!("CARGO_MANIFEST_DIR")).join("../..");
+    let examples = examples(&fs::read_to_string(root.join(document)).expect("a document"));
+    assert!(examples.len() >= fewest, "{} examples", examples.len());
+    let folder = Folder::new(&document.replace('/', "-"));
     let own = Path::new(COMMAND).parent().expect("a folder");
     let paths = env::var_os("PATH").unwrap_or_default();
     let paths = [own.to_owned()].into_iter().chain(env::split_paths(&paths));

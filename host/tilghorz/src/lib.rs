@@ -113,3 +113,8 @@ pub const LONGEST_TEXT: usize = 16_777_216;
 /// The kit that proved and made the linked library, as `rt version` prints it. Of a library that was made elsewhere it may be
 /// unknown.
 pub const KIT: &str = env!("TILGHORZ_KIT");
+
+/// The host in Rust of docs/FIRST-HOUR.md, as a test.
+#[cfg(doctest)]
+#[doc = include_str!("../../../docs/FIRST-HOUR.md")]
+struct FirstHour;
