@@ -80,6 +80,13 @@ cat made > target/staticlib/libtilghorz.a
     }
 }
 
+impl Drop for Repository {
+    /// Removes it: rt takes each file of Rattle in this repository that no crate has for one that was forgotten.
+    fn drop(&mut self) {
+        let _ = fs::remove_dir_all(&self.0);
+    }
+}
+
 #[test]
 fn a_library_from_other_sources_is_made_anew() {
     let repository = Repository::new("made_anew");
