@@ -105,6 +105,12 @@ def first_error(log):
     return ""
 
 
+def first_reason(log):
+    """What the first note or error of a log says that follows from no other error."""
+    said = re.findall(r"^(?:note: )?\S+:\d+:\d+: (?:error: )?(.*)$", log, re.M)
+    return next((words for words in said if not FOLLOWS.search(words)), "")
+
+
 def own_errors(log, crate, label):
     """The places and names in a log with an error that follows from no other error: a false statement, or an open proof."""
     found = set()
@@ -178,7 +184,7 @@ def try_one(root, name):
             return 1
         found, faults = own_errors(log, edit.parent.parent.name, edit.stem), list(telling_nothing(to))
     print(f"{name}: {edit.read_text(encoding='utf-8').splitlines()[0]}")
-    print(f"refused by {places(found)}: {first_error(log).partition(': error: ')[2]}")
+    print(f"refused by {places(found)}: {first_reason(log)}")
     for fault in faults:
         print(fault, file=sys.stderr)
     return 1 if faults or ran.returncode else 0
