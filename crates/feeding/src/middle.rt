@@ -29,6 +29,7 @@ fn text_totals(text: &[u8], policy: &[u8]) -> NonCanonicality
             counts,
             present,
             passed: _,
+            across: _,
         } = next_finding(text, policy, 0, at);
         if !present {
             return totals;

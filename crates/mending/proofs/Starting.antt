@@ -21,7 +21,7 @@ use Rattle.analysis.proofs.StartingItems.{no-finding-past}
 use Rattle.formatter.proofs.Steps.{none-found}
 
 -- Findings before the limit o do not change which finding starts at o.
-skipsFindings-at : (o : ℕ) {n : ℕ} {fs gs : List Found} → SkipsFindings o fs n gs → findingAt o fs ≡ findingAt o gs
+skipsFindings-at : (o : ℕ) {n m : ℕ} {fs gs : List Found} → SkipsFindings o fs n m gs → findingAt o fs ≡ findingAt o gs
 unfolding findingAt
 skipsFindings-at o none-skipped = refl
 skipsFindings-at o (one-skipped {f} {fs} h a) =

@@ -6,7 +6,7 @@ ghost use mathlib.Core.Path.{_≡_};
 ghost use mathlib.Core.Bool.{true, _&&_, cond, not};
 ghost use mathlib.Core.List.{List};
 ghost use Prim.Native.Nat.{_*_, _/_, _≤_};
-ghost use lib.Dec.{eqb, leb};
+ghost use lib.Dec.{eqb, leb, ltb};
 ghost use lib.ListN.{drop, length};
 ghost use Rattle.utf8.specs.Rfc3629.{readChar};
 ghost use Rattle.utf8.specs.declared.ReadChar.the-variants.{Char};
@@ -41,13 +41,15 @@ use unicode::VariationSequenceIndex;
 use unicode::presentation::FromSelector;
 
 // The next finding: its bytes, from `start` up to `end`, and its eight counts. Where no finding is left, `present` is false, both offsets
-// are the end of the longest well-formed beginning, and the counts are empty. `passed` is the number of findings passed before it.
+// are the end of the longest well-formed beginning, and the counts are empty. `passed` is the number of findings passed before it, and
+// `across` the number of those that end after the limit.
 pub struct FindingSpan {
     pub start: usize,
     pub end: usize,
     pub counts: NonCanonicality,
     pub present: bool,
     pub passed: usize,
+    pub across: usize,
 }
 
 // The rest of a cell, after its character: where its selectors end, the first of them, and whether the rules count anything. Then the
@@ -120,6 +122,16 @@ fn is_wanted(changes: bool, limit: usize, start: usize) -> bool
     limit <= start
 }
 
+// Whether an item is a finding that ends after the limit. `changed` says whether the rules count something in it.
+fn is_across(changed: bool, limit: usize, end: usize) -> bool
+    ensures { λ r. ⌜ r ≡ changed && ltb limit end ⌝ }
+{
+    if !changed {
+        return false;
+    }
+    limit < end
+}
+
 // Adds the counts of a cell if they are wanted. `bytes` is the length of the cell's selectors.
 fn add_cell(
     counts: NonCanonicality,
@@ -175,6 +187,7 @@ fn walk_items(
     let mut state = first;
     let mut changed = false;
     let mut passed = 0;
+    let mut across = 0;
     let mut counts = NonCanonicality::empty();
     loop {
         let cell = read_cell(text, policy, base, index, at);
@@ -207,9 +220,11 @@ fn walk_items(
                         counts,
                         present: true,
                         passed,
+                        across,
                     };
                 }
                 passed += findings_of(changed);
+                across += findings_of(is_across(changed, limit, end));
                 state = scanner::state::start_state_by_row(class);
                 if let State::Plain = state {
                     return FindingSpan {
@@ -218,6 +233,7 @@ fn walk_items(
                         counts,
                         present: false,
                         passed,
+                        across,
                     };
                 }
                 start = end;
@@ -246,13 +262,15 @@ fn skip_bare_ascii(text: &[u8], bare: bool, from: usize) -> usize
     skip_ascii(text, from)
 }
 
-// Finds the next finding of a text, from an offset on, that does not start before the limit. It passes findings that do, and counts them.
+// Finds the next finding of a text, from an offset on, that does not start before the limit. It passes findings that do, and counts them
+// and those of them that end after the limit.
 pub fn next_finding(text: &[u8], policy: &[u8], limit: usize, from: usize) -> FindingSpan
     ensures { λ r. ⌜ NextFinding (policyOf (now (policy .entry))) (now (text .entry)) limit from r ⌝ }
 {
     let bare = policy::policy_bytes::ascii_keys_bare(policy);
     let mut at = from;
     let mut passed = 0;
+    let mut across = 0;
     loop {
         at = skip_bare_ascii(text, bare, at);
         let packed = utf8::decode(text, at);
@@ -263,6 +281,7 @@ pub fn next_finding(text: &[u8], policy: &[u8], limit: usize, from: usize) -> Fi
                 counts: NonCanonicality::empty(),
                 present: false,
                 passed,
+                across,
             };
         }
         let ch = packed / 8;
@@ -282,9 +301,11 @@ pub fn next_finding(text: &[u8], policy: &[u8], limit: usize, from: usize) -> Fi
                         counts: NonCanonicality::unsanctioned((end - at) / SELECTOR_BYTES),
                         present: true,
                         passed,
+                        across,
                     };
                 }
                 passed += 1;
+                across += findings_of(limit < end);
                 at = end;
             }
             _ => {
@@ -294,8 +315,10 @@ pub fn next_finding(text: &[u8], policy: &[u8], limit: usize, from: usize) -> Fi
                     counts,
                     present,
                     passed: walked,
+                    across: walked_across,
                 } = walk_items(text, policy, limit, at, ch, width, index, state);
                 passed += walked;
+                across += walked_across;
                 if present {
                     return FindingSpan {
                         start,
@@ -303,6 +326,7 @@ pub fn next_finding(text: &[u8], policy: &[u8], limit: usize, from: usize) -> Fi
                         counts,
                         present,
                         passed,
+                        across,
                     };
                 }
                 at = start;
