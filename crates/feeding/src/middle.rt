@@ -29,7 +29,6 @@ fn text_totals(text: &[u8], policy: &[u8]) -> NonCanonicality
             counts,
             present,
             passed: _,
-            across: _,
         } = next_finding(text, policy, 0, at);
         if !present {
             return totals;

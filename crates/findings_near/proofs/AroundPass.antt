@@ -1,8 +1,8 @@
--- The passes around a stretch: the tests by their branches and by where a finding starts, where a pass stops, the two tables, and writing
--- both lists.
+-- The passes around a stretch: the tests by their branches, and of a finding that starts in the stretch; where a pass stops, the two
+-- tables, and writing both lists.
 use mathlib.Core.Path.{_≡_, refl, ap, ap₂, subst, sym, _∙_}
 use mathlib.Core.Logic.{⊎-elim}
-use mathlib.Core.Bool.{Bool, true, false, _&&_, cond, not}
+use mathlib.Core.Bool.{Bool, true, false, _&&_, and-false, cond, not}
 use mathlib.Core.List.{List, [], _∷_, _++_}
 use Prim.Native.Nat.{ℕ, _+_, _/_, _<_, _≤_}
 use native.Mathlib.Omega.{arith}
@@ -100,21 +100,27 @@ module _ (from to start end : ℕ) where
       ∙ sym (ap₂ (λ (x y : Bool). meetsBy x y (ltb from end)) (lt-ltb from to g) (lt-ltb start to h)
       ∙ ap (λ (x : Bool). meetsBy true true x) (lt-ltb from end k))
 
--- ---- the tests of a finding by where it starts
+-- ---- the tests of a finding that starts in the stretch
 
--- What is not at most an offset is after it.
-not-leb : (m n : ℕ) → not (leb m n) ≡ ltb n m
-not-leb m n = ⊎-elim (λ h. ap not (le-leb m n h) ∙ sym (le-ltb n m h)) (λ h. ap not (lt-leb m n h) ∙ sym (lt-ltb n m h)) (le-or-lt m n)
+module _ (from to start end : ℕ) (h : from ≤ start) where
+  -- It lies inside if it does not end after the stretch.
+  pub held : start < to → end ≤ to → true ≡ holds from to start end
+  held k l = sym (le-leb end to l) ∙ may-hold from to start end (omega arith) h
 
-module _ (from to start end : ℕ) (g : from < to) where
-  -- A finding that starts before the stretch shares a byte with it if it ends after the start of the stretch.
-  pub early-shares : start < from → ltb from end ≡ meets from to start end
-  early-shares h = ⊎-elim (λ k. le-ltb from end k ∙ early-meets from to start end k)
-      (λ k. lt-ltb from end k ∙ may-meet from to start end g (omega arith) k (early-holds from to start end h)) (le-or-lt end from)
+  pub held-apart : start < to → end ≤ to → false ≡ meets from to start end
+  unfolding meets
+  held-apart k l = sym (and-false (ltb from to && (ltb start to && ltb from end)))
+      ∙ ap (λ (b : Bool). (ltb from to && (ltb start to && ltb from end)) && not b) (held k l)
 
-  -- A finding that starts in the stretch lies inside it, or ends after it and shares a byte with it.
-  pub late-shares : from ≤ start → start < to → start < end → ltb to end ≡ meets from to start end
-  late-shares h k b = sym (not-leb end to) ∙ may-meet from to start end g k (omega arith) (may-hold from to start end g h)
+  -- Else it only shares a byte with the stretch.
+  pub past-holds : to < end → false ≡ holds from to start end
+  unfolding holds
+  past-holds l = ⊎-elim (λ g. empty-holds from to start end g)
+      (λ g. sym (lt-leb end to l) ∙ may-hold from to start end g h) (le-or-lt to from)
+
+  pub past-meets : to < end → ltb start to ≡ meets from to start end
+  past-meets l = ⊎-elim (λ k. le-ltb start to k ∙ late-meets from to start end k)
+      (λ k. lt-ltb start to k ∙ may-meet from to start end (omega arith) k (omega arith) (past-holds l)) (le-or-lt to start)
 
 -- ---- whether the pass goes on
 

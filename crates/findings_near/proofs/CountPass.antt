@@ -1,15 +1,12 @@
--- A pass that counts the findings before a stretch that end after its start, the findings that start in it, and those of them that end
--- after it: what these numbers say of the two lists.
+-- A pass that counts both lists of a stretch by two searches. The first passes the findings that end before the stretch, and the second
+-- those that lie inside it.
 use mathlib.Core.Path.{_≡_, refl, ap, sym, _∙_}
-use mathlib.Core.Logic.{⊎-elim}
 use mathlib.Core.Bool.{Bool, true, false, _&&_, cond}
-use mathlib.Core.List.{List, [], _∷_, map, List·Memᴰ, List·Memᴰ·head, List·Memᴰ·tail}
-use Prim.Native.Nat.{ℕ, _+_, _<_, _≤_}
+use mathlib.Core.List.{List, [], map, List·Memᴰ, List·Memᴰ·head, List·Memᴰ·tail}
+use Prim.Native.Nat.{ℕ, _+_, _≤_}
 use native.Mathlib.Omega.{arith}
-use lib.Dec.{leb, ltb}
+use lib.Dec.{ltb}
 use lib.ListN.{drop, length}
-use borrow.Author.Tests.{le-leb, le-ltb, lt-leb, lt-ltb}
-use Rattle.base.proofs.Tests.{le-or-lt}
 use Rattle.utf8.specs.Rfc3629.{chars}
 use Rattle.policy.specs.declared.Policy.{Policy}
 use Rattle.scanner.specs.Items.{items}
@@ -17,15 +14,24 @@ use Rattle.scanner.specs.Spans.{Found}
 use Rattle.analysis.specs.declared.types.Finding.{Finding}
 use Rattle.formatter.specs.Findings.{findingRow}
 use Rattle.formatter.proofs.Steps.{none-found}
-use Rattle.text_pass.specs.Findings.{FindingsBetween, NextFinding, SkipsFindings, none-skipped, one-skipped, oneAcross}
+use Rattle.text_pass.specs.Findings.{Finds, NextFinding, SkipsFindings, none-skipped, one-skipped}
 use Rattle.text_pass.specs.declared.findings.FindingSpan.{FindingSpan}
-use Rattle.text_pass.proofs.Passing.{over-finding, over-on}
-use Rattle.findings_near.specs.Around.{filter, inside, onlyShares}
+use Rattle.text_pass.proofs.Passing.{finds-here}
+use Rattle.findings_near.specs.Around.{filter, holds, inside, meets, onlyShares}
 use Rattle.findings_near.specs.Helpers.{rowsFrom}
-use Rattle.findings_near.proofs.AroundPass.{NoneLeft, early-holds, early-shares, late-shares, may-hold, stops}
+use Rattle.findings_near.proofs.AroundPass.{
+  NoneLeft,
+  early-holds,
+  early-meets,
+  held,
+  held-apart,
+  past-holds,
+  past-meets,
+  stops,
+}
 use Rattle.findings_near.proofs.NextRows.{count-one}
 use Rattle.findings_near.proofs.Order.{has-byte, none-pass, ordered-from, starts-from}
-use Rattle.findings_near.proofs.Stretches.{none-on, starts-after}
+use Rattle.findings_near.proofs.Stretches.{starts-after}
 
 module _ (p : Policy) (text : List ℕ) (from to : ℕ) where
   abbrev row : Found → Finding
@@ -38,44 +44,46 @@ module _ (p : Policy) (text : List ℕ) (from to : ℕ) where
   abbrev outer : List Finding → ℕ
   outer l = length (filter (onlyShares from to) l)
 
-  -- ---- findings that start before the stretch
+  -- ---- findings that are passed
 
-  -- They do not lie inside it.
-  skip-early : {n m : ℕ} {fs gs : List Found} → SkipsFindings from fs n m gs
-      → filter (inside from to) (map row fs) ≡ filter (inside from to) (map row gs)
-  unfolding filter findingRow
-  skip-early none-skipped = refl
-  skip-early (one-skipped {f} {fs} h s) =
-      ap (λ (b : Bool). cond b (row f ∷ filter (inside from to) (map row fs)) (filter (inside from to) (map row fs)))
-      (sym (early-holds from to (f .start) (row f .end) h)) ∙ skip-early s
-
-  -- Those that end after the start of the stretch share a byte with it.
-  share-early : from < to → {n m : ℕ} {fs gs : List Found} → SkipsFindings from fs n m gs → outer (map row fs) ≡ m + outer (map row gs)
+  -- Findings that do not end after the start of the stretch are in neither list.
+  skip-before : {n : ℕ} {fs gs : List Found} → SkipsFindings from fs n gs
+      → (inner (map row fs) ≡ inner (map row gs)) × (outer (map row fs) ≡ outer (map row gs))
   unfolding findingRow
-  share-early g none-skipped = omega arith
-  share-early g (one-skipped {f} {fs} {m = m} h s) =
-      let c = count-one (onlyShares from to) (row f) (map row fs) (early-shares from to (f .start) (row f .end) g h) refl in
-      omega (arith, c, share-early g s)
+  skip-before none-skipped = (refl, refl)
+  skip-before (one-skipped {f} {fs} h k s) =
+      let r = skip-before s in
+      let c = count-one (inside from to) (row f) (map row fs) (early-holds from to (f .start) (row f .end) h) refl in
+      let d = count-one (onlyShares from to) (row f) (map row fs) (early-meets from to (f .start) (row f .end) k) refl in
+      (omega (arith, c, r .0), omega (arith, d, r .1))
 
-  -- ---- findings that start in the stretch
-
-  -- Each lies inside it, or ends after it and shares a byte with it.
-  skip-starting : from < to → {n m : ℕ} {fs gs : List Found} → SkipsFindings to fs n m gs
-      → ((g : Finding) → List·Memᴰ g (map row fs) → (from ≤ g .start) × (g .start < g .end))
-      → (inner (map row fs) + m ≡ n + inner (map row gs)) × (outer (map row fs) ≡ m + outer (map row gs))
+  -- Findings that start in the stretch and do not end after it lie inside it.
+  skip-inside : {n : ℕ} {fs gs : List Found} → SkipsFindings to fs n gs → ((g : Finding) → List·Memᴰ g (map row fs) → from ≤ g .start)
+      → (inner (map row fs) ≡ n + inner (map row gs)) × (outer (map row fs) ≡ outer (map row gs))
   unfolding findingRow
-  skip-starting g none-skipped k = (omega arith, omega arith)
-  skip-starting g (one-skipped {f} {fs} {gs} {n} {m} h s) k =
-      let b = k (row f) (List·Memᴰ·head refl) in
-      let r = skip-starting g s (λ x y. k x (List·Memᴰ·tail y)) in
-      let c = count-one (inside from to) (row f) (map row fs) (may-hold from to (f .start) (row f .end) g (b .0)) refl in
-      let d = count-one (onlyShares from to) (row f) (map row fs) (late-shares from to (f .start) (row f .end) g (b .0) h (b .1)) refl in
-      let e = one-of (row f .end) in
-      (omega (arith, c, e, r .0), omega (arith, d, r .1))
-    where
-      -- A finding ends in the stretch or after it.
-      one-of : (end : ℕ) → cond (leb end to) 1 0 + oneAcross to end ≡ 1
-      one-of end = ⊎-elim (λ z. simp (le-leb end to z, le-ltb to end z)) (λ z. simp (lt-leb end to z, lt-ltb to end z)) (le-or-lt end to)
+  skip-inside none-skipped b = (omega arith, refl)
+  skip-inside (one-skipped {f} {fs} h k s) b =
+      let l = b (row f) (List·Memᴰ·head refl) in
+      let r = skip-inside s (λ x y. b x (List·Memᴰ·tail y)) in
+      let c = count-one (inside from to) (row f) (map row fs) (held from to (f .start) (row f .end) l h k) refl in
+      let d = count-one (onlyShares from to) (row f) (map row fs) (held-apart from to (f .start) (row f .end) l h k) refl in
+      (omega (arith, c, r .0), omega (arith, d, r .1))
+
+  -- ---- a finding at which a search stops
+
+  module _ {start end : ℕ} (f : Finds p text start end) {a b : Bool} {x y : ℕ} (e : a ≡ holds from to start end) (g : x ≡ cond a 1 0)
+      (h : b ≡ meets from to start end) (k : y ≡ cond b 1 0) where
+    count-found : (inner (rowsFrom p text start) ≡ x + inner (rowsFrom p text end))
+        × (outer (rowsFrom p text start) ≡ y + outer (rowsFrom p text end))
+    unfolding findingRow
+    count-found =
+        let r = ap (map row) (finds-here f) in
+        let o = row (record { start = start; item = f .item }) in
+        let z = ap (holds from to start) (f .end-is) in
+        let w = ap (meets from to start) (f .end-is) in (
+          ap inner r ∙ count-one (inside from to) o (rowsFrom p text end) (e ∙ z) g,
+          ap outer r ∙ count-one (onlyShares from to) o (rowsFrom p text end) (h ∙ w) k,
+        )
 
   -- ---- findings after the stretch
 
@@ -98,44 +106,46 @@ module _ (p : Policy) (text : List ℕ) (from to : ℕ) where
       let z = ap (map row) (none-found p text at e) in
       record { inner = ap (filter (inside from to)) z; outer = ap (filter (onlyShares from to)) z }
 
-  -- The search for a finding that does not start before the end of the stretch leaves no finding of either list.
-  none-after : {at : ℕ} {b : FindingSpan} → NextFinding p text to at b → NoneLeft p text from to (b .start)
-  none-after {b = b} m = go (b .present) refl
-    where
-      go : (x : Bool) → b .present ≡ x → NoneLeft p text from to (b .start)
-      go true e = none-later (b .start) (m .1 e .0)
-      go false e = none-ended (m .2 e .0)
-
   -- ---- both lists
 
-  -- The first finding that does not start before the stretch.
+  -- The first finding that ends after the start of the stretch.
   module _ {a : FindingSpan} (n : NextFinding p text from 0 a) where
-    -- No finding starts in the stretch.
-    pub none-starting : {x : Bool} → x ≡ (a .present && ltb (a .start) to) → x ≡ false → {k : ℕ}
-        → (from < to → k ≡ a .across) × (to ≤ from → k ≡ 0)
-        → (0 ≡ inner (rowsFrom p text 0)) × (k ≡ outer (rowsFrom p text 0))
-    none-starting e f h =
-        let l = stops (a .start) to e f (λ z. none-ended (n .2 z .0)) (λ z h. none-later (a .start) h) in (
-          omega (arith, ap length (skip-early (n .0 .skips)), ap length (l .inner)),
-          ⊎-elim
-              (λ z. h .1 z ∙ sym (ap length (none-pass (onlyShares from to) (rowsFrom p text 0) (λ g m. none-on from to g z))))
-              (λ z. omega (arith, share-early z (n .0 .skips), ap length (l .outer), h .0 z))
-              (le-or-lt to from),
-        )
+    -- It is not there, or does not start before the end of the stretch.
+    pub none-around : {x : Bool} → x ≡ (a .present && ltb (a .start) to) → x ≡ false
+        → (0 ≡ inner (rowsFrom p text 0)) × (0 ≡ outer (rowsFrom p text 0))
+    none-around e f =
+        let l = stops (a .start) to e f (λ z. none-ended (n .2 z .0)) (λ z h. none-later (a .start) h) in
+        let s = skip-before (n .0 .skips) in
+        (omega (arith, s .0, ap length (l .inner)), omega (arith, s .1, ap length (l .outer)))
 
-    -- It starts in the stretch, and a search from its end on passes the others that do.
-    pub some-starting : a .present ≡ true → a .start < to → {b : FindingSpan} → NextFinding p text to (a .end) b → {k : ℕ}
-        → k ≡ oneAcross to (a .end)
-        → (inner (rowsFrom p text 0) + (k + b .across) ≡ 1 + b .passed) × (outer (rowsFrom p text 0) ≡ a .across + (k + b .across))
-    some-starting e h {b} m z =
-        let s : FindingsBetween p text to (a .start) (b .start) (1 + b .passed) (oneAcross to (a .end) + b .across) =
-        over-on (over-finding (n .1 e .1 .finds) h) (m .0) in
-        let l = none-after m in
-        let g : from < to = let f = n .1 e .0 in omega arith in
-        let r = skip-starting g (s .skips) (λ x y. (
-          (let f = n .1 e .0 in let o = starts-from p text (items (chars (drop (a .start) text))) (a .start) x y in omega arith),
-          has-byte (ordered-from p text (a .start)) x y,
-        )) in (
-          omega (arith, ap length (skip-early (n .0 .skips)), r .0, ap length (l .inner), z),
-          omega (arith, share-early g (n .0 .skips), r .1, ap length (l .outer), z),
-        )
+    -- It is there, and a second search passes the findings inside the stretch after it.
+    module _ (e : a .present ≡ true) {b : FindingSpan} (m : NextFinding p text to (a .end) b) where
+      later : from ≤ b .start
+      later = omega (arith, n .1 e .0, m .0 .advances .on)
+
+      -- The finding at which the second search stops ends after the stretch.
+      last-found : {x : Bool} {y : ℕ} → x ≡ (b .present && ltb (b .start) to) → y ≡ cond x 1 0
+          → (inner (rowsFrom p text (b .start)) ≡ 0) × (outer (rowsFrom p text (b .start)) ≡ y)
+      last-found {x} {y} g h = go (b .present) refl (h ∙ ap (λ (x : Bool). cond x 1 0) g)
+        where
+          go : (x : Bool) → b .present ≡ x → y ≡ cond (x && ltb (b .start) to) 1 0
+              → (inner (rowsFrom p text (b .start)) ≡ 0) × (outer (rowsFrom p text (b .start)) ≡ y)
+          go false z k = let l = none-ended (m .2 z .0) in (ap length (l .inner), ap length (l .outer) ∙ sym k)
+          go true z k =
+              let f = m .1 z in
+              let l = none-later (b .end) (let o = f .0 in omega arith) in
+              let c = count-found (f .1) (past-holds from to (b .start) (b .end) later (f .0)) refl
+              (past-meets from to (b .start) (b .end) later (f .0)) k in
+              (omega (arith, c .0, ap length (l .inner)), omega (arith, c .1, ap length (l .outer)))
+
+      pub some-around : {v w x : Bool} {i j k : ℕ} → v ≡ holds from to (a .start) (a .end) → i ≡ cond v 1 0
+          → w ≡ meets from to (a .start) (a .end) → j ≡ cond w 1 0 → x ≡ (b .present && ltb (b .start) to) → k ≡ cond x 1 0
+          → (i + b .passed ≡ inner (rowsFrom p text 0)) × (j + k ≡ outer (rowsFrom p text 0))
+      some-around g i h j x k =
+          let s = skip-before (n .0 .skips) in
+          let c = count-found (n .1 e .1) g i h j in
+          let r = skip-inside (m .0 .skips) (λ y z.
+          let o = starts-from p text (items (chars (drop (a .end) text))) (a .end) y z in
+          omega (arith, n .1 e .0)) in
+          let l = last-found x k in
+          (omega (arith, s .0, c .0, r .0, l .0), omega (arith, s .1, c .1, r .1, l .1))

@@ -3,7 +3,7 @@
 // `listAround` of specs/Around.antt.
 ghost use mathlib.Core.Path.{_≡_};
 ghost use mathlib.Core.Bool.{true, _&&_, cond};
-ghost use Prim.Native.Nat.{_+_, _<_, _≤_};
+ghost use Prim.Native.Nat.{_+_, _≤_};
 ghost use lib.Dec.{ltb};
 ghost use lib.ListN.{drop, length};
 ghost use Rattle.base.specs.Output.{PutAt};
@@ -109,37 +109,40 @@ fn well_formed_end(text: &[u8], at: usize) -> usize
     at + utf8_validity::valid_up_to(&text[at..])
 }
 
-// The number of findings across the start of a stretch that share a byte with it: all, or none if the stretch is empty.
-fn shared_at_start(from: usize, to: usize, across: usize) -> usize
-    ensures { λ r. ⌜ (from < to → r ≡ across) × (to ≤ from → r ≡ 0) ⌝ }
-{
-    if from < to { across } else { 0 }
-}
-
-// Counts the findings of both lists. A finding that starts in the stretch lies inside it, or ends after it and only shares a byte with it.
-// No byte is read twice: the search for the findings in the stretch goes on at the end of the first of them, and the test for UTF-8 at the
-// end of the first finding after them.
+// Counts the findings of both lists. The first search passes the findings that end before the stretch. The second passes those that lie
+// inside, from the first of them on, and stops at the first finding that ends after the stretch. No byte is read twice: the second search
+// goes on where the first one ends, and the test for UTF-8 where the second one ends.
 fn count_around(text: &[u8], policy: &[u8], from: usize, to: usize) -> AroundCount
     ensures inside { λ r. ⌜ r .inside ≡ length (filter (inside from to) (listed (now (text .entry)) (now (policy .entry)))) ⌝ }
     ensures sharing { λ r. ⌜ r .sharing ≡ length (filter (onlyShares from to) (listed (now (text .entry)) (now (policy .entry)))) ⌝ }
     ensures valid { λ r. ⌜ r .«valid_up_to» ≡ validUpTo (now (text .entry)) ⌝ }
 {
-    let first = next_finding(text, policy, from, 0);
-    if !is_before(first.present, first.start, to) {
-        let sharing = shared_at_start(from, to, first.across);
-        let valid_up_to = well_formed_end(text, first.end);
+    let FindingSpan {
+        start,
+        end,
+        counts: _,
+        present,
+        passed: _,
+    } = next_finding(text, policy, from, 0);
+    if !is_before(present, start, to) {
+        let valid_up_to = well_formed_end(text, end);
         return AroundCount {
             inside: 0,
-            sharing,
+            sharing: 0,
             valid_up_to,
         };
     }
-    let after = next_finding(text, policy, to, first.end);
-    let valid_up_to = well_formed_end(text, after.end);
-    let starting = 1 + after.passed;
-    let beyond = one_if(to < first.end) + after.across;
-    let inside = starting - beyond;
-    let sharing = first.across + beyond;
+    let FindingSpan {
+        start: last_start,
+        end: last_end,
+        counts: _,
+        present: last_present,
+        passed,
+    } = next_finding(text, policy, to, end);
+    let inside = one_if(is_inside(from, to, start, end)) + passed;
+    let first_sharing = one_if(is_sharing(from, to, start, end));
+    let sharing = first_sharing + one_if(is_before(last_present, last_start, to));
+    let valid_up_to = well_formed_end(text, last_end);
     AroundCount {
         inside,
         sharing,
@@ -176,7 +179,6 @@ fn put_both(
             counts,
             present,
             passed: _,
-            across: _,
         } = next_finding(text, policy, 0, at);
         if !is_before(present, start, to) {
             return RowEnds {

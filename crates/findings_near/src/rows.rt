@@ -76,7 +76,6 @@ pub(crate) fn next_row(text: &[u8], policy: &[u8], at: usize, before: TextCount)
         counts,
         present,
         passed: _,
-        across: _,
     } = next_finding(text, policy, 0, at);
     if !present {
         let finding = no_finding(start);

@@ -53,7 +53,6 @@ pub(crate) fn count_findings(text: &[u8], policy: &[u8]) -> FindingCount
         counts: _,
         present: _,
         passed,
-        across: _,
     } = next_finding(text, policy, text.len(), 0);
     FindingCount {
         findings: passed,
@@ -110,7 +109,6 @@ fn put_findings(text: &[u8], policy: &[u8], table: &mut [u8]) -> usize
             counts,
             present,
             passed: _,
-            across: _,
         } = next_finding(text, policy, 0, at);
         if !present {
             return to;

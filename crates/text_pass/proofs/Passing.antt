@@ -4,7 +4,6 @@ use mathlib.Core.Bool.{Bool, true, false, cond, not}
 use mathlib.Core.List.{List, _∷_}
 use Prim.Native.Nat.{ℕ, suc, _+_, _-_, _≤_, _<_}
 use native.Mathlib.Omega.{arith}
-use lib.Dec.{ltb}
 use lib.ListN.{drop, length}
 use borrow.Author.Tests.{eq-eqb, ne-eqb}
 use Rattle.utf8.specs.Rfc3629.{chars, validUpTo}
@@ -38,7 +37,6 @@ use Rattle.text_pass.specs.Findings.{
   PlainBetween,
   none-skipped,
   one-skipped,
-  oneAcross,
 }
 use Rattle.analysis.proofs.CellsOfItems.{total-first}
 use Rattle.text_pass.proofs.PlainText.{other-plain, stays-plain}
@@ -53,66 +51,55 @@ module _ {p : Policy} {text : List ℕ} where
   pub passes-on : {i j k : ℕ} → NoFindingBetween p text i j → NoFindingBetween p text j k → NoFindingBetween p text i k
   passes-on a b = record { advances = advances-on (a .advances) (b .advances); same = a .same ∙ b .same }
 
--- ---- stretches with findings that start before a limit
+-- ---- stretches with findings that do not end after a limit
 
-skipsFindings-append : {limit m n k l : ℕ} {fs gs hs : List Found} → SkipsFindings limit fs m k gs → SkipsFindings limit gs n l hs
-    → SkipsFindings limit fs (m + n) (k + l) hs
-skipsFindings-append {limit} {n = n} {l = l} {fs} {hs = hs} none-skipped b =
-    let z : n ≡ 0 + n = omega arith in
-    let y : l ≡ 0 + l = omega arith in
-    subst (λ (i : ℕ). SkipsFindings limit fs (0 + n) i hs) y (subst (λ (i : ℕ). SkipsFindings limit fs i l hs) z b)
-skipsFindings-append {limit} {n = n} {l = l} {fs} {hs = hs} (one-skipped {f} {n = m} {m = k} h a) b =
-    let x = oneAcross limit (f .start + size width (f .item .chars)) in
-    let z : suc (m + n) ≡ suc m + n = omega arith in
-    let y : x + (k + l) ≡ x + k + l = omega arith in
-    subst (λ (i : ℕ). SkipsFindings limit fs (suc m + n) i hs) y
-    (subst (λ (i : ℕ). SkipsFindings limit fs i (x + (k + l)) hs) z (one-skipped h (skipsFindings-append a b)))
+skipsFindings-append : {limit m n : ℕ} {fs gs hs : List Found} → SkipsFindings limit fs m gs → SkipsFindings limit gs n hs
+    → SkipsFindings limit fs (m + n) hs
+skipsFindings-append {limit} {n = n} {fs} {hs = hs} none-skipped b = let z : n
+    ≡ 0 + n = omega arith in subst (λ (k : ℕ). SkipsFindings limit fs k hs) z b
+skipsFindings-append {limit} {n = n} {fs} {hs = hs} (one-skipped {n = m} h k a) b = let z : suc (m + n)
+    ≡ suc m + n = omega arith in subst (λ (k : ℕ). SkipsFindings limit fs k hs) z (one-skipped h k (skipsFindings-append a b))
 
 -- A list of findings is as long as the number of skipped findings and the list of the others together.
-pub skipsFindings-length : {limit n m : ℕ} {fs gs : List Found} → SkipsFindings limit fs n m gs → length fs ≡ n + length gs
+pub skipsFindings-length : {limit n : ℕ} {fs gs : List Found} → SkipsFindings limit fs n gs → length fs ≡ n + length gs
 skipsFindings-length none-skipped = omega arith
-skipsFindings-length (one-skipped h a) = let e = skipsFindings-length a in omega arith
+skipsFindings-length (one-skipped h k a) = let e = skipsFindings-length a in omega arith
 
-skipsFindings-none : {n m : ℕ} {fs gs : List Found} → SkipsFindings 0 fs n m gs → fs ≡ gs
+skipsFindings-none : {n : ℕ} {fs gs : List Found} → SkipsFindings 0 fs n gs → fs ≡ gs
 skipsFindings-none none-skipped = refl
-skipsFindings-none (one-skipped h a) = absurd (omega arith)
+skipsFindings-none (one-skipped h k a) = absurd (omega arith)
 
 module _ {p : Policy} {text : List ℕ} {limit : ℕ} where
-  pub over-here : (i : ℕ) → FindingsBetween p text limit i i 0 0
-  over-here i = record { advances = advances-here i; few = omega arith; few-across = omega arith; skips = none-skipped }
+  pub over-here : (i : ℕ) → FindingsBetween p text limit i i 0
+  over-here i = record { advances = advances-here i; few = omega arith; skips = none-skipped }
 
-  pub over-on : {i j k m n x y : ℕ} → FindingsBetween p text limit i j m x → FindingsBetween p text limit j k n y
-      → FindingsBetween p text limit i k (m + n) (x + y)
+  pub over-on : {i j k m n : ℕ} → FindingsBetween p text limit i j m → FindingsBetween p text limit j k n
+      → FindingsBetween p text limit i k (m + n)
   over-on a b =
       let l = a .advances .on in
       let m = b .advances .on in
       let f = a .few in
       let g = b .few in
-      let u = a .few-across in
-      let v = b .few-across in
       record {
         advances = advances-on (a .advances) (b .advances);
         few = omega arith;
-        few-across = omega arith;
         skips = skipsFindings-append (a .skips) (b .skips);
       }
 
   -- A stretch in which findings are passed, followed by a stretch without a finding.
-  pub over-passes : {i j k n m : ℕ} → FindingsBetween p text limit i j n m → NoFindingBetween p text j k
-      → FindingsBetween p text limit i k n m
-  over-passes {i} {n = n} {m = x} a b =
+  pub over-passes : {i j k n : ℕ} → FindingsBetween p text limit i j n → NoFindingBetween p text j k → FindingsBetween p text limit i k n
+  over-passes {i} {n = n} a b =
       let l = a .advances .on in
       let m = b .advances .on in
       let f = a .few in
       record {
         advances = advances-on (a .advances) (b .advances);
         few = omega arith;
-        few-across = a .few-across;
-        skips = subst (λ (l : List Found). SkipsFindings limit (findingsFrom p text i) n x l) (b .same) (a .skips);
+        skips = subst (λ (l : List Found). SkipsFindings limit (findingsFrom p text i) n l) (b .same) (a .skips);
       }
 
 -- No finding starts before offset 0, so that with this limit none is passed.
-pub over-none : {p : Policy} {text : List ℕ} {i j n m : ℕ} → FindingsBetween p text 0 i j n m → NoFindingBetween p text i j
+pub over-none : {p : Policy} {text : List ℕ} {i j n : ℕ} → FindingsBetween p text 0 i j n → NoFindingBetween p text i j
 over-none a = record { advances = a .advances; same = skipsFindings-none (a .skips) }
 
 -- ---- an item, and the totals from its start and from its end on
@@ -192,26 +179,17 @@ module _ {p : Policy} {text : List ℕ} {start end : ℕ} (f : Finds p text star
   pub finds-room : end ≤ length text
   finds-room = let e = f .end-is in let r = here .room in omega arith
 
-  -- A finding that starts before the limit is passed.
-  pub over-finding : {limit : ℕ} → start < limit → FindingsBetween p text limit start end 1 (oneAcross limit end)
+  -- A finding that does not end after the limit is passed.
+  pub over-finding : {limit : ℕ} → end ≤ limit → FindingsBetween p text limit start end 1
   over-finding {limit} l =
       let s = finds-some in
       let r = finds-room in
-      let z : oneAcross limit (start + size width (f .item .chars)) + 0 ≡ oneAcross limit end =
-      omega (arith, ap (oneAcross limit) (f .end-is)) in
       record {
         advances = record { on = omega arith; inside = λ _. r; valid = item-valid p text start end (f .items-are) (f .end-is) };
         few = omega arith;
-        few-across = one-or-none (ltb limit end);
-        skips =
-            subst (λ (k : List Found). SkipsFindings limit k 1 (oneAcross limit end) (findingsFrom p text end)) (sym finds-here)
-            (subst (λ (m : ℕ). SkipsFindings limit (record { start = start; item = f .item } ∷ findingsFrom p text end) 1 m
-            (findingsFrom p text end)) z (one-skipped l none-skipped));
+        skips = subst (λ (k : List Found). SkipsFindings limit k 1 (findingsFrom p text end)) (sym finds-here)
+            (one-skipped (omega arith) (omega (arith, f .end-is)) none-skipped);
       }
-    where
-      one-or-none : (b : Bool) → cond b 1 0 ≤ 1
-      one-or-none true = omega arith
-      one-or-none false = omega arith
 
 -- ---- plain characters
 
@@ -256,7 +234,7 @@ pub passed : (policy text : List ℕ) {at to : ℕ} {bare : Bool} → bare ≡ a
     → NoFindingBetween (policyOf policy) text at to
 passed policy text e s = s (policyOf policy) (λ t. ascii-rule-bare policy (sym e ∙ t)) .1
 
-pub passes-skip : (policy text : List ℕ) {limit from at to n m : ℕ} {bare : Bool} → bare ≡ asciiKeysBare policy
-    → FindingsBetween (policyOf policy) text limit from at n m
-    → ((p : Policy) → (bare ≡ true → AsciiBare p) → PlainBetween p text at to) → FindingsBetween (policyOf policy) text limit from to n m
+pub passes-skip : (policy text : List ℕ) {limit from at to n : ℕ} {bare : Bool} → bare ≡ asciiKeysBare policy
+    → FindingsBetween (policyOf policy) text limit from at n
+    → ((p : Policy) → (bare ≡ true → AsciiBare p) → PlainBetween p text at to) → FindingsBetween (policyOf policy) text limit from to n
 passes-skip policy text e a s = over-passes a (passed policy text e s)

@@ -10,7 +10,7 @@ use types.Run.{OneOf, miss}
 use denote.Enum.Declared.{tagOf}
 use lib.Dec.{eqb, leb, ltb}
 use lib.ListN.{drop, length}
-use borrow.Author.Tests.{eq-eqb, eqb-true, le-leb, leb-false, leb-true, lt-leb, ne-eqb, not-false}
+use borrow.Author.Tests.{eq-eqb, eqb-true, le-leb, lt-leb, lt-ltb, ltb-false, ltb-true, ne-eqb, not-false}
 use Rattle.base.specs.Sums.{most}
 use Rattle.base.proofs.Tests.{and-both, both-true, le-or-lt}
 use Rattle.utf8.specs.Rfc3629.{chars, packed, readChar}
@@ -139,8 +139,8 @@ abbrev pub Keeps : ℕ → ℕ → NonCanonicality → NonCanonicality → Type 
 Keeps limit start sum counts = (limit ≤ start → counts ≡ sum) × (start < limit → counts ≡ empty)
 
 pub record Walking (p : Policy) (text : List ℕ) (limit from start base : ℕ) (index : VariationSequenceIndex) (at : ℕ) (state : State)
-    (changed : Bool) (n x : ℕ) (counts : NonCanonicality) : Type 0 where
-  pub passed : FindingsBetween p text limit from start n x
+    (changed : Bool) (n : ℕ) (counts : NonCanonicality) : Type 0 where
+  pub passed : FindingsBetween p text limit from start n
   pub entry : variationSequenceIndex base ≡ index
   pub inside : inner state ≡ true
   -- The last character of the item so far that is no selector: its offset and its number of bytes.
@@ -162,11 +162,11 @@ pub record Walking (p : Policy) (text : List ℕ) (limit from start base : ℕ) 
   pub changed-is : changed ≡ not (eqb (total sum) 0)
   pub kept : Keeps limit start sum counts
 
-pub walking-begin : (p : Policy) (text : List ℕ) (limit from : ℕ) {start v w n x : ℕ} {counts : NonCanonicality}
+pub walking-begin : (p : Policy) (text : List ℕ) (limit from : ℕ) {start v w n : ℕ} {counts : NonCanonicality}
     (index : VariationSequenceIndex)
-    → FindingsBetween p text limit from start n x → counts ≡ empty → Step text start v w
+    → FindingsBetween p text limit from start n → counts ≡ empty → Step text start v w
     → variationSequenceIndex v ≡ index → inner (startState (classOf v)) ≡ true
-    → Walking p text limit from start v index (start + w) (startState (classOf v)) false n x counts
+    → Walking p text limit from start v index (start + w) (startState (classOf v)) false n counts
 unfolding items
 walking-begin p text limit from {start} {v} {w} index a z h e i = record {
   passed = a;
@@ -225,8 +225,8 @@ begins-inner k s q = go (startState k) refl
     go leftOver e = refl
 
 module _ {p : Policy} {text : List ℕ} {limit from start base : ℕ} {index : VariationSequenceIndex} {at : ℕ} {state : State}
-    {changed : Bool} {n x : ℕ} {counts : NonCanonicality}
-    (l : Walking p text limit from start base index at state changed n x counts) {cell : CellEnd} (c : ReadsCell p text base at cell) where
+    {changed : Bool} {n : ℕ} {counts : NonCanonicality}
+    (l : Walking p text limit from start base index at state changed n counts) {cell : CellEnd} (c : ReadsCell p text base at cell) where
   abbrev T : List ℕ
   T = chars (drop at text)
 
@@ -345,13 +345,13 @@ module _ {p : Policy} {text : List ℕ} {limit from start base : ℕ} {index : V
 
     -- The item continues with that character.
     pub walking-on : {k : NonCanonicality} → Keeps limit start Sum k → (q : State) → nextOf (transition state (cell .class)) ≡ Next.On q
-        → Walking p text limit from start (cell .packed / 8) (cell .index) (cell .end + cell .packed % 8) q b n x k
+        → Walking p text limit from start (cell .packed / 8) (cell .index) (cell .end + cell .packed % 8) q b n k
     walking-on {k} y q e = go (on-char q e)
       where
         on : transition state (cell .class) ≡ some q
         on = next-on (transition state (cell .class)) q e
 
-        go : 1 ≤ cell .packed → Walking p text limit from start (cell .packed / 8) (cell .index) (cell .end + cell .packed % 8) q b n x k
+        go : 1 ≤ cell .packed → Walking p text limit from start (cell .packed / 8) (cell .index) (cell .end + cell .packed % 8) q b n k
         go h =
             let s = reads-next h in
             let v = cell .packed / 8 in
@@ -405,54 +405,57 @@ module _ {p : Policy} {text : List ℕ} {limit from start base : ℕ} {index : V
           some-of zero z = absurd (true≢false (sym t ∙ changed-on ∙ ap not (eq-eqb (total Sum) 0 z)))
           some-of (suc m) z = omega arith
 
-      -- The item is a finding that does not start before the limit.
-      pub walking-finds : {k : NonCanonicality} → Keeps limit start Sum k → {q : Bool} → q ≡ b && leb limit start → q ≡ true
-          → FindsFrom p text limit (record { start = start; end = cell .end; counts = k; present = true; passed = n; across = x })
+      -- The item is a finding that ends after the limit.
+      pub walking-finds : {k : NonCanonicality} → Keeps limit start Sum k → {q : Bool} → q ≡ b && ltb limit (cell .end) → q ≡ true
+          → FindsFrom p text limit (record { start = start; end = cell .end; counts = k; present = true; passed = n })
       walking-finds {k} y e t =
-          let h = both-true b (leb limit start) (sym e ∙ t) in
-          let m = leb-true limit start (h .1) in
-          (m, subst (λ (x : NonCanonicality). Counted p text start (cell .end) x) (sym (y .0 m)) (finds (h .0)))
+          let h = both-true b (ltb limit (cell .end)) (sym e ∙ t) in
+          let f = finds (h .0) in (
+            ltb-true limit (cell .end) (h .1),
+            f .finds,
+            λ m. subst (λ (x : NonCanonicality). Counted p text start (cell .end) x) (sym (y .0 m)) f,
+          )
 
-      -- The item is no finding, or starts before the limit: it is passed, and `counts` is empty.
-      pub walking-passes : {q r : Bool} {m y : ℕ} → q ≡ b && leb limit start → q ≡ false → m ≡ cond b 1 0 → r ≡ b && ltb limit (cell .end)
-          → y ≡ cond r 1 0 → FindingsBetween p text limit from (cell .end) (n + m) (x + y)
-      walking-passes {m = m} {y} e f z g i = go b refl (sym e ∙ f) z (i ∙ ap (λ (r : Bool). cond r 1 0) g)
+      -- The item is no finding, or does not end after the limit: it is passed, and `counts` is empty.
+      pub walking-passes : {q : Bool} {m : ℕ} → q ≡ b && ltb limit (cell .end) → q ≡ false → m ≡ cond b 1 0
+          → FindingsBetween p text limit from (cell .end) (n + m)
+      walking-passes {q} {m} e f z = go b refl (sym e ∙ f) z
         where
-          go : (a : Bool) → b ≡ a → (a && leb limit start) ≡ false → m ≡ cond a 1 0 → y ≡ cond (a && ltb limit (cell .end)) 1 0
-              → FindingsBetween p text limit from (cell .end) (n + m) (x + y)
-          go true t h u v = rw (u, v) (over-on (l .passed) (over-finding (finds t .finds) (leb-false limit start h)))
-          go false t h u v =
+          go : (a : Bool) → b ≡ a → (a && ltb limit (cell .end)) ≡ false → m ≡ cond a 1 0
+              → FindingsBetween p text limit from (cell .end) (n + m)
+          go true t h y = rw y (over-on (l .passed) (over-finding (finds t .finds) (ltb-false limit (cell .end) h)))
+          go false t h y =
               let s : total Sum ≡ 0 = eqb-true (total Sum) 0 (not-false _ (sym changed-on ∙ t)) in
-              let j : n ≡ n + m = omega (arith, u) in
-              let k : x ≡ x + y = omega (arith, v) in
-              subst (λ (i : ℕ). FindingsBetween p text limit from (cell .end) (n + m) i) k
-              (subst (λ (i : ℕ). FindingsBetween p text limit from (cell .end) i x) j
+              let k : n ≡ n + m = omega (arith, y) in
+              subst (λ (i : ℕ). FindingsBetween p text limit from (cell .end) i) k
               (over-passes (l .passed) (uncounted-item p text start (cell .end) (l .items-are) ends-here
-              (omega (arith, ap total total-on)))))
+              (omega (arith, ap total total-on))))
 
-      pub none-kept : {k : NonCanonicality} → Keeps limit start Sum k → {q : Bool} → q ≡ b && leb limit start → q ≡ false → k ≡ empty
+      pub none-kept : {k : NonCanonicality} → Keeps limit start Sum k → {q : Bool} → q ≡ b && ltb limit (cell .end) → q ≡ false → k ≡ empty
       none-kept {k} y e f = ⊎-elim (λ h. after-limit h b refl) (y .1) (le-or-lt limit start)
         where
           after-limit : limit ≤ start → (a : Bool) → b ≡ a → k ≡ empty
-          after-limit h true t = absurd (true≢false (sym (and-both b (leb limit start) t (le-leb limit start h)) ∙ sym e ∙ f))
+          after-limit h true t =
+              let z = lt-ltb limit (cell .end) (omega (arith, further)) in
+              absurd (true≢false (sym (and-both b (ltb limit (cell .end)) t z) ∙ sym e ∙ f))
           after-limit h false t = y .0 h ∙ total-empty Sum (eqb-true (total Sum) 0 (not-false _ (sym changed-on ∙ t)))
 
       -- After a passed item, another item of links or units starts.
-      pub walking-again : {m y : ℕ} {k : NonCanonicality} → FindingsBetween p text limit from (cell .end) m y → k ≡ empty
+      pub walking-again : {m : ℕ} {k : NonCanonicality} → FindingsBetween p text limit from (cell .end) m → k ≡ empty
           → (startState (cell .class) ≡ plain → ⊥)
           → Walking p text limit from (cell .end) (cell .packed / 8) (cell .index) (cell .end + cell .packed % 8)
-          (startState (cell .class)) false m y k
-      walking-again {m} {y} {k} a z q = go (begin-char q)
+          (startState (cell .class)) false m k
+      walking-again {m} {k} a y q = go (begin-char q)
         where
           go : 1 ≤ cell .packed → Walking p text limit from (cell .end) (cell .packed / 8) (cell .index) (cell .end + cell .packed % 8)
-              (startState (cell .class)) false m y k
+              (startState (cell .class)) false m k
           go h =
               let s = reads-next h in
               let j = c .class-is in
               let i : inner (startState (classOf (cell .packed / 8))) ≡ true =
               begins-inner (classOf (cell .packed / 8)) (λ z. true≢false (sym (selector-class (cell .packed / 8) z) ∙ no-selector-next s))
               (λ z. q (ap startState j ∙ z)) in
-              rw j (walking-begin p text limit from (cell .index) a z s (sym (c .index-is)) i)
+              rw j (walking-begin p text limit from (cell .index) a y s (sym (c .index-is)) i)
 
 -- ---- where the walk starts
 

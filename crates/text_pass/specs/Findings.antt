@@ -2,10 +2,10 @@
 -- which findings are passed, which item is the next finding, and what is counted of it. The findings themselves are those of
 -- crates/analysis/specs/Findings.antt.
 use mathlib.Core.Path.{_≡_}
-use mathlib.Core.Bool.{true, false, cond, not}
+use mathlib.Core.Bool.{true, false, not}
 use mathlib.Core.List.{List, [], _∷_}
 use Prim.Native.Nat.{ℕ, suc, _+_, _*_, _-_, _/_, _<_, _≤_}
-use lib.Dec.{eqb, ltb}
+use lib.Dec.{eqb}
 use lib.ListN.{drop, length}
 use Rattle.utf8.specs.Rfc3629.{chars, packed, readChar}
 use Rattle.unicode.specs.Unicode.{variationSequenceIndex}
@@ -23,16 +23,12 @@ use Rattle.text_pass.specs.Changes.{Advances, UnchangedBetween, outcomeF
 use Rattle.text_pass.specs.declared.findings.CellEnd.{CellEnd}
 use Rattle.text_pass.specs.declared.findings.FindingSpan.{FindingSpan}
 
--- 1 if a finding that ends at the offset `end` ends after the limit, else 0.
-abbrev pub oneAcross : ℕ → ℕ → ℕ
-oneAcross limit end = cond (ltb limit end) 1 0
-
--- `SkipsFindings limit fs n m gs`: the first n findings of the list fs start before the limit, m of them end after it, and the list gs has
+-- `SkipsFindings limit fs n gs`: the first n findings of the list fs start before the limit and do not end after it, and the list gs has
 -- the others.
-pub data SkipsFindings (limit : ℕ) : List Found → ℕ → ℕ → List Found → Type 0 where
-  none-skipped : {fs : List Found} → SkipsFindings limit fs 0 0 fs
-  one-skipped : {f : Found} {fs gs : List Found} {n m : ℕ} → f .start < limit → SkipsFindings limit fs n m gs
-      → SkipsFindings limit (f ∷ fs) (suc n) (oneAcross limit (f .start + size width (f .item .chars)) + m) gs
+pub data SkipsFindings (limit : ℕ) : List Found → ℕ → List Found → Type 0 where
+  none-skipped : {fs : List Found} → SkipsFindings limit fs 0 fs
+  one-skipped : {f : Found} {fs gs : List Found} {n : ℕ} → f .start < limit → f .start + size width (f .item .chars) ≤ limit
+      → SkipsFindings limit fs n gs → SkipsFindings limit (f ∷ fs) (suc n) gs
 
 module _ (p : Policy) (text : List ℕ) where
   -- No finding starts between two offsets: the findings from the first on are those from the second on.
@@ -40,12 +36,11 @@ module _ (p : Policy) (text : List ℕ) where
     pub advances : Advances text from to
     pub same : findingsFrom p text from ≡ findingsFrom p text to
 
-  -- Between two offsets start n findings, each of them before the limit, and m of them end after it.
-  pub record FindingsBetween (limit from to n m : ℕ) : Type 0 where
+  -- Between two offsets start n findings, none of which ends after the limit.
+  pub record FindingsBetween (limit from to n : ℕ) : Type 0 where
     pub advances : Advances text from to
     pub few : n ≤ to - from
-    pub few-across : m ≤ n
-    pub skips : SkipsFindings limit (findingsFrom p text from) n m (findingsFrom p text to)
+    pub skips : SkipsFindings limit (findingsFrom p text from) n (findingsFrom p text to)
 
   -- The item that starts at the offset `start` is a finding, and ends at the offset `end`.
   pub record Finds (start end : ℕ) : Type 0 where
@@ -64,26 +59,23 @@ module _ (p : Policy) (text : List ℕ) where
   abbrev pub PlainBetween : ℕ → ℕ → Type 0
   PlainBetween from to = UnchangedBetween p text from to × NoFindingBetween from to
 
-  -- The span is that of a finding that does not start before the limit, with its counts.
+  -- The span is that of a finding that ends after the limit, with its counts if it does not start before the limit.
   abbrev pub FindsFrom : ℕ → FindingSpan → Type 0
-  FindsFrom limit r = (limit ≤ r .start) × Counted (r .start) (r .end) (r .counts)
+  FindsFrom limit r = (limit < r .end) × Finds (r .start) (r .end) × (limit ≤ r .start → Counted (r .start) (r .end) (r .counts))
 
-  -- The span is that of the first finding, from the offset `from` on, that does not start before the limit. Or no such finding is present
-  -- up to the end of the text or the first offset at which no character begins. `passed` is the number of findings before the span, and
-  -- `across` the number of those that end after the limit.
+  -- The span is that of the first finding, from the offset `from` on, that ends after the limit. Or no such finding is present up to the
+  -- end of the text or the first offset at which no character begins. `passed` is the number of findings before the span.
   abbrev pub NextFinding : ℕ → ℕ → FindingSpan → Type 0
   NextFinding limit from r =
-      FindingsBetween limit from (r .start) (r .passed) (r .across)
+      FindingsBetween limit from (r .start) (r .passed)
       × (r .present ≡ true → FindsFrom limit r)
       × (r .present ≡ false → (chars (drop (r .start) text) ≡ []) × (r .end ≡ r .start) × (r .counts ≡ empty))
 
-  -- The span is that of the first finding, from the offset `from` on, that does not start before the limit. Or no such finding starts
-  -- before a later offset, which is the span's start. `passed` and `across` are as above.
+  -- The span is that of the first finding, from the offset `from` on, that ends after the limit. Or no such finding starts before a later
+  -- offset, which is the span's start. `passed` is the number of findings before the span.
   abbrev pub WalkedFrom : ℕ → ℕ → FindingSpan → Type 0
   WalkedFrom limit from r =
-      FindingsBetween limit from (r .start) (r .passed) (r .across)
-      × (r .present ≡ true → FindsFrom limit r)
-      × (r .present ≡ false → from < r .start)
+      FindingsBetween limit from (r .start) (r .passed) × (r .present ≡ true → FindsFrom limit r) × (r .present ≡ false → from < r .start)
 
 -- What is read of a cell whose selectors begin at an offset: their end, the first of them, whether the rules count something, and the
 -- character after them. The rules have the same outcome for that character's class as for the cell that follows.

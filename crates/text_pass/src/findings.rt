@@ -40,16 +40,15 @@ use scanner::state::State;
 use unicode::VariationSequenceIndex;
 use unicode::presentation::FromSelector;
 
-// The next finding: its bytes, from `start` up to `end`, and its eight counts. Where no finding is left, `present` is false, both offsets
-// are the end of the longest well-formed beginning, and the counts are empty. `passed` is the number of findings passed before it, and
-// `across` the number of those that end after the limit.
+// The next finding: its bytes, from `start` up to `end`, and its eight counts if it does not start before the limit. Where no finding is
+// left, `present` is false, both offsets are the end of the longest well-formed beginning, and the counts are empty. `passed` is the number
+// of findings passed before it.
 pub struct FindingSpan {
     pub start: usize,
     pub end: usize,
     pub counts: NonCanonicality,
     pub present: bool,
     pub passed: usize,
-    pub across: usize,
 }
 
 // The rest of a cell, after its character: where its selectors end, the first of them, and whether the rules count anything. Then the
@@ -123,7 +122,7 @@ fn is_wanted(changes: bool, limit: usize, start: usize) -> bool
 }
 
 // Whether an item is a finding that ends after the limit. `changed` says whether the rules count something in it.
-fn is_across(changed: bool, limit: usize, end: usize) -> bool
+fn ends_after(changed: bool, limit: usize, end: usize) -> bool
     ensures { λ r. ⌜ r ≡ changed && ltb limit end ⌝ }
 {
     if !changed {
@@ -165,7 +164,7 @@ fn findings_of(changed: bool) -> usize
 }
 
 // Walks through items, from one of links or units on, whose first character is known. It passes items that are no findings and findings
-// that start before the limit. It ends at another finding, or at the end of the last item before plain text.
+// that do not end after the limit. It ends at another finding, or at the end of the last item before plain text.
 fn walk_items(
     text: &[u8],
     policy: &[u8],
@@ -187,7 +186,6 @@ fn walk_items(
     let mut state = first;
     let mut changed = false;
     let mut passed = 0;
-    let mut across = 0;
     let mut counts = NonCanonicality::empty();
     loop {
         let cell = read_cell(text, policy, base, index, at);
@@ -213,18 +211,16 @@ fn walk_items(
                 state = next;
             }
             Next::Stop => {
-                if is_wanted(changed, limit, start) {
+                if ends_after(changed, limit, end) {
                     return FindingSpan {
                         start,
                         end,
                         counts,
                         present: true,
                         passed,
-                        across,
                     };
                 }
                 passed += findings_of(changed);
-                across += findings_of(is_across(changed, limit, end));
                 state = scanner::state::start_state_by_row(class);
                 if let State::Plain = state {
                     return FindingSpan {
@@ -233,7 +229,6 @@ fn walk_items(
                         counts,
                         present: false,
                         passed,
-                        across,
                     };
                 }
                 start = end;
@@ -262,15 +257,13 @@ fn skip_bare_ascii(text: &[u8], bare: bool, from: usize) -> usize
     skip_ascii(text, from)
 }
 
-// Finds the next finding of a text, from an offset on, that does not start before the limit. It passes findings that do, and counts them
-// and those of them that end after the limit.
+// Finds the next finding of a text, from an offset on, that ends after the limit. It passes findings that do not, and counts them.
 pub fn next_finding(text: &[u8], policy: &[u8], limit: usize, from: usize) -> FindingSpan
     ensures { λ r. ⌜ NextFinding (policyOf (now (policy .entry))) (now (text .entry)) limit from r ⌝ }
 {
     let bare = policy::policy_bytes::ascii_keys_bare(policy);
     let mut at = from;
     let mut passed = 0;
-    let mut across = 0;
     loop {
         at = skip_bare_ascii(text, bare, at);
         let packed = utf8::decode(text, at);
@@ -281,7 +274,6 @@ pub fn next_finding(text: &[u8], policy: &[u8], limit: usize, from: usize) -> Fi
                 counts: NonCanonicality::empty(),
                 present: false,
                 passed,
-                across,
             };
         }
         let ch = packed / 8;
@@ -294,18 +286,16 @@ pub fn next_finding(text: &[u8], policy: &[u8], limit: usize, from: usize) -> Fi
             }
             State::Selectors => {
                 let end = selectors_end(text, at);
-                if limit <= at {
+                if limit < end {
                     return FindingSpan {
                         start: at,
                         end,
                         counts: NonCanonicality::unsanctioned((end - at) / SELECTOR_BYTES),
                         present: true,
                         passed,
-                        across,
                     };
                 }
                 passed += 1;
-                across += findings_of(limit < end);
                 at = end;
             }
             _ => {
@@ -315,10 +305,8 @@ pub fn next_finding(text: &[u8], policy: &[u8], limit: usize, from: usize) -> Fi
                     counts,
                     present,
                     passed: walked,
-                    across: walked_across,
                 } = walk_items(text, policy, limit, at, ch, width, index, state);
                 passed += walked;
-                across += walked_across;
                 if present {
                     return FindingSpan {
                         start,
@@ -326,7 +314,6 @@ pub fn next_finding(text: &[u8], policy: &[u8], limit: usize, from: usize) -> Fi
                         counts,
                         present,
                         passed,
-                        across,
                     };
                 }
                 at = start;

@@ -28,11 +28,10 @@ use Rattle.text_pass.proofs.findings.next_finding.Statement.{statement}
 use Rattle.text_pass.proofs.findings.next_finding.Tie as tie
 
 abbrev Inv-loop : tie.InvT-loop
-Inv-loop text policy limit from bare at₀ passed₀ across₀ at passed across =
-    FindingsBetween (policyOf policy) text limit from at passed across
+Inv-loop text policy limit from bare at₀ passed₀ at passed = FindingsBetween (policyOf policy) text limit from at passed
 
 abbrev μ-loop : tie.MeasureT-loop
-μ-loop text policy limit from bare at₀ passed₀ across₀ at passed across = length text - at
+μ-loop text policy limit from bare at₀ passed₀ at passed = length text - at
 
 loop-holds : tie.Need-loop-holds Inv-loop μ-loop
 loop-holds c = over-here _
@@ -110,7 +109,7 @@ returns-2 c =
     ((c .before .before .selectors-end .result -
     c .before .before .before .before .before .before .before .before .before .skip-bare-ascii .result) / 3) e refl
     (c .unsanctioned .ensures) in
-    (a, λ _. (omega (arith, c .before .if2 .taken), f), λ h. absurd (true≢false h))
+    (a, λ _. (omega (arith, c .before .if2 .taken), f .finds, λ _. f), λ h. absurd (true≢false h))
 
 add-passed : tie.Need-add-passed Inv-loop μ-loop
 add-passed c =
@@ -131,70 +130,46 @@ add-passed c =
       c .before .before .before .before .before .before .before .before .before .before .before .before .before .good .0 .0,
     )
 
-add-across : tie.Need-add-across Inv-loop μ-loop
-add-across c =
-    let past = c .before in
-    let x = past .before .before .before .before .before .before .before .before .before .before .before .before .before .args in
-    let a = passes-skip (x .policy .now) (x .text .now)
-    (past .before .before .before .before .before .before .before .before .before .before .ascii-keys-bare .ensures)
-    (past .before .before .before .before .before .before .before .before .before .loop .inv)
-    (past .before .before .before .before .before .before .before .before .skip-bare-ascii .ensures) in
-    let s = packed-step (x .text .now) (past .before .before .before .before .before .before .before .before .skip-bare-ascii .result)
-    (past .before .before .before .before .before .before .before .decode .result)
-    (past .before .before .before .before .before .before .before .decode .ensures)
-    (past .before .before .before .before .before .before .if1 .left) in
-    omega (
-      arith,
-      a .few,
-      a .few-across,
-      s .room,
-      s .some,
-      c .findings-of .ensures .1,
-      past .before .before .before .before .before .before .before .before .before .before .before .before .before .good .0 .0,
-    )
-
 loop-less-2 : tie.Need-loop-less-2 Inv-loop μ-loop
 loop-less-2 c =
-    let past = c .before in
-    let x = past .before .before .before .before .before .before .before .before .before .before .before .before .before .args in
+    let x = c .before .before .before .before .before .before .before .before .before .before .before .before .before .args in
     let p = policyOf (x .policy .now) in
     let k = passed (x .policy .now) (x .text .now)
-    (past .before .before .before .before .before .before .before .before .before .before .ascii-keys-bare .ensures)
-    (past .before .before .before .before .before .before .before .before .skip-bare-ascii .ensures) in
-    let s = packed-step (x .text .now) (past .before .before .before .before .before .before .before .before .skip-bare-ascii .result)
-    (past .before .before .before .before .before .before .before .decode .result)
-    (past .before .before .before .before .before .before .before .decode .ensures)
-    (past .before .before .before .before .before .before .if1 .left) in
-    let b = ap startState (sym (past .before .before .before .before .before .classify .ensures .0))
-    ∙ sym (past .before .before .before .before .start-state .ensures) ∙ past .before .before .enum-told2 .given .1 in
-    let e = past .before .selectors-end .ensures
-    ∙ selectors-end (x .text .now) (past .before .before .before .before .before .before .before .before .skip-bare-ascii .result) in
-    let f = selectors-find p s b (past .before .selectors-end .result)
-    ((past .before .selectors-end .result - past .before .before .before .before .before .before .before .before .skip-bare-ascii .result) /
+    (c .before .before .before .before .before .before .before .before .before .before .ascii-keys-bare .ensures)
+    (c .before .before .before .before .before .before .before .before .skip-bare-ascii .ensures) in
+    let s = packed-step (x .text .now) (c .before .before .before .before .before .before .before .before .skip-bare-ascii .result)
+    (c .before .before .before .before .before .before .before .decode .result)
+    (c .before .before .before .before .before .before .before .decode .ensures)
+    (c .before .before .before .before .before .before .if1 .left) in
+    let b = ap startState (sym (c .before .before .before .before .before .classify .ensures .0))
+    ∙ sym (c .before .before .before .before .start-state .ensures) ∙ c .before .before .enum-told2 .given .1 in
+    let e = c .before .selectors-end .ensures
+    ∙ selectors-end (x .text .now) (c .before .before .before .before .before .before .before .before .skip-bare-ascii .result) in
+    let f = selectors-find p s b (c .before .selectors-end .result)
+    ((c .before .selectors-end .result - c .before .before .before .before .before .before .before .before .skip-bare-ascii .result) /
     3) e refl refl in
     omega (arith, k .advances .on, s .room, s .some, finds-some (f .finds), finds-room (f .finds))
 
 loop-again-2 : tie.Need-loop-again-2 Inv-loop μ-loop
 loop-again-2 c =
-    let past = c .before in
-    let x = past .before .before .before .before .before .before .before .before .before .before .before .before .before .args in
+    let x = c .before .before .before .before .before .before .before .before .before .before .before .before .before .args in
     let p = policyOf (x .policy .now) in
     let a = passes-skip (x .policy .now) (x .text .now)
-    (past .before .before .before .before .before .before .before .before .before .before .ascii-keys-bare .ensures)
-    (past .before .before .before .before .before .before .before .before .before .loop .inv)
-    (past .before .before .before .before .before .before .before .before .skip-bare-ascii .ensures) in
-    let s = packed-step (x .text .now) (past .before .before .before .before .before .before .before .before .skip-bare-ascii .result)
-    (past .before .before .before .before .before .before .before .decode .result)
-    (past .before .before .before .before .before .before .before .decode .ensures)
-    (past .before .before .before .before .before .before .if1 .left) in
-    let b = ap startState (sym (past .before .before .before .before .before .classify .ensures .0))
-    ∙ sym (past .before .before .before .before .start-state .ensures) ∙ past .before .before .enum-told2 .given .1 in
-    let e = past .before .selectors-end .ensures
-    ∙ selectors-end (x .text .now) (past .before .before .before .before .before .before .before .before .skip-bare-ascii .result) in
-    let f = selectors-find p s b (past .before .selectors-end .result)
-    ((past .before .selectors-end .result - past .before .before .before .before .before .before .before .before .skip-bare-ascii .result) /
+    (c .before .before .before .before .before .before .before .before .before .before .ascii-keys-bare .ensures)
+    (c .before .before .before .before .before .before .before .before .before .loop .inv)
+    (c .before .before .before .before .before .before .before .before .skip-bare-ascii .ensures) in
+    let s = packed-step (x .text .now) (c .before .before .before .before .before .before .before .before .skip-bare-ascii .result)
+    (c .before .before .before .before .before .before .before .decode .result)
+    (c .before .before .before .before .before .before .before .decode .ensures)
+    (c .before .before .before .before .before .before .if1 .left) in
+    let b = ap startState (sym (c .before .before .before .before .before .classify .ensures .0))
+    ∙ sym (c .before .before .before .before .start-state .ensures) ∙ c .before .before .enum-told2 .given .1 in
+    let e = c .before .selectors-end .ensures
+    ∙ selectors-end (x .text .now) (c .before .before .before .before .before .before .before .before .skip-bare-ascii .result) in
+    let f = selectors-find p s b (c .before .selectors-end .result)
+    ((c .before .selectors-end .result - c .before .before .before .before .before .before .before .before .skip-bare-ascii .result) /
     3) e refl refl in
-    rw (c .findings-of .ensures .0) (over-on a (over-finding (f .finds) (omega (arith, past .if2 .left))))
+    over-on a (over-finding (f .finds) (omega (arith, c .if2 .left)))
 
 walk-items-requires : tie.Need-walk-items-requires Inv-loop μ-loop
 walk-items-requires c κs =
@@ -226,29 +201,6 @@ add-passed-2 c =
       a .few,
       w .advances .on,
       w .few,
-      w .advances .inside (omega (arith, s .room)),
-      c .before .before .before .before .before .before .before .before .before .before .before .before .good .0 .0,
-    )
-
-add-across-2 : tie.Need-add-across-2 Inv-loop μ-loop
-add-across-2 c =
-    let x = c .before .before .before .before .before .before .before .before .before .before .before .before .args in
-    let a = passes-skip (x .policy .now) (x .text .now)
-    (c .before .before .before .before .before .before .before .before .before .ascii-keys-bare .ensures)
-    (c .before .before .before .before .before .before .before .before .loop .inv)
-    (c .before .before .before .before .before .before .before .skip-bare-ascii .ensures) in
-    let s = packed-step (x .text .now) (c .before .before .before .before .before .before .before .skip-bare-ascii .result)
-    (c .before .before .before .before .before .before .decode .result)
-    (c .before .before .before .before .before .before .decode .ensures) (c .before .before .before .before .before .if1 .left) in
-    let w = c .before .walk-items .ensures .0 in
-    omega (
-      arith,
-      a .advances .on,
-      a .few,
-      a .few-across,
-      w .advances .on,
-      w .few,
-      w .few-across,
       w .advances .inside (omega (arith, s .room)),
       c .before .before .before .before .before .before .before .before .before .before .before .before .good .0 .0,
     )
@@ -311,13 +263,10 @@ next-finding-spec =
     (λ c κs. search needs)
     returns-2
     add-passed
-    (λ c κs. search needs)
-    add-across
     loop-less-2
     loop-again-2
     walk-items-requires
     add-passed-2
-    add-across-2
     returns-3
     loop-less-3
     loop-again-3)

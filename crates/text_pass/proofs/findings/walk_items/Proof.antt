@@ -36,13 +36,13 @@ use Rattle.text_pass.proofs.findings.walk_items.Statement.{statement}
 use Rattle.text_pass.proofs.findings.walk_items.Tie as tie
 
 abbrev Inv-loop : tie.InvT-loop
-Inv-loop text policy limit from ch width start₀ base₀ index₀ at₀ state₀ changed₀ passed₀ across₀ counts₀ start base index at state changed
-    passed across counts =
-    Walking (policyOf policy) text limit from start base index at state changed passed across counts
+Inv-loop text policy limit from ch width start₀ base₀ index₀ at₀ state₀ changed₀ passed₀ counts₀ start base index at state changed passed
+    counts =
+    Walking (policyOf policy) text limit from start base index at state changed passed counts
 
 abbrev μ-loop : tie.MeasureT-loop
-μ-loop text policy limit from ch width start₀ base₀ index₀ at₀ state₀ changed₀ passed₀ across₀ counts₀ start base index at state changed
-    passed across counts =
+μ-loop text policy limit from ch width start₀ base₀ index₀ at₀ state₀ changed₀ passed₀ counts₀ start base index at state changed passed
+    counts =
     length text - at
 
 add-at : tie.Need-add-at Inv-loop μ-loop
@@ -83,7 +83,7 @@ returns c =
     (c .before .before .before .before .before .before .before .is-wanted .ensures)
     (c .before .before .before .before .before .before .add-cell .ensures) in
     let e = sym (c .before .before .before .before .transition .ensures) ∙ c .before .before .enum-told .given .1 in
-    (l .passed, λ _. walking-finds l r d e y (c .before .is-wanted2 .ensures) (c .if2 .taken), λ f. absurd (true≢false f))
+    (l .passed, λ _. walking-finds l r d e y (c .before .ends-after .ensures) (c .if2 .taken), λ f. absurd (true≢false f))
 
 add-passed : tie.Need-add-passed Inv-loop μ-loop
 add-passed c =
@@ -98,35 +98,19 @@ add-passed c =
       c .before .before .before .before .before .before .before .before .before .before .before .before .before .before .good .0 .0,
     )
 
-add-across : tie.Need-add-across Inv-loop μ-loop
-add-across c =
-    let stopped = c .before .before in
-    let l = stopped .before .before .before .before .before .before .before .before .before .before .loop .inv in
-    let r = stopped .before .before .before .before .before .before .before .before .before .read-cell .ensures in
-    omega (
-      arith,
-      l .passed .few,
-      l .passed .few-across,
-      further l r,
-      room l r,
-      c .findings-of2 .ensures .1,
-      stopped .before .before .before .before .before .before .before .before .before .before .before .before .before .before .good .0 .0,
-    )
-
 returns-2 : tie.Need-returns-2 Inv-loop μ-loop
 returns-2 c =
-    let stopped = c .before .before .before .before .before in
-    let cell = stopped .before .before .before .before .before .before .before .before .before in
-    let l = cell .before .loop .inv in
-    let r = cell .read-cell .ensures in
-    let d = ⊎-elim (λ w. now-changed (cell .before .loop .changed) (w .0 .taken) (w .1))
-    (λ w. as-changed (cell .before .loop .changed) (w .0 .left) (w .1))
-    (stopped .before .before .before .before .before .before .if1 .came) in
-    let e = sym (stopped .before .before .before .before .before .transition .ensures)
-    ∙ stopped .before .before .before .enum-told .given .1 in
-    let a = walking-passes l r d e (stopped .before .before .is-wanted2 .ensures) (stopped .before .if2 .left)
-    (stopped .findings-of .ensures .0) (c .before .before .before .before .is-across .ensures)
-    (c .before .before .before .findings-of2 .ensures .0) in
+    let l = c .before .before .before .before .before .before .before .before .before .before .before .before .before .loop .inv in
+    let r = c .before .before .before .before .before .before .before .before .before .before .before .before .read-cell .ensures in
+    let d = ⊎-elim (λ w. now-changed
+    (c .before .before .before .before .before .before .before .before .before .before .before .before .before .loop .changed)
+    (w .0 .taken) (w .1)) (λ w. as-changed
+    (c .before .before .before .before .before .before .before .before .before .before .before .before .before .loop .changed)
+    (w .0 .left) (w .1)) (c .before .before .before .before .before .before .before .before .before .if1 .came) in
+    let e = sym (c .before .before .before .before .before .before .before .before .transition .ensures)
+    ∙ c .before .before .before .before .before .before .enum-told .given .1 in
+    let a = walking-passes l r d e (c .before .before .before .before .before .ends-after .ensures)
+    (c .before .before .before .before .if2 .left) (c .before .before .before .findings-of .ensures .0) in
     (a, λ f. absurd (true≢false (sym f)), λ _. omega (arith, l .passed .advances .on, further l r))
 
 add-at-2 : tie.Need-add-at-2 Inv-loop μ-loop
@@ -138,7 +122,7 @@ add-at-2 c =
     (c .before .before .before .before .if1 .came) in
     let t = c .before .before .before .transition .ensures in
     let n = ⊎-elim (λ w. on-char l r d (w .1 .given .0 .0) (sym t ∙ w .1 .given .1))
-    (λ w. begin-char l r d (λ e. not-plain (w .7 .result) (w .8 .keys2) (w .7 .ensures ∙ e))) (c .before .before .match .came) in
+    (λ w. begin-char l r d (λ e. not-plain (w .5 .result) (w .6 .keys2) (w .5 .ensures ∙ e))) (c .before .before .match .came) in
     let s = reads-next l r d n in
     omega (arith, s .room, c .before .before .before .before .before .before .before .before .before .before .before .before .good .0 .0)
 
@@ -151,7 +135,7 @@ loop-less c =
     (c .before .before .before .before .if1 .came) in
     let t = c .before .before .before .transition .ensures in
     let n = ⊎-elim (λ w. on-char l r d (w .1 .given .0 .0) (sym t ∙ w .1 .given .1))
-    (λ w. begin-char l r d (λ e. not-plain (w .7 .result) (w .8 .keys2) (w .7 .ensures ∙ e))) (c .before .before .match .came) in
+    (λ w. begin-char l r d (λ e. not-plain (w .5 .result) (w .6 .keys2) (w .5 .ensures ∙ e))) (c .before .before .match .came) in
     let s = reads-next l r d n in
     omega (arith, s .room, s .some, r .end-is)
 
@@ -170,12 +154,12 @@ loop-again c =
     (c .before .before .before .before .before .add-cell .ensures) in
     let t = c .before .before .before .transition .ensures in
     ⊎-elim
-    (λ w. rw (w .3, w .4, w .5, w .6, w .7) (walking-on l r d y (w .1 .given .0 .0) (sym t ∙ w .1 .given .1)))
+    (λ w. rw (w .3, w .4, w .5, w .6) (walking-on l r d y (w .1 .given .0 .0) (sym t ∙ w .1 .given .1)))
     (λ w.
     let e = sym t ∙ w .1 .given .1 in
-    rw (w .9, w .10 ∙ w .7 .ensures, w .11, w .12, w .13)
-    (walking-again l r d e (walking-passes l r d e (w .2 .ensures) (w .3 .left) (w .4 .ensures .0) (w .5 .ensures) (w .6 .ensures .0))
-    (none-kept l r d e y (w .2 .ensures) (w .3 .left)) (λ e. not-plain (w .7 .result) (w .8 .keys2) (w .7 .ensures ∙ e))))
+    rw (w .7, w .8 ∙ w .5 .ensures, w .9, w .10)
+    (walking-again l r d e (walking-passes l r d e (w .2 .ensures) (w .3 .left) (w .4 .ensures .0))
+    (none-kept l r d e y (w .2 .ensures) (w .3 .left)) (λ e. not-plain (w .5 .result) (w .6 .keys2) (w .5 .ensures ∙ e))))
     (c .before .before .match .came)
 
 pub walk-items-spec : {M : Type 1} → statement M
@@ -198,9 +182,6 @@ walk-items-spec =
     returns
     (λ c κs. search needs)
     add-passed
-    (λ c κs. search needs)
-    (λ c κs. search needs)
-    add-across
     (λ c κs. search needs)
     (λ c. search needs)
     returns-2
