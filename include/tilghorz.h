@@ -152,8 +152,7 @@ uint64_t tilghorz_repair(const uint8_t *text, size_t text_len, uint8_t *out, siz
  * stretch is the bytes from `from` up to, not including, `to`; both may be any numbers. A stretch that reaches past the text is cut at the
  * end of the text; one that ends before its start is empty; an empty stretch has neither kind of findings. Numbers: 1, 2, 3, 7 with the
  * number of rows needed by the first table that is too short, `inside` before `sharing`; neither table is written then. Two values: the
- * number of rows in `inside`, and the number of rows in `sharing`, which is at most 2. A row is as in tilghorz_list. The call is fastest
- * where `sharing` has two rows, and `inside` one row more than the findings inside. */
+ * number of rows in `inside`, and the number of rows in `sharing`, which is at most 2. A row is as in tilghorz_list. */
 uint64_t tilghorz_around(const uint8_t *text, size_t text_len, const uint8_t *policy, size_t policy_len, uint64_t from, uint64_t to,
                          uint8_t *inside, size_t inside_len, uint8_t *sharing, size_t sharing_len);
 

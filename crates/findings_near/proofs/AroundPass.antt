@@ -1,22 +1,24 @@
--- The passes around a stretch: the tests by their branches, counting both lists, writing both lists, and the two tables.
+-- The passes around a stretch: the tests by their branches, and of a finding that starts in the stretch; where a pass stops, the two
+-- tables, and writing both lists.
 use mathlib.Core.Path.{_≡_, refl, ap, ap₂, subst, sym, _∙_}
-use mathlib.Core.Bool.{Bool, true, false, _&&_, cond, not}
+use mathlib.Core.Logic.{⊎-elim}
+use mathlib.Core.Bool.{Bool, true, false, _&&_, and-false, cond, not}
 use mathlib.Core.List.{List, [], _∷_, _++_}
-use Prim.Native.Nat.{ℕ, _+_, _*_, _/_, _<_, _≤_}
+use Prim.Native.Nat.{ℕ, _+_, _/_, _<_, _≤_}
 use native.Mathlib.Omega.{arith}
 use lib.Dec.{leb, ltb}
-use lib.ListN.{drop, length}
+use lib.ListN.{length}
 use borrow.Author.Tests.{le-leb, le-ltb, lt-leb, lt-ltb, ltb-false, ltb-true}
 use Rattle.base.specs.Output.{PutAt}
 use Rattle.base.specs.Tables.{rowsBytes}
 use Rattle.base.specs.Words.{bytesOf}
 use Rattle.base.specs.declared.Refusal.the-variants.{TableTooShort}
 use Rattle.base.proofs.Answering.{answers}
-use Rattle.base.proofs.TableBytes.{length-rows, rows-room}
+use Rattle.base.proofs.Tests.{le-or-lt}
+use Rattle.base.proofs.TableBytes.{rows-room}
 use Rattle.base.proofs.Writer.{Writing, begin, finish, put, room}
-use Rattle.utf8.specs.Rfc3629.{validUpTo}
 use Rattle.policy.specs.declared.Policy.{Policy}
-use Rattle.positions.specs.Positions.{AtPosition, cappedPlus, countBetween, positionAt}
+use Rattle.positions.specs.Positions.{AtPosition, cappedPlus, countBetween}
 use Rattle.positions.specs.declared.TextCount.{TextCount}
 use Rattle.analysis.specs.declared.types.Finding.{Finding}
 use Rattle.formatter.specs.List.{rowBytes, rowNumbers}
@@ -40,7 +42,7 @@ use Rattle.findings_near.specs.declared.AroundAnswer.{AroundAnswer}
 use Rattle.findings_near.specs.declared.AroundAnswer.the-variants.{Listed}
 use Rattle.findings_near.specs.Theorems.{InTextOrder}
 use Rattle.findings_near.proofs.Order.{ordered-from}
-use Rattle.findings_near.proofs.NextRows.{at-own, count-one, front, is-next, write-one}
+use Rattle.findings_near.proofs.NextRows.{front, is-next, write-one}
 use Rattle.findings_near.proofs.Stretches.{rest-apart}
 
 -- ---- the tests by their branches
@@ -98,6 +100,28 @@ module _ (from to start end : ℕ) where
       ∙ sym (ap₂ (λ (x y : Bool). meetsBy x y (ltb from end)) (lt-ltb from to g) (lt-ltb start to h)
       ∙ ap (λ (x : Bool). meetsBy true true x) (lt-ltb from end k))
 
+-- ---- the tests of a finding that starts in the stretch
+
+module _ (from to start end : ℕ) (h : from ≤ start) where
+  -- It lies inside if it does not end after the stretch.
+  pub held : start < to → end ≤ to → true ≡ holds from to start end
+  held k l = sym (le-leb end to l) ∙ may-hold from to start end (omega arith) h
+
+  pub held-apart : start < to → end ≤ to → false ≡ meets from to start end
+  unfolding meets
+  held-apart k l = sym (and-false (ltb from to && (ltb start to && ltb from end)))
+      ∙ ap (λ (b : Bool). (ltb from to && (ltb start to && ltb from end)) && not b) (held k l)
+
+  -- Else it only shares a byte with the stretch.
+  pub past-holds : to < end → false ≡ holds from to start end
+  unfolding holds
+  past-holds l = ⊎-elim (λ g. empty-holds from to start end g)
+      (λ g. sym (lt-leb end to l) ∙ may-hold from to start end g h) (le-or-lt to from)
+
+  pub past-meets : to < end → ltb start to ≡ meets from to start end
+  past-meets l = ⊎-elim (λ k. le-ltb start to k ∙ late-meets from to start end k)
+      (λ k. lt-ltb start to k ∙ may-meet from to start end (omega arith) k (omega arith) (past-holds l)) (le-or-lt to start)
+
 -- ---- whether the pass goes on
 
 module _ (start to : ℕ) {present b : Bool} (e : b ≡ (present && ltb start to)) where
@@ -145,52 +169,6 @@ module _ (p : Policy) (text : List ℕ) (from to : ℕ) where
     where
       subst-order : rowsFrom p text at ≡ f ∷ rowsFrom p text (f .end) → InTextOrder (f ∷ rowsFrom p text (f .end))
       subst-order e = subst InTextOrder e (ordered-from p text at)
-
-  -- ---- counting
-
-  pub record Counting (i o at : ℕ) : Type 0 where
-    pub few-inner : i ≤ at
-    pub few-outer : o ≤ at
-    pub in-text : at ≤ length text
-    pub inner-is : i + length (filter (inside from to) (rowsFrom p text at)) ≡ length (filter (inside from to) (rowsFrom p text 0))
-    pub outer-is : o + length (filter (onlyShares from to) (rowsFrom p text at)) ≡ length (filter (onlyShares from to) (rowsFrom p text 0))
-    pub valid : validUpTo text ≡ at + validUpTo (drop at text)
-    pub position : AtPosition text at (positionAt text at)
-
-  pub counting-begin : AtPosition text 0 (positionAt text 0) → Counting 0 0 0
-  counting-begin a = record {
-    few-inner = omega arith;
-    few-outer = omega arith;
-    in-text = omega arith;
-    inner-is = omega arith;
-    outer-is = omega arith;
-    valid = omega arith;
-    position = a;
-  }
-
-  module _ {i o at : ℕ} (s : Counting i o at) where
-    pub counting-on : {f : Finding} → IsNext p text at f → {a b : Bool} {x y : ℕ} → a ≡ inside from to f → (x ≡ cond a 1 0) × (x ≤ 1)
-        → b ≡ onlyShares from to f → (y ≡ cond b 1 0) × (y ≤ 1) → Counting (i + x) (o + y) (f .end)
-    counting-on {f} n {a} {b} {x} {y} e g h k =
-        let l = rowsFrom p text (f .end) in
-        let c = ap (λ (l : List Finding). length (filter (inside from to) l)) (n .rows) ∙ count-one (inside from to) f l e (g .0) in
-        let d = ap (λ (l : List Finding). length (filter (onlyShares from to) l)) (n .rows) ∙ count-one (onlyShares from to) f l h (k .0) in
-        let u = g .1 in
-        let v = k .1 in
-        record {
-          few-inner = omega (arith, s .few-inner, n .on, n .some);
-          few-outer = omega (arith, s .few-outer, n .on, n .some);
-          in-text = n .room;
-          inner-is = omega (arith, s .inner-is);
-          outer-is = omega (arith, s .outer-is);
-          valid = omega (arith, s .valid, n .valid, n .on, n .some);
-          position = at-own (n .after);
-        }
-
-    pub counting-end : NoneLeft at
-        → (i ≡ length (filter (inside from to) (rowsFrom p text 0))) × (o ≡ length (filter (onlyShares from to) (rowsFrom p text 0)))
-    counting-end l =
-        (omega (arith, s .inner-is, ap length (l .inner)), omega (arith, s .outer-is, ap length (l .outer)))
 
 -- ---- the tables
 
@@ -287,12 +265,3 @@ none-put table {l} e = subst (λ (l : List Finding). PutAt table 0 (rowsBytes ro
 pub no-rows : (l : List Finding) {n : ℕ} → n ≡ length l → n ≡ 0 → l ≡ []
 no-rows [] e z = refl
 no-rows (f ∷ l) e z = absurd (omega arith)
-
--- The number of rows, by where they end.
-pub row-number : (l : List Finding) {table after : List ℕ} {r : ℕ} → PutAt table 0 (rowsBytes rowNumbers l) after r
-    → r / rowBytes ≡ length l
-row-number l p = omega (arith, p .ends, length-rows rowNumbers rowBytes length-row l)
-
--- Two rows fit into a table of their bytes, and so do fewer.
-pub two-fit : (l : List Finding) (table : List ℕ) → length l ≤ 2 → 2 * rowBytes ≤ length table → length l ≤ length table / rowBytes
-two-fit l table h k = omega arith

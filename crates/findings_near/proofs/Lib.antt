@@ -4,7 +4,7 @@ pub mod Stretches
 pub mod Distances
 pub mod NextRows
 pub mod AroundPass
-pub mod MostPass
+pub mod CountPass
 pub mod NearestPass
 pub mod Calls
 pub mod Claims

@@ -2,7 +2,7 @@
 use mathlib.Core.Path.{_≡_, refl, ap, subst, sym, _∙_}
 use mathlib.Core.Bool.{Bool, true, false, cond}
 use mathlib.Core.List.{List, [], _∷_, _++_, map}
-use Prim.Native.Nat.{ℕ, suc, _+_, _≤_}
+use Prim.Native.Nat.{ℕ, _+_, _≤_}
 use native.Mathlib.Nat.{zero-add}
 use native.Mathlib.Omega.{arith}
 use lib.ListN.{drop, length}
@@ -36,7 +36,7 @@ module _ {p : Policy} {text : List ℕ} {at : ℕ} {r : FindingSpan} (n : NextFi
       → first ≡ cappedPlus before m → k ≡ countBetween text (r .start) (r .end) → last ≡ cappedPlus first k
       → IsNext p text at (rowBy (r .start) (r .end) (r .counts) first last)
   is-next e {before} {m} {first} {k} {last} a hm hf hk hl =
-      let f = n .1 e .1 in
+      let f = n .1 e .2 (omega arith) in
       let v = over-none (n .0) .advances in
       let o = finds-positions (over-none (n .0)) (f .finds) a hm hf hk hl in
       let h = finds-ahead (f .finds) in
@@ -71,7 +71,7 @@ pub span-advances : {p : Policy} {text : List ℕ} {limit at : ℕ} {r : Finding
 span-advances {text = text} {at = at} {r = r} n = go (r .present) refl
   where
     go : (b : Bool) → r .present ≡ b → Advances text at (r .end)
-    go true e = advances-on (n .0 .advances) (over-finding (n .1 e .1 .finds) {limit = suc (r .start)} (omega arith) .advances)
+    go true e = advances-on (n .0 .advances) (over-finding (n .1 e .1) {limit = r .end} (omega arith) .advances)
     go false e = subst (Advances text at) (sym (n .2 e .1)) (n .0 .advances)
 
 -- The position that a count says is that of the text.

@@ -216,7 +216,7 @@ module _ (from to : ℕ) where
           let s = h f (List·Memᴰ·head refl) in
           ih (λ g m. let k = before g m in omega arith)
 
-  pub two-share : {l : List Finding} → InTextOrder l → length (filter S l) ≤ 2
+  two-share : {l : List Finding} → InTextOrder l → length (filter S l) ≤ 2
   unfolding filter
   two-share no-more = omega arith
   two-share (and-then {f} {l} some before o) = go (S f) refl (two-share o)

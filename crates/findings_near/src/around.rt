@@ -1,19 +1,15 @@
-// The findings around a stretch of bytes (document 02, ix). Where both tables surely have room, one pass over the text (crate text_pass)
-// tests it and says how many findings there are at most, and a second pass up to the end of the stretch writes both lists. Else the lists
-// are counted first, from finding to finding. The text after the stretch is tested for UTF-8 alone. `findings_around` equals `listAround`
-// of specs/Around.antt.
+// The findings around a stretch of bytes (document 02, ix). One pass over the text (crate text_pass) tests it and counts both lists, and a
+// second pass up to the end of the stretch writes them. The text after the stretch is tested for UTF-8 alone. `findings_around` equals
+// `listAround` of specs/Around.antt.
 ghost use mathlib.Core.Path.{_≡_};
 ghost use mathlib.Core.Bool.{true, _&&_, cond};
-ghost use mathlib.Core.List.{[]};
-ghost use Prim.Native.Nat.{_+_, _*_, _/_, _≤_};
+ghost use Prim.Native.Nat.{_+_, _≤_};
 ghost use lib.Dec.{ltb};
 ghost use lib.ListN.{drop, length};
 ghost use Rattle.base.specs.Output.{PutAt};
-ghost use Rattle.base.specs.Refusals.{textLimit};
 ghost use Rattle.base.specs.Tables.{rowsBytes};
 ghost use Rattle.utf8.specs.Rfc3629.{validUpTo};
-ghost use Rattle.policy.specs.PolicyBytes.{isPolicy};
-ghost use Rattle.formatter.specs.List.{rowBytes, rowNumbers};
+ghost use Rattle.formatter.specs.List.{rowNumbers};
 ghost use Rattle.findings_near.specs.Around.{
   EndsAround,
   fillBoth,
@@ -39,20 +35,10 @@ use positions::TextCount;
 use text_pass::findings::FindingSpan;
 use text_pass::findings::next_finding;
 
-// The bytes of a table that has room for every list of findings that only share a byte with a stretch: there are at most two.
-const MOST_SHARING_BYTES: usize = 2 * ROW_BYTES;
-
 // How many findings lie inside a stretch, how many only share a byte with it, and the length of the longest well-formed beginning.
 struct AroundCount {
     inside: usize,
     sharing: usize,
-    valid_up_to: usize,
-}
-
-// How many findings start before a stretch, how many start in it, and the length of the longest well-formed beginning.
-struct MostAround {
-    earlier: usize,
-    starting: usize,
     valid_up_to: usize,
 }
 
@@ -123,61 +109,43 @@ fn well_formed_end(text: &[u8], at: usize) -> usize
     at + utf8_validity::valid_up_to(&text[at..])
 }
 
-// Counts the findings of both lists.
+// Counts the findings of both lists. The first search passes the findings that end before the stretch. The second passes those that lie
+// inside, from the first of them on, and stops at the first finding that ends after the stretch. No byte is read twice: the second search
+// goes on where the first one ends, and the test for UTF-8 where the second one ends.
 fn count_around(text: &[u8], policy: &[u8], from: usize, to: usize) -> AroundCount
     ensures inside { λ r. ⌜ r .inside ≡ length (filter (inside from to) (listed (now (text .entry)) (now (policy .entry)))) ⌝ }
     ensures sharing { λ r. ⌜ r .sharing ≡ length (filter (onlyShares from to) (listed (now (text .entry)) (now (policy .entry)))) ⌝ }
     ensures valid { λ r. ⌜ r .«valid_up_to» ≡ validUpTo (now (text .entry)) ⌝ }
 {
-    let mut inside = 0;
-    let mut sharing = 0;
-    let mut at = 0;
-    loop {
-        let FindingSpan {
-            start,
-            end,
-            counts: _,
-            present,
-            passed: _,
-        } = next_finding(text, policy, 0, at);
-        if !is_before(present, start, to) {
-            let valid_up_to = well_formed_end(text, end);
-            return AroundCount {
-                inside,
-                sharing,
-                valid_up_to,
-            };
-        }
-        inside += one_if(is_inside(from, to, start, end));
-        sharing += one_if(is_sharing(from, to, start, end));
-        at = end;
-    }
-}
-
-// Counts the findings that start before a stretch, and those that start in it. No byte is read twice: the search for the findings in the
-// stretch goes on at the end of the first of them, and the test for UTF-8 at the end of the first finding after them.
-fn most_around(text: &[u8], policy: &[u8], from: usize, to: usize) -> MostAround
-    ensures most { λ r. ⌜ length (filter (inside from to) (listed (now (text .entry)) (now (policy .entry)))) ≤ r .starting ⌝ }
-    ensures none { λ r. ⌜ (r .earlier ≡ 0 → r .starting ≡ 0
-        → (filter (inside from to) (listed (now (text .entry)) (now (policy .entry))) ≡ [])
-        × (filter (onlyShares from to) (listed (now (text .entry)) (now (policy .entry))) ≡ [])) ⌝ }
-    ensures valid { λ r. ⌜ r .«valid_up_to» ≡ validUpTo (now (text .entry)) ⌝ }
-{
-    let first = next_finding(text, policy, from, 0);
-    if !is_before(first.present, first.start, to) {
-        let valid_up_to = well_formed_end(text, first.end);
-        return MostAround {
-            earlier: first.passed,
-            starting: 0,
+    let FindingSpan {
+        start,
+        end,
+        counts: _,
+        present,
+        passed: _,
+    } = next_finding(text, policy, from, 0);
+    if !is_before(present, start, to) {
+        let valid_up_to = well_formed_end(text, end);
+        return AroundCount {
+            inside: 0,
+            sharing: 0,
             valid_up_to,
         };
     }
-    let after = next_finding(text, policy, to, first.end);
-    let valid_up_to = well_formed_end(text, after.end);
-    let starting = 1 + after.passed;
-    MostAround {
-        earlier: first.passed,
-        starting,
+    let FindingSpan {
+        start: last_start,
+        end: last_end,
+        counts: _,
+        present: last_present,
+        passed,
+    } = next_finding(text, policy, to, end);
+    let inside = one_if(is_inside(from, to, start, end)) + passed;
+    let first_sharing = one_if(is_sharing(from, to, start, end));
+    let sharing = first_sharing + one_if(is_before(last_present, last_start, to));
+    let valid_up_to = well_formed_end(text, last_end);
+    AroundCount {
+        inside,
+        sharing,
         valid_up_to,
     }
 }
@@ -287,64 +255,6 @@ fn fill_tables(
     }
 }
 
-// Writes both lists into tables that have room for them. `earlier` and `starting` are the numbers of findings that start before the stretch
-// and in it.
-fn put_listed(
-    text: &[u8],
-    policy: &[u8],
-    from: usize,
-    to: usize,
-    earlier: usize,
-    starting: usize,
-    inner: &mut [u8],
-    outer: &mut [u8],
-) -> AroundAnswer
-    requires { ⌜ (length (filter (inside from to) (listed (now text) (now policy))) ≤ length (now inner) / rowBytes)
-        × (2 * rowBytes ≤ length (now outer)) × (earlier ≡ 0 → starting ≡ 0
-        → (filter (inside from to) (listed (now text) (now policy)) ≡ [])
-        × (filter (onlyShares from to) (listed (now text) (now policy)) ≡ [])) ⌝ }
-    ensures { λ r. ⌜ record { answer = r; inner = now (inner .exit); outer = now (outer .exit) }
-        ≡ fillBoth (filter (inside from to) (listed (now (text .entry)) (now (policy .entry))))
-        (filter (onlyShares from to) (listed (now (text .entry)) (now (policy .entry)))) (now (inner .entry)) (now (outer .entry)) ⌝ }
-{
-    if are_empty(earlier, starting) {
-        return AroundAnswer::Listed {
-            inside: 0,
-            sharing: 0,
-        };
-    }
-    let ends = put_both(text, policy, from, to, inner, outer);
-    AroundAnswer::Listed {
-        inside: ends.inner / ROW_BYTES,
-        sharing: ends.outer / ROW_BYTES,
-    }
-}
-
-// Counts both lists of a text within the limit under a policy, and writes them if both tables have room.
-fn list_counted(
-    text: &[u8],
-    policy: &[u8],
-    from: usize,
-    to: usize,
-    inner: &mut [u8],
-    outer: &mut [u8],
-) -> AroundAnswer
-    requires { ⌜ (length (now text) ≤ textLimit) × (isPolicy (now policy) ≡ true) ⌝ }
-    ensures { λ r. ⌜ EndsAround (listAround (now (text .entry)) (now (policy .entry)) from to (now (inner .entry)) (now (outer .entry))) r
-        (now (inner .exit)) (now (outer .exit)) ⌝ }
-{
-    let end = stretch_end(text, to);
-    let AroundCount {
-        inside,
-        sharing,
-        valid_up_to,
-    } = count_around(text, policy, from, end);
-    if valid_up_to != text.len() {
-        return AroundAnswer::Refused(Refusal::NotWellFormed { valid_up_to });
-    }
-    fill_tables(text, policy, from, end, inside, sharing, inner, outer)
-}
-
 // Lists the findings of a text under a policy that lie inside a stretch, and those that only share a byte with it. The stretch is the bytes
 // from `from` up to, not including, `to`.
 pub fn findings_around(
@@ -361,20 +271,14 @@ pub fn findings_around(
     if let Check::Refused(refusal) = first_tests(text, policy) {
         return AroundAnswer::Refused(refusal);
     }
-    if outer.len() < MOST_SHARING_BYTES {
-        return list_counted(text, policy, from, to, inner, outer);
-    }
     let end = stretch_end(text, to);
-    let MostAround {
-        earlier,
-        starting,
+    let AroundCount {
+        inside,
+        sharing,
         valid_up_to,
-    } = most_around(text, policy, from, end);
+    } = count_around(text, policy, from, end);
     if valid_up_to != text.len() {
         return AroundAnswer::Refused(Refusal::NotWellFormed { valid_up_to });
     }
-    if inner.len() / ROW_BYTES < starting {
-        return list_counted(text, policy, from, to, inner, outer);
-    }
-    put_listed(text, policy, from, end, earlier, starting, inner, outer)
+    fill_tables(text, policy, from, end, inside, sharing, inner, outer)
 }

@@ -32,7 +32,7 @@ module _ {p : Policy} {text : List ℕ} {r : FindingSpan} (n : NextFinding p tex
   none-more = go (r .present) refl
     where
       go : (b : Bool) → r .present ≡ b → chars (drop (r .start) text) ≡ []
-      go true e = let f = n .1 e in let s = finds-some (f .1 .finds) in let l = finds-room (f .1 .finds) in absurd (omega (arith, f .0))
+      go true e = let f = n .1 e in let l = finds-room (f .1) in absurd (omega (arith, f .0))
       go false e = n .2 e .0
 
   pub all-counted : r .passed ≡ length (findingsFrom p text 0)

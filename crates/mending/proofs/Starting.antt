@@ -1,4 +1,4 @@
--- The finding that starts at an offset, if there is one, is the first that does not start before the offset.
+-- The finding that starts at an offset, if there is one, is the first that ends after the offset.
 use mathlib.Core.Path.{_≡_, refl, ap, sym, _∙_}
 use mathlib.Core.Bool.{Bool, true, false, cond, true≢false}
 use mathlib.Core.List.{List}
@@ -7,7 +7,7 @@ use Prim.Native.Nat.{ℕ, _+_}
 use native.Mathlib.Omega.{arith}
 use lib.Dec.{eqb}
 use lib.ListN.{drop}
-use borrow.Author.Tests.{eq-eqb, eqb-true, eqb-false, ne-eqb}
+use borrow.Author.Tests.{eq-eqb, eqb-true, ne-eqb}
 use Rattle.utf8.specs.Rfc3629.{chars, validUpTo}
 use Rattle.policy.specs.declared.Policy.{Policy}
 use Rattle.scanner.specs.Items.{items}
@@ -20,11 +20,11 @@ use Rattle.text_pass.proofs.Passing.{finds-here}
 use Rattle.analysis.proofs.StartingItems.{no-finding-past}
 use Rattle.formatter.proofs.Steps.{none-found}
 
--- Findings before the limit o do not change which finding starts at o.
+-- Findings that do not end after the limit o do not change which finding starts at o.
 skipsFindings-at : (o : ℕ) {n : ℕ} {fs gs : List Found} → SkipsFindings o fs n gs → findingAt o fs ≡ findingAt o gs
 unfolding findingAt
 skipsFindings-at o none-skipped = refl
-skipsFindings-at o (one-skipped {f} {fs} h a) =
+skipsFindings-at o (one-skipped {f} {fs} h k a) =
     ap (λ (b : Bool). cond b (some (f .item)) (findingAt o fs)) (ne-eqb (f .start) o (λ e. omega arith)) ∙ skipsFindings-at o a
 
 module _ {p : Policy} {text : List ℕ} where
@@ -47,7 +47,7 @@ module _ {p : Policy} {text : List ℕ} where
       found = i ∙ finding-by (eq-eqb start o e);
     }
 
-  -- The next finding that does not start before the offset.
+  -- The next finding that ends after the offset.
   module _ (o : ℕ) {r : FindingSpan} (n : NextFinding p text o 0 r) where
     next-same : findingAt o (findingsFrom p text 0) ≡ findingAt o (findingsFrom p text (r .start))
     next-same = skipsFindings-at o (n .0 .skips)
@@ -57,13 +57,12 @@ module _ {p : Policy} {text : List ℕ} where
     unfolding findingAt
     none-further m = (λ t. absurd (true≢false (sym t)), λ _. next-same ∙ ap (findingAt o) (none-found p text (r .start) (n .2 m .0)))
 
-    -- A finding is present, at the offset or after it.
+    -- A finding is present: at the offset, across it or after it.
     pub none-before : r .present ≡ true
         → FindingStarting p text o (record { end = r .end; present = eqb (r .start) o })
     none-before m = (
-      λ t. starts-here o (n .1 m .1 .finds) (eqb-true (r .start) o t) next-same,
-      λ f. next-same ∙ no-finding-past p o (r .start) (items (chars (drop (r .start) text)))
-          (let d = eqb-false (r .start) o f in let l = n .1 m .0 in omega arith),
+      λ t. starts-here o (n .1 m .1) (eqb-true (r .start) o t) next-same,
+      λ f. next-same ∙ finding-by o (n .1 m .1) f ∙ no-finding-past p o (r .end) (items (chars (drop (r .end) text))) (n .1 m .0),
     )
 
     pub next-valid : r .start + validUpTo (drop (r .start) text) ≡ validUpTo text

@@ -25,8 +25,8 @@ use replacing::measure::measure_cells;
 use replacing::render::write_cells;
 use text_pass::findings::next_finding;
 
-// Whether a finding starts at a given offset, and where the search for it ended: at the end of the finding that it found, there or later,
-// or at the end of the longest well-formed beginning. Up to `end` the text is well-formed.
+// Whether a finding starts at a given offset, and where the search for it ended: at the end of the first finding that ends after the
+// offset, or at the end of the longest well-formed beginning. Up to `end` the text is well-formed.
 struct FindingStart {
     end: usize,
     present: bool,

@@ -51,23 +51,23 @@ module _ {p : Policy} {text : List ℕ} where
   pub passes-on : {i j k : ℕ} → NoFindingBetween p text i j → NoFindingBetween p text j k → NoFindingBetween p text i k
   passes-on a b = record { advances = advances-on (a .advances) (b .advances); same = a .same ∙ b .same }
 
--- ---- stretches with findings that start before a limit
+-- ---- stretches with findings that do not end after a limit
 
 skipsFindings-append : {limit m n : ℕ} {fs gs hs : List Found} → SkipsFindings limit fs m gs → SkipsFindings limit gs n hs
     → SkipsFindings limit fs (m + n) hs
 skipsFindings-append {limit} {n = n} {fs} {hs = hs} none-skipped b = let z : n
     ≡ 0 + n = omega arith in subst (λ (k : ℕ). SkipsFindings limit fs k hs) z b
-skipsFindings-append {limit} {n = n} {fs} {hs = hs} (one-skipped {n = m} h a) b = let z : suc (m + n)
-    ≡ suc m + n = omega arith in subst (λ (k : ℕ). SkipsFindings limit fs k hs) z (one-skipped h (skipsFindings-append a b))
+skipsFindings-append {limit} {n = n} {fs} {hs = hs} (one-skipped {n = m} h k a) b = let z : suc (m + n)
+    ≡ suc m + n = omega arith in subst (λ (k : ℕ). SkipsFindings limit fs k hs) z (one-skipped h k (skipsFindings-append a b))
 
 -- A list of findings is as long as the number of skipped findings and the list of the others together.
 pub skipsFindings-length : {limit n : ℕ} {fs gs : List Found} → SkipsFindings limit fs n gs → length fs ≡ n + length gs
 skipsFindings-length none-skipped = omega arith
-skipsFindings-length (one-skipped h a) = let e = skipsFindings-length a in omega arith
+skipsFindings-length (one-skipped h k a) = let e = skipsFindings-length a in omega arith
 
 skipsFindings-none : {n : ℕ} {fs gs : List Found} → SkipsFindings 0 fs n gs → fs ≡ gs
 skipsFindings-none none-skipped = refl
-skipsFindings-none (one-skipped h a) = absurd (omega arith)
+skipsFindings-none (one-skipped h k a) = absurd (omega arith)
 
 module _ {p : Policy} {text : List ℕ} {limit : ℕ} where
   pub over-here : (i : ℕ) → FindingsBetween p text limit i i 0
@@ -179,15 +179,16 @@ module _ {p : Policy} {text : List ℕ} {start end : ℕ} (f : Finds p text star
   pub finds-room : end ≤ length text
   finds-room = let e = f .end-is in let r = here .room in omega arith
 
-  -- A finding that starts before the limit is passed.
-  pub over-finding : {limit : ℕ} → start < limit → FindingsBetween p text limit start end 1
+  -- A finding that does not end after the limit is passed.
+  pub over-finding : {limit : ℕ} → end ≤ limit → FindingsBetween p text limit start end 1
   over-finding {limit} l =
       let s = finds-some in
       let r = finds-room in
       record {
         advances = record { on = omega arith; inside = λ _. r; valid = item-valid p text start end (f .items-are) (f .end-is) };
         few = omega arith;
-        skips = subst (λ (k : List Found). SkipsFindings limit k 1 (findingsFrom p text end)) (sym finds-here) (one-skipped l none-skipped);
+        skips = subst (λ (k : List Found). SkipsFindings limit k 1 (findingsFrom p text end)) (sym finds-here)
+            (one-skipped (omega arith) (omega (arith, f .end-is)) none-skipped);
       }
 
 -- ---- plain characters

@@ -8,9 +8,9 @@ use Prim.Native.Nat.{ℕ, zero, suc, _+_, _*_, _-_, _/_, _%_, _≤_, _<_}
 use native.Mathlib.Omega.{arith}
 use types.Run.{OneOf, miss}
 use denote.Enum.Declared.{tagOf}
-use lib.Dec.{eqb, leb}
+use lib.Dec.{eqb, leb, ltb}
 use lib.ListN.{drop, length}
-use borrow.Author.Tests.{eq-eqb, eqb-true, le-leb, leb-false, leb-true, lt-leb, ne-eqb, not-false}
+use borrow.Author.Tests.{eq-eqb, eqb-true, le-leb, lt-leb, lt-ltb, ltb-false, ltb-true, ne-eqb, not-false}
 use Rattle.base.specs.Sums.{most}
 use Rattle.base.proofs.Tests.{and-both, both-true, le-or-lt}
 use Rattle.utf8.specs.Rfc3629.{chars, packed, readChar}
@@ -405,22 +405,25 @@ module _ {p : Policy} {text : List ℕ} {limit from start base : ℕ} {index : V
           some-of zero z = absurd (true≢false (sym t ∙ changed-on ∙ ap not (eq-eqb (total Sum) 0 z)))
           some-of (suc m) z = omega arith
 
-      -- The item is a finding that does not start before the limit.
-      pub walking-finds : {k : NonCanonicality} → Keeps limit start Sum k → {q : Bool} → q ≡ b && leb limit start → q ≡ true
+      -- The item is a finding that ends after the limit.
+      pub walking-finds : {k : NonCanonicality} → Keeps limit start Sum k → {q : Bool} → q ≡ b && ltb limit (cell .end) → q ≡ true
           → FindsFrom p text limit (record { start = start; end = cell .end; counts = k; present = true; passed = n })
       walking-finds {k} y e t =
-          let h = both-true b (leb limit start) (sym e ∙ t) in
-          let m = leb-true limit start (h .1) in
-          (m, subst (λ (x : NonCanonicality). Counted p text start (cell .end) x) (sym (y .0 m)) (finds (h .0)))
+          let h = both-true b (ltb limit (cell .end)) (sym e ∙ t) in
+          let f = finds (h .0) in (
+            ltb-true limit (cell .end) (h .1),
+            f .finds,
+            λ m. subst (λ (x : NonCanonicality). Counted p text start (cell .end) x) (sym (y .0 m)) f,
+          )
 
-      -- The item is no finding, or starts before the limit: it is passed, and `counts` is empty.
-      pub walking-passes : {q : Bool} {m : ℕ} → q ≡ b && leb limit start → q ≡ false → m ≡ cond b 1 0
+      -- The item is no finding, or does not end after the limit: it is passed, and `counts` is empty.
+      pub walking-passes : {q : Bool} {m : ℕ} → q ≡ b && ltb limit (cell .end) → q ≡ false → m ≡ cond b 1 0
           → FindingsBetween p text limit from (cell .end) (n + m)
       walking-passes {q} {m} e f z = go b refl (sym e ∙ f) z
         where
-          go : (a : Bool) → b ≡ a → (a && leb limit start) ≡ false → m ≡ cond a 1 0
+          go : (a : Bool) → b ≡ a → (a && ltb limit (cell .end)) ≡ false → m ≡ cond a 1 0
               → FindingsBetween p text limit from (cell .end) (n + m)
-          go true t h y = rw y (over-on (l .passed) (over-finding (finds t .finds) (leb-false limit start h)))
+          go true t h y = rw y (over-on (l .passed) (over-finding (finds t .finds) (ltb-false limit (cell .end) h)))
           go false t h y =
               let s : total Sum ≡ 0 = eqb-true (total Sum) 0 (not-false _ (sym changed-on ∙ t)) in
               let k : n ≡ n + m = omega (arith, y) in
@@ -428,11 +431,13 @@ module _ {p : Policy} {text : List ℕ} {limit from start base : ℕ} {index : V
               (over-passes (l .passed) (uncounted-item p text start (cell .end) (l .items-are) ends-here
               (omega (arith, ap total total-on))))
 
-      pub none-kept : {k : NonCanonicality} → Keeps limit start Sum k → {q : Bool} → q ≡ b && leb limit start → q ≡ false → k ≡ empty
+      pub none-kept : {k : NonCanonicality} → Keeps limit start Sum k → {q : Bool} → q ≡ b && ltb limit (cell .end) → q ≡ false → k ≡ empty
       none-kept {k} y e f = ⊎-elim (λ h. after-limit h b refl) (y .1) (le-or-lt limit start)
         where
           after-limit : limit ≤ start → (a : Bool) → b ≡ a → k ≡ empty
-          after-limit h true t = absurd (true≢false (sym (and-both b (leb limit start) t (le-leb limit start h)) ∙ sym e ∙ f))
+          after-limit h true t =
+              let z = lt-ltb limit (cell .end) (omega (arith, further)) in
+              absurd (true≢false (sym (and-both b (ltb limit (cell .end)) t z) ∙ sym e ∙ f))
           after-limit h false t = y .0 h ∙ total-empty Sum (eqb-true (total Sum) 0 (not-false _ (sym changed-on ∙ t)))
 
       -- After a passed item, another item of links or units starts.

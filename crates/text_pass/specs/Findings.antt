@@ -23,11 +23,12 @@ use Rattle.text_pass.specs.Changes.{Advances, UnchangedBetween, outcomeF
 use Rattle.text_pass.specs.declared.findings.CellEnd.{CellEnd}
 use Rattle.text_pass.specs.declared.findings.FindingSpan.{FindingSpan}
 
--- `SkipsFindings limit fs n gs`: the first n findings of the list fs start before the limit, and the list gs has the others.
+-- `SkipsFindings limit fs n gs`: the first n findings of the list fs start before the limit and do not end after it, and the list gs has
+-- the others.
 pub data SkipsFindings (limit : ℕ) : List Found → ℕ → List Found → Type 0 where
   none-skipped : {fs : List Found} → SkipsFindings limit fs 0 fs
-  one-skipped : {f : Found} {fs gs : List Found} {n : ℕ} → f .start < limit → SkipsFindings limit fs n gs
-      → SkipsFindings limit (f ∷ fs) (suc n) gs
+  one-skipped : {f : Found} {fs gs : List Found} {n : ℕ} → f .start < limit → f .start + size width (f .item .chars) ≤ limit
+      → SkipsFindings limit fs n gs → SkipsFindings limit (f ∷ fs) (suc n) gs
 
 module _ (p : Policy) (text : List ℕ) where
   -- No finding starts between two offsets: the findings from the first on are those from the second on.
@@ -35,7 +36,7 @@ module _ (p : Policy) (text : List ℕ) where
     pub advances : Advances text from to
     pub same : findingsFrom p text from ≡ findingsFrom p text to
 
-  -- Between two offsets start n findings, each of them before the limit.
+  -- Between two offsets start n findings, none of which ends after the limit.
   pub record FindingsBetween (limit from to n : ℕ) : Type 0 where
     pub advances : Advances text from to
     pub few : n ≤ to - from
@@ -58,20 +59,20 @@ module _ (p : Policy) (text : List ℕ) where
   abbrev pub PlainBetween : ℕ → ℕ → Type 0
   PlainBetween from to = UnchangedBetween p text from to × NoFindingBetween from to
 
-  -- The span is that of a finding that does not start before the limit, with its counts.
+  -- The span is that of a finding that ends after the limit, with its counts if it does not start before the limit.
   abbrev pub FindsFrom : ℕ → FindingSpan → Type 0
-  FindsFrom limit r = (limit ≤ r .start) × Counted (r .start) (r .end) (r .counts)
+  FindsFrom limit r = (limit < r .end) × Finds (r .start) (r .end) × (limit ≤ r .start → Counted (r .start) (r .end) (r .counts))
 
-  -- The span is that of the first finding, from the offset `from` on, that does not start before the limit. Or no such finding is present
-  -- up to the end of the text or the first offset at which no character begins. `passed` is the number of findings before the span.
+  -- The span is that of the first finding, from the offset `from` on, that ends after the limit. Or no such finding is present up to the
+  -- end of the text or the first offset at which no character begins. `passed` is the number of findings before the span.
   abbrev pub NextFinding : ℕ → ℕ → FindingSpan → Type 0
   NextFinding limit from r =
       FindingsBetween limit from (r .start) (r .passed)
       × (r .present ≡ true → FindsFrom limit r)
       × (r .present ≡ false → (chars (drop (r .start) text) ≡ []) × (r .end ≡ r .start) × (r .counts ≡ empty))
 
-  -- The span is that of the first finding, from the offset `from` on, that does not start before the limit. Or no such finding starts
-  -- before a later offset, which is the span's start. `passed` is the number of findings before the span.
+  -- The span is that of the first finding, from the offset `from` on, that ends after the limit. Or no such finding starts before a later
+  -- offset, which is the span's start. `passed` is the number of findings before the span.
   abbrev pub WalkedFrom : ℕ → ℕ → FindingSpan → Type 0
   WalkedFrom limit from r =
       FindingsBetween limit from (r .start) (r .passed) × (r .present ≡ true → FindsFrom limit r) × (r .present ≡ false → from < r .start)

@@ -6,7 +6,7 @@ ghost use mathlib.Core.Path.{_≡_};
 ghost use mathlib.Core.Bool.{true, _&&_, cond, not};
 ghost use mathlib.Core.List.{List};
 ghost use Prim.Native.Nat.{_*_, _/_, _≤_};
-ghost use lib.Dec.{eqb, leb};
+ghost use lib.Dec.{eqb, leb, ltb};
 ghost use lib.ListN.{drop, length};
 ghost use Rattle.utf8.specs.Rfc3629.{readChar};
 ghost use Rattle.utf8.specs.declared.ReadChar.the-variants.{Char};
@@ -40,8 +40,9 @@ use scanner::state::State;
 use unicode::VariationSequenceIndex;
 use unicode::presentation::FromSelector;
 
-// The next finding: its bytes, from `start` up to `end`, and its eight counts. Where no finding is left, `present` is false, both offsets
-// are the end of the longest well-formed beginning, and the counts are empty. `passed` is the number of findings passed before it.
+// The next finding: its bytes, from `start` up to `end`, and its eight counts if it does not start before the limit. Where no finding is
+// left, `present` is false, both offsets are the end of the longest well-formed beginning, and the counts are empty. `passed` is the number
+// of findings passed before it.
 pub struct FindingSpan {
     pub start: usize,
     pub end: usize,
@@ -120,6 +121,16 @@ fn is_wanted(changes: bool, limit: usize, start: usize) -> bool
     limit <= start
 }
 
+// Whether an item is a finding that ends after the limit. `changed` says whether the rules count something in it.
+fn ends_after(changed: bool, limit: usize, end: usize) -> bool
+    ensures { λ r. ⌜ r ≡ changed && ltb limit end ⌝ }
+{
+    if !changed {
+        return false;
+    }
+    limit < end
+}
+
 // Adds the counts of a cell if they are wanted. `bytes` is the length of the cell's selectors.
 fn add_cell(
     counts: NonCanonicality,
@@ -153,7 +164,7 @@ fn findings_of(changed: bool) -> usize
 }
 
 // Walks through items, from one of links or units on, whose first character is known. It passes items that are no findings and findings
-// that start before the limit. It ends at another finding, or at the end of the last item before plain text.
+// that do not end after the limit. It ends at another finding, or at the end of the last item before plain text.
 fn walk_items(
     text: &[u8],
     policy: &[u8],
@@ -200,7 +211,7 @@ fn walk_items(
                 state = next;
             }
             Next::Stop => {
-                if is_wanted(changed, limit, start) {
+                if ends_after(changed, limit, end) {
                     return FindingSpan {
                         start,
                         end,
@@ -246,7 +257,7 @@ fn skip_bare_ascii(text: &[u8], bare: bool, from: usize) -> usize
     skip_ascii(text, from)
 }
 
-// Finds the next finding of a text, from an offset on, that does not start before the limit. It passes findings that do, and counts them.
+// Finds the next finding of a text, from an offset on, that ends after the limit. It passes findings that do not, and counts them.
 pub fn next_finding(text: &[u8], policy: &[u8], limit: usize, from: usize) -> FindingSpan
     ensures { λ r. ⌜ NextFinding (policyOf (now (policy .entry))) (now (text .entry)) limit from r ⌝ }
 {
@@ -275,7 +286,7 @@ pub fn next_finding(text: &[u8], policy: &[u8], limit: usize, from: usize) -> Fi
             }
             State::Selectors => {
                 let end = selectors_end(text, at);
-                if limit <= at {
+                if limit < end {
                     return FindingSpan {
                         start: at,
                         end,

@@ -238,8 +238,7 @@ pub fn around(
     let place = sys::FINDING_BYTES;
     let mut sharing = vec![0; MOST_SHARING * place];
     let (from, to) = ends(&stretch);
-    // With one row more than the findings inside, the call need not count them one by one (include/tilghorz.h).
-    let (rows, inside) = with_places(FIRST_ROWS * place, place, 1, |inside| {
+    let (rows, inside) = with_room(FIRST_ROWS * place, place, |inside| {
         let word = sys::around(text, policy.as_bytes(), from, to, inside, &mut sharing);
         answer::read_two(word)
     })?;
@@ -493,16 +492,6 @@ fn table<R: Row>(call: impl Fn(&mut [u8]) -> u64) -> Result<Table<R>, Refusal> {
 pub(crate) fn with_room<T>(
     room: usize,
     place: usize,
-    call: impl FnMut(&mut [u8]) -> Result<T, Refusal>,
-) -> Result<(T, Vec<u8>), Refusal> {
-    with_places(room, place, 0, call)
-}
-
-/// The same, with `spare` places more than the refusal asks for.
-fn with_places<T>(
-    room: usize,
-    place: usize,
-    spare: usize,
     mut call: impl FnMut(&mut [u8]) -> Result<T, Refusal>,
 ) -> Result<(T, Vec<u8>), Refusal> {
     let mut buffer = vec![0; room];
@@ -512,6 +501,6 @@ fn with_places<T>(
     else {
         return answer.map(|answer| (answer, buffer));
     };
-    buffer = vec![0; places.saturating_add(spare).saturating_mul(place)];
+    buffer = vec![0; places.saturating_mul(place)];
     call(&mut buffer).map(|answer| (answer, buffer))
 }

@@ -69,7 +69,7 @@ put-row-requires c κs =
     let p = policyOf (x .policy .now) in
     let t = x .text .now in
     let n = seen .before .before .next-finding in
-    let f = n .ensures .1 (not-false (n .result .present) (seen .if1 .left)) .1 in
+    let f = n .ensures .1 (not-false (n .result .present) (seen .if1 .left)) .2 (omega arith) in
     let a = finds-positions (over-none (n .ensures .0)) (f .finds) (l .inv .1) (first .before .count-between .ensures)
     (first .add-counts .ensures) (last .before .count-between2 .ensures) (last .add-counts2 .ensures) in
     let s = next-row (over-none (n .ensures .0)) (finds-row f (a .0) (a .1)) in
@@ -83,7 +83,7 @@ loop-less : tie.Need-loop-less Inv-loop μ-loop
 loop-less c =
     let seen = c .before .before .before .before .before .before .before .before in
     let n = seen .before .before .next-finding in
-    let h = next-ahead (over-none (n .ensures .0)) (n .ensures .1 (not-false (n .result .present) (seen .if1 .left)) .1 .finds) in
+    let h = next-ahead (over-none (n .ensures .0)) (n .ensures .1 (not-false (n .result .present) (seen .if1 .left)) .1) in
     omega (arith, h .some, h .room)
 
 loop-again : tie.Need-loop-again Inv-loop μ-loop
@@ -97,7 +97,7 @@ loop-again c =
     let p = policyOf (x .policy .now) in
     let t = x .text .now in
     let n = seen .before .before .next-finding in
-    let f = n .ensures .1 (not-false (n .result .present) (seen .if1 .left)) .1 in
+    let f = n .ensures .1 (not-false (n .result .present) (seen .if1 .left)) .2 (omega arith) in
     let a = finds-positions (over-none (n .ensures .0)) (f .finds) (l .inv .1) (first .before .count-between .ensures)
     (first .add-counts .ensures) (last .before .count-between2 .ensures) (last .add-counts2 .ensures) in
     let s = next-row (over-none (n .ensures .0)) (finds-row f (a .0) (a .1)) in

@@ -1,4 +1,4 @@
--- `mending::finding_starting` meets its contract: the next finding that does not start before the offset starts there, or none does. Up to
+-- `mending::finding_starting` meets its contract: the next finding that ends after the offset starts there, or none does. Up to
 -- where the search ends, the text is well-formed.
 use mathlib.Core.Path.{ap}
 use Prim.Native.Nat.{ℕ}
@@ -32,7 +32,7 @@ returns-2 c =
     let x = c .before .before .before .before .before .before .args in
     let n = c .before .before .before .next-finding in
     let m = not-false (n .result .present) (c .before .if1 .left) in
-    let f = n .ensures .1 m .1 .finds in (
+    let f = n .ensures .1 m .1 in (
       none-before (x .offset) (n .ensures) m,
       (
         finds-room f,

@@ -30,14 +30,14 @@ returns c =
 loop-less : tie.Need-loop-less Inv-loop μ-loop
 loop-less c =
     let n = c .before .before .before .next-finding in
-    let f = n .ensures .1 (not-false (n .result .present) (c .before .if1 .left)) .1 .finds in
+    let f = n .ensures .1 (not-false (n .result .present) (c .before .if1 .left)) .1 in
     omega (arith, finds-some f, finds-room f, n .ensures .0 .advances .on)
 
 loop-again : tie.Need-loop-again Inv-loop μ-loop
 loop-again c =
     let x = c .before .before .before .before .before .before .before .before .args in
     let n = c .before .before .before .next-finding in
-    let f = n .ensures .1 (not-false (n .result .present) (c .before .if1 .left)) .1 in
+    let f = n .ensures .1 (not-false (n .result .present) (c .before .if1 .left)) .2 (omega arith) in
     summing-on (policyOf (x .policy .now)) (x .text .now) (c .before .before .before .before .loop .inv) (over-none (n .ensures .0)) f
     (c .add .ensures) (finds-room (f .finds))
     (c .before .before .before .before .before .before .before .before .pre)

@@ -1,106 +1,86 @@
--- `findings_near::around::count_around` meets its contract. The loop has counted the findings of both lists that start before `at`.
-use Prim.Native.Nat.{_-_}
+-- `findings_near::around::count_around` meets its contract: `none-around` if the first search finds nothing before the end of the stretch,
+-- else `some-around` (`CountPass`).
 use native.Mathlib.Omega.{arith}
 use borrow.Author.Needs.{needs}
 use borrow.Author.Tests.{not-false, not-true}
-use lib.ListN.{length}
 use Rattle.policy.specs.PolicyBytes.{policyOf}
-use Rattle.positions.proofs.Counting.{at-start}
 use Rattle.formatter.specs.Findings.{findings}
 use Rattle.findings_near.specs.Around.{listed}
-use Rattle.findings_near.proofs.AroundPass.{
-  Counting,
-  counting-begin,
-  counting-end,
-  counting-on,
-  goes-on,
-  none-left,
-  none-reached,
-  stops,
-}
-use Rattle.findings_near.proofs.NextRows.{at-own, is-last, is-next-in, span-advances}
+use Rattle.findings_near.proofs.AroundPass.{goes-on}
+use Rattle.findings_near.proofs.CountPass.{none-around, some-around}
+use Rattle.findings_near.proofs.NextRows.{span-advances}
 use Rattle.findings_near.proofs.around.count_around.Statement.{statement}
 use Rattle.findings_near.proofs.around.count_around.Tie as tie
 
-abbrev Inv-loop : tie.InvT-loop
-Inv-loop text policy from to inside₀ sharing₀ at₀ inside sharing at = Counting (policyOf policy) text from to inside sharing at
+well-formed-end-requires : tie.Need-well-formed-end-requires
+well-formed-end-requires c κs = span-advances (c .before .before .next-finding .ensures) .inside (omega arith)
 
-abbrev μ-loop : tie.MeasureT-loop
-μ-loop text policy from to inside₀ sharing₀ at₀ inside sharing at = length text - at
-
-loop-holds : tie.Need-loop-holds Inv-loop μ-loop
-loop-holds c =
-    let x = c .before .before .args in
-    counting-begin (policyOf (x .policy .now)) (x .text .now) (x .from) (x .to)
-    (at-own (at-start (x .text .now) (omega (arith, c .before .before .good .0 .1))))
-
-well-formed-end-requires : tie.Need-well-formed-end-requires Inv-loop μ-loop
-well-formed-end-requires c κs =
-    span-advances (c .before .before .next-finding .ensures) .inside (c .before .before .before .loop .inv .in-text)
-
-returns : tie.Need-returns Inv-loop μ-loop
+returns : tie.Need-returns
 unfolding listed findings
 returns c =
-    let x = c .before .before .before .before .before .before .before .args in
-    let p = policyOf (x .policy .now) in
-    let t = x .text .now in
-    let s = c .before .before .before .before .loop .inv in
-    let r = c .before .before .before .next-finding in
-    let n = r .ensures in
+    let x = c .before .before .before .before .before .before .args in
+    let n = c .before .before .before .next-finding in
     let b = c .before .before .is-before in
-    let e = counting-end p t (x .from) (x .to) s
-    (stops (r .result .start) (x .to) (b .ensures) (not-true (b .result) (c .before .if1 .taken))
-    (λ q. none-left p t (x .from) (x .to) (is-last n q))
-    (λ q h. none-reached p t (x .from) (x .to) (is-next-in n q (s .position)) h)) in
-    let v = span-advances n in
-    (e .0, (e .1, omega (arith, c .well-formed-end .ensures, s .valid, v .valid, v .on)))
+    let v = span-advances (n .ensures) in
+    let e = none-around (policyOf (x .policy .now)) (x .text .now) (x .from) (x .to) (n .ensures) (b .ensures)
+    (not-true (b .result) (c .before .if1 .taken)) in
+    (e .0, (e .1, omega (arith, c .well-formed-end .ensures, v .valid, v .on)))
 
-add-inside : tie.Need-add-inside Inv-loop μ-loop
+add-inside : tie.Need-add-inside
 add-inside c =
-    let s = c .before .before .before .before .before in
-    omega (arith, s .loop .inv .few-inner, s .loop .inv .in-text, c .one-if .ensures .1, s .before .before .before .good .0 .1)
+    let found = c .before .before in
+    let a = span-advances (found .before .before .before .next-finding .ensures) in
+    let m = found .next-finding2 .ensures .0 in
+    omega (
+      arith,
+      m .few,
+      m .advances .inside (a .inside (omega arith)),
+      c .one-if .ensures .1,
+      found .before .before .before .before .before .before .good .0 .1,
+    )
 
-add-sharing : tie.Need-add-sharing Inv-loop μ-loop
-add-sharing c =
-    let s = c .before .before .before .before .before .before .before in
-    omega (arith, s .loop .inv .few-outer, s .loop .inv .in-text, c .one-if2 .ensures .1, s .before .before .before .good .0 .1)
+add-sharing : tie.Need-add-sharing
+add-sharing c = omega (arith, c .before .before .one-if2 .ensures .1, c .one-if3 .ensures .1)
 
-loop-less : tie.Need-loop-less Inv-loop μ-loop
-loop-less c =
-    let x = c .before .before .before .before .before .before .before .before .before .before .args in
-    let n = c .before .before .before .before .before .before .next-finding in
-    let b = c .before .before .before .before .before .is-before in
-    let on = goes-on (n .result .start) (x .to) (b .ensures) (not-false (b .result) (c .before .before .before .before .if1 .left)) in
-    let f = is-next-in (n .ensures) (on .0) (c .before .before .before .before .before .before .before .loop .inv .position) in
-    omega (arith, f .on, f .some, f .room)
+well-formed-end-requires-2 : tie.Need-well-formed-end-requires-2
+well-formed-end-requires-2 c κs =
+    let found = c .before .before .before .before .before .before in
+    let a = span-advances (found .before .before .before .next-finding .ensures) in
+    span-advances (found .next-finding2 .ensures) .inside (a .inside (omega arith))
 
-loop-again : tie.Need-loop-again Inv-loop μ-loop
-loop-again c =
-    let x = c .before .before .before .before .before .before .before .before .before .before .args in
-    let n = c .before .before .before .before .before .before .next-finding in
-    let b = c .before .before .before .before .before .is-before in
-    let s = c .before .before .before .before .before .before .before .loop .inv in
-    let on = goes-on (n .result .start) (x .to) (b .ensures) (not-false (b .result) (c .before .before .before .before .if1 .left)) in
-    let f = is-next-in (n .ensures) (on .0) (s .position) in
-    counting-on (policyOf (x .policy .now)) (x .text .now) (x .from) (x .to) s f (c .before .before .before .is-inside .ensures)
-    (c .before .before .one-if .ensures) (c .before .is-sharing .ensures) (c .one-if2 .ensures)
+returns-2 : tie.Need-returns-2
+unfolding listed findings
+returns-2 c =
+    let inside = c .before .before .before .before .before in
+    let found = inside .before .before in
+    let x = found .before .before .before .before .before .before .args in
+    let n = found .before .before .before .next-finding in
+    let m = found .next-finding2 .ensures in
+    let b = found .before .before .is-before in
+    let on = goes-on (n .result .start) (x .to) (b .ensures) (not-false (b .result) (found .before .if1 .left)) in
+    let v = span-advances (n .ensures) in
+    let w = span-advances m in
+    let e = some-around (policyOf (x .policy .now)) (x .text .now) (x .from) (x .to) (n .ensures) (on .0) m
+    (inside .before .is-inside .ensures) (inside .one-if .ensures .0) (c .before .before .before .before .is-sharing .ensures)
+    (c .before .before .before .one-if2 .ensures .0) (c .before .before .is-before2 .ensures) (c .before .one-if3 .ensures .0) in
+    (e .0, (e .1, omega (arith, c .well-formed-end2 .ensures, v .valid, v .on, w .valid, w .on)))
 
 pub count-around-spec : {M : Type 1} → statement M
 count-around-spec =
     tie.close
     (tie.spec
-    Inv-loop
-    μ-loop
-    loop-holds
     (λ c κs. search needs)
     (λ c κs. search needs)
     well-formed-end-requires
     returns
     (λ c κs. search needs)
     (λ c κs. search needs)
+    (λ c κs. search needs)
     add-inside
     (λ c κs. search needs)
     (λ c κs. search needs)
+    (λ c κs. search needs)
+    (λ c κs. search needs)
     add-sharing
-    loop-less
-    loop-again)
+    well-formed-end-requires-2
+    returns-2)

@@ -1,6 +1,5 @@
 -- `findings_near::around::findings_around` meets its contract.
 use mathlib.Core.Path.{_∙_}
-use native.Mathlib.Omega.{arith}
 use borrow.Author.Needs.{needs}
 use Rattle.base.specs.declared.Refusal.the-variants.{NotWellFormed}
 use Rattle.formatter.proofs.Calls.{pass-intake}
@@ -18,52 +17,34 @@ returns c =
     ends-around (around-refused (x .text .now) (x .policy .now) (x .from) (x .to) (x .inner .now) (x .outer .now) (g .0 .0)
     (first-refused (x .text .now) (x .policy .now) (c .before .before .before .first-tests .ensures) (g .0 .0) (g .1)))
 
-list-counted-requires : tie.Need-list-counted-requires
-list-counted-requires c κs =
+returns-2 : tie.Need-returns-2
+returns-2 c =
     let h = c .before .before .before in
     let x = h .before .before .before .before .before .before .before .args in
-    first-passed (x .text .now) (x .policy .now) (h .before .before .first-tests .ensures) (h .enum-told .given .1)
+    let t = x .text .now in
+    let p = x .policy .now in
+    let f = first-passed t p (h .before .before .first-tests .ensures) (h .enum-told .given .1) in
+    let n = c .before .count-around in
+    ends-around (around-refused t p (x .from) (x .to) (x .inner .now) (x .outer .now) (NotWellFormed (n .result .«valid_up_to»))
+    (not-well-formed t p (f .0) (f .1) (n .ensures .1 .1) (c .if1 .taken)))
+
+fill-tables-requires : tie.Need-fill-tables-requires
+fill-tables-requires c κs = let n = c .before .before .before .count-around .ensures in (n .0, n .1 .0)
 
 returns-3 : tie.Need-returns-3
 returns-3 c =
-    let h = c .before .before .before .before in
+    let filled = c .before .before .before .before in
+    let tested = filled .before .before .before in
+    let h = tested .before .before .before in
     let x = h .before .before .before .before .before .before .before .args in
     let t = x .text .now in
     let p = x .policy .now in
     let f = first-passed t p (h .before .before .first-tests .ensures) (h .enum-told .given .1) in
-    let n = c .before .most-around in
-    ends-around (around-refused t p (x .from) (x .to) (x .inner .now) (x .outer .now) (NotWellFormed (n .result .«valid_up_to»))
-    (not-well-formed t p (f .0) (f .1) (n .ensures .1 .1) (c .if2 .taken)))
-
-list-counted-requires-2 : tie.Need-list-counted-requires-2
-list-counted-requires-2 c κs =
-    let h = c .before .before .before .before .before .before .before in
-    let x = h .before .before .before .before .before .before .before .args in
-    first-passed (x .text .now) (x .policy .now) (h .before .before .first-tests .ensures) (h .enum-told .given .1)
-
-put-listed-requires : tie.Need-put-listed-requires
-put-listed-requires c κs =
-    let n = c .before .before .before .before .most-around .ensures in (
-      omega (arith, n .0, c .before .before .if3 .left),
-      omega
-          (arith, c .before .before .before .before .before .before .if1 .left),
-      n .1 .0,
-    )
-
-returns-5 : tie.Need-returns-5
-returns-5 c =
-    let h = c .before .before .before .before .before .before .before .before .before .before .before .before in
-    let x = h .before .before .before .before .before .before .before .args in
-    let t = x .text .now in
-    let p = x .policy .now in
-    let f = first-passed t p (h .before .before .first-tests .ensures) (h .enum-told .given .1) in
-    let n = c .before .before .before .before .before .before .before .before .before .most-around .ensures in
-    ends-around (c .before .before .before .before .put-listed .ensures
-    ∙ cut-end t p (x .from) (x .to) (x .inner .now) (x .outer .now)
-    (c .before .before .before .before .before .before .before .before .before .before .stretch-end .ensures)
+    let n = tested .before .count-around .ensures in
+    ends-around (filled .fill-tables .ensures
+    ∙ cut-end t p (x .from) (x .to) (x .inner .now) (x .outer .now) (tested .before .before .stretch-end .ensures)
     ∙ around-passed t p (x .from) (x .to) (x .inner .now) (x .outer .now)
-    (pass-intake p t (all-well-formed t p (f .0) (f .1) (n .1 .1)
-    (c .before .before .before .before .before .before .before .before .if2 .left))))
+    (pass-intake p t (all-well-formed t p (f .0) (f .1) (n .1 .1) (tested .if1 .left))))
 
 pub findings-around-spec : {M : Type 1} → statement M
 findings-around-spec =
@@ -73,18 +54,10 @@ findings-around-spec =
     (λ c. search needs)
     returns
     (λ c. search needs)
-    list-counted-requires
-    (λ c. search needs)
-    (λ c. search needs)
-    (λ c. c .before .before .before .before .list-counted .ensures)
     (λ c κs. search needs)
     (λ c κs. search needs)
-    returns-3
-    list-counted-requires-2
+    returns-2
+    fill-tables-requires
     (λ c. search needs)
     (λ c. search needs)
-    (λ c. c .before .before .before .before .list-counted2 .ensures)
-    put-listed-requires
-    (λ c. search needs)
-    (λ c. search needs)
-    returns-5)
+    returns-3)

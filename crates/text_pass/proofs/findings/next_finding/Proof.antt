@@ -109,7 +109,7 @@ returns-2 c =
     ((c .before .before .selectors-end .result -
     c .before .before .before .before .before .before .before .before .before .skip-bare-ascii .result) / 3) e refl
     (c .unsanctioned .ensures) in
-    (a, λ _. (omega (arith, c .before .if2 .taken), f), λ h. absurd (true≢false h))
+    (a, λ _. (omega (arith, c .before .if2 .taken), f .finds, λ _. f), λ h. absurd (true≢false h))
 
 add-passed : tie.Need-add-passed Inv-loop μ-loop
 add-passed c =

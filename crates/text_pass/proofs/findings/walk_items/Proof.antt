@@ -83,7 +83,7 @@ returns c =
     (c .before .before .before .before .before .before .before .is-wanted .ensures)
     (c .before .before .before .before .before .before .add-cell .ensures) in
     let e = sym (c .before .before .before .before .transition .ensures) ∙ c .before .before .enum-told .given .1 in
-    (l .passed, λ _. walking-finds l r d e y (c .before .is-wanted2 .ensures) (c .if2 .taken), λ f. absurd (true≢false f))
+    (l .passed, λ _. walking-finds l r d e y (c .before .ends-after .ensures) (c .if2 .taken), λ f. absurd (true≢false f))
 
 add-passed : tie.Need-add-passed Inv-loop μ-loop
 add-passed c =
@@ -109,7 +109,7 @@ returns-2 c =
     (w .0 .left) (w .1)) (c .before .before .before .before .before .before .before .before .before .if1 .came) in
     let e = sym (c .before .before .before .before .before .before .before .before .transition .ensures)
     ∙ c .before .before .before .before .before .before .enum-told .given .1 in
-    let a = walking-passes l r d e (c .before .before .before .before .before .is-wanted2 .ensures)
+    let a = walking-passes l r d e (c .before .before .before .before .before .ends-after .ensures)
     (c .before .before .before .before .if2 .left) (c .before .before .before .findings-of .ensures .0) in
     (a, λ f. absurd (true≢false (sym f)), λ _. omega (arith, l .passed .advances .on, further l r))
 
