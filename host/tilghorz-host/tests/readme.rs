@@ -37,7 +37,7 @@ fn the_examples_write_what_the_first_hour_says() {
     run_examples("docs/FIRST-HOUR.md", 8);
 }
 
-/// Runs the examples of a document, which has at least so many, in a folder of its own.
+/// Runs the examples of a document in a folder of its own. It must have at least `fewest` examples.
 fn run_examples(document: &str, fewest: usize) {
     let root = Path::new(env!("CARGO_MANIFEST_DIR")).join("../..");
     let examples = examples(&fs::read_to_string(root.join(document)).expect("a document"));
