@@ -55,8 +55,8 @@
  * writes what can be written; tilghorz_feed_end writes the rest. The joined outputs and the totals are then those of the whole thread
  * formatted at once by tilghorz_format (whose "nothing to do" means the text itself). tilghorz_feed_policy changes the policy between two
  * pieces; each base is then judged by the policy in force when its last byte was fed. The limit of 16,777,216 bytes is on the thread. A
- * refused call changes nothing, so another piece may follow. If the bytes of a feed are not such bytes, a piece, an end and a change return 9, or
- * they take the bytes as some feed; the totals are then 0, or those of that feed.
+ * refused call changes nothing, so another piece may follow. If the bytes of a feed are not such bytes, a piece, an end and a change
+ * return 9, or they take the bytes as some feed; the totals are then 0, or those of that feed.
  *
  * Stores. Up to 16 clients share a store of a capacity of C bytes. Each client has a reserve; the reserves sum to at most C, and the common
  * part is C less all reserves. tilghorz_store_file formats a text and charges the formatted length to a client, under a number from 0 to

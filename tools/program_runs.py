@@ -42,9 +42,14 @@ THREAD = [
     ("ann", "a dark heart \u2764\ufe0f\U0001f3fb and \u2600\ufe0f\U0001f3fe"),  # additional-defective
     ("ben", "tagged \u2764\ufe0e\U000e0061\U000e007f and \u231a\ufe0e\U000e0062\U000e007f"),  # tag-conflicting
     ("ann", "tagged \u2764\U000e0061\U000e007f and \u2602\U000e0062"),  # tag-forced
-    ("ben", "\u231a\ufe0f\U000e0061\U000e007f and \U0001f3f4\ufe0f\U000e0067\U000e0062\U000e0065\U000e006e\U000e0067\U000e007f"),  # tag-redundant
+    # tag-redundant
+    ("ben", "\u231a\ufe0f\U000e0061\U000e007f and \U0001f3f4\ufe0f\U000e0067\U000e0062\U000e0065\U000e006e\U000e0067\U000e007f"),
     ("ann", "nothing wrong: \u261d\ufe0e\U0001f3fb \u231a \u2764\ufe0f \U0001f1e6\U0001f1e7 \U0001f469\u200d\U0001f680, 5 o'clock"),
-    ("ben", "\U0001f469\u200d\u2764\ufe0f\u200d\U0001f468 and \U0001f469\u200d\u2764\u200d\U0001f468, \u200d\ufe0f\u200d, \u231a\u200d\u200d\u231a\ufe0f"),
+    (
+        "ben",
+        "\U0001f469\u200d\u2764\ufe0f\u200d\U0001f468 and \U0001f469\u200d\u2764\u200d\U0001f468, "
+        "\u200d\ufe0f\u200d, \u231a\u200d\u200d\u231a\ufe0f",
+    ),
     ("ann", "\u2764\ufe0f\ufe0e\ufe0f\u20e3\ufe0e\U0001f3fb\ufe0f\u200d\ufe0f\u261d\ufe0f\U0001f3fb\ufe0e\u200d1\ufe0e\u20e3\ufe0f\u200d"),
 ]
 ROUNDS = 8
@@ -153,7 +158,8 @@ def in_pieces(program, text):
 def difference(expected, found):
     """A description of the first difference between two outputs."""
     at = next((i for i, (a, b) in enumerate(zip(expected, found)) if a != b), min(len(expected), len(found)))
-    return f"{len(found)} bytes, expected {len(expected)}; from byte {at} on {found[at : at + 16].hex(' ')}, expected {expected[at : at + 16].hex(' ')}"
+    here, wanted = (text[at : at + 16].hex(" ") for text in (found, expected))
+    return f"{len(found)} bytes, expected {len(expected)}; from byte {at} on {here}, expected {wanted}"
 
 
 def wrong_runs(folder, programs):
@@ -229,7 +235,8 @@ def wrong_examples(root):
     if not shown:
         yield "README.md: no example of ./tilghorz"
     for command, expected in shown:
-        answer = subprocess.run(["sh", "-c", f"exec 2>&1; {command}"], cwd=root, stdin=subprocess.DEVNULL, capture_output=True, timeout=SECONDS, check=False)
+        shell = ["sh", "-c", f"exec 2>&1; {command}"]
+        answer = subprocess.run(shell, cwd=root, stdin=subprocess.DEVNULL, capture_output=True, timeout=SECONDS, check=False)
         if answer.stdout.decode() != expected:
             yield f"README.md: {command}: its output is {answer.stdout.decode()!r}"
 
@@ -258,7 +265,8 @@ def wrong_statuses(root, folder):
 
 def wrong_failure(program, folder):
     """The faults of a program when standard input cannot be read."""
-    with subprocess.Popen(["sh", "-c", 'exec "$1" < "$2"', "sh", program, folder], stdout=subprocess.PIPE, stderr=subprocess.PIPE) as process:
+    shell = ["sh", "-c", 'exec "$1" < "$2"', "sh", program, folder]
+    with subprocess.Popen(shell, stdout=subprocess.PIPE, stderr=subprocess.PIPE) as process:
         out, error = process.communicate(timeout=SECONDS)
     if out:
         yield f"{program.name}: it writes {out[:16]!r} when standard input cannot be read"
@@ -279,7 +287,12 @@ def main(arguments):
         found = [*wrong_files(folder), *wrong_lines(table)]
     elif arguments[:1] == ["run"] and len(arguments) <= 2:
         programs = pathlib.Path(arguments[1]) if arguments[1:] else ROOT / "target" / "bin"
-        found = [*wrong_runs(folder, programs), *wrong_tables(programs / "findings_table", answered_texts()), *wrong_statuses(ROOT, folder), *wrong_examples(ROOT)]
+        found = [
+            *wrong_runs(folder, programs),
+            *wrong_tables(programs / "findings_table", answered_texts()),
+            *wrong_statuses(ROOT, folder),
+            *wrong_examples(ROOT),
+        ]
     else:
         print(__doc__, file=sys.stderr)
         return 2

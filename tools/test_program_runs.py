@@ -102,7 +102,12 @@ cat > "$0.text"
 for name in a b c d; do cmp -s "$0.text" "$(dirname "$0")/runs/$name.in" && cat "$(dirname "$0")/runs/$name.$1"; done
 cmp -s "$0.text" "$(dirname "$0")/runs/a.in" || test "$1$(wc -c < "$0.text")" = format12289 || exit 3
 """
-        for text, wrong in ((lines, 0), (lines.replace("exit 3", "exit 0"), 5), (lines.replace(" || exit 3", "; exit 3"), 3), (lines.replace("cat \"$(", "echo \"$("), 8)):
+        for text, wrong in (
+            (lines, 0),
+            (lines.replace("exit 3", "exit 0"), 5),
+            (lines.replace(" || exit 3", "; exit 3"), 3),
+            (lines.replace("cat \"$(", "echo \"$("), 8),
+        ):
             wrapper.write_text(text, encoding="utf-8")
             wrapper.chmod(0o755)
             self.assertEqual(len(list(program_runs.wrong_statuses(root, self.runs))), wrong)

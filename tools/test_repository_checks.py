@@ -82,7 +82,8 @@ Excludes: another letter (edit
 |---|---|
 | `get` | edit `one` |
 """,
-    "target/must-fail/one/wrong/.log": "/r/target/must-fail/one/wrong/proofs/twice/Proof.antt:1:2: error: `returns`: the two types differ\n",
+    "target/must-fail/one/wrong/.log": "/r/target/must-fail/one/wrong/proofs/twice/Proof.antt:1:2: error: "
+    "`returns`: the two types differ\n",
     "target/log/one.say": "fn one::same: proved\nlogic=proved functions=2 sum=0\n",
     "target/must-fail/message_io/one/.log": "note: /r/src/lib.rt:1:1: it is not proved that (`returns`)\n"
     "fn message_io::get: no proof: expected `get-spec` in F; `search` does not close `returns`\n",
@@ -130,7 +131,8 @@ class Checks(unittest.TestCase):
 
     def test_long_line(self):
         line = "// " + 138 * "x"
-        self.finds("crates/one/src/lib.rt: line 2 has 141 characters", checks.long_lines, lib_rt=("// pub fn in_a_comment(x: u8) -> u8 { x }", line))
+        change = ("// pub fn in_a_comment(x: u8) -> u8 { x }", line)
+        self.finds("crates/one/src/lib.rt: line 2 has 141 characters", checks.long_lines, lib_rt=change)
         self.assertEqual(self.findings(checks.long_lines, lib_rt=("// pub fn in_a_comment(x: u8) -> u8 { x }", line[:-1])), [])
 
     def test_public_requires(self):
@@ -205,7 +207,8 @@ class Checks(unittest.TestCase):
     def test_static_library_not_made(self):
         self.finds("does not say that it is a proved static library", self.of_static_library())
         self.finds("does not say that it is a proved static library", self.of_static_library(), removed=["target/log/one.say"])
-        self.finds("does not say that it is a proved static library", self.of_static_library(), one_say=("=proved functions=2", "=not-proved target=x"))
+        change = ("=proved functions=2", "=not-proved target=x")
+        self.finds("does not say that it is a proved static library", self.of_static_library(), one_say=change)
 
     def of_static_library(self):
         """The check of the static library, with the crate `one` for it."""

@@ -206,7 +206,8 @@ class Checks(unittest.TestCase):
 
     def test_statement_that_is_not_listed(self):
         self.finds("one does not list Whole", checks.other_statements, ("AUDIT.md", "`Worked`, `Whole`", "`Worked`"))
-        self.finds("one does not list Same", checks.other_statements, ("AUDIT.md", "| one | `Same`, `Worked`, `Whole`, `EveryList` |\n", ""))
+        row = "| one | `Same`, `Worked`, `Whole`, `EveryList` |\n"
+        self.finds("one does not list Same", checks.other_statements, ("AUDIT.md", row, ""))
         self.finds("one lists Same twice", checks.other_statements, ("AUDIT.md", "`Same`, `Worked`", "`Same`, `Same`, `Worked`"))
         self.finds("it has no row", checks.other_statements, ("AUDIT.md", "## The statements", "## Statements"))
 
@@ -265,7 +266,8 @@ class Checks(unittest.TestCase):
         self.finds("is not imported from", checks.unproved_statements, ("Claims.antt", "specs.specs.Theorems", "specs.specs.Others"))
 
     def test_statement_in_section(self):
-        self.finds("that a claim cannot name", checks.unproved_statements, ("Theorems.antt", "unfoldable pub Same", "  unfoldable pub Same"))
+        change = ("Theorems.antt", "unfoldable pub Same", "  unfoldable pub Same")
+        self.finds("that a claim cannot name", checks.unproved_statements, change)
 
     def test_statement_not_public(self):
         self.finds("that a claim cannot name", checks.unproved_statements, ("Theorems.antt", "unfoldable pub Same", "unfoldable Same"))

@@ -85,7 +85,9 @@ class Tilghorz(unittest.TestCase):
         self.with_program("exec cat")
         command = f"'{self.root / 'tilghorz'}' format"
         for redirection, said in (("< /", "Is a directory"), ("<&-", "it is closed")):
-            ran = subprocess.run(["sh", "-c", f"{command} {redirection}"], env={"PATH": f"{self.root / 'bin'}:{os.environ['PATH']}"}, capture_output=True, check=False)
+            path = f"{self.root / 'bin'}:{os.environ['PATH']}"
+            shell = ["sh", "-c", f"{command} {redirection}"]
+            ran = subprocess.run(shell, env={"PATH": path}, capture_output=True, check=False)
             self.assertEqual((ran.returncode, ran.stdout), (1, b""))
             self.assertEqual(ran.stderr.decode(), f"tilghorz: standard input could not be read: {said}\n")
 

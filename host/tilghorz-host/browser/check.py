@@ -162,7 +162,8 @@ def characters(code_points):
 def make_worked(folder):
     for number, text in enumerate(WORKED, 1):
         (folder / f"{number:02}.txt").write_text(characters(text), encoding="utf-8")
-    thread = "Hello\nI \u2764 it, 1\ufe0e too\n\n\u00a9 \u2764\ufe0f\u200d\U0001f525 \u2764\u200d\U0001f525 \U0001f469\u200d\U0001f4bb\n" + "plain\n" * 30
+    emoji = "\u00a9 \u2764\ufe0f\u200d\U0001f525 \u2764\u200d\U0001f525 \U0001f469\u200d\U0001f4bb\n"
+    thread = "Hello\nI \u2764 it, 1\ufe0e too\n\n" + emoji + "plain\n" * 30
     (folder / "thread.txt").write_text(thread + "1\ufe0e\u20e3 and a\ufe0f", encoding="utf-8")
 
 
