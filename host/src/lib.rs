@@ -24,6 +24,7 @@ pub mod beside;
 pub mod boundary;
 pub mod calls;
 pub mod comparison;
+pub mod fuzz;
 pub mod items;
 pub mod notation;
 pub mod policy;

@@ -68,10 +68,10 @@ fn taken_for(fault: Fault, entries: &[u8], old_policy: &[u8]) -> (Vec<u8>, Vec<u
             let numbers = entries.as_chunks::<8>().0;
             // The last of two equal ones becomes greater by one, if the next is not that.
             for place in 1..count {
-                let number = u64::from_le_bytes(numbers[place]);
+                let greater = u64::from_le_bytes(numbers[place]).wrapping_add(1);
                 let next = numbers.get(place + 1).map(|of| u64::from_le_bytes(*of));
-                if numbers[place] == numbers[place - 1] && next != Some(number + 1) {
-                    list[8 * place..8 * place + 8].copy_from_slice(&(number + 1).to_le_bytes());
+                if numbers[place] == numbers[place - 1] && next != Some(greater) {
+                    list[8 * place..8 * place + 8].copy_from_slice(&greater.to_le_bytes());
                 }
             }
         }

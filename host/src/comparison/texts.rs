@@ -18,7 +18,7 @@ const NAMED: [char; 7] = [
 
 /// Characters beside the named ones and the tables, and at the edges of lengths in bytes.
 #[rustfmt::skip]
-const NEIGHBOURS: [char; 26] = [
+pub const NEIGHBOURS: [char; 26] = [
     '\0', '"', '\u{7F}', '\u{80}', '\u{7FF}', '\u{800}', '\u{200C}', '\u{200E}', '\u{20E2}',
     '\u{20E4}', '\u{D7FF}', '\u{E000}', '\u{FE0D}', '\u{FE10}', '\u{FFFF}', '\u{10000}', '\u{1F1E5}', '\u{1F200}',
     '\u{1F3FA}', '\u{1F400}', '\u{E0001}', '\u{E001F}', '\u{E0020}', '\u{E0080}', '\u{E0100}', '\u{10FFFF}',
