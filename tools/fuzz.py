@@ -43,7 +43,8 @@ SECONDS = 120
 # No input is longer, and none may take longer. An input takes milliseconds, but the time is by the clock, and a machine can be busy.
 MOST_BYTES = 512
 MOST_SECONDS = 300
-FUZZER_OPTIONS = [f"-max_len={MOST_BYTES}", f"-timeout={MOST_SECONDS}", f"-report_slow_units={MOST_SECONDS}", "-len_control=0", "-entropic=0"]
+LIMITS = [f"-max_len={MOST_BYTES}", f"-timeout={MOST_SECONDS}", f"-report_slow_units={MOST_SECONDS}"]
+FUZZER_OPTIONS = [*LIMITS, "-len_control=0", "-entropic=0"]
 
 COUNTERS = "-fsanitize-coverage=inline-8bit-counters,pc-table,trace-cmp"
 RUST_COUNTERS = [

@@ -92,7 +92,8 @@ class Fuzz(unittest.TestCase):
 
     def test_the_status_and_the_file_of_what_is_found(self):
         script = self.folder / "fuzzer"
-        for body, status in (("exit 0", 0), ('for word; do case $word in -artifact_prefix=*) : >"${word#*=}crash-1" ;; esac; done; exit 77', 1)):
+        finding = 'for word; do case $word in -artifact_prefix=*) : >"${word#*=}crash-1" ;; esac; done; exit 77'
+        for body, status in (("exit 0", 0), (finding, 1)):
             script.write_text(f"#!/bin/sh\n{body}\n")
             script.chmod(0o755)
             with mock.patch.multiple(fuzz, ROOT=self.folder, FOLDER=self.folder, FUZZER=script):
