@@ -29,6 +29,7 @@ CLAIMED_RECORDS = {
     "RepairCall": "EveryRepairCall",
     "AfterRepair": "EveryAfterRepair",
     "FeedInBytes": "EveryFeedInBytes",
+    "ChangingFeed": "EveryChangingFeed",
     "TipsClaim": "EveryTip",
     "StretchClaim": "EveryStretch",
     "AroundCall": "EveryAroundCall",
@@ -46,6 +47,8 @@ CLAIMED_RECORDS = {
     "InTwo": "EveryAnswerJoins",
     "NextPiece": "FeedInBytes",
     "NextEnd": "FeedInBytes",
+    "NextChange": "ChangingFeed",
+    "HoldsLast": "ChangingFeed",
     "ReadCall": "EveryReadCall",
     "WriteCall": "EveryWriteCall",
 }

@@ -17,7 +17,7 @@ use Rattle.policy.specs.PolicyBytes.{isPolicy, policyFault, policyOf, policyRef
 use Rattle.policy.specs.declared.Policy.{Policy}
 use Rattle.scanner.specs.declared.char_class.Class.the-variants.{Other as other}
 use Rattle.formatter.proofs.CellView.{cell-view}
-use Rattle.feed.specs.Feed.{Fed, fedAs, formatFed, settle, totalFed}
+use Rattle.feed.specs.Feed.{Fed, Pending, fedAs, formatFed, nothing, settle, takeChars, totalFed}
 use Rattle.feed.specs.Calls.{Answer, Feed, refused, wrote}
 use Rattle.feed.specs.Calls as Calls
 use Rattle.feed.specs.Bytes.{Called, leaves, refuses}
@@ -40,7 +40,8 @@ use Rattle.policy_change.specs.Bytes.{
   policiesOf,
   threadOf,
 }
-use Rattle.policy_change.specs.Theorems.{ChangingFeed, EveryChangingFeed, NextChange, RefusalsWriteNothing}
+use Rattle.policy_change.specs.Theorems.{ChangingFeed, EveryChangingFeed, HoldsLast, NextChange, RefusalsWriteNothing}
+use Rattle.policy_change.proofs.HeldBase.{all-held}
 use Rattle.policy_change.proofs.Policies.{with-one}
 use Rattle.policy_change.proofs.Runs.{At, from-new}
 use Rattle.policy_change.proofs.Standing.{Stands, call-is, feed-is, passes, totals-are}
@@ -176,6 +177,10 @@ module _ (policy : List ℕ) {B T : List ℕ} {P : List Policy} {W : List ℕ} {
         ∙ sym (cell-view T policy .0);
     totals-one = λ h. totals-are (a .stands) ∙ k .totals ∙ ap totalFed (one h) ∙ total-tag p₀ (chars T) ∙ sym (cell-view T policy .1);
     each-byte = a .each;
+    held = λ e.
+        subst (λ (g : Feed). HoldsLast (chars T) (g .pending)) (sym (feed-is (a .stands)))
+        (subst (λ (s : Pending). HoldsLast (chars T) s) (k .pending-is e)
+        (subst (λ (cs : List ℕ). HoldsLast cs (takeChars nothing (a .fed) .0)) (k .characters) (all-held p₀ (a .fed))));
     rest = λ e. ap (λ (g : Feed). g .rest) (feed-is (a .stands)) ∙ k .left;
     within-limit = k .bounded;
     goes-on = can-go-on T unfinished-left;

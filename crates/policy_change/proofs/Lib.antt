@@ -5,5 +5,6 @@ pub mod Policies
 pub mod Standing
 pub mod Steps
 pub mod Runs
+pub mod HeldBase
 pub mod Changing
 pub mod Claims

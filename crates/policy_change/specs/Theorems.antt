@@ -15,8 +15,8 @@ use Rattle.scanner.specs.declared.char_class.Class.the-variants.{Other as other
 use Rattle.formatter.specs.Findings.{textTotals}
 use Rattle.formatter.specs.Format.{formatted}
 use Rattle.feed.specs.Bytes.{Called, refuses}
-use Rattle.feed.specs.Feed.{formatFed, settle, totalFed}
-use Rattle.feed.specs.Theorems.{GoesOn, NextEnd, NextPiece}
+use Rattle.feed.specs.Feed.{Pending, formatFed, settle, totalFed}
+use Rattle.feed.specs.Theorems.{GoesOn, HeldLast, NextEnd, NextPiece}
 use Rattle.feed.specs.declared.FeedAnswer.the-variants.{Refused, Written}
 use Rattle.policy_change.specs.Calls.{Call, change, end, fedWith, piece}
 use Rattle.policy_change.specs.Bytes.{
@@ -48,6 +48,12 @@ pub record NextChange (B : List ℕ) (E : Bool) (policy : List ℕ) (r : Called)
   -- It is done: its value is 0, and the policy is the one in force.
   pub done : E ≡ false → isPolicy policy ≡ true → (r .answer ≡ Written 0) × (changingFeed (r .feed) .policy ≡ policyOf policy)
 
+-- "all but an unfinished character and a last base that has a variation entry, with its selectors": what is held after these characters.
+-- The policy is the one that judges the held base; `open-text` below says which one that is.
+pub record HoldsLast (cs : List ℕ) (h : Pending) : Type 0 where
+  pub judge : Policy
+  pub last : HeldLast judge cs h
+
 -- What is claimed of a feed begun with a policy, after a list of calls: B are its bytes, T is the thread, P has for each byte of the
 -- thread the policy in force when it was fed, W are the joined outputs, and E says whether it has ended.
 pub record ChangingFeed (policy B T : List ℕ) (P : List Policy) (W : List ℕ) (E : Bool) : Type 0 where
@@ -63,6 +69,8 @@ pub record ChangingFeed (policy B T : List ℕ) (P : List Policy) (W : List ℕ)
   pub end-one : E ≡ true → P ≡ replicate (length T) (policyOf policy) → W ≡ formatted T policy
   pub totals-one : P ≡ replicate (length T) (policyOf policy) → changingTotals B ≡ textTotals T policy
   pub each-byte : length P ≡ length T
+  -- What is not written yet: the last base, if it has a variation entry, and an unfinished character.
+  pub held : E ≡ false → HoldsLast (chars T) (changingFeed B .pending)
   pub rest : E ≡ false → changingFeed B .rest ≡ drop (validUpTo T) T
   -- The thread is within the length limit, and it can go on to be well-formed.
   pub within-limit : length T ≤ 16777216
