@@ -29,7 +29,7 @@ import re
 import sys
 
 from crate_files import libraries, listed, rattle, uses
-from edit_checks import misfits, must_fail_edits, telling_nothing
+from edit_checks import misfits, must_fail_edits, telling_nothing, wrong_programs
 from theorem_checks import empty_statements, open_statements, other_statements, unknown_names, unproved_statements
 
 CLAUSE = re.compile(r"\s*(requires|ensures|ghost)\b[^{]*\{")
@@ -142,7 +142,7 @@ def unaudited_functions(root):
         for _, _, function in public_functions(root, name):
             if function[1] not in named.get(name, ()):
                 yield f"docs/AUDIT.md: {name}: {function[1]} has no row in \"What each contract rules out\""
-    edits = {path.stem for path in must_fail_edits(root)}
+    edits = {program.label for program in wrong_programs(root)}
     for names in NAMED_EDITS.findall(audit):
         for edit in re.findall(r"`(\w+)`", names):
             if edit not in edits:

@@ -38,12 +38,52 @@ fn one::plain: no proof: expected `plain-spec` in {BELOW}/proofs/plain/Proof.ant
 logic=not-proved
 """,
 }
+# Two wrong programs in one edit. The second one changes a method.
+BESIDE = "/r/target/must-fail/two/together_1"
+TOGETHER = {
+    "crates/two/src/lib.rt": """const LAST: u8 = 9;
+pub fn same(x: u8) -> u8
+    ensures { λ r. ⌜ r ≡ x ⌝ }
+{
+    x * 1
+}
+fn helper(x: u8) -> u8 {
+    x + 1
+}
+""",
+    "crates/two/src/pairs/pair.rt": """impl Pair {
+    pub fn first(&self) -> u8
+        ensures { λ r. ⌜ r ≡ self .x ⌝ }
+    {
+        self.x
+    }
+}
+""",
+    "crates/two/must-fail/together_1.edit": """program: zero
+Zero comes back.
+refused by: same: returns
+file: src/lib.rt
+old: x * 1
+new: x * 0
+
+program: second
+The second part comes back.
+refused by: pairs::pair::Pair::first: returns
+file: src/pairs/pair.rt
+old: self.x
+new: self.y
+""",
+    "target/must-fail/two/together_1/.log": f"""note: {BESIDE}/src/lib.rt:2:1: it is not proved that (`returns`)
+fn two::same: no proof: expected `same-spec` in {BESIDE}/proofs/same/Proof.antt; `search` does not close `returns`
+fn two::pairs::pair::Pair::first: no proof: expected `first-spec` in {BESIDE}/proofs; `search` does not close `returns`
+""",
+}
 
 
 class Checks(unittest.TestCase):
-    def findings(self, check, *changes):
+    def findings(self, check, *changes, sound=SOUND):
         """What a check finds after these changes, each with the end of a file's name, the old text and the new text."""
-        texts = dict(SOUND)
+        texts = dict(sound)
         for file, old, new in changes:
             name = next(name for name in texts if name.endswith(file))
             self.assertIn(old, texts[name])
@@ -55,8 +95,8 @@ class Checks(unittest.TestCase):
                 (root / name).write_text(text, encoding="utf-8")
             return list(check(root))
 
-    def finds(self, words, check, *changes):
-        findings = self.findings(check, *changes)
+    def finds(self, words, check, *changes, sound=SOUND):
+        findings = self.findings(check, *changes, sound=sound)
         self.assertTrue(any(words in finding for finding in findings), findings)
 
     def test_sound(self):
@@ -94,6 +134,36 @@ class Checks(unittest.TestCase):
         self.finds("proofs/Laws.antt does not declare other", checks.misfits, ("wrong.edit", "same: returns", "Laws: other"))
         self.finds("same/Proof.antt does not declare returns-9", checks.misfits, ("wrong.edit", "same: returns", "same: returns-9"))
         self.finds("there is no another", checks.misfits, ("wrong.edit", "same: returns", "another: returns"))
+
+    def test_sound_programs_of_one_edit(self):
+        self.assertEqual(self.findings(checks.misfits, sound=TOGETHER), [])
+        self.assertEqual(self.findings(checks.telling_nothing, sound=TOGETHER), [])
+        self.assertEqual([found[1] for found in self.findings(checks.wrong_programs, sound=TOGETHER)], ["zero", "second"])
+
+    def test_programs_of_one_edit_that_are_not_apart(self):
+        second = "file: src/pairs/pair.rt\nold: self.x\nnew: self.y"
+        for old, words in (
+            ("x * ", "second: zero changes same too"),
+            ("λ r. ⌜ r ≡ x ⌝", "second: it changes more than bodies"),
+            ("LAST: u8 = 9", "second: it changes more than bodies"),
+            ("x + 1", "second: it changes more than bodies"),
+        ):
+            change = (".edit", second, f"file: src/lib.rt\nold: {old}\nnew: 1")
+            self.finds(words, checks.misfits, change, sound=TOGETHER)
+            self.finds("second: it does not change pairs::pair::Pair::first", checks.misfits, change, sound=TOGETHER)
+
+    def test_fault_of_one_program_of_an_edit(self):
+        for old, new, words in (
+            ("old: self.x", "old: self.z", "second: src/pairs/pair.rt has its old text 0 times"),
+            ("refused by: same: returns\n", "", "zero: it has 0 lines `refused by"),
+            ("program: second", "program: zero", "two has another wrong program of this label"),
+        ):
+            self.finds(words, checks.misfits, (".edit", old, new), sound=TOGETHER)
+
+    def test_program_of_an_edit_that_nothing_refuses(self):
+        """The other program is refused, and so the edit."""
+        change = (".log", "fn two::pairs::pair::Pair::first: no proof", "fn two::other: no proof")
+        self.finds("second: pairs::pair::Pair::first: returns does not refuse it", checks.telling_nothing, change, sound=TOGETHER)
 
     def test_edit_that_is_no_definition(self):
         self.finds("ill-formed", checks.telling_nothing, (".log", f"{BELOW}/proofs/same/Proof.antt:1", f"{BELOW}/specs/Lib.antt:1"))
@@ -141,6 +211,18 @@ class Checks(unittest.TestCase):
             (root / "crates/one/must-fail").mkdir(parents=True)
             (root / "crates/one/must-fail/wrong.edit").write_text("", encoding="utf-8")
             self.assertEqual(list(checks.telling_nothing(root)), ["crates/one/must-fail/wrong.edit: it was not tried"])
+
+    def test_one_program_of_an_edit_alone(self):
+        with tempfile.TemporaryDirectory() as folder:
+            root, to = pathlib.Path(folder) / "root", pathlib.Path(folder) / "to"
+            for name, text in {**TOGETHER, "crates.txt": "two:\n"}.items():
+                (root / name).parent.mkdir(parents=True, exist_ok=True)
+                (root / name).write_text(text, encoding="utf-8")
+            to.mkdir()
+            checks.copied(root, checks.wrong_programs(root)[1], to)
+            [program] = checks.wrong_programs(to)
+            self.assertEqual(program.label, "second")
+            self.assertEqual(list(checks.replacements(program)), [("src/pairs/pair.rt", "self.x", "self.y")])
 
     def trying(self, name, log=SOUND["target/must-fail/one/wrong/.log"], status=0):
         """What trying one edit gives, with a program in place of rt that writes this log: the status, and what is printed."""
