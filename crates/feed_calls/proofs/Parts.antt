@@ -1,7 +1,7 @@
--- A call on the first 320 bytes of a feed whose policy may change is the call on all of it: the end always, and a piece if the policy has
--- not changed since the held base was fed. The outcomes of `begin` and of a change, by their tests.
-use mathlib.Core.Path.{_≡_, refl, ap, ap₂, sym, _∙_, subst}
-use mathlib.Core.Bool.{Bool, true, false, cond, not, _&&_, _||_}
+-- The end of a feed whose policy may change is the end of its first 320 bytes, and its totals are theirs. The outcomes of `begin` and of
+-- a change, by their tests.
+use mathlib.Core.Path.{_≡_, refl, ap, sym, _∙_, subst}
+use mathlib.Core.Bool.{Bool, true, false, cond}
 use mathlib.Core.List.{List, [], _++_, append-assoc, append-nil}
 use Prim.Native.Nat.{ℕ, _+_, _≤_, _<_}
 use native.Mathlib.Omega.{arith}
@@ -11,7 +11,7 @@ use lib.Seq.{drop-drop, length-sets, length-take-le, sets, sets-eq}
 use borrow.Author.Tests.{eq-eqb, le-leb, lt-leb, ne-eqb}
 use Rattle.base.specs.Output.{Wrote, roomFor}
 use Rattle.base.specs.Refusals.{After, unwritten}
-use Rattle.base.specs.Words.{bytesOf, hasRoom, number, wordBytes}
+use Rattle.base.specs.Words.{bytesOf, hasRoom, wordBytes}
 use Rattle.base.specs.declared.WriteAnswer.{WriteAnswer}
 use Rattle.base.specs.declared.Refusal.{Refusal}
 use Rattle.base.specs.declared.Refusal.the-variants.{FeedEnded, OutputTooShort}
@@ -25,7 +25,6 @@ use Rattle.feed.specs.Calls.{Answer, Feed, after, answer, refused, totalsNow, w
 use Rattle.feed.specs.Calls as Feed
 use Rattle.feed.specs.Bytes.{
   Called,
-  EndsCalled,
   begun,
   bytesFor,
   called,
@@ -45,7 +44,7 @@ use Rattle.feed.specs.declared.FeedAnswer.the-variants.{Refused, Written}
 use Rattle.feed.specs.declared.State.{State}
 use Rattle.feed.proofs.Kept.{policy-length}
 use Rattle.feed.proofs.Writing.{words-many}
-use Rattle.policy_change.specs.Calls.{answerTo, change, end, piece, under}
+use Rattle.policy_change.specs.Calls.{answerTo, change, end, under}
 use Rattle.policy_change.specs.Bytes.{
   begunChanging,
   calledOn,
@@ -54,39 +53,19 @@ use Rattle.policy_change.specs.Bytes.{
   feedPart,
   isChanged,
   isChanging,
-  keptBytes,
   laterPolicy,
   leavesAfter,
   newChanging,
-  onlySelectors,
-  settledBytes,
 }
-use Rattle.utf8.specs.Rfc3629.{chars}
-use Rattle.feeding.proofs.Ending.{ends-called}
+use Rattle.feeding.proofs.FirstPart.{glued, refused-glued}
 use Rattle.feeding.proofs.LaterPieces.{part-feed, seam}
-
--- The answer and both buffers that the definition gives.
-pub ends : {said : Called} {r : FeedAnswer} {feed out : List ℕ} → _≡_ {A = Called} (record { answer = r; feed = feed; out = out }) said
-    → EndsCalled said r feed out
-ends e = ends-called e
 
 -- Equal totals are written alike.
 pub same-totals : {m n : NonCanonicality} {o o′ : List ℕ} {r : WriteAnswer} → m ≡ n → Wrote (bytesOf (eightWords m)) o o′ r
     → Wrote (bytesOf (eightWords n)) o o′ r
 same-totals {m} {n} {o} {o′} {r} e w = subst (λ (k : NonCanonicality). Wrote (bytesOf (eightWords k)) o o′ r) e w
 
--- Whether the policy has changed, by the word.
-pub changed-by : (bs : List ℕ) {w : ℕ} → w ≡ number (take 8 (drop 320 bs)) → (w ≡ 0 → ⊥) → isChanged bs ≡ true
-changed-by bs e n = ap not (ne-eqb (number (take 8 (drop 320 bs))) 0 (λ z. n (e ∙ z)))
-
-pub unchanged-by : (bs : List ℕ) {w : ℕ} → w ≡ number (take 8 (drop 320 bs)) → w ≡ 0 → isChanged bs ≡ false
-unchanged-by bs e z = ap not (eq-eqb (number (take 8 (drop 320 bs))) 0 (sym e ∙ z))
-
-and-true : (b : Bool) → (b && true) ≡ b
-and-true true = refl
-and-true false = refl
-
--- ---- a call on the first part
+-- ---- the end
 
 module _ (bs : List ℕ) where
   abbrev A : List ℕ
@@ -95,82 +74,23 @@ module _ (bs : List ℕ) where
   abbrev D : List ℕ
   D = drop 320 bs
 
-  abbrev pub glued : Called → Called
-  glued r = record { answer = r .answer; feed = r .feed ++ drop 320 bs; out = r .out }
-
-  pub glue-ends : {x said : Called} {r : FeedAnswer} {ys out : List ℕ} → EndsCalled x r ys out → glued x ≡ said
-      → EndsCalled said r (ys ++ drop 320 bs) out
-  glue-ends {x} {said} {r} {ys} {out} h e =
-      subst (λ (y : Called). EndsCalled y r (ys ++ drop 320 bs) out) e (record {
-        answer = h .answer;
-        feed-bytes = ap (λ (l : List ℕ). l ++ drop 320 bs) (h .feed-bytes);
-        out-bytes = h .out-bytes;
-      })
-
-  refused-glued : (r : Refusal) (out : List ℕ) → refuses (Refused r) bs out ≡ glued (refuses (Refused r) A out)
-  refused-glued r out = ap (λ (l : List ℕ). refuses (Refused r) l out) (sym (take-append-drop 320 bs))
-
-  pub no-feed : (out : List ℕ) → isChanging bs ≡ false → refuses (Refused FeedEnded) bs out ≡ calledOn bs (end out)
-  unfolding calledOn
-  no-feed out e = sym (simp e)
-
   module _ (out : List ℕ) where
     end-same : (p : Policy) (g : Feed) (a : Answer)
-        → leavesAfter bs (end out) (after (under p g) (Feed.end out) a) a ≡ glued (leaves A out (after g (Feed.end out) a) a)
+        → leavesAfter bs (end out) (after (under p g) (Feed.end out) a) a ≡ glued bs (leaves A out (after g (Feed.end out) a) a)
     unfolding bytesFor stateFor
     end-same p g (wrote o) = refl
-    end-same p g (refused r) = refused-glued r out
+    end-same p g (refused r) = refused-glued bs r out
 
-    pub end-glued : isChanging bs ≡ true → glued (called A (Feed.end out)) ≡ calledOn bs (end out)
+    pub end-glued : isChanging bs ≡ true → glued bs (called A (Feed.end out)) ≡ calledOn bs (end out)
     unfolding calledOn called answerTo changingFeed answer
     end-glued e =
         let g = feedOf A in
         let a = answer g (Feed.end out) in
         let p = cond (isChanged bs) (policyOf (laterPolicy bs)) (g .policy) in
-        ap (λ (t : Bool). glued (cond t (leaves A out (after g (Feed.end out) a) a) (refuses (Refused FeedEnded) A out))) (part-feed bs e)
-        ∙ sym (end-same p g a)
+        ap (λ (t : Bool). glued bs (cond t (leaves A out (after g (Feed.end out) a) a) (refuses (Refused FeedEnded) A out)))
+        (part-feed bs e) ∙ sym (end-same p g a)
         ∙ sym (ap (λ (t : Bool). cond t (leavesAfter bs (end out) (after (under p g) (Feed.end out) a) a)
         (refuses (Refused FeedEnded) bs out)) e)
-
-  -- A piece, if the policy has not changed.
-  module _ (h : length bs ≡ 528) (c : isChanged bs ≡ false) (b out : List ℕ) where
-    same-test : isChanging bs ≡ isFeed A
-    unfolding isChanging
-    same-test =
-        ap (λ (t : Bool). t && (isFeed A && (not (isChanged bs) || isPolicy (laterPolicy bs)))) (eq-eqb (length bs) 528 h)
-        ∙ ap (λ (t : Bool). isFeed A && (not t || isPolicy (laterPolicy bs))) c ∙ and-true (isFeed A)
-
-    same-feed : changingFeed bs ≡ feedOf A
-    unfolding changingFeed
-    same-feed = ap (λ (t : Bool). under (cond t (policyOf (laterPolicy bs)) (feedOf A .policy)) (feedOf A)) c
-
-    piece-same : (g : Feed) (a : Answer) → leavesAfter bs (piece b out) (after g (Feed.piece b out) a) a
-        ≡ glued (leaves A out (after g (Feed.piece b out) a) a)
-    piece-same g (wrote o) =
-        let f = after g (Feed.piece b out) (wrote o) in
-        ap (λ (t : Bool). record {
-          answer = Written (length o);
-          feed = cond (t && not (onlySelectors (chars (changingFeed bs .rest ++ b)))) (settledBytes bs f) (keptBytes bs f);
-          out = o ++ drop (length o) out;
-        }) c
-    piece-same g (refused r) = refused-glued r out
-
-    pub piece-glued : glued (called A (Feed.piece b out)) ≡ calledOn bs (piece b out)
-    unfolding calledOn called answerTo
-    piece-glued =
-        sym (ap₂ (λ (t : Bool) (g : Feed). cond t (leavesAfter bs (piece b out) (after g (Feed.piece b out) (answer g (Feed.piece b out)))
-        (answer g (Feed.piece b out))) (refuses (Refused FeedEnded) bs out)) same-test same-feed
-        ∙ go (isFeed A) (answer (feedOf A) (Feed.piece b out)))
-      where
-        go : (t : Bool) (a : Answer) → cond t (leavesAfter bs (piece b out) (after (feedOf A) (Feed.piece b out) a) a)
-            (refuses (Refused FeedEnded) bs out)
-            ≡ glued (cond t (leaves A out (after (feedOf A) (Feed.piece b out) a) a) (refuses (Refused FeedEnded) A out))
-        go true a = piece-same (feedOf A) a
-        go false a = refused-glued FeedEnded out
-
-  pub other-piece : (b out : List ℕ) → (length bs ≡ 528 → ⊥) → refuses (Refused FeedEnded) bs out ≡ calledOn bs (piece b out)
-  unfolding calledOn isChanging
-  other-piece b out h = sym (simp (ne-eqb (length bs) 528 h))
 
   -- ---- the totals
 
@@ -187,10 +107,6 @@ module _ (bs : List ℕ) where
   -- ---- a change
 
   module _ (policy : List ℕ) where
-    pub change-0 : isChanging bs ≡ false → refuses (Refused FeedEnded) bs [] ≡ calledOn bs (change policy)
-    unfolding calledOn
-    change-0 e = sym (simp e)
-
     pub change-9 : {s : State} → isChanging bs ≡ true → s ≡ stateOf (feedPart bs) → s .ended ≡ true
         → refuses (Refused FeedEnded) bs [] ≡ calledOn bs (change policy)
     unfolding calledOn answerTo changingFeed feedOf

@@ -1,6 +1,6 @@
-// The calls of a feed whose policy may change: document 02, (iii) and (xii). `begin` equals `begunChanging`; `piece`, `end` and `change`
-// equal `calledOn`; `totals` writes the eight counts of `changingTotals` (crate policy_change, specs/Bytes.antt), each for any bytes.
-// The first 320 bytes are a feed of crate feed. Crate feeding takes the pieces.
+// The calls of a feed whose policy may change: document 02, (iii) and (xii). `begin` equals `begunChanging`; `end` and `change` equal
+// `calledOn`; `totals` writes the eight counts of `changingTotals` (crate policy_change, specs/Bytes.antt), each for any bytes. The first
+// 320 bytes are a feed of crate feed. The call for a piece is `feeding::later::piece`.
 ghost use mathlib.Core.Path.{_≡_};
 ghost use mathlib.Core.Bool.{cond};
 ghost use mathlib.Core.List.{[], _++_};
@@ -18,7 +18,6 @@ use feed::FEED_BYTES;
 use feed::FeedAnswer;
 use feed::STATE_BYTES;
 use feed::read_state;
-use feeding::later::piece_after_change;
 use policy::policy_bytes::is_policy;
 use policy::policy_bytes::policy_refusal;
 use policy_change::CHANGING_BYTES;
@@ -43,20 +42,6 @@ pub fn begin(policy: &[u8], feed: &mut [u8]) -> FeedAnswer
     FeedAnswer::Written {
         len: CHANGING_BYTES,
     }
-}
-
-// Takes a piece, or refuses. If the policy has not changed since the held base was fed, the first 320 bytes are the whole feed.
-pub fn piece(feed: &mut [u8], piece: &[u8], out: &mut [u8]) -> FeedAnswer
-    ensures { λ r. ⌜ EndsCalled (calledOn (now (feed .entry)) (Calls.piece (now (piece .entry)) (now (out .entry)))) r (now (feed .exit))
-        (now (out .exit)) ⌝ }
-{
-    if feed.len() != CHANGING_BYTES {
-        return FeedAnswer::Refused(Refusal::FeedEnded);
-    }
-    if base::read_word(feed, FEED_BYTES) != 0 {
-        return piece_after_change(feed, piece, out);
-    }
-    feeding::piece(&mut feed[0..FEED_BYTES], piece, out)
 }
 
 // Ends a feed, or refuses.

@@ -47,6 +47,7 @@ use Rattle.feed.specs.declared.Held.{Held}
 use Rattle.feed.specs.declared.State.{State}
 use Rattle.feed.proofs.PieceRoom.{piece-bytes}
 use Rattle.feed.proofs.Writing.{words-many}
+use Rattle.policy_change.proofs.Testing.{policy-lent}
 use Rattle.policy_change.specs.Calls.{afterCall, answerTo, piece, under}
 use Rattle.policy_change.specs.Bytes.{
   calledOn,
@@ -76,17 +77,6 @@ seam a x c y n l m =
     ∙ append-assoc (take n (a ++ (x ++ c))) y (drop (n + length y) (a ++ (x ++ c)))
     ∙ ap₂ (λ (u v : List ℕ). u ++ (y ++ v)) (take-at a (x ++ c) n l)
     (sym (drop-drop (length y) n (a ++ (x ++ c))) ∙ ap (drop (length y)) (drop-at a (x ++ c) n l) ∙ drop-at x c (length y) m)
-
--- What was taken, with policies and characters in an equal form.
-pub lent-taken : {u v y z cs ds : List ℕ} {h : Held} {n : NonCanonicality} {o o′ : List ℕ} {r : Later} → u ≡ v → y ≡ z → cs ≡ ds
-    → TakenLater (policyOf u) (policyOf y) h n cs o o′ r → TakenLater (policyOf v) (policyOf z) h n ds o o′ r
-lent-taken {u} {v} {y} {z} {cs} {ds} {h} {n} {o} {o′} {r} a b c t =
-    subst (λ (l : List ℕ). TakenLater (policyOf l) (policyOf z) h n ds o o′ r) a
-    (subst (λ (l : List ℕ). TakenLater (policyOf u) (policyOf l) h n ds o o′ r) b
-    (subst (λ (l : List ℕ). TakenLater (policyOf u) (policyOf y) h n l o o′ r) c t))
-
-pub lent-same : (f : List ℕ → List ℕ → List ℕ → ℕ) {u v y z cs ds : List ℕ} → u ≡ v → y ≡ z → cs ≡ ds → f u y cs ≡ f v z ds
-lent-same f a b c = λ i. f (a i) (b i) (c i)
 
 -- The policy in force is copied, and the word is 0.
 pub adopted : (bs z : List ℕ) {x y b₁ b₂ : List ℕ} {t : Bool} → length bs ≡ 528 → length z ≡ 200 → x ≡ drop 328 bs
@@ -144,7 +134,7 @@ module _ (bs : List ℕ) where
         ∙ ap (λ (x : List ℕ). number (take 8 x)) (drop-append-le (8 * k) A D (omega arith))
         ∙ ap number (take-append-le 8 (drop (8 * k) A) D (omega (arith, length-drop (8 * k) A)))
 
-    pub state-front : stateOf bs ≡ stateOf (feedPart bs)
+    state-front : stateOf bs ≡ stateOf (feedPart bs)
     unfolding stateOf heldOf countsOf
     state-front = λ i. record {
       ended = not (eqb (word-front 0 (omega arith) i) 0);
@@ -167,7 +157,7 @@ module _ (bs : List ℕ) where
         ap (drop 120) (sym (take-append-drop 320 bs)) ∙ drop-append-le 120 A D (omega arith)
 
     -- The earlier policy, as it is lent to a function.
-    pub own-lent : take (320 - 120) (drop 120 bs) ≡ drop 120 (feedPart bs)
+    own-lent : take (320 - 120) (drop 120 bs) ≡ drop 120 (feedPart bs)
     own-lent =
         let m = part-length in
         ap (take 200) after-words ∙ take-at (drop 120 A) D 200 (omega (arith, length-drop 120 A))
@@ -210,17 +200,41 @@ module _ (bs : List ℕ) where
       bytes-after true = settled-is
       bytes-after false = kept-is
 
+  -- The state that was read from all the bytes.
+  pub state-read : {s : State} → isChanging bs ≡ true → (120 ≤ length bs → s ≡ stateOf bs) → s ≡ stateOf (feedPart bs)
+  state-read e f = let h = changing-length e in f (omega arith) ∙ state-front h
+
   -- ---- the tests of a piece
+
+  abbrev p : Policy
+  p = policyOf (laterPolicy bs)
+
+  abbrev q : Policy
+  q = policyPart (feedPart bs)
+
+  -- Both policies, as they are lent.
+  abbrev p-lent : Policy
+  p-lent = policyOf (take (length bs - 328) (drop 328 bs))
+
+  abbrev q-lent : Policy
+  q-lent = policyOf (take (320 - 120) (drop 120 bs))
+
+  q-is : isChanging bs ≡ true → q-lent ≡ q
+  q-is e = ap policyOf (own-lent (changing-length e))
+
+  p-is : p-lent ≡ p
+  p-is = ap policyOf (policy-lent bs)
+
+  pub lent-taken : {h : Held} {n : NonCanonicality} {cs ds o o′ : List ℕ} {r : Later} → isChanging bs ≡ true → ds ≡ cs
+      → TakenLater q-lent p-lent h n cs o o′ r → TakenLater q p h n ds o o′ r
+  lent-taken {h} {n} {cs} {ds} {o} {o′} {r} e c t =
+      subst (λ (y : Policy). TakenLater y p h n ds o o′ r) (q-is e)
+      (subst (λ (y : Policy). TakenLater q-lent y h n ds o o′ r) p-is
+      (subst (λ (l : List ℕ). TakenLater q-lent p-lent h n l o o′ r) (sym c) t))
 
   module _ (b : List ℕ) where
     abbrev joined : State → List ℕ
     joined s = restOf s ++ b
-
-    abbrev p : Policy
-    p = policyOf (laterPolicy bs)
-
-    abbrev q : Policy
-    q = policyPart (feedPart bs)
 
     abbrev U : List ℕ
     U = joined S
@@ -228,7 +242,7 @@ module _ (bs : List ℕ) where
     pub few-later : {s : State} → isFeed (feedPart bs) ≡ true → s ≡ stateOf (feedPart bs) → total (s .counts) + s .held .count ≤ 160000000
     few-later e i = omega (arith, ap (λ (y : State). total (y .counts) + y .held .count) i, few-stored A e, few-held A e)
 
-    pub text-later : {s : State} → isFeed (feedPart bs) ≡ true → s ≡ stateOf (feedPart bs)
+    text-later : {s : State} → isFeed (feedPart bs) ≡ true → s ≡ stateOf (feedPart bs)
         → length (encodeAll (takeChars (pendingOf q (s .held)) (fedAs p (chars (joined s))) .1 .text)) ≤ 4 * length b + 10
     unfolding feedOf
     text-later e i =
@@ -236,11 +250,15 @@ module _ (bs : List ℕ) where
         (λ (y : State). length (encodeAll (takeChars (pendingOf q (y .held)) (fedAs p (chars (joined y))) .1 .text)) ≤ 4 * length b + 10)
         (sym i) (piece-bytes (under p (feedOf A)) b (feed-unfinished A e))
 
-    module _ (out : List ℕ) where
-      pub no-feed-later : isChanging bs ≡ false → refuses (Refused FeedEnded) bs out ≡ calledOn bs (piece b out)
-      unfolding calledOn
-      no-feed-later e = sym (simp e)
+    pub lent-text : {s : State} {cs : List ℕ} → isChanging bs ≡ true → s ≡ stateOf (feedPart bs) → chars (joined s) ≡ cs
+        → length (encodeAll (takeChars (pendingOf q-lent (s .held)) (fedAs p-lent cs) .1 .text)) ≤ 4 * length b + 10
+    lent-text {s} {cs} e i c =
+        let m : length (encodeAll (takeChars (pendingOf q (s .held)) (fedAs p (chars (joined s))) .1 .text))
+        ≡ length (encodeAll (takeChars (pendingOf q-lent (s .held)) (fedAs p-lent cs) .1 .text)) =
+        λ j. length (encodeAll (takeChars (pendingOf (sym (q-is e) j) (s .held)) (fedAs (sym p-is j) (c j)) .1 .text)) in
+        subst (λ (n : ℕ). n ≤ 4 * length b + 10) m (text-later (part-feed e) i)
 
+    module _ (out : List ℕ) where
       pub later-9 : {s : State} → isChanging bs ≡ true → s ≡ stateOf (feedPart bs) → s .ended ≡ true
           → refuses (Refused FeedEnded) bs out ≡ calledOn bs (piece b out)
       unfolding calledOn answerTo answer changingFeed feedOf

@@ -13,4 +13,5 @@ pub mod Fronting
 pub mod Pieces
 pub mod LaterParts
 pub mod LaterPieces
+pub mod FirstPart
 pub mod Copying

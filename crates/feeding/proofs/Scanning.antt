@@ -18,6 +18,7 @@ use Rattle.utf8.proofs.Folds.{chars-end}
 use Rattle.utf8.proofs.Fronts.{readChar-nil}
 use Rattle.utf8.proofs.Packed.{packed-step, packed-stop}
 use Rattle.utf8.proofs.Places.{Step}
+use Rattle.utf8.proofs.Texts.{validUpTo-le}
 use Rattle.utf8.proofs.Unfinished.{unfinished-no-char}
 use Rattle.policy.specs.declared.Policy.{Policy}
 use Rattle.scanner.specs.Spans.{width}
@@ -28,7 +29,9 @@ use Rattle.analysis.specs.Counts.{total}
 use Rattle.text_pass.specs.Changes.{Advances, NextChange}
 use Rattle.text_pass.specs.declared.Change.{Change}
 use Rattle.feeding.specs.Parts.{FirstChar, JoinedValid, PieceFrom, Scanned, charOf}
+use Rattle.feeding.specs.declared.scan.PieceScan.{PieceScan}
 use Rattle.feeding.proofs.Ending.{length-bytes-of}
+use Rattle.feeding.proofs.Joining.{joined-length}
 
 -- ---- the character that the piece completes
 
@@ -165,3 +168,8 @@ scanned {p} {n} {rest} {b} {first} {from} {end} {valid} {plain} {c} j k e v q =
     unpresent : (b : Bool) → not b ≡ true → b ≡ false
     unpresent true e = sym e
     unpresent false e = refl
+
+-- ---- the offset that was found
+
+pub valid-inside : {p : Policy} {n x : ℕ} {b : List ℕ} {r : PieceScan} → Scanned p n x b r → r .valid ≤ n + length b
+valid-inside {n = n} {x = x} {b = b} s = omega (arith, s .valid-is, validUpTo-le (littleEndian n x ++ b), joined-length n x b)

@@ -1,6 +1,7 @@
-// A piece for a feed whose policy has changed since its held base was fed (document 02, xii). The earlier policy judges this base, the
-// policy in force every character of the piece. Selectors at the front of the piece belong to the held base. The first other character
-// settles it. Then the policy in force takes the place of the earlier one, and the feed is one without a change.
+// A piece for a feed whose policy may change: document 02, (iii) and (xii). `piece` equals `calledOn` (crate policy_change,
+// specs/Bytes.antt), for any bytes. If the policy has changed since the held base was fed, the earlier policy judges this base, and the
+// policy in force judges every character of the piece. Selectors at the front of the piece belong to the held base. The first other
+// character settles it. Then the policy in force takes the place of the earlier one, and the feed is one without a change.
 ghost use mathlib.Core.Path.{_≡_};
 ghost use mathlib.Core.Bool.{cond, true, false};
 ghost use Prim.Native.Nat.{_+_, _/_, _≤_, _<_};
@@ -15,7 +16,7 @@ ghost use Rattle.analysis.specs.CellView.{totalCells};
 ghost use Rattle.analysis.specs.Counts.{total};
 ghost use Rattle.feed.specs.Bytes.{EndsCalled, pendingOf};
 ghost use Rattle.feed.specs.Feed.{fedAs, settle, takeChars};
-ghost use Rattle.policy_change.specs.Bytes.{calledOn, isChanged, onlySelectors};
+ghost use Rattle.policy_change.specs.Bytes.{calledOn, isChanged, isChanging, onlySelectors};
 ghost use Rattle.policy_change.specs.Calls as Calls;
 ghost use Rattle.feeding.specs.Helpers.{TakenBy};
 ghost use Rattle.feeding.specs.Later.{HeldSettled, TakenLater};
@@ -43,6 +44,7 @@ use feed::FeedAnswer;
 use feed::Held;
 use feed::STATE_BYTES;
 use feed::read_state;
+use policy_change::CHANGING_BYTES;
 use policy_change::POLICY_AT;
 use policy_change::is_changing;
 use scanner::char_class::Class;
@@ -203,14 +205,13 @@ fn adopt_policy(feed: &mut [u8], settled: bool) -> bool
     true
 }
 
-// Takes a piece, for a feed whose policy has changed since its held base was fed. For other bytes the answer is the program's choice.
-pub fn piece_after_change(feed: &mut [u8], piece: &[u8], out: &mut [u8]) -> FeedAnswer
-    ensures { λ r. ⌜ (isChanged (now (feed .entry)) ≡ true → EndsCalled (calledOn (now (feed .entry))
-        (Calls.piece (now (piece .entry)) (now (out .entry)))) r (now (feed .exit)) (now (out .exit))) ⌝ }
+// Takes a piece, for a feed whose policy has changed since its held base was fed. `isChanging` implies the length. It is named so that the
+// prover finds it.
+fn piece_after_change(feed: &mut [u8], piece: &[u8], out: &mut [u8]) -> FeedAnswer
+    requires { ⌜ (length (now feed) ≡ 528) × (isChanging (now feed) ≡ true) × (isChanged (now feed) ≡ true) ⌝ }
+    ensures { λ r. ⌜ EndsCalled (calledOn (now (feed .entry)) (Calls.piece (now (piece .entry)) (now (out .entry)))) r (now (feed .exit))
+        (now (out .exit)) ⌝ }
 {
-    if !is_changing(feed) {
-        return FeedAnswer::Refused(Refusal::FeedEnded);
-    }
     let state = read_state(feed);
     if state.ended {
         return FeedAnswer::Refused(Refusal::FeedEnded);
@@ -253,4 +254,21 @@ pub fn piece_after_change(feed: &mut [u8], piece: &[u8], out: &mut [u8]) -> Feed
     );
     adopt_policy(feed, later.settled);
     FeedAnswer::Written { len: taken.end }
+}
+
+// Takes a piece, or refuses. If the policy has not changed since the held base was fed, the first 320 bytes are the whole feed.
+pub fn piece(feed: &mut [u8], piece: &[u8], out: &mut [u8]) -> FeedAnswer
+    ensures { λ r. ⌜ EndsCalled (calledOn (now (feed .entry)) (Calls.piece (now (piece .entry)) (now (out .entry)))) r (now (feed .exit))
+        (now (out .exit)) ⌝ }
+{
+    if feed.len() != CHANGING_BYTES {
+        return FeedAnswer::Refused(Refusal::FeedEnded);
+    }
+    if base::read_word(feed, FEED_BYTES) == 0 {
+        return crate::piece(&mut feed[0..FEED_BYTES], piece, out);
+    }
+    if !is_changing(feed) {
+        return FeedAnswer::Refused(Refusal::FeedEnded);
+    }
+    piece_after_change(feed, piece, out)
 }

@@ -168,7 +168,7 @@ pub extern "C" fn tilghorz_feed_piece(feed: &mut [u8], piece: &[u8], out: &mut [
     ensures state { λ _. ⌜ now (feed .exit) ≡ calledOn (now (feed .entry)) (Calls.piece (now (piece .entry)) (now (out .entry))) .feed ⌝ }
     ensures bytes { λ _. ⌜ now (out .exit) ≡ calledOn (now (feed .entry)) (Calls.piece (now (piece .entry)) (now (out .entry))) .out ⌝ }
 {
-    feed_word(feed_calls::piece(feed, piece, out))
+    feed_word(feeding::later::piece(feed, piece, out))
 }
 
 // Ends a feed and writes the held base. It may answer the refusals 9, 10 and 8.

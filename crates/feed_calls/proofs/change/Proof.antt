@@ -1,16 +1,18 @@
 -- `feed_calls::change` meets its contract: a law for each answer.
 use mathlib.Core.Path.{sym, _∙_}
-use native.Mathlib.Omega.{arith}
 use borrow.Author.Needs.{needs}
 use borrow.Author.Tests.{not-false, not-true}
 use Rattle.feed.proofs.Kept.{policy-length}
-use Rattle.feeding.proofs.LaterPieces.{changing-length, state-front}
-use Rattle.feed_calls.proofs.Parts.{change-0, change-2, change-9, change-done, ends}
+use Rattle.policy_change.specs.Calls.{change}
+use Rattle.feeding.proofs.Ending.{ends-called}
+use Rattle.feeding.proofs.FirstPart.{no-feed}
+use Rattle.feeding.proofs.LaterPieces.{changing-length, state-read}
+use Rattle.feed_calls.proofs.Parts.{change-2, change-9, change-done}
 use Rattle.feed_calls.proofs.change.Statement.{statement}
 use Rattle.feed_calls.proofs.change.Tie as tie
 
 returns : tie.Need-returns
-returns c = let x = c .before .before .before .before .before .args in ends (change-0 (x .feed .now) (x .policy .now) (sym
+returns c = let x = c .before .before .before .before .before .args in ends-called (no-feed (x .feed .now) (change (x .policy .now)) (sym
     (c .before .is-changing .ensures) ∙ not-true _ (c .if1 .taken)))
 
 returns-2 : tie.Need-returns-2
@@ -19,8 +21,8 @@ returns-2 c =
     let f = x .feed .now in
     let p = x .policy .now in
     let i = sym (c .before .before .before .before .is-changing .ensures) ∙ not-false _ (c .before .before .before .if1 .left) in
-    let r = c .before .read-state .ensures .0 (omega (arith, changing-length f i)) ∙ state-front f (changing-length f i) in
-    ends (change-9 f p i r (c .if2 .taken))
+    let r = state-read f i (c .before .read-state .ensures .0) in
+    ends-called (change-9 f p i r (c .if2 .taken))
 
 returns-3 : tie.Need-returns-3
 returns-3 c =
@@ -30,9 +32,8 @@ returns-3 c =
     let p = x .policy .now in
     let i = sym (c .before .before .before .before .before .before .before .is-changing .ensures) ∙ not-false _
     (c .before .before .before .before .before .before .if1 .left) in
-    let r = c .before .before .before .before .read-state .ensures .0 (omega (arith, changing-length f i)) ∙ state-front f
-    (changing-length f i) in
-    ends (change-2 f p i r (c .before .before .before .if2 .left) (sym (c .before .before .is-policy .ensures) ∙ not-true _
+    let r = state-read f i (c .before .before .before .before .read-state .ensures .0) in
+    ends-called (change-2 f p i r (c .before .before .before .if2 .left) (sym (c .before .before .is-policy .ensures) ∙ not-true _
     (c .before .if3 .taken)) (c .policy-refusal .ensures))
 
 put-policy-requires : tie.Need-put-policy-requires
@@ -42,9 +43,7 @@ put-policy-requires c κs =
     let f = x .feed .now in
     let p = x .policy .now in
     let i = sym (c .before .before .before .before .before .before .before .before .is-changing .ensures) ∙ not-false _
-    (c .before .before .before .before .before .before .before .if1 .left) in
-    let r = c .before .before .before .before .before .read-state .ensures .0 (omega (arith, changing-length f i)) ∙ state-front f
-    (changing-length f i) in (
+    (c .before .before .before .before .before .before .before .if1 .left) in (
       changing-length f i,
       policy-length p (sym (c .before .before .before .is-policy .ensures) ∙ not-false _
           (c .before .before .if3 .left)),
@@ -57,9 +56,8 @@ returns-4 c =
     let f = x .feed .now in
     let p = x .policy .now in
     let i = sym (c10 .before .is-changing .ensures) ∙ not-false _ (c10 .if1 .left) in
-    let r = c .before .before .before .before .before .before .before .before .read-state .ensures .0 (omega
-    (arith, changing-length f i)) ∙ state-front f (changing-length f i) in
-    ends (change-done f p i r (c .before .before .before .before .before .before .before .if2 .left) (sym
+    let r = state-read f i (c .before .before .before .before .before .before .before .before .read-state .ensures .0) in
+    ends-called (change-done f p i r (c .before .before .before .before .before .before .before .if2 .left) (sym
     (c .before .before .before .before .before .before .is-policy .ensures) ∙ not-false _
     (c .before .before .before .before .before .if3 .left)) (c .before .before .put-policy .ensures))
 

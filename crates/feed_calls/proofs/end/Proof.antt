@@ -2,14 +2,17 @@
 use mathlib.Core.Path.{sym, _∙_}
 use native.Mathlib.Omega.{arith}
 use borrow.Author.Needs.{needs}
-use Rattle.feeding.proofs.LaterPieces.{changing-length}
 use borrow.Author.Tests.{not-false, not-true}
-use Rattle.feed_calls.proofs.Parts.{end-glued, ends, glue-ends, no-feed}
+use Rattle.policy_change.specs.Calls.{end}
+use Rattle.feeding.proofs.Ending.{ends-called}
+use Rattle.feeding.proofs.FirstPart.{glue-ends, no-feed}
+use Rattle.feeding.proofs.LaterPieces.{changing-length}
+use Rattle.feed_calls.proofs.Parts.{end-glued}
 use Rattle.feed_calls.proofs.end.Statement.{statement}
 use Rattle.feed_calls.proofs.end.Tie as tie
 
 returns : tie.Need-returns
-returns c = let x = c .before .before .before .before .before .args in ends (no-feed (x .feed .now) (x .out .now) (sym
+returns c = let x = c .before .before .before .before .before .args in ends-called (no-feed (x .feed .now) (end (x .out .now)) (sym
     (c .before .is-changing .ensures) ∙ not-true _ (c .if1 .taken)))
 
 part-end-end : tie.Need-part-end-end

@@ -9,7 +9,6 @@ use borrow.Author.Tests.{not-false, not-true}
 use Rattle.base.proofs.Writer.{put-as}
 use Rattle.base.specs.Words.{littleEndian}
 use Rattle.utf8.specs.Rfc3629.{chars, encodeAll}
-use Rattle.utf8.proofs.Texts.{validUpTo-le}
 use Rattle.base.specs.Words.{bytesOf}
 use Rattle.policy.specs.PolicyBytes.{policyOf}
 use Rattle.feed.specs.Feed.{takeChars}
@@ -19,7 +18,6 @@ use Rattle.feed.specs.Feed.{fedAs}
 use Rattle.feed.proofs.Reading.{policy-lent}
 use Rattle.feeding.proofs.Settling.{feed-length}
 use Rattle.feeding.proofs.Ending.{ends-called}
-use Rattle.feeding.proofs.Joining.{joined-length}
 use Rattle.feeding.proofs.Pieces.{
   few-counts,
   few-rest,
@@ -35,6 +33,7 @@ use Rattle.feeding.proofs.Pieces.{
   text-fits,
   unfinished-rest,
 }
+use Rattle.feeding.proofs.Scanning.{valid-inside}
 use Rattle.feeding.proofs.Taking.{taken-as}
 use Rattle.feeding.proofs.take_piece.Statement.{statement}
 use Rattle.feeding.proofs.take_piece.Tie as tie
@@ -112,12 +111,7 @@ left-after-requires c κs =
     let i = sym (c .before .before .before .before .before .before .before .before .is-feed .ensures) ∙ not-false _
     (c .before .before .before .before .before .before .before .if1 .left) in
     let r = c .before .before .before .before .before .read-state .ensures .0 (omega (arith, d .before .before .before .pre)) in
-    let s = c .before .before .before .before .before .read-state .result in
-    let u = littleEndian (s .«rest_len») (s .rest) ++ b in (
-      few-rest f b i r,
-      omega (arith, c .before .before .before .if3 .left),
-      omega (arith, c .scan-piece .ensures .valid-is, validUpTo-le u, joined-length (s .«rest_len») (s .rest) b),
-    )
+    (few-rest f b i r, omega (arith, c .before .before .before .if3 .left), valid-inside (c .scan-piece .ensures))
 
 add-valid-up-to : tie.Need-add-valid-up-to
 add-valid-up-to c =
@@ -128,15 +122,11 @@ add-valid-up-to c =
     let i = sym (d .before .before .is-feed .ensures) ∙ not-false _ (d .before .if1 .left) in
     let r = c .before .before .before .before .before .before .before .before .before .read-state .ensures .0 (omega
     (arith, d .before .before .before .before .before .before .before .pre)) in
-    let s = c .before .before .before .before .before .before .before .before .before .read-state .result in
-    let u = littleEndian (s .«rest_len») (s .rest) ++ b in
     omega (
       arith,
       c .minus .ensures,
       c .before .before .before .before .before .before .before .if3 .left,
-      c .before .before .before .before .scan-piece .ensures .valid-is,
-      validUpTo-le u,
-      joined-length (s .«rest_len») (s .rest) b,
+      valid-inside (c .before .before .before .before .scan-piece .ensures),
       len-fits f b i r,
       few-rest f b i r,
     )
