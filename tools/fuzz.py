@@ -91,6 +91,9 @@ SHEETS = [
     b"30, 31\n\n\n\n",
     b"39-30",
     b"30-41\n\n\n\n",
+    b"000030-000039,000030\n000039\n\n30-000039\n",
+    # Entries at the ends of a set's words.
+    b"2623,2626,26F7,26F8,1F5D2,1F5D3\n\n\n\n",
 ]
 TEXTS = [
     "1\ufe0e 1\u20e3 \u2764 \u231a\ufe0e\ufe0f",
@@ -100,6 +103,11 @@ TEXTS = [
     "plain ASCII of more than thirty-two bytes, then 1\ufe0e\u20e3 and more plain ASCII",
     "\u4e2d\u6587\u0430\u0431\u00a9\u00ae#*0\u23f8\ufe0f",
 ]
+UNFINISHED = [bytes.fromhex(rest) for rest in "c2 e0a0 e180 ed80 ee80 f090 f180 f480 f09080 f18080 f48080".split()]
+# The token `a` of a text, and the byte of a room that is more than four times as much as wanted.
+TOKEN_A = 6
+FAR_MORE = 253
+MORE = [more.replace("s", "\ufe0f") for more in ("s", "ss", "sa", "sss", "ssa", "\ufe10", "\uff01", "s\ufe10", "s\uff01", "ss\uff01")]
 DAMAGED = [b"a\xe2\x9d", b"\xff\xc0\x80\xed\xa0\x80", b"\xf4\x90\x80\x80a\x80", b"1\xef\xb8\x8e\xf0\x9f"]
 
 
@@ -154,6 +162,9 @@ def first_inputs():
     def piece(size):
         return step("feed_piece", 0, 4 * size, 0, 0, 0, 0, 0)
 
+    def feed(of):
+        return step("feed_piece", 0, 2, len(of), *of, 0, 0, 0, 0, 0)
+
     change = step("feed_policy", 0, 0, 0, 0, 0, 0)
     end = step("feed_end", 0, 0, 0, 0, 0)
     for name in CALLS:
@@ -172,6 +183,27 @@ def first_inputs():
         yield text(of) + file(0, 7) + file(1, 7) + release(1, 7) + file(1, 7) + file(0, 7) + release(0, 7) + release(0, 7)
     for of in SHEETS:
         yield text(of) + step("read_sheet", 0, 0, 0) + step("policy_of_last") + step("write_sheet") + text(TEXTS[0]) + step("format")
+    # Bytes of an unfinished character that are spoiled, so that none begins so.
+    for rest in UNFINISHED:
+        for place in range(len(rest)):
+            yield feed(rest) + step("spoil_feed", 0, 40 + place, 0, 0x20) + end
+    # A feed after a change of its policy: an unused bit in each set of the policy in force, and selectors after a character that was
+    # unfinished when the policy changed.
+    full = step("full_sets", 6)
+    for place in (383, 431, 479, 527):
+        spoiled = feed("\u2764".encode()) + full + change + step("spoil_feed", 0, place % 256, place // 256, 0x80)
+        # A call that is refused reads no byte for the totals.
+        yield spoiled + feed(b"a")[:-1] + change[:-1] + step("feed_totals", 0, 0, 0) + end[:-1]
+    for rest, after in ((b"\xe2\x9d", b"\xa4"), (b"\xe4\xb8", b"\xad")):
+        for more in MORE:
+            yield feed(b"1") + feed(rest) + full + change + feed(after + more.encode()) + end
+    # The same where the base that is held is spoiled: then none is held.
+    for more in MORE:
+        yield feed(b"1") + full + change + step("spoil_feed", 0, 8, 0, 0) + feed(more.encode())[:-1] + end
+    # Long stretches without a finding, and far more room than the text needs.
+    for length in (24, 64, 100, 128, 200):
+        stretch = step("add_run", TOKEN_A, length)
+        yield stretch + 2 * (step("add_bytes", 3, *"\u2764".encode()) + stretch) + step("format", 0, 0, FAR_MORE, 0)
     # A policy with an unused bit and another version.
     yield step("flip_membership", 0, 0x7F, 1) + step("other_version", 0) + change
     # A client's reserve, where the common part is taken; reserves that pass 2^64 together.

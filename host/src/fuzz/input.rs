@@ -77,7 +77,8 @@ impl<'a> Input<'a> {
         }
     }
 
-    /// The room for a result that wants this many bytes, in places of this many: just as much, or somewhat more or less.
+    /// The room for a result that wants this many bytes, in places of this many: just as much, or somewhat more or less, or
+    /// more than four times as much.
     pub fn room(&mut self, wanted: usize, place: usize) -> usize {
         let byte = self.byte();
         let much = usize::from(byte / 8);
@@ -85,6 +86,7 @@ impl<'a> Input<'a> {
             0..=2 => wanted,
             3 => wanted + 1,
             4 => wanted.saturating_sub(1),
+            5 if much == 31 => 4 * wanted + much * place,
             5 => wanted + much * place,
             6 => wanted.saturating_sub(much * place),
             _ => wanted * much / 32,
@@ -121,8 +123,9 @@ mod tests {
     }
 
     #[test]
-    fn a_room_is_just_as_wanted_or_near_it() {
-        let rooms = [0, 3, 4, 13, 14, 255].map(|byte| Input::new(&[byte]).room(224, 112));
-        assert_eq!(rooms, [224, 225, 223, 336, 112, 217]);
+    fn a_room_is_just_as_wanted_or_near_it_or_far_more() {
+        let rooms = [0, 3, 4, 13, 14, 253, 255];
+        let rooms = rooms.map(|byte| Input::new(&[byte]).room(224, 112));
+        assert_eq!(rooms, [224, 225, 223, 336, 112, 4368, 217]);
     }
 }
