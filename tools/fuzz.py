@@ -8,6 +8,7 @@
     tools/fuzz.py keep                 write the stored inputs anew, host/fuzz/corpus.txt: out of target/fuzz/corpus, where the
                                        runs leave their inputs, few inputs that together reach every branch that those inputs
                                        reach, and for each planted fault an input that shows it
+    tools/fuzz.py branches             for each function of the library, how many of its branches the stored inputs reach
 
 The exit status is 0 if nothing was found, 1 if something was found, and 2 if the fuzzer could not be built. If something was found,
 the last line names the file with the input.
@@ -20,6 +21,7 @@ If the kit has no such clang, the script says so and links the proved library wi
 """
 
 import argparse
+import bisect
 import hashlib
 import os
 import pathlib
@@ -38,6 +40,7 @@ STORED = ROOT / "host" / "fuzz" / "corpus.txt"
 FAULTS = ROOT / "host" / "src" / "comparison" / "faults.rs"
 LIBRARY = ROOT / "target" / "staticlib" / "libtilghorz.a"
 FUZZER = FOLDER / "fuzzer"
+DRIVER = ROOT / "host" / "fuzz" / "branches.c"
 
 SECONDS = 120
 # No input is longer, and none may take longer. An input takes milliseconds, but the time is by the clock, and a machine can be busy.
@@ -113,7 +116,7 @@ DAMAGED = [b"a\xe2\x9d", b"\xff\xc0\x80\xed\xa0\x80", b"\xf4\x90\x80\x80a\x80", 
 
 def missing():
     """A line for each thing that is needed and not there."""
-    for tool, package in (("clang", "clang"), ("cargo", "cargo"), ("ar", "binutils")):
+    for tool, package in (("clang", "clang"), ("cargo", "cargo"), ("ar", "binutils"), ("nm", "binutils")):
         if shutil.which(tool) is None:
             yield f"{tool} is missing: Debian's package {package}"
     if shutil.which("rt") is None:
@@ -289,8 +292,12 @@ def build():
     target = FOLDER / "build"
     words = ["--offline", "--quiet", "--release", "--package", "fuzz", "--target", TRIPLE, "--target-dir", str(target)]
     subprocess.run(["cargo", "build", *words], cwd=ROOT / "host", env=environment, check=True)
-    archive = target / TRIPLE / "release" / "libfuzz.a"
-    subprocess.run(["clang", "-fsanitize=fuzzer", archive, "-o", FUZZER, "-lpthread", "-ldl", "-lm"], check=True)
+    subprocess.run(["clang", "-fsanitize=fuzzer", archive(), "-o", FUZZER, "-lpthread", "-ldl", "-lm"], check=True)
+
+
+def archive():
+    """The compiled target with the library."""
+    return FOLDER / "build" / TRIPLE / "release" / "libfuzz.a"
 
 
 def surroundings(fault):
@@ -336,14 +343,61 @@ def keep():
     return 0
 
 
+def symbols(path):
+    """The functions of a compiled file: where each begins, how long it is, and its name."""
+    listed = subprocess.run(["nm", "--defined-only", "--print-size", path], capture_output=True, text=True, check=True).stdout
+    for line in listed.splitlines():
+        found = re.fullmatch(r"([0-9a-f]+) ([0-9a-f]+) [tT] (.+)", line)
+        if found and not found[3].startswith("sancov."):
+            yield int(found[1], 16), int(found[2], 16), found[3]
+
+
+def tally(functions, names, lines):
+    """For each function of these names, the branches that were reached and all. A line has the place of a branch, and 1 or 0."""
+    functions = sorted(functions)
+    starts = [start for start, _, _ in functions]
+    tallied = {}
+    for line in lines:
+        place, reached = line.split()
+        place = int(place, 16)
+        start, size, name = functions[max(bisect.bisect(starts, place) - 1, 0)]
+        if name in names and start <= place < start + size:
+            before = tallied.get(name, (0, 0))
+            tallied[name] = (before[0] + int(reached), before[1] + 1)
+    return tallied
+
+
+def branches():
+    """Prints which branches of the library the stored inputs reach."""
+    compiled = FOLDER / "library" / "tilghorz.o"
+    if not compiled.is_file():
+        print("fuzz: the library has no counters", file=sys.stderr)
+        return 2
+    program = FOLDER / "branches"
+    subprocess.run(["clang", "-O1", "-pie", "-fPIE", DRIVER, archive(), "-o", program, "-lpthread", "-ldl", "-lm"], check=True)
+    with tempfile.TemporaryDirectory(dir=FOLDER) as folder:
+        paths = []
+        for data in map(bytes.fromhex, STORED.read_text().split()):
+            paths.append(pathlib.Path(folder, str(len(paths))))
+            paths[-1].write_bytes(data)
+        printed = subprocess.run([program, *paths], env=surroundings(None), capture_output=True, text=True, check=True).stdout
+    tallied = tally(symbols(program), {name for _, _, name in symbols(compiled)}, printed.splitlines())
+    for name, (reached, count) in sorted(tallied.items()):
+        print(f"{reached:5} of {count:5}  {name}")
+    for what, is_of in (("the C functions", True), ("the inner functions", False)):
+        of = [numbers for name, numbers in tallied.items() if name.startswith("tilghorz_") == is_of]
+        print(f"fuzz: {what}, {len(of)}: {sum(n for n, _ in of)} of {sum(n for _, n in of)} branches are reached")
+    return 0
+
+
 def arguments(words):
     """What the script is asked to do."""
-    parser = argparse.ArgumentParser(usage="tools/fuzz.py [SECONDS] [--fault NAME] | replay FILE | keep")
+    parser = argparse.ArgumentParser(usage="tools/fuzz.py [SECONDS] [--fault NAME] | replay FILE | keep | branches")
     parser.add_argument("what", nargs="?", default=str(SECONDS))
     parser.add_argument("file", nargs="?")
     parser.add_argument("--fault")
     asked = parser.parse_args(words)
-    if asked.what not in ("replay", "keep") and not asked.what.isdigit():
+    if asked.what not in ("replay", "keep", "branches") and not asked.what.isdigit():
         parser.error(f"{asked.what}: not a number of seconds")
     if (asked.what == "replay") != (asked.file is not None):
         parser.error("replay has a file, and nothing else has one")
@@ -365,6 +419,8 @@ def main(words):
         return 2
     if asked.what == "replay":
         return run([asked.file], asked.fault)
+    if asked.what == "branches":
+        return branches()
     unpack()
     if asked.what == "keep":
         return keep()

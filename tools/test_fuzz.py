@@ -58,7 +58,7 @@ class Fuzz(unittest.TestCase):
     def test_what_is_missing_is_named_with_its_package(self):
         with mock.patch("fuzz.shutil.which", return_value=None):
             lines = list(fuzz.missing())
-        self.assertEqual(len(lines), 4)
+        self.assertEqual(len(lines), 5)
         self.assertIn("clang is missing: Debian's package clang", lines)
         with (
             mock.patch("fuzz.shutil.which", return_value="/bin/true"),
@@ -81,11 +81,17 @@ class Fuzz(unittest.TestCase):
             with contextlib.redirect_stderr(io.StringIO()):
                 self.assertEqual(fuzz.main(["1"]), 2)
 
+    def test_branches_are_counted_by_their_function(self):
+        functions = [(0x40, 8, "c"), (0x10, 16, "a::b"), (0x20, 16, "other")]
+        lines = ["10 1", "1f 0", "20 1", "40 1", "48 1", "8 1", "11 1"]
+        self.assertEqual(fuzz.tally(functions, {"a::b", "c"}, lines), {"a::b": (2, 3), "c": (1, 1)})
+
     def test_arguments(self):
         self.assertEqual(fuzz.arguments([]).what, "120")
         self.assertEqual(fuzz.arguments(["7", "--fault", "x"]).fault, "x")
         self.assertEqual(fuzz.arguments(["replay", "a"]).file, "a")
-        for words in (["replay"], ["keep", "a"], ["x"], ["-1"]):
+        self.assertEqual(fuzz.arguments(["branches"]).what, "branches")
+        for words in (["replay"], ["keep", "a"], ["branches", "a"], ["x"], ["-1"]):
             with self.subTest(words), contextlib.redirect_stderr(io.StringIO()), self.assertRaises(SystemExit) as ended:
                 fuzz.arguments(words)
             self.assertEqual(ended.exception.code, 2)
