@@ -3,9 +3,11 @@
 use mathlib.Core.Path.{_≡_, refl, ap}
 use mathlib.Core.Bool.{Bool, true, false}
 use mathlib.Core.List.{List, [], _∷_}
-use Prim.Native.Nat.{ℕ, _+_}
+use Prim.Native.Nat.{ℕ, _+_, _≤_}
 use native.Mathlib.Omega.{arith}
 use lib.ListN.{length}
+use Rattle.unicode.specs.declared.presentation.FromSelector.{FromSelector}
+use Rattle.unicode.specs.declared.presentation.FromSelector.the-variants.{NoSelector, Selector}
 use Rattle.unicode.specs.declared.presentation.Presentation.{Presentation}
 use Rattle.unicode.specs.declared.presentation.Presentation.the-variants.{Emoji, Text}
 use Rattle.policy.specs.declared.Policy.{Policy}
@@ -29,6 +31,7 @@ use Rattle.analysis.specs.Rules.{
   rule4,
   rule5,
   rule6,
+  selectorNumber,
   textFirst,
   withoutSelector,
 }
@@ -223,3 +226,8 @@ balances-6 r = record { selectors = on r; decided = of r }
 
 pub balances : (p : Policy) (c : ℕ) (k : Class) → Balances (outcome p c k)
 balances = by-rules Balances balances-1 balances-23 balances-4 balances-5 balances-6
+
+pub selector-small : (f : FromSelector) → selectorNumber f ≤ 2
+selector-small NoSelector = omega arith
+selector-small (Selector Text) = omega arith
+selector-small (Selector Emoji) = omega arith

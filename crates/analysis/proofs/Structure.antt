@@ -7,6 +7,8 @@ use mathlib.Core.Logic.{⊎-elim}
 use Prim.Native.Nat.{ℕ}
 use Rattle.unicode.specs.Presentation.{isSelector}
 use Rattle.unicode.specs.Unicode.{isRi}
+use Rattle.unicode.specs.declared.presentation.Presentation.{Presentation}
+use Rattle.scanner.proofs.RunLaws.{selectors-derived}
 use Rattle.scanner.specs.Classes.{classOf}
 use Rattle.scanner.specs.declared.char_class.Class.{Class}
 use Rattle.scanner.specs.declared.char_class.Class.the-variants.{
@@ -53,12 +55,10 @@ use Rattle.scanner.specs.Structure.{
   toModifications,
 }
 use Rattle.scanner.proofs.Classes.{class-selector, is-keycap, class-is}
-use Rattle.scanner.proofs.Runs.{passes-S, run-passes}
 use Rattle.analysis.specs.Analysis.{following}
 use Rattle.analysis.specs.Cells.{Cell, cells, split}
 use Rattle.analysis.specs.Components.{firstModification}
 use Rattle.analysis.proofs.Cells.{split-char}
-use Rattle.unicode.specs.declared.presentation.Presentation.{Presentation}
 
 -- ---- selector runs
 
@@ -67,16 +67,13 @@ abbrev pub StemRuns : EmojiStem → Type 0
 StemRuns (SingletonBase c s) = S s
 StemRuns (Flag a s b t) = (isRi a ≡ true) × S s × (isRi b ≡ true) × S t
 
-selectors-S : (t : List ℕ) → S (selectorsAt t)
-selectors-S t = passes-S (run-passes isSelector t)
-
 ri-runs : (a : ℕ) (s r : List ℕ) → isRi a ≡ true → S s → StemRuns (riStem a s r)
 unfolding riStem
 ri-runs a s [] e h = h
 ri-runs a s (b ∷ t) e h = go (isRi b) refl
   where
     go : (v : Bool) → isRi b ≡ v → StemRuns (cond v (Flag a s b (selectorsAt t)) (SingletonBase a s))
-    go true f = (e, h, f, selectors-S t)
+    go true f = (e, h, f, selectors-derived t)
     go false f = h
 
 stem-runs : (c : ℕ) (t : List ℕ) → StemRuns (emojiLike c t .stem)
@@ -84,8 +81,8 @@ unfolding emojiLike
 stem-runs c t = go (isRi c) refl
   where
     go : (v : Bool) → isRi c ≡ v → StemRuns (cond v (riStem c (selectorsAt t) (afterSelectors t)) (SingletonBase c (selectorsAt t)))
-    go true e = ri-runs c (selectorsAt t) (afterSelectors t) e (selectors-S t)
-    go false e = selectors-S t
+    go true e = ri-runs c (selectorsAt t) (afterSelectors t) e (selectors-derived t)
+    go false e = selectors-derived t
 
 -- ---- the first modification
 

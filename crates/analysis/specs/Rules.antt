@@ -135,3 +135,9 @@ firstAsked (q ∷ s) = Selector q
 unfoldable pub runWith : FromSelector → ℕ → List Presentation
 runWith NoSelector n = []
 runWith (Selector q) n = q ∷ replicate (n - 1) q
+
+-- The number of a selector: 0 for none, 1 for Text, 2 for Emoji.
+abbrev pub selectorNumber : FromSelector → ℕ
+selectorNumber NoSelector = 0
+selectorNumber (Selector Text) = 1
+selectorNumber (Selector Emoji) = 2

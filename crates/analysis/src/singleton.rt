@@ -6,10 +6,13 @@
 ghost use mathlib.Core.Path.{_≡_};
 ghost use mathlib.Core.Bool.{cond, true};
 ghost use Prim.Native.Nat.{_-_};
+ghost use lib.ListN.{drop};
+ghost use Rattle.utf8.specs.Rfc3629.{chars};
 ghost use Rattle.unicode.specs.Unicode.{hasVariationSequence, isEmojiModifierBase, variationSequenceIndex};
 ghost use Rattle.policy.specs.Policy.{singletonRule};
 ghost use Rattle.policy.specs.PolicyBytes.{policyOf};
 ghost use Rattle.policy.specs.declared.Policy.{Policy as GivenPolicy};
+ghost use Rattle.analysis.specs.CellView.{classInFront};
 ghost use Rattle.analysis.specs.Rules.{
   byKeycap,
   isBareSide,
@@ -28,6 +31,8 @@ use crate::types::NonCanonicality;
 use policy::Policy;
 use policy::SingletonRule;
 use scanner::char_class::Class;
+use scanner::char_class::Peeked;
+use scanner::char_class::peek;
 use unicode::VariationSequenceIndex;
 use unicode::presentation::FromSelector;
 use unicode::presentation::Presentation;
@@ -227,6 +232,20 @@ fn by_policy(first: FromSelector, count: usize, rule: SingletonRule) -> Outcome
                 slot: Slot::Fixed(presentation),
             }
         }
+    }
+}
+
+// Returns the class of the character at an offset, or `Other` if no character begins there.
+pub fn class_at(text: &[u8], at: usize) -> Class
+    ensures { λ r. ⌜ r ≡ classInFront (chars (drop at (now (text .entry)))) ⌝ }
+{
+    match peek(text, at) {
+        Peeked::Char {
+            value: _,
+            class,
+            end: _,
+        } => class,
+        Peeked::NoChar => Class::Other,
     }
 }
 

@@ -1,5 +1,6 @@
 -- Laws that every crate uses: tests, capped sums, words, bits, writing into a lent buffer, and tables of rows.
 pub mod Tests
+pub mod Lists
 pub mod Sums
 pub mod Writer
 pub mod Words

@@ -1,7 +1,7 @@
 -- Boolean tests and the facts that they decide: conjunction, disjunction, comparison, range.
 use mathlib.Core.Path.{_≡_, refl, sym}
 use mathlib.Core.Logic.{_⊎_, inl, inr}
-use mathlib.Core.Bool.{Bool, true, false, Bool·beq, _&&_, _||_, true≢false}
+use mathlib.Core.Bool.{Bool, true, false, Bool·beq, _&&_, _||_, not, true≢false}
 use Prim.Native.Nat.{ℕ, _≤_, _<_}
 use native.Mathlib.Omega.{arith}
 use lib.Dec.{leb}
@@ -29,6 +29,14 @@ either-right false y e = e
 pub both-false : (x y : Bool) → (x || y) ≡ false → (x ≡ false) × (y ≡ false)
 both-false true y e = absurd (true≢false e)
 both-false false y e = (refl, e)
+
+pub or-false : (b : Bool) → (b || false) ≡ b
+or-false true = refl
+or-false false = refl
+
+pub not-so : (b : Bool) → not b ≡ true → b ≡ false
+not-so true e = absurd (true≢false (sym e))
+not-so false e = refl
 
 -- A test that cannot be true is false.
 pub fails : (x : Bool) → (x ≡ true → ⊥) → x ≡ false

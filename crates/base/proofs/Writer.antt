@@ -1,6 +1,7 @@
 -- A loop that writes a list piece by piece into a lent buffer: its invariant `Writing`, and the laws that keep it. `begin` is the start
 -- of the loop. `pass` is a turn that writes nothing, and `room` and `put` are a turn that writes a piece. `finish` is the end.
 use mathlib.Core.Path.{_≡_, refl, sym, ap, ap₂, _∙_, subst}
+use mathlib.Core.Bool.{Bool, cond, false}
 use mathlib.Core.List.{List, [], _∷_, _++_}
 use Prim.Native.Nat.{ℕ, suc, _+_, _-_, _<_, _≤_}
 use native.Mathlib.Nat.{add-suc, add-zero, suc-add}
@@ -131,3 +132,7 @@ sets-last o s b i l h k f =
     (omega (arith, length-drop l b, length-sets o s (take l b)))
     ∙ ap (λ (n : ℕ). sets T (s + n) (drop l b)) (sym (length-take-le l b (omega arith))) ∙ sym (sets-append o s (take l b) (drop l b))
     ∙ ap (sets o s) (take-append-drop l b)
+
+-- Nothing is put if nothing is wanted.
+pub put-no : (o : List ℕ) (s : ℕ) (xs : List ℕ) {wanted : Bool} → wanted ≡ false → PutAt o s (cond wanted xs []) o s
+put-no o s xs e = subst (λ (b : Bool). PutAt o s (cond b xs []) o s) (sym e) (record { ends = omega arith; bytes = refl })

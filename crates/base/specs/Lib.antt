@@ -3,6 +3,7 @@
 pub mod Ranges
 pub mod Sums
 pub mod Words
+pub mod Lists
 pub mod Bits
 pub mod Texts
 pub mod Refusals

@@ -3,7 +3,7 @@ use mathlib.Core.Bool.{Bool, true, _&&_}
 use mathlib.Core.List.{List, [], _∷_, _++_}
 use Prim.Native.Nat.{ℕ, zero, suc, _+_, _*_, _/_, _%_}
 use lib.Dec.{leb}
-use lib.ListN.{length}
+use lib.ListN.{drop, length, take}
 
 -- The lowest bytes of a number, lowest byte first. The first argument is the number of bytes.
 unfoldable pub littleEndian : ℕ → ℕ → List ℕ
@@ -32,3 +32,7 @@ allBytes (b ∷ bs) = leb b 255 && allBytes bs
 -- Eight bytes fit into the buffer from the offset `at` on.
 abbrev pub hasRoom : List ℕ → ℕ → Bool
 hasRoom out at = leb (at + 8) (length out)
+
+-- The word at an index of words of eight bytes.
+abbrev pub wordAt : ℕ → List ℕ → ℕ
+wordAt k bs = number (take 8 (drop (8 * k) bs))

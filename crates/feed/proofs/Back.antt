@@ -7,26 +7,26 @@ use native.Mathlib.Omega.{arith}
 use lib.Dec.{eqb}
 use lib.ListN.{drop, getD, length, take}
 use lib.Seq.{drop-at, drop-drop, take-at}
-use Rattle.base.specs.Words.{allBytes, number, wordBytes}
+use Rattle.base.specs.Sums.{oneIf}
+use Rattle.base.specs.Words.{allBytes, number, wordAt, wordBytes}
 use Rattle.base.proofs.Words.{length-wordBytes, littleEndian-number, number-littleEndian}
 use Rattle.base.specs.Words.{bytesOf}
-use Rattle.policy.specs.PolicyBytes.{policyOf}
-use Rattle.policy.specs.declared.Policy.{Policy}
+use Rattle.base.specs.declared.Refusal.the-variants.{FeedEnded}
 use Rattle.unicode.specs.declared.presentation.FromSelector.{FromSelector}
 use Rattle.unicode.specs.declared.presentation.FromSelector.the-variants.{NoSelector, Selector}
 use Rattle.unicode.specs.declared.presentation.Presentation.the-variants.{Emoji, Text}
+use Rattle.policy.specs.PolicyBytes.{policyOf}
+use Rattle.policy.specs.declared.Policy.{Policy}
+use Rattle.analysis.specs.Rules.{selectorNumber}
 use Rattle.feed.specs.Calls.{Call, Feed, after, answer, next}
 use Rattle.feed.specs.declared.State.{State}
-use Rattle.base.specs.declared.Refusal.the-variants.{FeedEnded}
 use Rattle.feed.specs.declared.FeedAnswer.the-variants.{Refused}
 use Rattle.feed.specs.Bytes.{
   bytesFor,
   called,
   countsOf,
-  endedWord,
   feedOf,
   selectorOf,
-  selectorWord,
   heldFor,
   heldOf,
   isFeed,
@@ -38,7 +38,6 @@ use Rattle.feed.specs.Bytes.{
   stateFor,
   stateOf,
   stateWords,
-  wordAt,
 }
 use Rattle.feed.proofs.Writing.{words-many}
 
@@ -69,11 +68,11 @@ word-at (w ∷ ws) t (suc k) h l =
     ∙ ap (λ (y : List ℕ). number (take 8 (drop (8 * k) y))) (drop-at (wordBytes w) (bytesOf ws ++ t) 8 (length-wordBytes w))
     ∙ word-at ws t k m l
 
-ended-back : (b : Bool) → not (eqb (endedWord b) 0) ≡ b
+ended-back : (b : Bool) → not (eqb (oneIf b) 0) ≡ b
 ended-back true = refl
 ended-back false = refl
 
-first-back : (f : FromSelector) → selectorOf (selectorWord f) ≡ f
+first-back : (f : FromSelector) → selectorOf (selectorNumber f) ≡ f
 first-back NoSelector = refl
 first-back (Selector Text) = refl
 first-back (Selector Emoji) = refl

@@ -6,6 +6,7 @@ use Prim.Native.Nat.{ℕ, _+_, _-_}
 use native.Mathlib.Omega.{arith}
 use lib.ListN.{drop, length, length-drop}
 use lib.Seq.{take-append-seam}
+use Rattle.base.proofs.Tests.{either-right, or-false}
 use Rattle.base.specs.declared.Refusal.{Refusal}
 use Rattle.base.specs.declared.Refusal.the-variants.{FeedEnded, NotWellFormed}
 use Rattle.utf8.specs.Rfc3629.{WellFormed, chars, encodeAll, validUpTo}
@@ -124,28 +125,20 @@ module _ (policy : List ℕ) (ok : isPolicy policy ≡ true) (f : Feed) (g : Goo
       go (wrote o) = take-append-seam o (drop (length o) (outOf c))
       go (refused r) = refl
 
-  or-false : (b : Bool) → b ≡ (b || false)
-  or-false true = refl
-  or-false false = refl
-
-  or-right : (b : Bool) → true ≡ (b || true)
-  or-right true = refl
-  or-right false = refl
-
   next-ended : (c : Call) → next f c .ended ≡ (f .ended || endTaken c (called bs c .answer))
   next-ended c = go (answered f c) ∙ ap (λ (r : Called). f .ended || endTaken c (r .answer)) (sym (call-is c))
     where
       go : {c : Call} {a : Answer} → Answered f c a → after f c a .ended
           ≡ (f .ended || endTaken c (leaves bs (outOf c) (after f c a) a .answer))
-      go (piece-9 h) = or-false (f .ended)
-      go (piece-1 h l) = or-false (f .ended)
-      go (piece-3 h l u) = or-false (f .ended)
-      go (piece-8 h l u r) = or-false (f .ended)
-      go (piece-taken h l u r) = sym h ∙ or-false (f .ended)
-      go (end-9 h) = or-false (f .ended)
-      go (end-10 h l) = or-false (f .ended)
-      go (end-8 h l r) = or-false (f .ended)
-      go (end-taken h l r) = or-right (f .ended)
+      go (piece-9 h) = sym (or-false (f .ended))
+      go (piece-1 h l) = sym (or-false (f .ended))
+      go (piece-3 h l u) = sym (or-false (f .ended))
+      go (piece-8 h l u r) = sym (or-false (f .ended))
+      go (piece-taken h l u r) = sym h ∙ sym (or-false (f .ended))
+      go (end-9 h) = sym (or-false (f .ended))
+      go (end-10 h l) = sym (or-false (f .ended))
+      go (end-8 h l r) = sym (or-false (f .ended))
+      go (end-taken h l r) = sym (either-right (f .ended) true refl)
 
   next-good : (c : Call) → PieceBytes c → Good policy (next f c)
   next-good c e = record {

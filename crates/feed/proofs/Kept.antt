@@ -8,8 +8,9 @@ use native.Mathlib.Omega.{arith}
 use lib.Dec.{leb}
 use lib.ListN.{drop, getD, length, length-append, length-map, length-replicate}
 use borrow.Author.Tests.{le-leb, leb-true, ne-eqb}
+use Rattle.base.specs.Sums.{oneIf}
 use Rattle.base.specs.Refusals.{textLimit}
-use Rattle.base.specs.Words.{allBytes, bytesOf, number}
+use Rattle.base.specs.Words.{allBytes, bytesOf, number, wordAt}
 use Rattle.base.proofs.Tests.{and-both, both-true}
 use Rattle.base.proofs.Words.{allBytes-drop, littleEndian-number}
 use Rattle.utf8.specs.Rfc3629.{allScalar, chars, isScalar, validUpTo}
@@ -23,7 +24,7 @@ use Rattle.unicode.specs.Unicode.{hasVariationSequence}
 use Rattle.unicode.specs.UnicodeData.{variationEntries}
 use Rattle.unicode.specs.declared.presentation.FromSelector.{FromSelector}
 use Rattle.unicode.specs.declared.presentation.FromSelector.the-variants.{NoSelector, Selector}
-use Rattle.unicode.specs.declared.presentation.Presentation.the-variants.{Emoji, Text}
+use Rattle.policy_key_set.proofs.Below.{number-le}
 use Rattle.policy_key_set.specs.Sets.{entryCount, wordCount}
 use Rattle.policy.specs.PolicyBytes.{isPolicy, policyOf}
 use Rattle.policy.proofs.Refusals.{policy-parts}
@@ -31,27 +32,15 @@ use Rattle.policy.specs.declared.Policy.{Policy}
 use Rattle.scanner.specs.Classes.{classOf}
 use Rattle.scanner.specs.declared.char_class.Class.{Class}
 use Rattle.scanner.specs.declared.char_class.Class.the-variants.{Other as other}
+use Rattle.analysis.proofs.RuleLaws.{selector-small}
 use Rattle.analysis.specs.Counts.{total}
-use Rattle.analysis.specs.Rules.{runWith}
+use Rattle.analysis.specs.Rules.{runWith, selectorNumber}
 use Rattle.analysis.specs.declared.types.NonCanonicality.{NonCanonicality}
 use Rattle.analysis.proofs.Measuring.{few}
+use Rattle.formatter.specs.List.{countNumbers}
 use Rattle.feed.specs.Feed.{Fed, Pending, base, fedAs, heldAfter, nothing, settle, takeChar, takeChars, takeSelector}
 use Rattle.feed.specs.Calls.{Answer, Call, Feed, after, afterEnd, afterPiece, end, fedBy, newFeed, next, piece}
-use Rattle.feed.specs.Bytes.{
-  bytesFor,
-  eightWords,
-  endedWord,
-  heldFor,
-  isFeed,
-  pendingOf,
-  restOf,
-  selectorWord,
-  smallTo,
-  stateFor,
-  stateOf,
-  stateWords,
-  wordAt,
-}
+use Rattle.feed.specs.Bytes.{bytesFor, heldFor, isFeed, pendingOf, restOf, smallTo, stateFor, stateOf, stateWords}
 use Rattle.feed.specs.declared.State.{State}
 use Rattle.feed.proofs.Answered.{
   Answered,
@@ -236,11 +225,6 @@ few-number (a ∷ b ∷ c ∷ []) e l =
     omega (arith, leb-true a 255 (p .0), leb-true b 255 (q .0), leb-true c 255 (both-true (leb c 255) true (q .1) .0))
 few-number (a ∷ b ∷ c ∷ d ∷ bs) e l = absurd (omega arith)
 
-selector-small : (f : FromSelector) → selectorWord f ≤ 2
-selector-small NoSelector = omega arith
-selector-small (Selector Text) = omega arith
-selector-small (Selector Emoji) = omega arith
-
 pub base-scalar : {p : Policy} {s : Pending} → HeldUnder p s → isScalar (heldFor s .base) ≡ true
 base-scalar no-base = isScalar-low 0 (omega arith)
 base-scalar (a-base i e) = i
@@ -253,10 +237,6 @@ held-count : (s : Pending) → heldFor s .count ≤ weight s
 unfolding weight
 held-count nothing = omega arith
 held-count (base p c f n) = omega arith
-
-ended-small : (b : Bool) → endedWord b ≤ 1
-ended-small true = omega arith
-ended-small false = omega arith
 
 -- Every number of a list is at most the length limit.
 abbrev AllSmall : List ℕ → Type 0
@@ -276,7 +256,7 @@ module _ {f : Feed} (k : Kept f) (policy : List ℕ) (same : policyOf policy ≡
   abbrev bs : List ℕ
   bs = bytesFor f policy
 
-  eight-small : (n : NonCanonicality) → total n ≤ textLimit → AllSmall (eightWords n)
+  eight-small : (n : NonCanonicality) → total n ≤ textLimit → AllSmall (countNumbers n)
   eight-small n l =
       (omega arith, (omega arith, (omega arith, (omega arith, (omega arith, (omega arith, (omega arith, (omega arith, refl))))))))
 
@@ -287,10 +267,10 @@ module _ {f : Feed} (k : Kept f) (policy : List ℕ) (same : policyOf policy ≡
       let n = held-count (f .pending) in
       let l = k .short in
       let u = unfinished-few (f .rest) (k .unfinished-rest) in
-      let a : endedWord (f .ended) ≤ textLimit = omega (arith, ended-small (f .ended)) in
+      let a : oneIf (f .ended) ≤ textLimit = omega (arith, number-le (f .ended)) in
       let b : heldFor (f .pending) .base ≤ textLimit =
       omega (arith, isScalar-le (heldFor (f .pending) .base) (base-scalar (k .under))) in
-      let d : selectorWord (heldFor (f .pending) .first) ≤ textLimit = omega (arith, selector-small (heldFor (f .pending) .first)) in
+      let d : selectorNumber (heldFor (f .pending) .first) ≤ textLimit = omega (arith, selector-small (heldFor (f .pending) .first)) in
       let r : number (f .rest) ≤ textLimit = omega (arith, few-number (f .rest) (k .rest-bytes) u) in
       (a, (b, (d, (omega arith, (omega arith, (r, (l, eight-small (f .totals) (omega arith))))))))
 

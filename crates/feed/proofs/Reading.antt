@@ -8,12 +8,13 @@ use lib.Dec.{eqb, leb}
 use lib.ListN.{drop, length, length-drop, take}
 use lib.Seq.{take-length}
 use borrow.Author.Tests.{le-leb, lt-leb}
+use Rattle.base.specs.Words.{wordAt}
 use Rattle.base.specs.Refusals.{textLimit}
 use Rattle.unicode.specs.declared.presentation.FromSelector.{FromSelector}
 use Rattle.analysis.specs.declared.types.NonCanonicality.{NonCanonicality}
 use Rattle.feed.specs.declared.Held.{Held}
 use Rattle.feed.specs.declared.State.{State}
-use Rattle.feed.specs.Bytes.{countsOf, selectorOf, heldOf, smallTo, stateOf, wordAt}
+use Rattle.feed.specs.Bytes.{countsOf, selectorOf, heldOf, smallTo, stateOf}
 
 pub held-made : (bs : List ℕ) {b n : ℕ} {f : FromSelector} → b ≡ wordAt 1 bs % 4294967296 → f ≡ selectorOf (wordAt 2 bs) → n ≡ wordAt 3 bs
     → _≡_ {A = Held} (record { base = b; first = f; count = n }) (heldOf bs)

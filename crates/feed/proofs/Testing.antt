@@ -7,13 +7,13 @@ use native.Mathlib.Omega.{arith}
 use lib.ListN.{drop, length}
 use borrow.Author.Tests.{eq-eqb, ne-eqb}
 use Rattle.base.specs.Ranges.{within}
-use Rattle.base.specs.Words.{littleEndian}
+use Rattle.base.specs.Words.{littleEndian, wordAt}
 use Rattle.utf8.specs.Rfc3629.{isScalar}
-use Rattle.policy.specs.PolicyBytes.{isPolicy}
 use Rattle.utf8.specs.Rfc3629.{begun-2, begun-3, subpart}
 use Rattle.utf8.specs.Subparts.{unfinished}
 use Rattle.utf8.proofs.SecondBytes.{width-1, width-2-low, width-2-tail, width-3}
-use Rattle.feed.specs.Bytes.{heldOf, isFeed, restOf, smallTo, stateOf, wordAt}
+use Rattle.policy.specs.PolicyBytes.{isPolicy}
+use Rattle.feed.specs.Bytes.{heldOf, isFeed, restOf, smallTo, stateOf}
 
 -- ---- three bytes
 

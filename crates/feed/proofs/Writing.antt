@@ -4,14 +4,16 @@ use mathlib.Core.Bool.{Bool}
 use mathlib.Core.List.{List, [], _∷_}
 use Prim.Native.Nat.{ℕ}
 use lib.ListN.{length}
+use Rattle.base.specs.Sums.{oneIf}
 use Rattle.base.specs.Output.{WritesAt}
 use Rattle.base.specs.Words.{bytesOf}
 use Rattle.base.proofs.Numbers.{length-bytesOf}
+use Rattle.analysis.specs.Rules.{selectorNumber}
 use Rattle.feed.specs.declared.State.{State}
-use Rattle.feed.specs.Bytes.{endedWord, selectorWord, stateWords}
+use Rattle.feed.specs.Bytes.{stateWords}
 
 module _ (s : State) where
-  pub words-made : {a b : ℕ} → a ≡ endedWord (s .ended) → b ≡ selectorWord (s .held .first)
+  pub words-made : {a b : ℕ} → a ≡ oneIf (s .ended) → b ≡ selectorNumber (s .held .first)
       → (a ∷ s .held .base ∷ b ∷ s .held .count ∷ s .«rest_len» ∷ s .rest ∷ s .len
       ∷ s .counts .«unsanctioned_selectors» ∷ s .counts .«modifier_defective_selectors»
       ∷ s .counts .«additional_defective_selectors» ∷ s .counts .«tag_conflicting_selectors» ∷ s .counts .«tag_forced_presentations»

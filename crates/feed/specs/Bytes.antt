@@ -3,13 +3,14 @@
 use mathlib.Core.Path.{_≡_}
 use mathlib.Core.Bool.{Bool, true, false, cond, not, _&&_, _||_}
 use mathlib.Core.List.{List, [], _∷_, _++_}
-use Prim.Native.Nat.{ℕ, zero, suc, _*_, _%_}
+use Prim.Native.Nat.{ℕ, zero, suc, _%_}
 use lib.Dec.{eqb, leb}
 use lib.ListN.{drop, length, take}
+use Rattle.base.specs.Sums.{oneIf}
 use Rattle.base.specs.Answers.{Answers, done}
 use Rattle.base.specs.Refusals.{After, RefusalRow, orElse, refusalRow, textLimit, unwritten, written}
 use Rattle.base.specs.declared.Refusal.the-variants.{FeedEnded, OutputTooShort}
-use Rattle.base.specs.Words.{bytesOf, littleEndian, number}
+use Rattle.base.specs.Words.{bytesOf, littleEndian, number, wordAt}
 use Rattle.utf8.specs.Rfc3629.{isScalar}
 use Rattle.utf8.specs.Subparts.{unfinished}
 use Rattle.unicode.specs.declared.presentation.FromSelector.{FromSelector}
@@ -17,8 +18,10 @@ use Rattle.unicode.specs.declared.presentation.FromSelector.the-variants.{NoSel
 use Rattle.unicode.specs.declared.presentation.Presentation.the-variants.{Emoji, Text}
 use Rattle.policy.specs.PolicyBytes.{isPolicy, policyOf, policyRefusal}
 use Rattle.policy.specs.declared.Policy.{Policy}
+use Rattle.analysis.specs.Rules.{selectorNumber}
 use Rattle.analysis.specs.Counts.{eight, empty}
 use Rattle.analysis.specs.declared.types.NonCanonicality.{NonCanonicality}
+use Rattle.formatter.specs.List.{countNumbers}
 use Rattle.feed.specs.Feed.{Pending, base, nothing}
 use Rattle.feed.specs.Calls.{Answer, Call, Feed, after, answer, end, newFeed, piece, refused, totalsNow, wrote}
 use Rattle.feed.specs.declared.Held.{Held}
@@ -35,17 +38,9 @@ stateBytes = 120
 abbrev pub feedBytes : ℕ
 feedBytes = 320
 
-abbrev pub wordAt : ℕ → List ℕ → ℕ
-wordAt k bs = number (take 8 (drop (8 * k) bs))
-
 -- The first selector as a word: 0 is none, 1 is Text, 2 is Emoji.
 abbrev pub selectorOf : ℕ → FromSelector
 selectorOf w = cond (eqb w 0) NoSelector (cond (eqb w 1) (Selector Text) (Selector Emoji))
-
-abbrev pub selectorWord : FromSelector → ℕ
-selectorWord NoSelector = 0
-selectorWord (Selector Text) = 1
-selectorWord (Selector Emoji) = 2
 
 -- "Of the text it remembers only these: the base, its first selector, how many followed, and the unfinished character." The words are:
 -- whether the feed has ended; the base, or 0 if none is held; its first selector; the number of its selectors; the number of unfinished
@@ -67,20 +62,10 @@ stateOf bs = record {
   counts = countsOf bs;
 }
 
-abbrev pub endedWord : Bool → ℕ
-endedWord true = 1
-endedWord false = 0
-
--- The eight counts in document 01's order.
-abbrev pub eightWords : NonCanonicality → List ℕ
-eightWords n =
-    n .«unsanctioned_selectors» ∷ n .«modifier_defective_selectors» ∷ n .«additional_defective_selectors» ∷ n .«tag_conflicting_selectors»
-    ∷ n .«tag_forced_presentations» ∷ n .«tag_redundant_selectors» ∷ n .«policy_redundant_selectors» ∷ n .«presentation_decisions» ∷ []
-
 unfoldable pub stateWords : State → List ℕ
 stateWords s =
-    endedWord (s .ended) ∷ s .held .base ∷ selectorWord (s .held .first) ∷ s .held .count ∷ s .«rest_len» ∷ s .rest ∷ s .len
-    ∷ eightWords (s .counts)
+    oneIf (s .ended) ∷ s .held .base ∷ selectorNumber (s .held .first) ∷ s .held .count ∷ s .«rest_len» ∷ s .rest ∷ s .len
+    ∷ countNumbers (s .counts)
 
 -- ---- the feed that bytes encode
 

@@ -5,11 +5,13 @@ ghost use mathlib.Core.Bool.{true};
 ghost use mathlib.Core.Path.{_≡_};
 ghost use Prim.Native.Nat.{_%_, _<_, _≤_};
 ghost use lib.ListN.{length};
+ghost use Rattle.base.specs.Sums.{oneIf};
 ghost use Rattle.base.specs.Output.{WritesAt};
-ghost use Rattle.base.specs.Words.{bytesOf, littleEndian};
+ghost use Rattle.base.specs.Words.{bytesOf, littleEndian, wordAt};
 ghost use Rattle.utf8.specs.Subparts.{unfinished};
-ghost use Rattle.feed.specs.Bytes.{countsOf, endedWord, heldOf, isFeed, selectorOf, selectorWord, smallTo};
-ghost use Rattle.feed.specs.Bytes.{stateBytes, stateOf, stateWords, wordAt};
+ghost use Rattle.analysis.specs.Rules.{selectorNumber};
+ghost use Rattle.feed.specs.Bytes.{countsOf, heldOf, isFeed, selectorOf, smallTo};
+ghost use Rattle.feed.specs.Bytes.{stateBytes, stateOf, stateWords};
 use analysis::types::NonCanonicality;
 use base::Refusal;
 use base::TEXT_LIMIT;
@@ -215,7 +217,7 @@ pub fn is_feed(feed: &[u8]) -> bool
 
 // Returns 1 for a feed that has ended, and 0 for one that goes on.
 fn ended_word(ended: bool) -> usize
-    ensures { λ r. ⌜ r ≡ endedWord ended ⌝ }
+    ensures { λ r. ⌜ r ≡ oneIf ended ⌝ }
 {
     if ended {
         return 1;
@@ -225,7 +227,7 @@ fn ended_word(ended: bool) -> usize
 
 // Returns the word of a presentation as a first selector.
 fn presentation_word(presentation: Presentation) -> usize
-    ensures { λ r. ⌜ r ≡ selectorWord (FromSelector.Selector presentation) ⌝ }
+    ensures { λ r. ⌜ r ≡ selectorNumber (FromSelector.Selector presentation) ⌝ }
 {
     match presentation {
         Presentation::Text => 1,
@@ -235,7 +237,7 @@ fn presentation_word(presentation: Presentation) -> usize
 
 // Returns the word of a first selector.
 fn selector_word(first: FromSelector) -> usize
-    ensures { λ r. ⌜ r ≡ selectorWord first ⌝ }
+    ensures { λ r. ⌜ r ≡ selectorNumber first ⌝ }
 {
     match first {
         FromSelector::NoSelector => 0,

@@ -21,6 +21,7 @@ use Rattle.policy.specs.PolicyBytes.{isPolicy, policyFault, policyOf, policyRef
 use Rattle.policy.specs.declared.Policy.{Policy}
 use Rattle.analysis.specs.Counts.{empty}
 use Rattle.analysis.specs.declared.types.NonCanonicality.{NonCanonicality}
+use Rattle.formatter.specs.List.{countNumbers}
 use Rattle.feed.specs.Calls.{Answer, Feed, after, answer, refused, totalsNow, wrote}
 use Rattle.feed.specs.Calls as Feed
 use Rattle.feed.specs.Bytes.{
@@ -28,7 +29,6 @@ use Rattle.feed.specs.Bytes.{
   begun,
   bytesFor,
   called,
-  eightWords,
   feedOf,
   isFeed,
   leaves,
@@ -61,9 +61,9 @@ use Rattle.feeding.proofs.FirstPart.{glued, refused-glued}
 use Rattle.feeding.proofs.LaterPieces.{part-feed, seam}
 
 -- Equal totals are written alike.
-pub same-totals : {m n : NonCanonicality} {o o′ : List ℕ} {r : WriteAnswer} → m ≡ n → Wrote (bytesOf (eightWords m)) o o′ r
-    → Wrote (bytesOf (eightWords n)) o o′ r
-same-totals {m} {n} {o} {o′} {r} e w = subst (λ (k : NonCanonicality). Wrote (bytesOf (eightWords k)) o o′ r) e w
+pub same-totals : {m n : NonCanonicality} {o o′ : List ℕ} {r : WriteAnswer} → m ≡ n → Wrote (bytesOf (countNumbers m)) o o′ r
+    → Wrote (bytesOf (countNumbers n)) o o′ r
+same-totals {m} {n} {o} {o′} {r} e w = subst (λ (k : NonCanonicality). Wrote (bytesOf (countNumbers k)) o o′ r) e w
 
 -- ---- the end
 

@@ -9,7 +9,8 @@ ghost use lib.ListN.{length, take};
 ghost use Rattle.base.specs.Answers.{EndsAs};
 ghost use Rattle.base.specs.Output.{Wrote};
 ghost use Rattle.base.specs.Words.{bytesOf, wordBytes};
-ghost use Rattle.feed.specs.Bytes.{EndsCalled, eightWords, feedRow};
+ghost use Rattle.formatter.specs.List.{countNumbers};
+ghost use Rattle.feed.specs.Bytes.{EndsCalled, feedRow};
 ghost use Rattle.policy_change.specs.Bytes.{begunChanging, calledOn, changingTotals, feedPart};
 ghost use Rattle.policy_change.specs.Calls as Calls;
 use base::Refusal;
@@ -56,7 +57,7 @@ pub fn end(feed: &mut [u8], out: &mut [u8]) -> FeedAnswer
 
 // Writes the eight totals, or refuses. Bytes that are no feed have totals of 0.
 pub fn totals(feed: &[u8], out: &mut [u8]) -> WriteAnswer
-    ensures { λ r. ⌜ Wrote (bytesOf (eightWords (changingTotals (now (feed .entry))))) (now (out .entry)) (now (out .exit)) r ⌝ }
+    ensures { λ r. ⌜ Wrote (bytesOf (countNumbers (changingTotals (now (feed .entry))))) (now (out .entry)) (now (out .exit)) r ⌝ }
 {
     if !is_changing(feed) {
         return feeding::totals(&feed[0..0], out);

@@ -11,7 +11,7 @@ use lib.Seq.{drop-drop, length-sets, length-take-le, sets, sets-eq}
 use borrow.Author.Tests.{eq-eqb, eqb-false, eqb-true, le-leb, ne-eqb}
 use Rattle.base.specs.Output.{PutAt}
 use Rattle.base.specs.Refusals.{textLimit}
-use Rattle.base.specs.Words.{allBytes, bytesOf, hasRoom, littleEndian, wordBytes}
+use Rattle.base.specs.Words.{allBytes, bytesOf, hasRoom, littleEndian, wordAt, wordBytes}
 use Rattle.base.proofs.Tests.{and-both, le-or-lt}
 use Rattle.base.proofs.Words.{allBytes-drop, word-read}
 use Rattle.base.proofs.Writer.{put-as, put-then}
@@ -43,7 +43,6 @@ use Rattle.text_pass.specs.Changes.{AsciiBare}
 use Rattle.text_pass.proofs.PlainText.{ascii-other, other-plain}
 use Rattle.text_pass.proofs.RuleClasses.{rules-before, same-outcome}
 use Rattle.feed.specs.Bytes.{Called, called, countsOf, heldFor, pendingOf, policyPart, restOf, selectorOf, smallTo, stateOf, stateWords}
-use Rattle.feed.specs.Bytes.{wordAt}
 use Rattle.feed.specs.Feed.{Effect, Pending, fedAs, heldAfter, joinEffects, noEffect, settle, takeChar, takeChars, writtenAlone}
 use Rattle.feed.specs.Calls.{piece}
 use Rattle.feed.specs.declared.FeedAnswer.the-variants.{Written}

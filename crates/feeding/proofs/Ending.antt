@@ -11,26 +11,26 @@ use Rattle.base.specs.Output.{PutAt, WritesAt, Wrote, roomFor}
 use Rattle.base.specs.declared.WriteAnswer.the-variants as Write
 use Rattle.base.proofs.Output.{bytes-put, too-short, wrote}
 use Rattle.base.specs.Words.{littleEndian, number}
-use Rattle.utf8.specs.Rfc3629.{encodeAll}
 use Rattle.base.specs.Words.{bytesOf}
 use Rattle.base.proofs.Numbers.{length-bytesOf}
+use Rattle.base.specs.declared.Refusal.the-variants.{FeedEnded, OutputTooShort, UnfinishedCharacter}
+use Rattle.base.proofs.Answering.{answers}
+use Rattle.utf8.specs.Rfc3629.{encodeAll}
 use Rattle.scanner.specs.declared.char_class.Class.the-variants.{Other as other}
 use Rattle.analysis.specs.Counts.{cappedSum, empty}
 use Rattle.analysis.specs.declared.types.NonCanonicality.{NonCanonicality}
+use Rattle.formatter.specs.List.{countNumbers}
 use Rattle.feed.specs.Feed.{settle}
 use Rattle.feed.specs.Calls.{afterEnd, answer, end, totalsNow}
 use Rattle.feed.proofs.PieceRoom.{held-few, settle-bytes}
 use Rattle.feed.specs.declared.State.{State}
 use Rattle.feed.specs.declared.FeedAnswer.{FeedAnswer}
 use Rattle.feed.specs.declared.FeedAnswer.the-variants.{Refused, Written}
-use Rattle.base.specs.declared.Refusal.the-variants.{FeedEnded, OutputTooShort, UnfinishedCharacter}
-use Rattle.base.proofs.Answering.{answers}
 use Rattle.feed.specs.Bytes.{
   Called,
   EndsCalled,
   bytesFor,
   called,
-  eightWords,
   feedOf,
   isFeed,
   pendingOf,
@@ -41,9 +41,9 @@ use Rattle.feed.specs.Bytes.{
   stateWords,
   totalsOf,
 }
+use Rattle.feed.proofs.Writing.{words-many}
 use Rattle.feeding.specs.Helpers.{endedState}
 use Rattle.feeding.proofs.Settling.{feed-length, sum-now}
-use Rattle.feed.proofs.Writing.{words-many}
 
 pub length-bytes-of : (n x : ℕ) → length (littleEndian n x) ≡ n
 unfolding littleEndian
@@ -82,13 +82,13 @@ totals-some bs {s} {r} {h} e p q t =
     ∙ sum-now bs other e
     ∙ sym (ap (λ (b : Bool). cond b (totalsNow (feedOf bs)) empty) e)
 
-eight-bytes : (n : NonCanonicality) → length (bytesOf (eightWords n)) ≡ 64
-eight-bytes n = length-bytesOf (eightWords n)
+eight-bytes : (n : NonCanonicality) → length (bytesOf (countNumbers n)) ≡ 64
+eight-bytes n = length-bytesOf (countNumbers n)
 
-module _ (n : NonCanonicality) {ws : List ℕ} (e : ws ≡ eightWords n) (out out′ : List ℕ) {r : Bool}
+module _ (n : NonCanonicality) {ws : List ℕ} (e : ws ≡ countNumbers n) (out out′ : List ℕ) {r : Bool}
     (w : WritesAt (bytesOf ws) out 0 r out′) where
   abbrev bytes : List ℕ
-  bytes = bytesOf (eightWords n)
+  bytes = bytesOf (countNumbers n)
 
   writes : WritesAt bytes out 0 r out′
   writes = subst (λ (l : List ℕ). WritesAt (bytesOf l) out 0 r out′) e w

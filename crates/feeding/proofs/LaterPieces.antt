@@ -11,7 +11,7 @@ use lib.Seq.{drop-append-le, drop-at, drop-drop, drop-length, length-sets, lengt
 use borrow.Author.Tests.{eqb-true, le-leb, lt-leb}
 use Rattle.base.specs.Output.{PutAt, roomFor}
 use Rattle.base.specs.Refusals.{textLimit}
-use Rattle.base.specs.Words.{bytesOf, hasRoom, number, wordBytes}
+use Rattle.base.specs.Words.{bytesOf, hasRoom, number, wordAt, wordBytes}
 use Rattle.base.proofs.Tests.{both-true}
 use Rattle.base.proofs.Output.{bytes-put}
 use Rattle.base.proofs.Words.{length-wordBytes, word-put}
@@ -40,7 +40,6 @@ use Rattle.feed.specs.Bytes.{
   stateFor,
   stateOf,
   stateWords,
-  wordAt,
 }
 use Rattle.feed.specs.declared.FeedAnswer.the-variants.{Refused, Written}
 use Rattle.feed.specs.declared.Held.{Held}

@@ -7,11 +7,13 @@ use native.Mathlib.Omega.{arith}
 use lib.Dec.{eqb, leb}
 use lib.ListN.{drop, length, length-append, length-replicate}
 use borrow.Author.Tests.{eq-eqb, eqb-false, eqb-true, leb-true, ne-eqb}
+use Rattle.base.specs.Words.{wordAt}
 use Rattle.base.specs.Output.{PutAt}
 use Rattle.base.specs.Refusals.{textLimit}
 use Rattle.base.proofs.Tests.{both-true}
 use Rattle.base.proofs.Writer.{put-as, put-then}
 use Rattle.utf8.specs.Rfc3629.{encode, encodeAll, isScalar}
+use Rattle.utf8.specs.Subparts.{unfinished}
 use Rattle.unicode.specs.Presentation.{asSelector}
 use Rattle.unicode.specs.declared.presentation.FromSelector.{FromSelector}
 use Rattle.unicode.specs.declared.presentation.FromSelector.the-variants.{NoSelector, Selector}
@@ -26,10 +28,9 @@ use Rattle.analysis.specs.declared.singleton.Outcome.{Outcome}
 use Rattle.analysis.specs.declared.types.NonCanonicality.{NonCanonicality}
 use Rattle.analysis.proofs.Measuring.{few}
 use Rattle.analysis.proofs.Sums.{whole-sum}
-use Rattle.utf8.specs.Subparts.{unfinished}
 use Rattle.feed.specs.Feed.{Effect, base, nothing, settle, noEffect}
 use Rattle.feed.specs.declared.Held.{Held}
-use Rattle.feed.specs.Bytes.{countsOf, heldOf, isFeed, pendingOf, policyPart, restOf, smallTo, stateOf, wordAt}
+use Rattle.feed.specs.Bytes.{countsOf, heldOf, isFeed, pendingOf, policyPart, restOf, smallTo, stateOf}
 
 -- ---- what the test of a feed gives
 

@@ -6,11 +6,11 @@ use Prim.Native.Nat.{ℕ, _+_, _*_, _-_, _<_, _≤_}
 use lib.Dec.{eqb}
 use lib.ListN.{drop, getD, length}
 use Rattle.base.specs.Refusals.{textLimit}
-use Rattle.base.specs.Words.{allBytes}
+use Rattle.base.specs.Words.{allBytes, wordAt}
 use Rattle.unicode.specs.Unicode.{hasVariationSequence}
 use Rattle.unicode.specs.declared.presentation.FromSelector.the-variants.{NoSelector}
 use Rattle.policy.specs.PolicyBytes.{asciiKeysBare}
-use Rattle.feed.specs.Bytes.{countsOf, isFeed, stateOf, wordAt}
+use Rattle.feed.specs.Bytes.{countsOf, isFeed, stateOf}
 use Rattle.feed.specs.declared.Held.{Held}
 use Rattle.feeding.specs.Helpers.{openState}
 

@@ -17,23 +17,24 @@ ghost use lib.ListN.{drop, getD, length, take};
 ghost use Rattle.base.specs.Answers.{EndsAs};
 ghost use Rattle.base.specs.Output.{PutAt, Wrote};
 ghost use Rattle.base.specs.Words.{bytesOf, littleEndian};
+ghost use Rattle.base.specs.Refusals.{textLimit};
 ghost use Rattle.utf8.specs.Rfc3629.{chars, encode, encodeAll, isScalar, packed, readChar, validUpTo};
 ghost use Rattle.unicode.specs.Presentation.{asSelector, fromSelector};
 ghost use Rattle.policy.specs.PolicyBytes.{policyOf};
 ghost use Rattle.policy.specs.declared.Policy.{Policy as GivenPolicy};
+ghost use Rattle.scanner.specs.SelectorRun.{firstSelector};
 ghost use Rattle.analysis.specs.Analysis.{chosen};
 ghost use Rattle.analysis.specs.Rules.{runWith};
 ghost use Rattle.analysis.specs.Counts.{total};
-ghost use Rattle.feed.specs.Bytes.{EndsCalled, begun, called, eightWords, feedRow, heldFor, pendingOf, stateFor, stateWords, totalsOf};
+ghost use Rattle.analysis.specs.CellView.{totalCells};
+ghost use Rattle.formatter.specs.List.{countNumbers};
+ghost use Rattle.feed.specs.Bytes.{EndsCalled, begun, called, feedRow, heldFor, pendingOf, stateFor, stateWords, totalsOf};
 ghost use Rattle.feed.specs.Calls as Calls;
 ghost use Rattle.feed.specs.Feed.{fedAs, settle, takeChars};
 ghost use Rattle.feed.specs.Feed as Feed;
 ghost use Rattle.feeding.specs.Copied.{CopiesAscii};
 ghost use Rattle.feeding.specs.Helpers.{LeftAt, TakenBy, endedState, openState};
 ghost use Rattle.feeding.specs.Parts.{FrontTaken, ScanFits, charOf, scannedChars};
-ghost use Rattle.scanner.specs.SelectorRun.{firstSelector};
-ghost use Rattle.base.specs.Refusals.{textLimit};
-ghost use Rattle.analysis.specs.CellView.{totalCells};
 use analysis::singleton::Slot;
 use analysis::singleton::analyze_by_policy_bytes;
 use analysis::types::NonCanonicality;
@@ -231,7 +232,7 @@ fn totals_now(feed: &[u8]) -> NonCanonicality
 
 // Returns the eight counts in document 01's order.
 fn count_words(counts: NonCanonicality) -> [usize; 8]
-    ensures { λ r. ⌜ r ≡ eightWords counts ⌝ }
+    ensures { λ r. ⌜ r ≡ countNumbers counts ⌝ }
 {
     [
         counts.unsanctioned_selectors,
@@ -247,7 +248,7 @@ fn count_words(counts: NonCanonicality) -> [usize; 8]
 
 // Writes the eight totals, or refuses.
 pub fn totals(feed: &[u8], out: &mut [u8]) -> WriteAnswer
-    ensures { λ r. ⌜ Wrote (bytesOf (eightWords (totalsOf (now (feed .entry))))) (now (out .entry)) (now (out .exit)) r ⌝ }
+    ensures { λ r. ⌜ Wrote (bytesOf (countNumbers (totalsOf (now (feed .entry))))) (now (out .entry)) (now (out .exit)) r ⌝ }
 {
     let words = count_words(totals_now(feed));
     if base::write_numbers(out, 0, &words) {

@@ -4,10 +4,9 @@ ghost use mathlib.Core.Path.{_≡_};
 ghost use mathlib.Core.Bool.{true};
 ghost use mathlib.Core.List.{_++_};
 ghost use Prim.Native.Nat.{_+_, _%_, _≤_};
-ghost use lib.ListN.{drop, length};
+ghost use lib.ListN.{length};
 ghost use Rattle.base.specs.Refusals.{textLimit};
 ghost use Rattle.base.specs.Words.{littleEndian};
-ghost use Rattle.utf8.specs.Rfc3629.{validUpTo};
 ghost use Rattle.utf8.specs.Subparts.{unfinished};
 ghost use Rattle.policy.specs.PolicyBytes.{policyOf};
 ghost use Rattle.feeding.specs.Parts.{FirstChar, PieceFrom, JoinedValid, Scanned};
@@ -50,14 +49,6 @@ fn piece_from(n: usize, first: u32, len: usize) -> usize
     (first % 8) as usize - n
 }
 
-// Returns where the well-formed bytes from an offset on end.
-fn valid_end(text: &[u8], at: usize) -> usize
-    requires { ⌜ at ≤ length (now text) ⌝ }
-    ensures { λ r. ⌜ r ≡ at + validUpTo (drop at (now (text .entry))) ⌝ }
-{
-    at + utf8_validity::valid_up_to(&text[at..])
-}
-
 // Returns the length of the longest well-formed beginning of the unfinished bytes and the piece.
 fn joined_valid(n: usize, first: u32, end: usize) -> usize
     requires { ⌜ (n ≤ 3) × (end ≤ textLimit) ⌝ }
@@ -80,7 +71,7 @@ pub(crate) fn scan_piece(policy: &[u8], n: usize, rest: usize, piece: &[u8]) -> 
     let first = first_char(n, rest, piece);
     let from = piece_from(n, first, piece.len());
     let change = next_change(piece, policy, from);
-    let end = valid_end(piece, change.end);
+    let end = utf8_validity::valid_end(piece, change.end);
     let valid = joined_valid(n, first, end);
     let plain = !change.present;
     PieceScan {

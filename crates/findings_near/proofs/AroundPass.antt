@@ -9,6 +9,7 @@ use native.Mathlib.Omega.{arith}
 use lib.Dec.{leb, ltb}
 use lib.ListN.{length}
 use borrow.Author.Tests.{le-leb, le-ltb, lt-leb, lt-ltb, ltb-false, ltb-true}
+use Rattle.base.specs.Lists.{filter}
 use Rattle.base.specs.Output.{PutAt}
 use Rattle.base.specs.Tables.{rowsBytes}
 use Rattle.base.specs.Words.{bytesOf}
@@ -17,26 +18,16 @@ use Rattle.base.proofs.Answering.{answers}
 use Rattle.base.proofs.Tests.{le-or-lt}
 use Rattle.base.proofs.TableBytes.{rows-room}
 use Rattle.base.proofs.Writer.{Writing, begin, finish, put, room}
-use Rattle.policy.specs.declared.Policy.{Policy}
 use Rattle.positions.specs.Positions.{AtPosition, cappedPlus, countBetween}
 use Rattle.positions.specs.declared.TextCount.{TextCount}
+use Rattle.policy.specs.declared.Policy.{Policy}
 use Rattle.analysis.specs.declared.types.Finding.{Finding}
+use Rattle.text_pass.specs.Findings.{NextFinding}
+use Rattle.text_pass.specs.declared.findings.FindingSpan.{FindingSpan}
 use Rattle.formatter.specs.List.{rowBytes, rowNumbers}
 use Rattle.formatter.proofs.RowBytes.{length-row}
 use Rattle.formatter.proofs.Steps.{rowBy}
-use Rattle.text_pass.specs.Findings.{NextFinding}
-use Rattle.text_pass.specs.declared.findings.FindingSpan.{FindingSpan}
-use Rattle.findings_near.specs.Around.{
-  AfterBoth,
-  EndsAround,
-  fillBoth,
-  filter,
-  holds,
-  inside,
-  meets,
-  onlyShares,
-  refuses,
-}
+use Rattle.findings_near.specs.Around.{AfterBoth, EndsAround, fillBoth, holds, inside, meets, onlyShares, refuses}
 use Rattle.findings_near.specs.Helpers.{IsLast, IsNext, rowsFrom}
 use Rattle.findings_near.specs.declared.AroundAnswer.{AroundAnswer}
 use Rattle.findings_near.specs.declared.AroundAnswer.the-variants.{Listed}

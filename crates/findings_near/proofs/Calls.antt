@@ -8,27 +8,17 @@ use native.Mathlib.Omega.{arith}
 use lib.Dec.{leb}
 use lib.ListN.{length}
 use borrow.Author.Tests.{le-leb, lt-leb}
+use Rattle.base.specs.Lists.{filter}
 use Rattle.base.specs.Refusals.{After, orElse, textLimit, unwritten, written}
 use Rattle.base.specs.Tables.{rowsBytes}
 use Rattle.base.specs.declared.Refusal.{Refusal}
 use Rattle.base.specs.declared.Refusal.the-variants.{TableTooShort}
 use Rattle.analysis.specs.declared.types.Finding.{Finding}
+use Rattle.formatter.specs.Findings.{listed}
 use Rattle.formatter.specs.Intake.{intakeRefusal}
 use Rattle.formatter.specs.List.{rowBytes, rowNumbers}
 use Rattle.formatter.proofs.Passing.{passed-accepted}
-use Rattle.findings_near.specs.Around.{
-  AfterBoth,
-  fillBoth,
-  filter,
-  inside,
-  insideOf,
-  listAround,
-  listed,
-  onlyShares,
-  refuses,
-  sharingOf,
-  stretchEnd,
-}
+use Rattle.findings_near.specs.Around.{AfterBoth, fillBoth, inside, insideOf, listAround, onlyShares, refuses, sharingOf, stretchEnd}
 use Rattle.findings_near.specs.Nearest.{giveNearest, nearest, nearestBytes, writeNearest}
 use Rattle.findings_near.specs.Theorems.{AroundCall, IsNearest, NearestCall}
 use Rattle.findings_near.specs.declared.AroundAnswer.the-variants as Around

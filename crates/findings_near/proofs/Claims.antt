@@ -1,6 +1,6 @@
 -- The proof of each statement of specs/Theorems.antt.
 use mathlib.Core.Path.{ap}
-use Rattle.findings_near.specs.Around.{listed}
+use Rattle.formatter.specs.Findings.{listed}
 use Rattle.findings_near.specs.Nearest.{nearest}
 use Rattle.findings_near.specs.Theorems.{EveryAroundCall, EveryDistance, EveryNearest, EveryNearestCall, EveryStretch}
 use Rattle.findings_near.proofs.Calls.{around-call, nearest-call}

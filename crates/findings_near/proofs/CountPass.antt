@@ -7,17 +7,18 @@ use Prim.Native.Nat.{ℕ, _+_, _≤_}
 use native.Mathlib.Omega.{arith}
 use lib.Dec.{ltb}
 use lib.ListN.{drop, length}
+use Rattle.base.specs.Lists.{filter}
 use Rattle.utf8.specs.Rfc3629.{chars}
 use Rattle.policy.specs.declared.Policy.{Policy}
 use Rattle.scanner.specs.Items.{items}
 use Rattle.scanner.specs.Spans.{Found}
 use Rattle.analysis.specs.declared.types.Finding.{Finding}
-use Rattle.formatter.specs.Findings.{findingRow}
-use Rattle.formatter.proofs.Steps.{none-found}
 use Rattle.text_pass.specs.Findings.{Finds, NextFinding, SkipsFindings, none-skipped, one-skipped}
 use Rattle.text_pass.specs.declared.findings.FindingSpan.{FindingSpan}
 use Rattle.text_pass.proofs.Passing.{finds-here}
-use Rattle.findings_near.specs.Around.{filter, holds, inside, meets, onlyShares}
+use Rattle.formatter.specs.Findings.{findingRow}
+use Rattle.formatter.proofs.Steps.{none-found}
+use Rattle.findings_near.specs.Around.{holds, inside, meets, onlyShares}
 use Rattle.findings_near.specs.Helpers.{rowsFrom}
 use Rattle.findings_near.proofs.AroundPass.{
   NoneLeft,

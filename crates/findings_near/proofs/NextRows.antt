@@ -7,25 +7,25 @@ use native.Mathlib.Nat.{zero-add}
 use native.Mathlib.Omega.{arith}
 use lib.ListN.{drop, length}
 use lib.Seq.{sets, sets-eq}
+use Rattle.base.specs.Lists.{filter}
 use Rattle.base.specs.Output.{PutAt}
 use Rattle.base.specs.Tables.{rowsBytes}
 use Rattle.base.specs.Words.{bytesOf}
-use Rattle.policy.specs.declared.Policy.{Policy}
 use Rattle.positions.specs.Positions.{AtPosition, cappedPlus, countBetween, positionAt}
 use Rattle.positions.specs.declared.TextCount.{TextCount}
+use Rattle.policy.specs.declared.Policy.{Policy}
 use Rattle.scanner.specs.Spans.{size, width}
 use Rattle.scanner.proofs.Bytes.{size-chars}
 use Rattle.analysis.specs.declared.types.Finding.{Finding}
-use Rattle.formatter.specs.Findings.{findingRow}
-use Rattle.formatter.specs.List.{rowNumbers}
-use Rattle.formatter.proofs.Steps.{none-found, rowBy}
 use Rattle.text_pass.specs.Changes.{Advances}
 use Rattle.text_pass.specs.Findings.{NextFinding}
 use Rattle.text_pass.specs.declared.findings.FindingSpan.{FindingSpan}
 use Rattle.text_pass.proofs.Passing.{item-valid, over-finding, over-none}
 use Rattle.text_pass.proofs.Staying.{advances-on}
+use Rattle.formatter.specs.Findings.{findingRow}
+use Rattle.formatter.specs.List.{rowNumbers}
+use Rattle.formatter.proofs.Steps.{none-found, rowBy}
 use Rattle.listing.proofs.NextFindings.{finds-ahead, finds-positions, finds-row, next-row}
-use Rattle.findings_near.specs.Around.{filter}
 use Rattle.findings_near.specs.Helpers.{IsLast, IsNext}
 
 -- ---- the next finding
@@ -103,9 +103,6 @@ module _ (test : Finding → Bool) (f : Finding) (l : List Finding) where
       go false g = ap R g
 
 -- ---- a row that is wanted or not
-
-pub put-no : (o : List ℕ) (s : ℕ) (xs : List ℕ) {wanted : Bool} → wanted ≡ false → PutAt o s (cond wanted xs []) o s
-put-no o s xs e = subst (λ (b : Bool). PutAt o s (cond b xs []) o s) (sym e) (record { ends = omega arith; bytes = refl })
 
 pub put-yes : {o o′ xs : List ℕ} {s r : ℕ} {wanted : Bool} → wanted ≡ true → PutAt o s xs o′ r → PutAt o s (cond wanted xs []) o′ r
 put-yes {o} {o′} {xs} {s} {r} e p = subst (λ (b : Bool). PutAt o s (cond b xs []) o′ r) (sym e) p

@@ -1,11 +1,13 @@
 -- The listed findings are in text order, and so are those of them that pass a test.
 use mathlib.Core.Path.{_≡_, refl, ap, subst, sym, _∙_}
 use mathlib.Core.Logic.{⊎-elim}
-use mathlib.Core.Bool.{Bool, true, false, cond, false≢true}
+use mathlib.Core.Bool.{Bool, true, false, cond}
 use mathlib.Core.List.{List, [], _∷_, map, List·Memᴰ, List·Memᴰ·head, List·Memᴰ·tail, List·Memᴰ·cases-cons, List·Memᴰ·not-nil}
 use Prim.Native.Nat.{ℕ, _+_, _<_, _≤_}
 use native.Mathlib.Omega.{arith}
 use lib.ListN.{drop, length, length-map}
+use Rattle.base.proofs.Lists.{in-passed}
+use Rattle.base.specs.Lists.{filter}
 use Rattle.utf8.specs.Rfc3629.{chars}
 use Rattle.utf8.proofs.Texts.{validUpTo-le}
 use Rattle.policy.specs.PolicyBytes.{policyOf}
@@ -17,38 +19,13 @@ use Rattle.scanner.proofs.Rescan.{size-append}
 use Rattle.scanner.proofs.Tiling.{Filled, and-item, filled, no-item, tiling}
 use Rattle.analysis.specs.Analysis.{isFinding}
 use Rattle.analysis.specs.declared.types.Finding.{Finding}
-use Rattle.formatter.specs.Findings.{findingRow, findings}
-use Rattle.findings_near.specs.Around.{filter, listed}
+use Rattle.formatter.specs.Findings.{findingRow, findings, listed}
 use Rattle.findings_near.specs.Helpers.{rowsFrom}
 use Rattle.findings_near.specs.Theorems.{InTextOrder, and-then, no-more}
 
 -- ---- the elements that pass a test
 
 module _ {A : Type 0} (test : A → Bool) where
-  pub passed-in : (x : A) (l : List A) → List·Memᴰ x l → test x ≡ true → List·Memᴰ x (filter test l)
-  unfolding filter
-  passed-in x [] m e = absurd (List·Memᴰ·not-nil m)
-  passed-in x (y ∷ l) m e = go (test y) refl (passed-in x l)
-    where
-      go : (b : Bool) → test y ≡ b → (List·Memᴰ x l → test x ≡ true → List·Memᴰ x (filter test l))
-          → List·Memᴰ x (cond b (y ∷ filter test l) (filter test l))
-      go true f h = ⊎-elim (λ (g : x ≡ y). List·Memᴰ·head g) (λ (n : List·Memᴰ x l). List·Memᴰ·tail (h n e)) (List·Memᴰ·cases-cons m)
-      go false f h = ⊎-elim (λ (g : x ≡ y). absurd (false≢true (sym f ∙ ap test (sym g) ∙ e))) (λ (n : List·Memᴰ x l). h n e)
-          (List·Memᴰ·cases-cons m)
-
-  pub in-passed : (x : A) (l : List A) → List·Memᴰ x (filter test l) → (test x ≡ true) × List·Memᴰ x l
-  unfolding filter
-  in-passed x [] m = absurd (List·Memᴰ·not-nil m)
-  in-passed x (y ∷ l) m = go (test y) refl (in-passed x l) m
-    where
-      go : (b : Bool) → test y ≡ b → (List·Memᴰ x (filter test l) → (test x ≡ true) × List·Memᴰ x l)
-          → List·Memᴰ x (cond b (y ∷ filter test l) (filter test l)) → (test x ≡ true) × List·Memᴰ x (y ∷ l)
-      go true f h n = ⊎-elim
-          (λ (g : x ≡ y). (ap test g ∙ f, List·Memᴰ·head g))
-          (λ (k : List·Memᴰ x (filter test l)). (h k .0, List·Memᴰ·tail (h k .1)))
-          (List·Memᴰ·cases-cons n)
-      go false f h n = (h n .0, List·Memᴰ·tail (h n .1))
-
   pub none-pass : (l : List A) → ((x : A) → List·Memᴰ x l → test x ≡ false) → filter test l ≡ []
   unfolding filter
   none-pass [] h = refl
@@ -115,7 +92,7 @@ module _ (p : Policy) (text : List ℕ) where
   ordered-from at = rows-ordered at (filled (chars (drop at text)))
 
 pub text-ordered : (text policy : List ℕ) → InTextOrder (listed text policy)
-unfolding listed findings
+unfolding findings
 text-ordered text policy = ordered-from (policyOf policy) text 0
 
 -- Every finding has a byte.
@@ -151,7 +128,7 @@ module _ (p : Policy) where
       go false k = let w = some in omega (arith, size-append width (x .chars) (join xs))
 
 pub few-listed : (text policy : List ℕ) (test : Finding → Bool) → length (filter test (listed text policy)) ≤ length text
-unfolding listed findings
+unfolding findings
 few-listed text policy test =
     let t = chars text in
     let p = policyOf policy in

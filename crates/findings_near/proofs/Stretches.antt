@@ -1,26 +1,21 @@
 -- The two tests of a finding, by its bytes, and the two lists of a stretch.
 use mathlib.Core.Path.{_≡_, refl, ap, sym, _∙_}
 use mathlib.Core.Logic.{_⊎_, inl, inr, ⊎-elim}
-use mathlib.Core.Bool.{Bool, true, false, _&&_, cond, not, false≢true, true≢false}
+use mathlib.Core.Bool.{Bool, true, false, _&&_, cond, not, true≢false}
 use mathlib.Core.List.{List, [], _∷_, List·Memᴰ, List·Memᴰ·head}
 use Prim.Native.Nat.{ℕ, _-_, _<_, _≤_}
 use native.Mathlib.Omega.{arith}
 use lib.Dec.{leb, ltb}
 use lib.ListN.{length}
 use borrow.Author.Tests.{le-leb, leb-true, lt-ltb, ltb-true}
-use Rattle.base.proofs.Tests.{and-both, both-true, fails, le-or-lt}
+use Rattle.base.proofs.Lists.{in-passed, passed-in}
+use Rattle.base.specs.Lists.{filter}
+use Rattle.base.proofs.Tests.{and-both, both-true, fails, le-or-lt, not-so}
 use Rattle.analysis.specs.declared.types.Finding.{Finding}
-use Rattle.findings_near.specs.Around.{filter, holds, inside, insideOf, listed, meets, onlyShares, sharingOf, stretchEnd}
+use Rattle.formatter.specs.Findings.{listed}
+use Rattle.findings_near.specs.Around.{holds, inside, insideOf, meets, onlyShares, sharingOf, stretchEnd}
 use Rattle.findings_near.specs.Theorems.{Apart, InTextOrder, Inside, Marked, Shares, StretchClaim, and-then, no-more}
-use Rattle.findings_near.proofs.Order.{
-  filter-ordered,
-  first-starts,
-  has-byte,
-  in-passed,
-  none-pass,
-  passed-in,
-  text-ordered,
-}
+use Rattle.findings_near.proofs.Order.{filter-ordered, first-starts, has-byte, none-pass, text-ordered}
 
 -- ---- tests as facts
 
@@ -47,10 +42,6 @@ record On (from to : ℕ) (f : Finding) : Type 0 where
   pub low : f .start < to
   pub high : from < f .end
   pub not-in : inside from to f ≡ false
-
-not-so : (b : Bool) → not b ≡ true → b ≡ false
-not-so true e = absurd (false≢true e)
-not-so false e = refl
 
 on-so : (from to : ℕ) (f : Finding) → onlyShares from to f ≡ true → On from to f
 unfolding meets

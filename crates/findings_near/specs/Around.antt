@@ -2,31 +2,22 @@
 -- (document 02, ix). A stretch is the bytes from an offset up to, not including, another.
 use mathlib.Core.Path.{_≡_}
 use mathlib.Core.Bool.{Bool, _&&_, cond, not}
-use mathlib.Core.List.{List, [], _∷_, map}
+use mathlib.Core.List.{List}
 use Prim.Native.Nat.{ℕ, _/_, min}
 use lib.Dec.{leb, ltb}
 use lib.ListN.{length}
+use Rattle.base.specs.Lists.{filter}
 use Rattle.base.specs.Answers.{Answers, done, twoValues}
 use Rattle.base.specs.Refusals.{RefusalRow, orElse, refusalRow, written}
 use Rattle.base.specs.Tables.{rowsBytes}
 use Rattle.base.specs.declared.Refusal.{Refusal}
 use Rattle.base.specs.declared.Refusal.the-variants.{TableTooShort}
-use Rattle.policy.specs.PolicyBytes.{policyOf}
 use Rattle.analysis.specs.declared.types.Finding.{Finding}
-use Rattle.formatter.specs.Findings.{findingRow, findings}
+use Rattle.formatter.specs.Findings.{listed}
 use Rattle.formatter.specs.Intake.{intakeRefusal}
 use Rattle.formatter.specs.List.{rowBytes, rowNumbers}
 use Rattle.findings_near.specs.declared.AroundAnswer.{AroundAnswer}
 use Rattle.findings_near.specs.declared.AroundAnswer.the-variants.{Listed, Refused}
-
--- The findings of a text as they are listed, in text order.
-unfoldable pub listed : List ℕ → List ℕ → List Finding
-listed text policy = map (findingRow (policyOf policy) text) (findings text policy)
-
--- The elements of a list that pass a test, in the same order.
-unfoldable pub filter : {A : Type 0} → (A → Bool) → List A → List A
-filter test [] = []
-filter test (x ∷ xs) = cond (test x) (x ∷ filter test xs) (filter test xs)
 
 -- ---- a stretch
 

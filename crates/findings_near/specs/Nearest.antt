@@ -11,9 +11,9 @@ use Rattle.base.specs.Words.{bytesOf}
 use Rattle.base.specs.declared.Refusal.{Refusal}
 use Rattle.base.specs.declared.Refusal.the-variants.{TableTooShort}
 use Rattle.analysis.specs.declared.types.Finding.{Finding}
+use Rattle.formatter.specs.Findings.{listed}
 use Rattle.formatter.specs.Intake.{intakeRefusal}
 use Rattle.formatter.specs.List.{rowNumbers}
-use Rattle.findings_near.specs.Around.{listed}
 use Rattle.findings_near.specs.declared.NearestAnswer.{NearestAnswer}
 use Rattle.findings_near.specs.declared.NearestAnswer.the-variants.{NoFinding, Refused, Written}
 

@@ -12,9 +12,10 @@ use Rattle.base.specs.Words.{bytesOf}
 use Rattle.base.specs.declared.Refusal.{Refusal}
 use Rattle.base.specs.declared.Refusal.the-variants.{TableTooShort}
 use Rattle.analysis.specs.declared.types.Finding.{Finding}
+use Rattle.formatter.specs.Findings.{listed}
 use Rattle.formatter.specs.Intake.{intakeRefusal}
 use Rattle.formatter.specs.List.{rowBytes, rowNumbers}
-use Rattle.findings_near.specs.Around.{insideOf, listAround, listed, refuses, sharingOf}
+use Rattle.findings_near.specs.Around.{insideOf, listAround, refuses, sharingOf}
 use Rattle.findings_near.specs.Nearest.{distance, giveNearest, nearest, nearestBytes, nearestNumbers}
 use Rattle.findings_near.specs.declared.AroundAnswer.the-variants as Around
 use Rattle.findings_near.specs.declared.NearestAnswer.the-variants as Nearest

@@ -5,23 +5,14 @@ ghost use mathlib.Core.Path.{_≡_};
 ghost use mathlib.Core.Bool.{true, _&&_, cond};
 ghost use Prim.Native.Nat.{_+_, _≤_};
 ghost use lib.Dec.{ltb};
-ghost use lib.ListN.{drop, length};
+ghost use lib.ListN.{length};
+ghost use Rattle.base.specs.Lists.{filter};
 ghost use Rattle.base.specs.Output.{PutAt};
 ghost use Rattle.base.specs.Tables.{rowsBytes};
 ghost use Rattle.utf8.specs.Rfc3629.{validUpTo};
+ghost use Rattle.formatter.specs.Findings.{listed};
 ghost use Rattle.formatter.specs.List.{rowNumbers};
-ghost use Rattle.findings_near.specs.Around.{
-  EndsAround,
-  fillBoth,
-  filter,
-  holds,
-  inside,
-  listAround,
-  listed,
-  meets,
-  onlyShares,
-  stretchEnd,
-};
+ghost use Rattle.findings_near.specs.Around.{EndsAround, fillBoth, holds, inside, listAround, meets, onlyShares, stretchEnd};
 use crate::AroundAnswer;
 use crate::rows::SpanPositions;
 use crate::rows::put_row_if;
@@ -101,14 +92,6 @@ fn is_before(present: bool, start: usize, to: usize) -> bool
     start < to
 }
 
-// The end of the longest run of well-formed characters that starts at an offset.
-fn well_formed_end(text: &[u8], at: usize) -> usize
-    requires { ⌜ at ≤ length (now text) ⌝ }
-    ensures { λ r. ⌜ r ≡ at + validUpTo (drop at (now (text .entry))) ⌝ }
-{
-    at + utf8_validity::valid_up_to(&text[at..])
-}
-
 // Counts the findings of both lists. The first search passes the findings that end before the stretch. The second passes those that lie
 // inside, from the first of them on, and stops at the first finding that ends after the stretch. No byte is read twice: the second search
 // goes on where the first one ends, and the test for UTF-8 where the second one ends.
@@ -125,7 +108,7 @@ fn count_around(text: &[u8], policy: &[u8], from: usize, to: usize) -> AroundCou
         passed: _,
     } = next_finding(text, policy, from, 0);
     if !is_before(present, start, to) {
-        let valid_up_to = well_formed_end(text, end);
+        let valid_up_to = utf8_validity::valid_end(text, end);
         return AroundCount {
             inside: 0,
             sharing: 0,
@@ -142,7 +125,7 @@ fn count_around(text: &[u8], policy: &[u8], from: usize, to: usize) -> AroundCou
     let inside = one_if(is_inside(from, to, start, end)) + passed;
     let first_sharing = one_if(is_sharing(from, to, start, end));
     let sharing = first_sharing + one_if(is_before(last_present, last_start, to));
-    let valid_up_to = well_formed_end(text, last_end);
+    let valid_up_to = utf8_validity::valid_end(text, last_end);
     AroundCount {
         inside,
         sharing,

@@ -18,9 +18,9 @@ use Rattle.scanner.proofs.Rescan.{size-append}
 use Rattle.analysis.specs.Analysis.{nonCanonicality, replacement}
 use Rattle.analysis.specs.Cells.{selectorCount}
 use Rattle.analysis.specs.Counts.{adding, removing}
+use Rattle.analysis.specs.Findings.{totals}
 use Rattle.formatter.specs.Book.{Entry, Mark, bookChars, entryChars, itemsOf, mended, untouched}
 use Rattle.formatter.specs.Demand3.{Each, and-each, mendedItems, no-more, onlyMended}
-use Rattle.analysis.specs.Findings.{totals}
 use Rattle.formatter.proofs.Replacements.{balances, four-times, keeps-others}
 use Rattle.formatter.proofs.Mending.{Derived}
 
@@ -46,7 +46,7 @@ selector-scalar c e = go (eqb c 0xFE0E) (eqb c 0xFE0F) refl refl e
     go false false f g e = absurd (false≢true e)
 
 -- All characters are scalar values exactly if all but the selectors are.
-scalar-strip : (t : List ℕ) → allScalar t ≡ allScalar (strip t)
+pub scalar-strip : (t : List ℕ) → allScalar t ≡ allScalar (strip t)
 unfolding allScalar strip
 scalar-strip [] = refl
 scalar-strip (c ∷ t) = go (isSelector c) refl (scalar-strip t)

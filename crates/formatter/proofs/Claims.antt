@@ -2,7 +2,7 @@
 use mathlib.Core.Path.{refl}
 use Rattle.base.specs.Words.{bytesOf, littleEndian, wordBytes}
 use Rattle.formatter.specs.AfterRepair.{EveryAfterRepair, RepairMayPassLimit}
-use Rattle.formatter.specs.List.{countNumbers, rowNumbers}
+use Rattle.formatter.specs.List.{rowNumbers}
 use Rattle.formatter.specs.Theorems.{
   CellByCell,
   ColumnsInOrder,
@@ -40,7 +40,7 @@ pub mends-test-alike : MendsTestAlike
 mends-test-alike = test-alike
 
 pub columns-in-order : ColumnsInOrder
-unfolding ColumnsInOrder rowNumbers countNumbers bytesOf wordBytes littleEndian
+unfolding ColumnsInOrder rowNumbers bytesOf wordBytes littleEndian
 columns-in-order = (refl, refl)
 
 pub findings-positioned : FindingsPositioned

@@ -16,22 +16,22 @@ use Rattle.base.specs.Words.{bytesOf}
 use Rattle.base.specs.Refusals.{After, unwritten, orElse, written}
 use Rattle.base.specs.declared.Refusal.{Refusal}
 use Rattle.base.specs.declared.Refusal.the-variants.{TableTooShort}
+use Rattle.base.specs.declared.ListAnswer.{ListAnswer}
+use Rattle.base.specs.declared.ListAnswer.the-variants.{Listed, Refused}
 use Rattle.policy.specs.PolicyBytes.{policyOf}
-use Rattle.analysis.specs.declared.types.Finding.{Finding}
 use Rattle.scanner.specs.Spans.{scan}
 use Rattle.scanner.specs.TextCheck.{textRefusal}
 use Rattle.scanner.specs.declared.ScanItem.{ScanItem}
+use Rattle.analysis.specs.declared.types.Finding.{Finding}
 use Rattle.formatter.specs.Findings.{findingRow, findings}
 use Rattle.formatter.specs.Intake.{intakeRefusal}
-use Rattle.formatter.specs.List.{countNumbers, itemBytes, itemNumbers, list, listBytes, listItems, rowBytes, rowNumbers}
+use Rattle.formatter.specs.List.{itemBytes, itemNumbers, list, listBytes, listItems, rowBytes, rowNumbers}
 use Rattle.formatter.specs.Theorems.{ListedAsBytes}
-use Rattle.base.specs.declared.ListAnswer.{ListAnswer}
-use Rattle.base.specs.declared.ListAnswer.the-variants.{Listed, Refused}
 
 -- ---- lengths
 
 pub length-row : (f : Finding) → length (bytesOf (rowNumbers f)) ≡ rowBytes
-unfolding rowNumbers countNumbers
+unfolding rowNumbers
 length-row f = length-bytesOf (rowNumbers f)
 
 pub length-item : (x : ScanItem) → length (bytesOf (itemNumbers x)) ≡ itemBytes

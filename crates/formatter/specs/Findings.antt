@@ -2,9 +2,9 @@
 -- crates/analysis/specs/Findings.antt has the findings from an offset on.
 use mathlib.Core.List.{List, map}
 use Prim.Native.Nat.{ℕ, _+_}
+use Rattle.positions.specs.Positions.{positionAt}
 use Rattle.policy.specs.PolicyBytes.{policyOf}
 use Rattle.policy.specs.declared.Policy.{Policy}
-use Rattle.positions.specs.Positions.{positionAt}
 use Rattle.scanner.specs.Spans.{Found, size, width}
 use Rattle.analysis.specs.Analysis.{nonCanonicality}
 use Rattle.analysis.specs.Findings.{findingsFrom, totals}
@@ -31,6 +31,10 @@ findingRow p text f = rowIn text (f .start) (f .start + size width (f .item .cha
 -- The findings of a text, by its bytes and the policy's.
 unfoldable pub findings : List ℕ → List ℕ → List Found
 findings text policy = findingsFrom (policyOf policy) text 0
+
+-- The rows that listing gives for a text.
+abbrev pub listed : List ℕ → List ℕ → List Finding
+listed text policy = map (findingRow (policyOf policy) text) (findings text policy)
 
 -- The eight totals of a text under a policy.
 unfoldable pub textTotals : List ℕ → List ℕ → NonCanonicality

@@ -1,29 +1,28 @@
 -- Listing: the whole outcome of each call, `list` and `listBytes` for findings and `listItems` for items (document 01, "Counts and
 -- finding", "Turned back").
 use mathlib.Core.Bool.{cond}
-use mathlib.Core.List.{List, [], _∷_, _++_, map}
+use mathlib.Core.List.{List, [], _∷_, _++_}
 use Prim.Native.Nat.{ℕ}
 use lib.Dec.{leb}
 use lib.ListN.{length}
-use Rattle.policy.specs.PolicyBytes.{policyOf}
-use Rattle.scanner.specs.Spans.{kindNumber, scan}
-use Rattle.scanner.specs.TextCheck.{textRefusal}
-use Rattle.scanner.specs.declared.ScanItem.{ScanItem}
-use Rattle.formatter.specs.Findings.{findingRow, findings}
 use Rattle.base.specs.Refusals.{After, unwritten, orElse, written}
 use Rattle.base.specs.Tables.{fillTable}
-use Rattle.formatter.specs.Intake.{intakeRefusal}
-use Rattle.analysis.specs.declared.types.Finding.{Finding}
-use Rattle.analysis.specs.declared.types.NonCanonicality.{NonCanonicality}
 use Rattle.base.specs.declared.ListAnswer.{ListAnswer}
 use Rattle.base.specs.declared.ListAnswer.the-variants.{Listed, Refused}
 use Rattle.base.specs.declared.Refusal.{Refusal}
 use Rattle.base.specs.declared.Refusal.the-variants.{TableTooShort}
+use Rattle.scanner.specs.Spans.{kindNumber, scan}
+use Rattle.scanner.specs.TextCheck.{textRefusal}
+use Rattle.scanner.specs.declared.ScanItem.{ScanItem}
+use Rattle.analysis.specs.declared.types.Finding.{Finding}
+use Rattle.analysis.specs.declared.types.NonCanonicality.{NonCanonicality}
+use Rattle.formatter.specs.Findings.{listed}
+use Rattle.formatter.specs.Intake.{intakeRefusal}
 
 -- "The findings are listed in text order into a table lent by the caller", with refusals 1, 2, 3 and 7 in this order.
 unfoldable pub list : List ℕ → List ℕ → List Finding → After ListAnswer Finding
 list text policy table =
-    let rows = map (findingRow (policyOf policy) text) (findings text policy) in
+    let rows = listed text policy in
     orElse (intakeRefusal text policy) (λ (r : Refusal). unwritten (Refused r) table)
     (cond (leb (length rows) (length table)) (written (Listed (length rows)) rows table)
     (unwritten (Refused (TableTooShort (length rows))) table))
@@ -31,7 +30,7 @@ list text policy table =
 -- ---- findings
 
 -- The eight counts, in document 01's order.
-unfoldable pub countNumbers : NonCanonicality → List ℕ
+abbrev pub countNumbers : NonCanonicality → List ℕ
 countNumbers n =
     n .«unsanctioned_selectors»
     ∷ n .«modifier_defective_selectors»
@@ -59,7 +58,7 @@ rowBytes = 112
 unfoldable pub listBytes : List ℕ → List ℕ → List ℕ → After ListAnswer ℕ
 listBytes text policy table =
     orElse (intakeRefusal text policy) (λ (r : Refusal). unwritten (Refused r) table)
-    (fillTable rowNumbers rowBytes (map (findingRow (policyOf policy) text) (findings text policy)) table)
+    (fillTable rowNumbers rowBytes (listed text policy) table)
 
 -- ---- items
 

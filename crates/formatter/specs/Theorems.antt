@@ -3,32 +3,32 @@ use mathlib.Core.Path.{_≡_}
 use mathlib.Core.Logic.{_↔_}
 use mathlib.Core.Bool.{true, false}
 use mathlib.Core.Option.{some, none}
-use mathlib.Core.List.{List, [], _∷_, _++_, map}
+use mathlib.Core.List.{List, [], _∷_, _++_}
 use Prim.Native.Nat.{ℕ, _+_, _≤_, _<_}
 use lib.ListN.{drop, length, take}
 use Rattle.base.specs.Refusals.{refusalTable}
 use Rattle.base.specs.Tables.{rowsBytes}
+use Rattle.base.specs.Words.{bytesOf}
+use Rattle.base.specs.declared.ListAnswer.the-variants.{Refused}
+use Rattle.base.specs.declared.Refusal.{Refusal}
+use Rattle.base.specs.declared.Refusal.the-variants.{NotWellFormed, TextTooLong}
 use Rattle.utf8.specs.Rfc3629.{WellFormed, chars, encodeAll, validUpTo}
-use Rattle.policy.specs.PolicyBytes.{isPolicy, policyOf, policyRefusal}
 use Rattle.positions.specs.Positions.{Boundary}
+use Rattle.policy.specs.PolicyBytes.{isPolicy, policyOf, policyRefusal}
 use Rattle.scanner.specs.Items.{Item}
 use Rattle.analysis.specs.CellView.{formatCells, totalCells}
 use Rattle.analysis.specs.Findings.{findingAt}
 use Rattle.analysis.specs.ItemAt.{replaceAt}
-use Rattle.base.specs.Words.{bytesOf}
+use Rattle.analysis.specs.declared.types.Finding.{Finding}
+use Rattle.analysis.specs.declared.types.MendAnswer.the-variants as Mend
 use Rattle.formatter.specs.Demand3.{Accepted, Each, FormattedClaim, ListClaim}
 use Rattle.formatter.specs.Filed.{filedText}
-use Rattle.formatter.specs.Findings.{findingRow, findings, rowIn, textTotals}
+use Rattle.formatter.specs.Findings.{findings, listed, rowIn, textTotals}
 use Rattle.formatter.specs.Format.{format, formatted}
 use Rattle.formatter.specs.List.{list, listBytes, rowBytes, rowNumbers}
 use Rattle.formatter.specs.Mend.{Call, mend}
 use Rattle.formatter.specs.Intake.{intakeRefusal, listLimit}
-use Rattle.analysis.specs.declared.types.Finding.{Finding}
 use Rattle.formatter.specs.declared.FormatAnswer.the-variants as Format
-use Rattle.base.specs.declared.ListAnswer.the-variants.{Refused}
-use Rattle.analysis.specs.declared.types.MendAnswer.the-variants as Mend
-use Rattle.base.specs.declared.Refusal.{Refusal}
-use Rattle.base.specs.declared.Refusal.the-variants.{NotWellFormed, TextTooLong}
 
 -- ---- refusals
 
@@ -117,7 +117,7 @@ pub record ListedAt (text : List ℕ) (f : Finding) : Type 0 where
 
 -- "Every item and finding now carries start and end three times: bytes, characters, and UTF-16 units", for all findings of a text.
 unfoldable pub FindingsPositioned : Type 0
-FindingsPositioned = (text policy : List ℕ) → Each (ListedAt text) (map (findingRow (policyOf policy) text) (findings text policy))
+FindingsPositioned = (text policy : List ℕ) → Each (ListedAt text) (listed text policy)
 
 -- Listing into a table of bytes does the same as listing into a table of rows: if the table has the bytes of some rows, and fewer bytes
 -- after them than a row has, it then has the bytes of the rows that `list` leaves, and the bytes after them are the same.

@@ -1,6 +1,6 @@
 -- Calls of the functions that read tag runs and modifications, from the first modification of a unit to the unit's end.
 use mathlib.Core.Path.{_≡_, refl, ap, ap₂, sym, _∙_, subst}
-use mathlib.Core.Bool.{Bool, true, false}
+use mathlib.Core.Bool.{true, false}
 use mathlib.Core.List.{List, [], _∷_, _++_, append-assoc}
 use Prim.Native.Nat.{ℕ, _+_}
 use native.Mathlib.Omega.{arith}
@@ -9,9 +9,9 @@ use Rattle.base.proofs.Tests.{both-false, either-left, either-right}
 use Rattle.utf8.specs.Rfc3629.{chars}
 use Rattle.unicode.specs.Presentation.{isSelector}
 use Rattle.unicode.specs.Unicode.{isTag}
+use Rattle.scanner.proofs.LongestRuns.{TagFirst, all-tags, pass-append, tag-first, tags-first}
 use Rattle.scanner.specs.declared.char_class.Class.{Class}
 use Rattle.scanner.specs.Grammar.{S, no-selectors, selector-and, Tags, one-tag, tag-and}
-use Rattle.item_parts.specs.Parts.{firstFrom, modificationFrom, modificationRead, tagRunFrom, tagRunRead}
 use Rattle.scanner.specs.Runs.{afterRun, inModifications, inTags, isModification, modificationAt, run, selectorsAt, tagModificationAt}
 use Rattle.scanner.specs.Spans.{size, width}
 use Rattle.scanner.specs.Structure.{
@@ -26,18 +26,19 @@ use Rattle.scanner.specs.Structure.{
   modificationsOf,
   toModifications,
 }
-use Rattle.item_parts.specs.Walks.{ModificationsWalk, modification-and, modifications-end, RunsWalk, run-and, runs-end}
-use Rattle.item_parts.specs.declared.EmojiModification.the-variants as Value
-use Rattle.item_parts.specs.declared.EmojiTagRun.the-variants.{NoTags}
 use Rattle.scanner.proofs.Bytes.{chars-from}
 use Rattle.scanner.proofs.Classes.{HasClass, class-is, is-keycap, is-modifier, is-selector, tag-no-selector}
 use Rattle.scanner.specs.RunKinds.{isModificationClass, isTagClass}
 use Rattle.scanner.proofs.ClassTests.{modification-test, tag-test}
-use Rattle.item_parts.proofs.ModificationWalks.{no-tag-after, Mods, mods-end, mods-keycap, mods-modifier, mods-tags}
 use Rattle.scanner.proofs.Modifications.{RunsOk, one-run, run-and as run-more, of-class}
 use Rattle.scanner.proofs.Rescan.{size-append}
 use Rattle.scanner.proofs.RunLaws.{modification-other, modification-tag}
 use Rattle.scanner.proofs.Runs.{Passes, all-pass, pass-and, Stops, at-char, at-end, S-passes, after-all, run-all}
+use Rattle.item_parts.specs.Parts.{firstFrom, modificationFrom, modificationRead, tagRunFrom, tagRunRead}
+use Rattle.item_parts.specs.Walks.{ModificationsWalk, modification-and, modifications-end, RunsWalk, run-and, runs-end}
+use Rattle.item_parts.specs.declared.EmojiModification.the-variants as Value
+use Rattle.item_parts.specs.declared.EmojiTagRun.the-variants.{NoTags}
+use Rattle.item_parts.proofs.ModificationWalks.{no-tag-after, Mods, mods-end, mods-keycap, mods-modifier, mods-tags}
 use Rattle.item_parts.proofs.TagRuns.{of-selectors, of-tags}
 use Rattle.item_parts.proofs.UnitsAt.{tag-run-by}
 
@@ -53,18 +54,6 @@ neither (at-char {c = c} e) = let p = both-false (isTag c) (isSelector c) e in (
 no-tag-front : {s t : List ℕ} → S s → Stops isTag t → Stops isTag (s ++ t)
 no-tag-front no-selectors p = p
 no-tag-front (selector-and {c = c} e s) p = at-char (selector-no-tag c e)
-
-tags-pass : {t : List ℕ} → Tags t → Passes isTag t
-tags-pass (one-tag e) = pass-and e all-pass
-tags-pass (tag-and e h) = pass-and e (tags-pass h)
-
--- A list whose first character is a tag.
-data TagFirst : List ℕ → Type 0 where
-  tag-first : {c : ℕ} {t : List ℕ} → isTag c ≡ true → TagFirst (c ∷ t)
-
-tags-first : {t : List ℕ} (u : List ℕ) → Tags t → TagFirst (t ++ u)
-tags-first u (one-tag e) = tag-first e
-tags-first u (tag-and e h) = tag-first e
 
 no-selector-first : {t : List ℕ} → TagFirst t → Stops isSelector t
 no-selector-first (tag-first {c = c} e) = at-char (tag-no-selector c e)
@@ -83,8 +72,8 @@ group-read : (at : ℕ) {g s t : List ℕ} → Tags g → S s → Stops isTag (s
     → tagRunRead at (g ++ (s ++ t)) ≡ tagRunFrom at (record { tags = g; after = s })
 group-read at {g} {s} {t} a b p q =
     run-read at (tags-first (s ++ t) a)
-    ∙ ap₂ (λ (x y : List ℕ). tagRunFrom at (record { tags = x; after = y })) (run-all isTag (tags-pass a) p)
-    (ap selectorsAt (after-all isTag (tags-pass a) p) ∙ run-all isSelector (S-passes b) q)
+    ∙ ap₂ (λ (x y : List ℕ). tagRunFrom at (record { tags = x; after = y })) (run-all isTag (all-tags a) p)
+    (ap selectorsAt (after-all isTag (all-tags a) p) ∙ run-all isSelector (S-passes b) q)
 
 -- ---- the runs of a tag modification
 
@@ -155,10 +144,6 @@ none-read at (at-char {c = c} {s = t} e) = front-read at (c ∷ t)
     no-tag : Stops isTag (c ∷ t) → isTag c ≡ false
     no-tag (at-char f) = f
 
-passes-append : {f : ℕ → Bool} {s t : List ℕ} → Passes f s → Passes f t → Passes f (s ++ t)
-passes-append all-pass k = k
-passes-append (pass-and e h) k = pass-and e (passes-append h k)
-
 tags-in : {t : List ℕ} → Tags t → Passes inTags t
 tags-in (one-tag {c = c} e) = pass-and (either-left (isTag c) (isSelector c) e) all-pass
 tags-in (tag-and {c = c} e h) = pass-and (either-left (isTag c) (isSelector c) e) (tags-in h)
@@ -169,8 +154,8 @@ selectors-in (selector-and {c = c} e h) = pass-and (either-right (isTag c) (isSe
 
 groups-in : {rs : List EmojiTagRun} → RunsOk rs → Passes inTags (flattenRuns rs)
 unfolding flattenRuns
-groups-in (one-run a b) = passes-append (tags-in a) (passes-append (selectors-in b) all-pass)
-groups-in (run-more {d = d} a e b g) = passes-append (tags-in a) (passes-append (selectors-in (selector-and e b)) (groups-in g))
+groups-in (one-run a b) = pass-append (tags-in a) (pass-append (selectors-in b) all-pass)
+groups-in (run-more {d = d} a e b g) = pass-append (tags-in a) (pass-append (selectors-in (selector-and e b)) (groups-in g))
 
 tags-read : (at : ℕ) {u : List ℕ} → TagFirst u → modificationRead at u ≡ Value.TagModifier (at + size width (tagModificationAt u))
 unfolding firstFrom modificationFrom

@@ -12,29 +12,29 @@ use lib.Dec.{leb}
 use lib.ListN.{drop, getD, length, length-append, length-drop, set, take}
 use lib.Seq.{drop-cons, length-take-le, take-length}
 use borrow.Author.Tests.{le-leb, leb-true, lt-leb}
+use Rattle.base.specs.Refusals.{After, unwritten, orElse, written}
+use Rattle.base.specs.declared.Refusal.{Refusal}
+use Rattle.base.specs.declared.Refusal.the-variants.{TableTooShort}
+use Rattle.base.specs.declared.ListAnswer.{ListAnswer}
+use Rattle.base.specs.declared.ListAnswer.the-variants.{Listed, Refused}
 use Rattle.utf8.specs.Rfc3629.{chars}
+use Rattle.positions.specs.Positions.{AtPosition}
+use Rattle.positions.specs.declared.TextCount.{TextCount}
 use Rattle.policy.specs.declared.Policy.{Policy}
 use Rattle.policy.specs.PolicyBytes.{policyOf}
 use Rattle.scanner.specs.Items.{Item, items}
-use Rattle.positions.specs.Positions.{AtPosition}
-use Rattle.positions.specs.declared.TextCount.{TextCount}
 use Rattle.scanner.specs.Spans.{countAfter, size, width}
+use Rattle.scanner.proofs.ItemAt.{item-at}
 use Rattle.analysis.specs.Analysis.{isFinding}
 use Rattle.analysis.specs.ItemAt.{analysisAt, analysisOf, canonicalOf, findingOf}
 use Rattle.analysis.specs.declared.ItemAnalysis.the-variants.{NonCanonical}
 use Rattle.analysis.specs.declared.types.Finding.{Finding}
-use Rattle.base.specs.Refusals.{After, unwritten, orElse, written}
-use Rattle.base.specs.declared.Refusal.{Refusal}
-use Rattle.base.specs.declared.Refusal.the-variants.{TableTooShort}
-use Rattle.formatter.specs.Findings.{findingRow, findings}
+use Rattle.formatter.specs.Findings.{findingRow, findings, listed}
 use Rattle.formatter.specs.Intake.{intakeRefusal}
 use Rattle.formatter.specs.List.{list}
-use Rattle.listing.specs.Table.{firstFinding, firstOr, listingPlan, noFinding}
-use Rattle.base.specs.declared.ListAnswer.{ListAnswer}
-use Rattle.base.specs.declared.ListAnswer.the-variants.{Listed, Refused}
-use Rattle.listing.specs.declared.table.ListingPlan.{ListingPlan}
-use Rattle.scanner.proofs.ItemAt.{item-at}
 use Rattle.formatter.proofs.Steps.{FoundAt, Says, analysis-says, rowsFrom}
+use Rattle.listing.specs.Table.{firstFinding, firstOr, listingPlan, noFinding}
+use Rattle.listing.specs.declared.table.ListingPlan.{ListingPlan}
 
 -- ---- the first finding from an offset on
 
@@ -117,10 +117,6 @@ turn p text rows table k at before r a here held room e =
 
 -- ---- the plan
 
--- The rows of a text's findings.
-abbrev pub rowsOf : List ℕ → List ℕ → List Finding
-rowsOf text policy = map (findingRow (policyOf policy) text) (findings text policy)
-
 -- The plan, by the answers of the tests.
 abbrev planBy : Option Refusal → Bool → ℕ → Policy → ListingPlan
 planBy o fits n p =
@@ -128,20 +124,20 @@ planBy o fits n p =
     orElse o (λ (r : Refusal). plan 0 (Refused r)) (cond fits (plan n (Listed n)) (plan 0 (Refused (TableTooShort n))))
 
 module _ (text policy : List ℕ) (room : ℕ) {p : Policy} (same : p ≡ policyOf policy) where
-  plan-is : {o : Option Refusal} {b : Bool} {n : ℕ} → intakeRefusal text policy ≡ o → leb (length (rowsOf text policy)) room ≡ b
-      → n ≡ length (rowsOf text policy) → planBy o b n p ≡ listingPlan text policy room
+  plan-is : {o : Option Refusal} {b : Bool} {n : ℕ} → intakeRefusal text policy ≡ o → leb (length (listed text policy)) room ≡ b
+      → n ≡ length (listed text policy) → planBy o b n p ≡ listingPlan text policy room
   unfolding listingPlan
   plan-is e f g = λ i. planBy (sym e i) (sym f i) (g i) (same i)
 
   pub plan-refused : (r : Refusal) → intakeRefusal text policy ≡ some r → planBy (some r) true 0 p ≡ listingPlan text policy room
   plan-refused r e = plan-is {o = some r} e refl refl
 
-  module _ (passed : intakeRefusal text policy ≡ none) {n : ℕ} (counted : n ≡ length (rowsOf text policy)) where
+  module _ (passed : intakeRefusal text policy ≡ none) {n : ℕ} (counted : n ≡ length (listed text policy)) where
     pub plan-short : room < n → planBy none false n p ≡ listingPlan text policy room
-    plan-short l = plan-is passed (lt-leb (length (rowsOf text policy)) room (omega (arith, counted))) counted
+    plan-short l = plan-is passed (lt-leb (length (listed text policy)) room (omega (arith, counted))) counted
 
     pub plan-all : n ≤ room → planBy none true n p ≡ listingPlan text policy room
-    plan-all l = plan-is passed (le-leb (length (rowsOf text policy)) room (omega (arith, counted))) counted
+    plan-all l = plan-is passed (le-leb (length (listed text policy)) room (omega (arith, counted))) counted
 
 -- What the loop needs of a plan: it stores no more findings than there are and have room, and once they are stored, the outcome is `list`.
 pub record Planned (text policy : List ℕ) (table : List Finding) (plan : ListingPlan) : Type 0 where
@@ -152,7 +148,7 @@ pub record Planned (text policy : List ℕ) (table : List Finding) (plan : Listi
 
 module _ (text policy : List ℕ) (table : List Finding) where
   abbrev rows : List Finding
-  rows = rowsOf text policy
+  rows = listed text policy
 
   -- The outcome of `list`, by the answers of the tests.
   abbrev listBy : Option Refusal → Bool → After ListAnswer Finding

@@ -6,19 +6,19 @@ use mathlib.Core.List.{List, [], _∷_, map}
 use Prim.Native.Nat.{ℕ}
 use lib.Dec.{leb}
 use lib.ListN.{length, replicate}
+use Rattle.base.specs.Refusals.{orElse}
+use Rattle.base.specs.declared.Refusal.{Refusal}
+use Rattle.base.specs.declared.Refusal.the-variants.{TableTooShort}
+use Rattle.base.specs.declared.ListAnswer.{ListAnswer}
+use Rattle.base.specs.declared.ListAnswer.the-variants.{Listed, Refused}
 use Rattle.policy.specs.declared.Policy.{Policy}
 use Rattle.policy.specs.PolicyBytes.{policyOf}
 use Rattle.analysis.specs.Counts.{empty}
 use Rattle.analysis.specs.declared.types.Finding.{Finding}
-use Rattle.base.specs.Refusals.{orElse}
-use Rattle.base.specs.declared.Refusal.{Refusal}
-use Rattle.base.specs.declared.Refusal.the-variants.{TableTooShort}
 use Rattle.analysis.specs.Findings.{findingsFrom}
-use Rattle.formatter.specs.Findings.{findingRow, findings}
+use Rattle.formatter.specs.Findings.{findingRow, findings, listed}
 use Rattle.formatter.specs.Intake.{intakeRefusal}
 use Rattle.formatter.specs.List.{list}
-use Rattle.base.specs.declared.ListAnswer.{ListAnswer}
-use Rattle.base.specs.declared.ListAnswer.the-variants.{Listed, Refused}
 use Rattle.listing.specs.declared.table.FewFindings.{FewFindings}
 use Rattle.listing.specs.declared.table.ListingPlan.{ListingPlan}
 
@@ -50,7 +50,7 @@ firstFinding p text at = firstOr (noFinding at) (map (findingRow p text) (findin
 -- What is stored in a table of `room` places: nothing if there is a refusal, which are 1, 2, 3 and 7 in this order; else every finding.
 unfoldable pub listingPlan : List ℕ → List ℕ → ℕ → ListingPlan
 listingPlan text policy room =
-    let n = length (map (findingRow (policyOf policy) text) (findings text policy)) in
+    let n = length (listed text policy) in
     let plan : ℕ → ListAnswer → ListingPlan = λ places answer. record { places = places; policy = policyOf policy; answer = answer } in
     orElse (intakeRefusal text policy) (λ (r : Refusal). plan 0 (Refused r))
     (cond (leb n room) (plan n (Listed n)) (plan 0 (Refused (TableTooShort n))))

@@ -1,7 +1,7 @@
 -- From the bytes of a text and a policy to the cells under the two policies, and back.
 use mathlib.Core.Path.{_≡_, refl, ap, subst, sym, _∙_}
 use mathlib.Core.Logic.{⊎-elim}
-use mathlib.Core.Bool.{Bool, true, false, _&&_, _||_, cond, false≢true, not}
+use mathlib.Core.Bool.{Bool, true, false, _&&_, _||_, false≢true, not}
 use mathlib.Core.List.{List, [], _∷_}
 use Prim.Native.Nat.{ℕ, _+_, _*_, _/_, _%_, _^_, _<_, _≤_}
 use native.Mathlib.Nat.{pow-le-pow-right, pow-succ'}
@@ -30,11 +30,11 @@ use Rattle.policy.proofs.Bytes.{getD-wordsFrom, length-wordsFrom}
 use Rattle.policy.proofs.Claims.{read-written}
 use Rattle.policy.proofs.Refusals.{policy-parts}
 use Rattle.policy.proofs.RoundTrips.{SixWordSets, six-words-of}
-use Rattle.scanner.specs.Classes.{strip}
 use Rattle.analysis.specs.Analysis.{render, renew}
 use Rattle.analysis.specs.CellView.{formatCells}
 use Rattle.analysis.specs.Cells.{Cell, cells, unsplit}
 use Rattle.analysis.proofs.Replacement.{split-render, strip-render}
+use Rattle.formatter.proofs.Books.{scalar-strip}
 use Rattle.formatter.specs.Format.{formatted, sameBytes}
 use Rattle.formatter.proofs.CellView.{cell-view}
 use Rattle.formatter.proofs.Formatting.{same-self, same-true}
@@ -194,16 +194,6 @@ selector-scalar c e = ⊎-elim
     (λ (f : eqb c 0xFE0E ≡ true). subst (λ (n : ℕ). isScalar n ≡ true) (sym (eqb-true c 0xFE0E f)) refl)
     (λ (f : eqb c 0xFE0F ≡ true). subst (λ (n : ℕ). isScalar n ≡ true) (sym (eqb-true c 0xFE0F f)) refl)
     (either-true (eqb c 0xFE0E) (eqb c 0xFE0F) e)
-
-scalar-strip : (t : List ℕ) → allScalar t ≡ allScalar (strip t)
-unfolding allScalar strip
-scalar-strip [] = refl
-scalar-strip (c ∷ t) = go (isSelector c) refl (scalar-strip t)
-  where
-    go : (b : Bool) → isSelector c ≡ b → allScalar t ≡ allScalar (strip t) → isScalar c && allScalar t
-        ≡ allScalar (cond b (strip t) (c ∷ strip t))
-    go true e h = ap (λ (a : Bool). a && allScalar t) (selector-scalar c e) ∙ h
-    go false e h = ap (λ (a : Bool). isScalar c && a) h
 
 format-scalar : (p : Policy) (text : List ℕ) → allScalar (formatCells p (chars text)) ≡ true
 unfolding formatCells

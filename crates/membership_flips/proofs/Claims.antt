@@ -3,6 +3,7 @@ use mathlib.Core.Path.{_≡_, ap, sym, _∙_}
 use mathlib.Core.Bool.{true, false≢true, not}
 use mathlib.Core.List.{List}
 use Prim.Native.Nat.{ℕ}
+use Rattle.base.proofs.Lists.{in-passed, passed-in}
 use Rattle.base.proofs.Tests.{fails}
 use Rattle.policy.specs.PolicyBytes.{policyOf}
 use Rattle.policy.proofs.RoundTrips.{six-words-of}
@@ -13,8 +14,8 @@ use Rattle.membership_flips.specs.Theorems.{EveryTip, FlippedIsPolicy, F
 use Rattle.membership_flips.proofs.Bridge.{flipped-accepted, flipped-read, tips-by-use}
 use Rattle.membership_flips.proofs.Examples.{tip-examples}
 use Rattle.membership_flips.proofs.Flipping.{flips-one}
-use Rattle.membership_flips.proofs.Order.{every-membership, memberships-ordered, no-other-membership, filtered-passes}
-use Rattle.membership_flips.proofs.Order.{filtered-ordered, passing-filtered}
+use Rattle.membership_flips.proofs.Order.{every-membership, memberships-ordered, no-other-membership}
+use Rattle.membership_flips.proofs.Order.{filtered-ordered}
 
 pub flips-one-only : FlipsOne
 unfolding FlipsOne
@@ -39,10 +40,10 @@ where-tips text policy m t e =
 pub every-tip : EveryTip
 unfolding EveryTip tipping
 every-tip text policy = record {
-  each-appears = λ m a. passing-filtered (tips text policy) m memberships (every-membership m (a .entry))
+  each-appears = λ m a. passed-in (tips text policy) m memberships (every-membership m (a .entry))
       (tips-where text policy m (a .alters));
   no-other = λ m x.
-      let w = filtered-passes (tips text policy) m memberships x in
+      let w = in-passed (tips text policy) m memberships x in
       record { entry = no-other-membership m (w .1); alters = where-tips text policy m (w .0) };
   in-order = filtered-ordered (tips text policy) memberships-ordered;
 }

@@ -21,21 +21,21 @@ use Rattle.unicode.specs.declared.presentation.FromSelector.{FromSelector}
 use Rattle.unicode.specs.declared.presentation.FromSelector.the-variants.{NoSelector, Selector}
 use Rattle.unicode.specs.declared.presentation.Presentation.{Presentation}
 use Rattle.unicode.specs.declared.presentation.Presentation.the-variants.{Emoji, Text}
-use Rattle.policy.specs.PolicyBytes.{policyOf}
 use Rattle.policy_key_set.specs.Sets.{entryCount}
 use Rattle.policy_key_set.proofs.Entries.{entry-count, index-has-place, no-entry, only-entry}
 use Rattle.policy_key_set.proofs.Members.{decide}
+use Rattle.policy.specs.PolicyBytes.{policyOf}
 use Rattle.scanner.specs.Runs.{selectorsAt}
 use Rattle.scanner.specs.SelectorRun.{firstSelector}
 use Rattle.scanner.specs.Spans.{size, width}
 use Rattle.scanner.specs.declared.char_class.Class.{Class}
+use Rattle.analysis.proofs.RuleLaws.{selector-small}
 use Rattle.analysis.specs.Analysis.{following}
 use Rattle.analysis.specs.CellView.{classInFront}
 use Rattle.analysis.specs.Cells.{Cell, addChar, cells, leading, split}
-use Rattle.analysis.specs.Rules.{byKeycap, byModifier, byTags, firstAsked}
+use Rattle.analysis.specs.Rules.{byKeycap, byModifier, byTags, firstAsked, selectorNumber}
 use Rattle.analysis.proofs.Cells.{split-char}
 use Rattle.analysis.proofs.CellsAt.{first-leads, selectors-end}
-use Rattle.text_pass.specs.Changes.{selectorNumber}
 use Rattle.text_pass.proofs.Bases.{entry-no-selector}
 use Rattle.text_pass.proofs.Kept.{follows}
 use Rattle.membership_flips.specs.Flips.{digit}
@@ -54,14 +54,7 @@ digit-same true false e = absurd (omega arith)
 digit-same false true e = absurd (omega arith)
 digit-same false false e = refl
 
-number-few : (f : FromSelector) → selectorNumber f ≤ 2
-unfolding selectorNumber
-number-few NoSelector = omega arith
-number-few (Selector Text) = omega arith
-number-few (Selector Emoji) = omega arith
-
 number-same : (f g : FromSelector) → selectorNumber f ≡ selectorNumber g → sameFirst g f ≡ true
-unfolding selectorNumber
 number-same NoSelector NoSelector e = refl
 number-same NoSelector (Selector Text) e = absurd (omega arith)
 number-same NoSelector (Selector Emoji) e = absurd (omega arith)
@@ -73,7 +66,6 @@ number-same (Selector Emoji) (Selector Text) e = absurd (omega arith)
 number-same (Selector Emoji) (Selector Emoji) e = refl
 
 same-number : (f g : FromSelector) → sameFirst g f ≡ true → selectorNumber f ≡ selectorNumber g
-unfolding selectorNumber
 same-number NoSelector NoSelector e = refl
 same-number NoSelector (Selector q) e = absurd (false≢true e)
 same-number (Selector q) NoSelector e = absurd (false≢true e)
@@ -84,7 +76,7 @@ same-number (Selector Emoji) (Selector Emoji) e = refl
 
 pub flag-room : (i : ℕ) (k : Bool) (f : FromSelector) → i < 354 → flagIndex i k f < 2124
 unfolding flagIndex
-flag-room i k f h = omega (arith, digit-few k, number-few f)
+flag-room i k f h = omega (arith, digit-few k, selector-small f)
 
 -- Two indices are the same where entry, domain and selector are, and only there.
 flag-same : (i j : ℕ) (k l : Bool) (f g : FromSelector) → eqb (flagIndex i k f) (flagIndex j l g)
@@ -96,8 +88,8 @@ flag-same i j k l f g =
     let h = eqb-true (flagIndex i k f) (flagIndex j l g) e in
     let a = digit-few k in
     let b = digit-few l in
-    let c = number-few f in
-    let d = number-few g in
+    let c = selector-small f in
+    let d = selector-small g in
     and-both (eqb i j) (Bool·beq k l && sameFirst g f) (eq-eqb i j (omega arith))
     (and-both (Bool·beq k l) (sameFirst g f) (so-beq k l (digit-same k l (omega arith))) (number-same f g (omega arith))))
     (λ e.

@@ -21,7 +21,7 @@ use Rattle.policy.specs.declared.Policy.{Policy}
 use Rattle.policy.proofs.RoundTrips.{SixWordSets}
 use Rattle.membership_flips.specs.Flips.{Membership, flip, flipBit, flipIn, flipKey, holds, keySet, same}
 
-differ-false : (b : Bool) → differ b false ≡ b
+pub differ-false : (b : Bool) → differ b false ≡ b
 differ-false true = refl
 differ-false false = refl
 

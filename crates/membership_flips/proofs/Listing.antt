@@ -9,10 +9,16 @@ use native.Mathlib.Omega.{arith}
 use lib.Dec.{eqb}
 use lib.ListN.{getD, length, length-replicate, replicate}
 use borrow.Author.Tests.{eq-eqb, ne-eqb}
+use Rattle.base.proofs.Lists.{zeros}
+use Rattle.base.specs.Lists.{filter}
 use Rattle.base.specs.Output.{PutAt}
 use Rattle.base.specs.Refusals.{orElse, unwritten}
 use Rattle.base.specs.Words.{allBytes}
 use Rattle.base.specs.declared.Refusal.{Refusal}
+use Rattle.base.specs.Words.{bytesOf}
+use Rattle.base.proofs.Numbers.{length-bytesOf}
+use Rattle.base.specs.Tables.{fillTable, rowsBytes}
+use Rattle.base.specs.declared.ListAnswer.the-variants.{Refused}
 use Rattle.unicode.specs.UnicodeData.{variationEntries}
 use Rattle.unicode.specs.declared.VariationEntry.the-variants as Entry
 use Rattle.unicode.specs.Unicode.{variationEntry}
@@ -23,17 +29,13 @@ use Rattle.unicode.specs.declared.presentation.Presentation.the-variants.{Emoji
 use Rattle.policy_key_set.specs.Sets.{entryCount}
 use Rattle.policy_key_set.proofs.Entries.{entries-length, entry-count}
 use Rattle.policy.specs.Policy.{entryRule, holdsEntry, ruleOf}
-use Rattle.base.specs.Words.{bytesOf}
 use Rattle.policy.specs.PolicyBytes.{policyOf}
 use Rattle.policy.specs.declared.Policy.{Policy}
 use Rattle.policy.specs.declared.SingletonRule.{SingletonRule}
 use Rattle.policy.specs.declared.SingletonRule.the-variants.{BareToEmoji, BareToText, EmojiToBare, TextToBare}
-use Rattle.base.proofs.Numbers.{length-bytesOf}
 use Rattle.formatter.specs.Intake.{intakeRefusal}
-use Rattle.base.specs.Tables.{fillTable, rowsBytes}
-use Rattle.base.specs.declared.ListAnswer.the-variants.{Refused}
 use Rattle.membership_flips.specs.Flips.{Membership, digit, listTips, memberships, membershipsFrom}
-use Rattle.membership_flips.specs.Flips.{filtered, tipNumbers, tipping, tips}
+use Rattle.membership_flips.specs.Flips.{tipNumbers, tipping, tips}
 use Rattle.membership_flips.specs.Pass.{FlagsTell, mattersFor, membershipAt, numbered, tipTest}
 use Rattle.membership_flips.specs.Uses.{matters}
 use Rattle.membership_flips.proofs.Bridge.{tips-by-use}
@@ -116,18 +118,18 @@ by-number = from-numbered entryCount 0 0 refl ∙ ap (λ (m : ℕ). numbered (4 
 
 -- ---- those that pass
 
-filtered-same : {A : Type 0} (f g : A → Bool) (l : List A) → ((x : A) → List·Memᴰ x l → f x ≡ g x) → filtered f l ≡ filtered g l
-unfolding filtered
+filtered-same : {A : Type 0} (f g : A → Bool) (l : List A) → ((x : A) → List·Memᴰ x l → f x ≡ g x) → filter f l ≡ filter g l
+unfolding filter
 filtered-same f g [] h = refl
 filtered-same f g (x ∷ l) h =
     ap₂ (λ (b : Bool) (r : List _). cond b (x ∷ r) r) (h x (List·Memᴰ·head refl)) (filtered-same f g l (λ y m. h y (List·Memᴰ·tail m)))
 
-filtered-fewer : {A : Type 0} (f : A → Bool) (l : List A) → length (filtered f l) ≤ length l
-unfolding filtered
+filtered-fewer : {A : Type 0} (f : A → Bool) (l : List A) → length (filter f l) ≤ length l
+unfolding filter
 filtered-fewer f [] = omega arith
 filtered-fewer f (x ∷ l) = go (f x) (filtered-fewer f l)
   where
-    go : (b : Bool) → length (filtered f l) ≤ length l → length (cond b (x ∷ filtered f l) (filtered f l)) ≤ suc (length l)
+    go : (b : Bool) → length (filter f l) ≤ length l → length (cond b (x ∷ filter f l) (filter f l)) ≤ suc (length l)
     go true h = omega arith
     go false h = omega arith
 
@@ -144,10 +146,10 @@ few-tips text policy =
 
 -- The test by the flags passes for the flips that tip the text, and for no other.
 pub flags-tell : (text policy flags : List ℕ) → FlagsTell text flags → allBytes policy ≡ true
-    → filtered (tipTest policy flags) (numbered 1416 0) ≡ tipping text policy
+    → filter (tipTest policy flags) (numbered 1416 0) ≡ tipping text policy
 unfolding tipping tipTest
 flags-tell text policy flags s e =
-    ap (filtered (tipTest policy flags)) (sym by-number)
+    ap (filter (tipTest policy flags)) (sym by-number)
     ∙ filtered-same (tipTest policy flags) (tips text policy) memberships (λ m x.
     let b = no-other-membership m x in
     matters-same (m .asText) (holdsEntry (policyOf policy .«prefer_bare») (m .entry) (m .keycap))
@@ -155,29 +157,29 @@ flags-tell text policy flags s e =
     ∙ sym (tips-by-use text policy m b e))
 
 module _ {A : Type 0} (test : A → Bool) (f : A) (l : List A) where
-  count-one : {a : Bool} {n : ℕ} → a ≡ test f → n ≡ cond a 1 0 → length (filtered test (f ∷ l)) ≡ n + length (filtered test l)
-  unfolding filtered
+  count-one : {a : Bool} {n : ℕ} → a ≡ test f → n ≡ cond a 1 0 → length (filter test (f ∷ l)) ≡ n + length (filter test l)
+  unfolding filter
   count-one {a} {n} e h = go a (sym e) h
     where
       go : (b : Bool) → test f ≡ b → n ≡ cond b 1 0
-          → length (cond (test f) (f ∷ filtered test l) (filtered test l)) ≡ n + length (filtered test l)
-      go true g h = ap (λ (b : Bool). length (cond b (f ∷ filtered test l) (filtered test l))) g ∙ omega arith
-      go false g h = ap (λ (b : Bool). length (cond b (f ∷ filtered test l) (filtered test l))) g ∙ omega arith
+          → length (cond (test f) (f ∷ filter test l) (filter test l)) ≡ n + length (filter test l)
+      go true g h = ap (λ (b : Bool). length (cond b (f ∷ filter test l) (filter test l))) g ∙ omega arith
+      go false g h = ap (λ (b : Bool). length (cond b (f ∷ filter test l) (filter test l))) g ∙ omega arith
 
-  write-one : (numbers : A → List ℕ) {a : Bool} → a ≡ test f → rowsBytes numbers (filtered test (f ∷ l))
-      ≡ cond a (bytesOf (numbers f)) [] ++ rowsBytes numbers (filtered test l)
-  unfolding filtered rowsBytes
+  write-one : (numbers : A → List ℕ) {a : Bool} → a ≡ test f → rowsBytes numbers (filter test (f ∷ l))
+      ≡ cond a (bytesOf (numbers f)) [] ++ rowsBytes numbers (filter test l)
+  unfolding filter rowsBytes
   write-one numbers {a} e = go a (sym e)
     where
-      go : (b : Bool) → test f ≡ b → rowsBytes numbers (cond (test f) (f ∷ filtered test l) (filtered test l))
-          ≡ cond b (bytesOf (numbers f)) [] ++ rowsBytes numbers (filtered test l)
-      go true g = ap (λ (b : Bool). rowsBytes numbers (cond b (f ∷ filtered test l) (filtered test l))) g
-      go false g = ap (λ (b : Bool). rowsBytes numbers (cond b (f ∷ filtered test l) (filtered test l))) g
+      go : (b : Bool) → test f ≡ b → rowsBytes numbers (cond (test f) (f ∷ filter test l) (filter test l))
+          ≡ cond b (bytesOf (numbers f)) [] ++ rowsBytes numbers (filter test l)
+      go true g = ap (λ (b : Bool). rowsBytes numbers (cond b (f ∷ filter test l) (filter test l))) g
+      go false g = ap (λ (b : Bool). rowsBytes numbers (cond b (f ∷ filter test l) (filter test l))) g
 
 module _ (test : Membership → Bool) where
   -- Those among the memberships from a number on.
   abbrev pub tippingFrom : ℕ → List Membership
-  tippingFrom n = filtered test (numbered (1416 - n) n)
+  tippingFrom n = filter test (numbered (1416 - n) n)
 
   one-number : (n : ℕ) → n < 1416 → numbered (1416 - n) n ≡ membershipAt n ∷ numbered (1416 - (n + 1)) (n + 1)
   unfolding numbered
@@ -187,18 +189,18 @@ module _ (test : Membership → Bool) where
 
   pub count-on : (n : ℕ) → n < 1416 → {a : Bool} {x : ℕ} → a ≡ test (membershipAt n) → x ≡ cond a 1 0 → length (tippingFrom n)
       ≡ x + length (tippingFrom (n + 1))
-  count-on n h e f = ap (λ (l : List Membership). length (filtered test l)) (one-number n h)
+  count-on n h e f = ap (λ (l : List Membership). length (filter test l)) (one-number n h)
       ∙ count-one test (membershipAt n) (numbered (1416 - (n + 1)) (n + 1)) e f
 
   pub write-on : (n : ℕ) → n < 1416 → {a : Bool} → a ≡ test (membershipAt n)
       → rowsBytes tipNumbers (tippingFrom n) ≡ cond a (bytesOf (tipNumbers (membershipAt n))) [] ++ rowsBytes tipNumbers
       (tippingFrom (n + 1))
-  write-on n h e = ap (λ (l : List Membership). rowsBytes tipNumbers (filtered test l)) (one-number n h)
+  write-on n h e = ap (λ (l : List Membership). rowsBytes tipNumbers (filter test l)) (one-number n h)
       ∙ write-one test (membershipAt n) (numbered (1416 - (n + 1)) (n + 1)) tipNumbers e
 
   pub none-from : (n : ℕ) → 1416 ≤ n → tippingFrom n ≡ []
-  unfolding filtered numbered
-  none-from n h = let e : 1416 - n ≡ 0 = omega arith in ap (λ (k : ℕ). filtered test (numbered k n)) e
+  unfolding filter numbered
+  none-from n h = let e : 1416 - n ≡ 0 = omega arith in ap (λ (k : ℕ). filter test (numbered k n)) e
 
 -- ---- rows
 
@@ -222,9 +224,6 @@ pub entry-there : (i : ℕ) → i < 354 → variationEntry i ≡ Entry.Char (get
 unfolding variationEntry
 entry-there i h = entry-in i variationEntries (omega (arith, entries-length))
 
-pub put-no : (o : List ℕ) (s : ℕ) (xs : List ℕ) {wanted : Bool} → wanted ≡ false → PutAt o s (cond wanted xs []) o s
-put-no o s xs e = subst (λ (b : Bool). PutAt o s (cond b xs []) o s) (sym e) (record { ends = omega arith; bytes = refl })
-
 pub put-yes : {o o′ xs : List ℕ} {s r : ℕ} {wanted : Bool} → wanted ≡ true → PutAt o s xs o′ r → PutAt o s (cond wanted xs []) o′ r
 put-yes {o} {o′} {xs} {s} {r} e p = subst (λ (b : Bool). PutAt o s (cond b xs []) o′ r) (sym e) p
 
@@ -245,24 +244,7 @@ module _ (text policy table : List ℕ) where
       ∙ sym (ap (λ (x : Option Refusal). orElse x (λ (r : Refusal). unwritten (Refused r) table)
       (fillTable tipNumbers 24 (tipping text policy) table)) e)
 
-pub entry-is : (i : ℕ) → i < 354 → {c : ℕ} → variationEntry i ≡ Entry.Char c → c ≡ getD variationEntries i 0
-entry-is i h e = same (sym e ∙ entry-there i h)
-  where
-    same : {a b : ℕ} → Entry.Char a ≡ Entry.Char b → a ≡ b
-    same e = cc
-
-pub no-entry-not : (i : ℕ) → i < 354 → variationEntry i ≡ Entry.NoEntry → ⊥
-no-entry-not i h e = never (sym e ∙ entry-there i h)
-  where
-    never : {a : ℕ} → Entry.NoEntry ≡ Entry.Char a → ⊥
-    never e = let z : _≡_ {A = ℕ} 0 1 = cc in omega arith
-
 -- ---- flags that are not set
 
-all-zero : (n k : ℕ) → _≡_ {A = ℕ} (getD (replicate n 0) k 0) 0
-all-zero zero k = refl
-all-zero (suc n) zero = refl
-all-zero (suc n) (suc k) = all-zero n k
-
-pub zeros : (n : ℕ) → (length {A = ℕ} (replicate n 0) ≡ n) × ((k : ℕ) → _≡_ {A = ℕ} (getD (replicate n 0) k 0) 0)
-zeros n = (length-replicate n 0, all-zero n)
+pub no-flags : (n : ℕ) → (length {A = ℕ} (replicate n 0) ≡ n) × ((k : ℕ) → _≡_ {A = ℕ} (getD (replicate n 0) k 0) 0)
+no-flags n = (length-replicate n 0, zeros n)

@@ -1,54 +1,29 @@
 -- The list of all memberships is complete and in order. So is the list of those that pass a test.
-use mathlib.Core.Path.{_≡_, refl, ap, subst, sym, _∙_}
+use mathlib.Core.Path.{_≡_, refl, ap, subst, sym}
 use mathlib.Core.Logic.{⊎-elim}
-use mathlib.Core.Bool.{Bool, true, false, cond, false≢true}
-use mathlib.Core.List.{List, [], _∷_, List·Memᴰ, List·Memᴰ·head, List·Memᴰ·tail, List·Memᴰ·cases-cons, List·Memᴰ·not-nil, Memᴰ·cast}
+use mathlib.Core.Bool.{Bool, true, false, cond}
+use mathlib.Core.List.{List, _∷_, List·Memᴰ, List·Memᴰ·head, List·Memᴰ·tail, List·Memᴰ·cases-cons, List·Memᴰ·not-nil, Memᴰ·cast}
 use Prim.Native.Nat.{ℕ, zero, suc, _+_, _<_, _≤_}
 use native.Mathlib.Omega.{arith}
 use lib.ListN.{length}
+use Rattle.base.proofs.Lists.{in-passed}
+use Rattle.base.specs.Lists.{filter}
 use Rattle.base.proofs.Tests.{le-or-lt}
 use Rattle.unicode.specs.UnicodeData.{variationEntries}
 use Rattle.unicode.proofs.Ascent.{ascending-lt}
 use Rattle.unicode.proofs.InOrder.{variation-entries-ascend}
 use Rattle.policy_key_set.specs.Sets.{entryCount}
 use Rattle.policy_key_set.proofs.Members.{decide}
-use Rattle.membership_flips.specs.Flips.{Membership, andFour, codePoint, memberships, membershipsFrom, filtered}
+use Rattle.membership_flips.specs.Flips.{Membership, andFour, codePoint, memberships, membershipsFrom}
 use Rattle.membership_flips.specs.Theorems.{Before, InOrder, and-then, no-more, ordinary-first, prefer-bare-first, smaller-code-point}
 
--- ---- what passes a test
-
-module _ {A : Type 0} (test : A → Bool) where
-  pub passing-filtered : (x : A) (l : List A) → List·Memᴰ x l → test x ≡ true → List·Memᴰ x (filtered test l)
-  unfolding filtered
-  passing-filtered x [] m e = absurd (List·Memᴰ·not-nil m)
-  passing-filtered x (y ∷ l) m e = go (test y) refl (passing-filtered x l)
-    where
-      go : (b : Bool) → test y ≡ b → (List·Memᴰ x l → test x ≡ true → List·Memᴰ x (filtered test l))
-          → List·Memᴰ x (cond b (y ∷ filtered test l) (filtered test l))
-      go true f h = ⊎-elim (λ (g : x ≡ y). List·Memᴰ·head g) (λ (n : List·Memᴰ x l). List·Memᴰ·tail (h n e)) (List·Memᴰ·cases-cons m)
-      go false f h = ⊎-elim (λ (g : x ≡ y). absurd (false≢true (sym f ∙ ap test (sym g) ∙ e))) (λ (n : List·Memᴰ x l). h n e)
-          (List·Memᴰ·cases-cons m)
-
-  pub filtered-passes : (x : A) (l : List A) → List·Memᴰ x (filtered test l) → (test x ≡ true) × List·Memᴰ x l
-  unfolding filtered
-  filtered-passes x [] m = absurd (List·Memᴰ·not-nil m)
-  filtered-passes x (y ∷ l) m = go (test y) refl (filtered-passes x l) m
-    where
-      go : (b : Bool) → test y ≡ b → (List·Memᴰ x (filtered test l) → (test x ≡ true) × List·Memᴰ x l)
-          → List·Memᴰ x (cond b (y ∷ filtered test l) (filtered test l)) → (test x ≡ true) × List·Memᴰ x (y ∷ l)
-      go true f h n = ⊎-elim
-          (λ (g : x ≡ y). (ap test g ∙ f, List·Memᴰ·head g))
-          (λ (k : List·Memᴰ x (filtered test l)). (h k .0, List·Memᴰ·tail (h k .1)))
-          (List·Memᴰ·cases-cons n)
-      go false f h n = (h n .0, List·Memᴰ·tail (h n .1))
-
-pub filtered-ordered : (test : Membership → Bool) {l : List Membership} → InOrder l → InOrder (filtered test l)
-unfolding filtered
+pub filtered-ordered : (test : Membership → Bool) {l : List Membership} → InOrder l → InOrder (filter test l)
+unfolding filter
 filtered-ordered test no-more = no-more
 filtered-ordered test (and-then {m} {l} before o) = go (test m) (filtered-ordered test o)
   where
-    go : (b : Bool) → InOrder (filtered test l) → InOrder (cond b (m ∷ filtered test l) (filtered test l))
-    go true h = and-then (λ n k. before n (filtered-passes test n l k .1)) h
+    go : (b : Bool) → InOrder (filter test l) → InOrder (cond b (m ∷ filter test l) (filter test l))
+    go true h = and-then (λ n k. before n (in-passed test n l k .1)) h
     go false h = h
 
 -- ---- every membership

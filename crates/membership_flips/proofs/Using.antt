@@ -7,7 +7,7 @@ use Prim.Native.Nat.{ℕ, _<_}
 use lib.Dec.{eqb}
 use lib.ListN.{getD}
 use borrow.Author.Tests.{eq-eqb, eqb-true}
-use Rattle.base.proofs.Tests.{and-both, beq-so, both-false, both-true, either-true, fails, so-beq}
+use Rattle.base.proofs.Tests.{and-both, beq-so, both-false, both-true, either-true, fails, not-so, so-beq}
 use Rattle.unicode.specs.Unicode.{hasVariationSequence, variationSequenceIndex}
 use Rattle.unicode.specs.UnicodeData.{variationEntries}
 use Rattle.unicode.specs.declared.VariationSequenceIndex.{VariationSequenceIndex}
@@ -48,7 +48,7 @@ use Rattle.analysis.proofs.Replacement.{remaining-none}
 use Rattle.analysis.proofs.Rules.{by-policy, has-entry, laterRules, outcome-entry, outcome-no-entry}
 use Rattle.membership_flips.specs.Flips.{flipIn}
 use Rattle.membership_flips.specs.Uses.{judgedIn, matters, occurs, sameFirst}
-use Rattle.membership_flips.proofs.Flipping.{prefer-flip, text-flip}
+use Rattle.membership_flips.proofs.Flipping.{differ-false, prefer-flip, text-flip}
 
 -- ---- first selectors
 
@@ -168,17 +168,9 @@ not-tag : (k : Class) → byTags k ≡ false → k ≢ tag
 unfolding byTags
 not-tag k e f = true≢false (ap byTags (sym f) ∙ e)
 
-not-so : (b : Bool) → not b ≡ true → b ≡ false
-not-so true e = absurd (false≢true e)
-not-so false e = refl
-
 yes-not : (b : Bool) → b ≡ false → not b ≡ true
 yes-not true e = absurd (true≢false e)
 yes-not false e = refl
-
-differ-same : (b : Bool) → differ b false ≡ b
-differ-same true = refl
-differ-same false = refl
 
 differ-not : (b : Bool) → differ b true ≡ not b
 differ-not true = refl
@@ -206,8 +198,8 @@ nothing-seen true true t e = false≢true e
 flipped-rule : (a b t x y : Bool) (e : Bool) → e ≡ true → x ≡ differ b (e && Bool·beq a false) → y ≡ differ t (e && Bool·beq a true)
     → ruleOf x y ≡ flipRule a b t
 flipped-rule false b t x y e h f g = ap₂ ruleOf (f ∙ ap (λ (z : Bool). differ b (z && true)) h ∙ differ-not b)
-    (g ∙ ap (λ (z : Bool). differ t (z && false)) h ∙ differ-same t)
-flipped-rule true b t x y e h f g = ap₂ ruleOf (f ∙ ap (λ (z : Bool). differ b (z && false)) h ∙ differ-same b)
+    (g ∙ ap (λ (z : Bool). differ t (z && false)) h ∙ differ-false t)
+flipped-rule true b t x y e h f g = ap₂ ruleOf (f ∙ ap (λ (z : Bool). differ b (z && false)) h ∙ differ-false b)
     (g ∙ ap (λ (z : Bool). differ t (z && true)) h ∙ differ-not t)
 
 module _ (p : Policy) (six : SixWordSets p) (i : ℕ) (h : i < entryCount) (k a : Bool) where
@@ -237,9 +229,9 @@ module _ (p : Policy) (six : SixWordSets p) (i : ℕ) (h : i < entryCount) (k a 
           (sym (beq-so k l (both-true (Bool·beq k l) x (u .1) .0)))) in
           rule-by-entry q c j l e
           ∙ ap₂ ruleOf (prefer-flip p six i h a k j l ∙ ap (differ (holdsEntry (p .«prefer_bare») j l)) (no (Bool·beq a false))
-          ∙ differ-same (holdsEntry (p .«prefer_bare») j l))
+          ∙ differ-false (holdsEntry (p .«prefer_bare») j l))
           (text-flip p six i h a k j l ∙ ap (differ (holdsEntry (p .«bare_as_text») j l)) (no (Bool·beq a true))
-          ∙ differ-same (holdsEntry (p .«bare_as_text») j l))
+          ∙ differ-false (holdsEntry (p .«bare_as_text») j l))
           ∙ sym (rule-by-entry p c j l e)
       go Index.NoEntry e =
           let w = has-index c ∙ ap isAt e in

@@ -1,23 +1,24 @@
 -- The flips of single memberships that alter a formatted text, and the call that lists them: document 02, (viii).
-use mathlib.Core.Bool.{Bool, true, false, Bool·beq, _&&_, cond, not}
+use mathlib.Core.Bool.{Bool, true, false, Bool·beq, _&&_, not}
 use mathlib.Core.List.{List, [], _∷_}
 use Prim.Native.Nat.{ℕ, zero, suc, _/_, _%_, _^_}
 use lib.Bits.{bitXor}
 use lib.Dec.{eqb}
 use lib.ListN.{getD, set}
+use Rattle.base.specs.Lists.{filter}
+use Rattle.base.specs.Refusals.{After, orElse, unwritten}
+use Rattle.base.specs.declared.Refusal.{Refusal}
+use Rattle.base.specs.Tables.{fillTable}
+use Rattle.base.specs.declared.ListAnswer.{ListAnswer}
+use Rattle.base.specs.declared.ListAnswer.the-variants.{Refused}
 use Rattle.unicode.specs.UnicodeData.{variationEntries}
 use Rattle.policy_key_set.specs.Sets.{entryCount}
 use Rattle.policy_key_set.specs.declared.PolicyKeySet.{PolicyKeySet}
 use Rattle.policy.specs.Policy.{holdsEntry}
 use Rattle.policy.specs.PolicyBytes.{policyBytes, policyOf}
 use Rattle.policy.specs.declared.Policy.{Policy}
-use Rattle.base.specs.Refusals.{After, orElse, unwritten}
-use Rattle.base.specs.declared.Refusal.{Refusal}
 use Rattle.formatter.specs.Format.{formatted, sameBytes}
 use Rattle.formatter.specs.Intake.{intakeRefusal}
-use Rattle.base.specs.Tables.{fillTable}
-use Rattle.base.specs.declared.ListAnswer.{ListAnswer}
-use Rattle.base.specs.declared.ListAnswer.the-variants.{Refused}
 
 -- ---- memberships
 
@@ -93,14 +94,9 @@ membershipsFrom (suc n) i = andFour i (membershipsFrom n (suc i))
 unfoldable pub memberships : List Membership
 memberships = membershipsFrom entryCount 0
 
--- The elements of a list that pass a test.
-unfoldable pub filtered : {A : Type 0} → (A → Bool) → List A → List A
-filtered test [] = []
-filtered test (x ∷ xs) = cond (test x) (x ∷ filtered test xs) (filtered test xs)
-
 -- "Each such flip appears, and no other does", in the order of the list.
 unfoldable pub tipping : List ℕ → List ℕ → List Membership
-tipping text policy = filtered (tips text policy) memberships
+tipping text policy = filter (tips text policy) memberships
 
 -- ---- the call
 

@@ -6,21 +6,21 @@ use mathlib.Core.List.{List, [], _∷_}
 use Prim.Native.Nat.{ℕ, zero, suc, _+_, _*_, _/_, _%_, _<_}
 use lib.Dec.{eqb}
 use lib.ListN.{drop, getD, set}
+use Rattle.utf8.specs.Rfc3629.{chars}
 use Rattle.unicode.specs.UnicodeData.{variationEntries}
 use Rattle.unicode.specs.declared.VariationSequenceIndex.{VariationSequenceIndex}
 use Rattle.unicode.specs.declared.VariationSequenceIndex.the-variants as Index
 use Rattle.unicode.specs.declared.presentation.FromSelector.{FromSelector}
-use Rattle.utf8.specs.Rfc3629.{chars}
+use Rattle.policy_key_set.specs.Sets.{entryCount}
 use Rattle.policy.specs.Policy.{holdsEntry}
 use Rattle.policy.specs.PolicyBytes.{policyOf}
 use Rattle.policy.specs.declared.SingletonRule.{SingletonRule}
 use Rattle.policy.specs.declared.SingletonRule.the-variants.{BareToEmoji, BareToText, EmojiToBare, TextToBare}
-use Rattle.policy_key_set.specs.Sets.{entryCount}
 use Rattle.scanner.specs.declared.char_class.Class.{Class}
 use Rattle.analysis.specs.Analysis.{following}
 use Rattle.analysis.specs.Cells.{cells, leading}
-use Rattle.analysis.specs.Rules.{byKeycap, byModifier, byTags, firstAsked}
-use Rattle.text_pass.specs.Changes.{Advances, selectorNumber}
+use Rattle.analysis.specs.Rules.{byKeycap, byModifier, byTags, firstAsked, selectorNumber}
+use Rattle.text_pass.specs.Changes.{Advances}
 use Rattle.membership_flips.specs.Flips.{Membership, digit}
 use Rattle.membership_flips.specs.Uses.{matters, occurs}
 

@@ -9,12 +9,13 @@ ghost use mathlib.Core.Bool.{true, _||_, cond};
 ghost use mathlib.Core.List.{[]};
 ghost use Prim.Native.Nat.{_+_, _/_, _%_, _<_, _≤_};
 ghost use lib.ListN.{getD, length};
+ghost use Rattle.base.specs.Lists.{filter};
 ghost use Rattle.base.specs.Answers.{EndsAs, listRow};
 ghost use Rattle.base.specs.Output.{PutAt};
 ghost use Rattle.base.specs.Tables.{fillTable, rowsBytes};
 ghost use Rattle.base.specs.Words.{bytesOf};
 ghost use Rattle.unicode.specs.UnicodeData.{variationEntries};
-ghost use Rattle.membership_flips.specs.Flips.{listTips, filtered, tipNumbers};
+ghost use Rattle.membership_flips.specs.Flips.{listTips, tipNumbers};
 ghost use Rattle.membership_flips.specs.Pass.{mattersFor, membershipAt, numbered, tipTest};
 use base::Check;
 use base::ListAnswer;
@@ -26,7 +27,6 @@ use pass::flag_uses;
 use pass::is_flagged;
 use policy::SingletonRule;
 use policy::policy_bytes::rule_at;
-use unicode::VariationEntry;
 use unicode::presentation::FromSelector;
 use unicode::presentation::Presentation;
 
@@ -110,7 +110,7 @@ fn is_tip(policy: &[u8], flags: &[u8], n: usize) -> bool
 // Counts the memberships whose flip alters the text.
 fn count_tips(policy: &[u8], flags: &[u8]) -> usize
     requires { ⌜ length (now flags) ≡ 2124 ⌝ }
-    ensures { λ r. ⌜ r ≡ length (filtered (tipTest (now (policy .entry)) (now (flags .entry))) (numbered 1416 0)) ⌝ }
+    ensures { λ r. ⌜ r ≡ length (filter (tipTest (now (policy .entry)) (now (flags .entry))) (numbered 1416 0)) ⌝ }
 {
     let mut count = 0;
     let mut n = 0;
@@ -121,22 +121,11 @@ fn count_tips(policy: &[u8], flags: &[u8]) -> usize
     count
 }
 
-// Converts a code point to a number of a row.
-fn wide(c: u32) -> usize
-    ensures { λ r. ⌜ r ≡ c ⌝ }
-{
-    c as usize
-}
-
 // The code point of an entry.
 fn code_point(index: usize) -> usize
-    requires { ⌜ index < 354 ⌝ }
     ensures { λ r. ⌜ r ≡ getD variationEntries index 0 ⌝ }
 {
-    match unicode::variation_entry(index) {
-        VariationEntry::Char(c) => wide(c),
-        VariationEntry::NoEntry => 0,
-    }
+    unicode::variation_char(index) as usize
 }
 
 // Puts the row of membership n, if it is wanted, and returns where it ends. The table has room for a wanted row.
@@ -155,9 +144,9 @@ fn put_tip(table: &mut [u8], start: usize, wanted: bool, n: usize) -> usize
 // Puts the rows of the memberships whose flip alters the text, for which the table has room, and returns where the last one ends.
 fn put_tips(policy: &[u8], flags: &[u8], table: &mut [u8]) -> usize
     requires { ⌜ (length (now flags) ≡ 2124)
-        × (length (rowsBytes tipNumbers (filtered (tipTest (now policy) (now flags)) (numbered 1416 0))) ≤ length (now table)) ⌝ }
+        × (length (rowsBytes tipNumbers (filter (tipTest (now policy) (now flags)) (numbered 1416 0))) ≤ length (now table)) ⌝ }
     ensures { λ r. ⌜ PutAt (now (table .entry)) 0
-        (rowsBytes tipNumbers (filtered (tipTest (now (policy .entry)) (now (flags .entry))) (numbered 1416 0))) (now (table .exit)) r ⌝ }
+        (rowsBytes tipNumbers (filter (tipTest (now (policy .entry)) (now (flags .entry))) (numbered 1416 0))) (now (table .exit)) r ⌝ }
 {
     let mut at = 0;
     let mut n = 0;
@@ -173,7 +162,7 @@ fn put_tips(policy: &[u8], flags: &[u8], table: &mut [u8]) -> usize
 fn fill_table(policy: &[u8], flags: &[u8], table: &mut [u8]) -> ListAnswer
     requires { ⌜ length (now flags) ≡ 2124 ⌝ }
     ensures { λ r. ⌜ record { answer = r; buffer = now (table .exit) }
-        ≡ fillTable tipNumbers 24 (filtered (tipTest (now (policy .entry)) (now (flags .entry))) (numbered 1416 0)) (now (table .entry)) ⌝ }
+        ≡ fillTable tipNumbers 24 (filter (tipTest (now (policy .entry)) (now (flags .entry))) (numbered 1416 0)) (now (table .entry)) ⌝ }
 {
     let findings = count_tips(policy, flags);
     if findings == 0 {

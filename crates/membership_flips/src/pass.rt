@@ -5,15 +5,13 @@ ghost use Prim.Native.Nat.{ℕ, _<_, _≤_};
 ghost use lib.ListN.{drop, getD, length};
 ghost use Rattle.utf8.specs.Rfc3629.{chars, validUpTo};
 ghost use Rattle.unicode.specs.Unicode.{variationSequenceIndex};
-ghost use Rattle.analysis.specs.CellView.{classInFront};
-ghost use Rattle.text_pass.specs.Changes.{selectorNumber};
+ghost use Rattle.analysis.specs.Rules.{selectorNumber};
 ghost use Rattle.membership_flips.specs.Flips.{digit};
 ghost use Rattle.membership_flips.specs.Pass.{FlagsTell, flagIndex, flagged, isJudged, withChar, withEntry};
 use crate::plain::skip_plain;
+use analysis::singleton::class_at;
 use analysis::singleton::is_keycap;
 use scanner::char_class::Class;
-use scanner::char_class::Peeked;
-use scanner::char_class::peek;
 use scanner::selectors::selector_at;
 use scanner::selectors::selectors_end;
 use unicode::VariationSequenceIndex;
@@ -60,20 +58,6 @@ pub(crate) fn is_flagged(flags: &[u8], index: usize, is_keycap: bool, first: Fro
 {
     let at = flag_index(index, is_keycap, first);
     flags[at] != 0
-}
-
-// The class of the character at an offset; `Other` where none begins.
-fn class_at(text: &[u8], at: usize) -> Class
-    ensures { λ r. ⌜ r ≡ classInFront (chars (drop at (now (text .entry)))) ⌝ }
-{
-    match peek(text, at) {
-        Peeked::Char {
-            value: _,
-            class,
-            end: _,
-        } => class,
-        Peeked::NoChar => Class::Other,
-    }
 }
 
 // Whether the policy decides a base (rule 6) before a character of this class.

@@ -4,5 +4,4 @@ pub mod Reading
 pub mod Texts
 pub mod LineLengths
 pub mod Outputs
-pub mod DefaultBytes
 pub mod Claims

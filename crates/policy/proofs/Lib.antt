@@ -3,6 +3,7 @@ pub mod Bounds
 pub mod Unused
 pub mod Refusals
 pub mod Bytes
+pub mod DefaultBytes
 pub mod ByteBits
 pub mod ByEntry
 pub mod RoundTrips

@@ -9,7 +9,7 @@ use lib.Dec.{eqb, leb, ltb}
 use lib.ListN.{getD, length}
 use lib.Pow.{pow-pos}
 use borrow.Author.Tests.{eqb-false, le-leb, le-ltb, leb-true, lt-ltb, ltb-false, ne-eqb, not-false, not-true}
-use Rattle.base.proofs.Tests.{le-or-lt, same-test}
+use Rattle.base.proofs.Tests.{both-false, le-or-lt, same-test}
 use Rattle.base.specs.Bits.{one}
 use Rattle.unicode.specs.UnicodeData.{unicodeVersion}
 use Rattle.policy_key_set.specs.Sets.{allBelow, entryCount, member, wordCount}
@@ -101,10 +101,6 @@ not-all (suc n) p e = go (p n) refl (not-all n p) e
     go : (b : Bool) → p n ≡ b → (allBelow n p ≡ false → Fails n p) → (b && allBelow n p) ≡ false → Fails (suc n) p
     go false t ih f = record { at = n; below = omega arith; fails = t }
     go true t ih f = let r = ih f in record { at = r .at; below = omega (arith, r .below); fails = r .fails }
-
-both-false : (x y : Bool) → (x || y) ≡ false → (x ≡ false) × (y ≡ false)
-both-false true y e = absurd (true≢false e)
-both-false false y e = (refl, e)
 
 unused-one : (ws : List ℕ) → noUnusedBit ws ≡ false → UnusedOne ws
 unfolding noUnusedBit

@@ -5,7 +5,7 @@ use mathlib.Core.Path.{_≡_}
 use mathlib.Core.Bool.{Bool, true, cond, _&&_, _||_, not}
 use mathlib.Core.List.{List, [], _∷_, _++_}
 use mathlib.Core.Option.{Option, none, some}
-use Prim.Native.Nat.{ℕ, zero, suc, _+_, _*_, _^_, _≤_, _<_}
+use Prim.Native.Nat.{ℕ, zero, suc, _+_, _*_, _/_, _^_, _≤_, _<_}
 use lib.Dec.{eqb, ltb}
 use lib.ListN.{drop, getD, length, take}
 use Rattle.base.specs.Words.{bytesOf, number}
@@ -42,6 +42,10 @@ versionOf bs = number (take 8 bs)
 unfoldable pub wordsFrom : ℕ → ℕ → List ℕ → List ℕ
 wordsFrom zero at bs = []
 wordsFrom (suc n) at bs = number (take 8 (drop at bs)) ∷ wordsFrom n (at + 8) bs
+
+-- The numbers that bytes encode, eight bytes for each.
+abbrev pub numbersOf : List ℕ → List ℕ
+numbersOf bs = wordsFrom (length bs / 8) 0 bs
 
 -- Set k of the policy that bytes encode, and the policy that they encode. The sets follow the version.
 abbrev pub setOf : ℕ → List ℕ → CharSet

@@ -7,6 +7,7 @@ use Prim.Native.Nat.{ℕ, _+_, _-_}
 use native.Mathlib.Omega.{arith}
 use lib.ListN.{drop, length, length-append, length-replicate, replicate, take}
 use lib.Seq.{take-append-seam}
+use Rattle.base.proofs.Tests.{either-right, or-false}
 use Rattle.base.specs.Refusals.{orElse}
 use Rattle.base.specs.declared.Refusal.{Refusal}
 use Rattle.base.specs.declared.Refusal.the-variants.{FeedEnded, NotWellFormed, OutputTooShort, TextTooLong, UnfinishedCharacter}
@@ -80,14 +81,6 @@ under-inv p {f} {T} {X} {W} i = record {
     go (going w e t v) = going w e t v
     go (done e r n a c) = done e r n a c
 
-or-false : (t : Bool) → t ≡ (t || false)
-or-false true = refl
-or-false false = refl
-
-or-true : (t : Bool) → true ≡ (t || true)
-or-true true = refl
-or-true false = refl
-
 -- What a call makes of it.
 abbrev AfterCall : Policy → List ℕ → List Policy → List ℕ → Bool → Policy → Call → Called → Type 0
 AfterCall b T P W E p c r =
@@ -122,13 +115,13 @@ module _ {b : Policy} {B T : List ℕ} {P : List Policy} {W : List ℕ} {E : Boo
   }
 
   refused-piece : (x out : List ℕ) (r : Refusal) → AfterCall b T P W E p (piece x out) (refuses (Refused r) B out)
-  refused-piece x out r = idle [] (a .stands) (same (a .inv)) (a .in-force) (a .ended-is ∙ or-false E)
+  refused-piece x out r = idle [] (a .stands) (same (a .inv)) (a .in-force) (a .ended-is ∙ sym (or-false E))
 
   refused-end : (out : List ℕ) (r : Refusal) → AfterCall b T P W E p (end out) (refuses (Refused r) B out)
-  refused-end out r = idle [] (a .stands) (same (a .inv)) (a .in-force) (a .ended-is ∙ or-false E)
+  refused-end out r = idle [] (a .stands) (same (a .inv)) (a .in-force) (a .ended-is ∙ sym (or-false E))
 
   refused-change : (policy : List ℕ) (r : Refusal) → AfterCall b T P W E p (change policy) (refuses (Refused r) B [])
-  refused-change policy r = idle [] (a .stands) (same (a .inv)) (a .in-force) (a .ended-is ∙ or-false E)
+  refused-change policy r = idle [] (a .stands) (same (a .inv)) (a .in-force) (a .ended-is ∙ sym (or-false E))
 
   abbrev L : Call → Answer → Called
   L c x = leavesAfter B c (afterCall f c x) x
@@ -158,7 +151,7 @@ module _ {b : Policy} {B T : List ℕ} {P : List Policy} {W : List ℕ} {E : Boo
             ∙ sym (with-piece T x P p b (a .each) u₀);
         each = omega (arith, length-append P (replicate (length x) p), length-replicate (length x) p, length-append T x, a .each);
         in-force = a .in-force;
-        ended-is = sym h ∙ a .ended-is ∙ or-false E;
+        ended-is = sym h ∙ a .ended-is ∙ sym (or-false E);
       }
 
   after-end : (out : List ℕ) {y : Answer} → Answered f (Calls.end out) y → Stands (L (end out) y .feed) (afterCall f (end out) y)
@@ -170,7 +163,7 @@ module _ {b : Policy} {B T : List ℕ} {P : List Policy} {W : List ℕ} {E : Boo
       let o = encodeAll (settle (f .pending) other .text) in
       idle (take (length o) (o ++ drop (length o) out)) s
       (subst (λ (w : List ℕ). Inv (Calls.afterEnd f) (T ++ []) (a .fed ++ []) (W ++ w)) (sym (take-append-seam o (drop (length o) out)))
-      (by-answer (a .inv) (end-taken {out = out} h l r))) (a .in-force) (or-true E)
+      (by-answer (a .inv) (end-taken {out = out} h l r))) (a .in-force) (sym (either-right E true refl))
 
   after-change : (policy : List ℕ) → Stands (L (change policy) (answerTo f (change policy)) .feed)
       (afterCall f (change policy) (answerTo f (change policy)))
@@ -184,7 +177,7 @@ module _ {b : Policy} {B T : List ℕ} {P : List Policy} {W : List ℕ} {E : Boo
       go : (t o : Bool) → Stands (L (change policy) (A t o) .feed) (afterCall f (change policy) (A t o))
           → AfterCall b T P W E p (change policy) (L (change policy) (A t o))
       go true o s = refused-change policy FeedEnded
-      go false true s = idle [] s (under-inv (policyOf policy) (same (a .inv))) refl (a .ended-is ∙ or-false E)
+      go false true s = idle [] s (under-inv (policyOf policy) (same (a .inv))) refl (a .ended-is ∙ sym (or-false E))
       go false false s = refused-change policy (policyFault policy)
 
   pub step : (c : Call) → PieceBytes c → AfterCall b T P W E p c (calledOn B c)
@@ -257,7 +250,7 @@ module _ {b : Policy} where
       tagged = same-tagged a;
       each = same-each a;
       in-force = a .in-force;
-      ended-is = a .ended-is ∙ or-false E;
+      ended-is = a .ended-is ∙ sym (or-false E);
     };
   }
   runs {B} {T} {P} {W} {E} {p} a (and-piece {b = x} {out = out} {cs = cs} e o) =

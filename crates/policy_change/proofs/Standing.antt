@@ -8,19 +8,20 @@ use lib.Dec.{eqb}
 use lib.ListN.{drop, length, length-append, take}
 use lib.Seq.{drop-at, drop-drop, take-at}
 use borrow.Author.Tests.{eq-eqb}
+use Rattle.base.specs.Sums.{oneIf}
 use Rattle.base.specs.Words.{bytesOf, littleEndian, number, wordBytes}
 use Rattle.base.specs.declared.Refusal.the-variants.{FeedEnded}
 use Rattle.base.proofs.Tests.{and-both}
 use Rattle.base.proofs.Words.{length-wordBytes}
 use Rattle.policy.specs.PolicyBytes.{isPolicy, policyOf}
 use Rattle.policy.specs.declared.Policy.{Policy}
+use Rattle.analysis.specs.Counts.{empty}
 use Rattle.feed.specs.Calls.{Feed, totalsNow}
 use Rattle.feed.specs.Bytes.{bytesFor, feedOf, isFeed, refuses, stateFor, stateOf, stateWords}
 use Rattle.feed.specs.declared.FeedAnswer.the-variants.{Refused}
 use Rattle.feed.proofs.Back.{reads-back}
 use Rattle.feed.proofs.Kept.{Kept, kept-holds, kept-passes, policy-length, state-is}
 use Rattle.feed.proofs.Writing.{words-many}
-use Rattle.analysis.specs.Counts.{empty}
 use Rattle.policy_change.specs.Calls.{Call, afterCall, answerTo, under}
 use Rattle.policy_change.specs.Bytes.{
   calledOn,
@@ -34,10 +35,6 @@ use Rattle.policy_change.specs.Bytes.{
   outOf,
 }
 
-abbrev pub flag : Bool → ℕ
-flag true = 1
-flag false = 0
-
 -- The bytes B stand for the feed f: its words, the policy that judges the held base, whether the policy has changed since, and the policy
 -- after that.
 pub record Stands (B : List ℕ) (f : Feed) : Type 0 where
@@ -47,7 +44,7 @@ pub record Stands (B : List ℕ) (f : Feed) : Type 0 where
   pub own-policy : isPolicy own ≡ true
   pub later-policy : isPolicy later ≡ true
   pub kept : Kept (under (policyOf own) f)
-  pub bytes : B ≡ bytesFor f own ++ (wordBytes (flag changed) ++ later)
+  pub bytes : B ≡ bytesFor f own ++ (wordBytes (oneIf changed) ++ later)
   pub in-force : cond changed (policyOf later) (policyOf own) ≡ f .policy
 
 pub feed-bytes : (f : Feed) (p : List ℕ) → isPolicy p ≡ true → length (bytesFor f p) ≡ 320
@@ -57,15 +54,15 @@ feed-bytes f p e = omega (arith, length-append (bytesOf (stateWords (stateFor f)
 -- The parts of such bytes.
 module _ (f : Feed) (p q : List ℕ) (c : Bool) (ep : isPolicy p ≡ true) (eq : isPolicy q ≡ true) where
   abbrev B : List ℕ
-  B = bytesFor f p ++ (wordBytes (flag c) ++ q)
+  B = bytesFor f p ++ (wordBytes (oneIf c) ++ q)
 
   pub part-is : feedPart B ≡ bytesFor f p
-  part-is = take-at (bytesFor f p) (wordBytes (flag c) ++ q) 320 (feed-bytes f p ep)
+  part-is = take-at (bytesFor f p) (wordBytes (oneIf c) ++ q) 320 (feed-bytes f p ep)
 
-  pub tail-is : drop 320 B ≡ wordBytes (flag c) ++ q
-  tail-is = drop-at (bytesFor f p) (wordBytes (flag c) ++ q) 320 (feed-bytes f p ep)
+  pub tail-is : drop 320 B ≡ wordBytes (oneIf c) ++ q
+  tail-is = drop-at (bytesFor f p) (wordBytes (oneIf c) ++ q) 320 (feed-bytes f p ep)
 
-  flag-back : (c : Bool) → not (eqb (number (wordBytes (flag c))) 0) ≡ c
+  flag-back : (c : Bool) → not (eqb (number (wordBytes (oneIf c))) 0) ≡ c
   unfolding wordBytes littleEndian number
   flag-back true = refl
   flag-back false = refl
@@ -73,19 +70,19 @@ module _ (f : Feed) (p q : List ℕ) (c : Bool) (ep : isPolicy p ≡ true) (eq :
   pub changed-is : isChanged B ≡ c
   changed-is =
       ap (λ (l : List ℕ). not (eqb (number (take 8 l)) 0)) tail-is
-      ∙ ap (λ (l : List ℕ). not (eqb (number l) 0)) (take-at (wordBytes (flag c)) q 8 (length-wordBytes (flag c))) ∙ flag-back c
+      ∙ ap (λ (l : List ℕ). not (eqb (number l) 0)) (take-at (wordBytes (oneIf c)) q 8 (length-wordBytes (oneIf c))) ∙ flag-back c
 
   pub later-is : laterPolicy B ≡ q
-  later-is = sym (drop-drop 8 320 B) ∙ ap (drop 8) tail-is ∙ drop-at (wordBytes (flag c)) q 8 (length-wordBytes (flag c))
+  later-is = sym (drop-drop 8 320 B) ∙ ap (drop 8) tail-is ∙ drop-at (wordBytes (oneIf c)) q 8 (length-wordBytes (oneIf c))
 
   pub length-is : length B ≡ 528
   length-is =
       omega (
         arith,
-        length-append (bytesFor f p) (wordBytes (flag c) ++ q),
+        length-append (bytesFor f p) (wordBytes (oneIf c) ++ q),
         feed-bytes f p ep,
-        length-append (wordBytes (flag c)) q,
-        length-wordBytes (flag c),
+        length-append (wordBytes (oneIf c)) q,
+        length-wordBytes (oneIf c),
         policy-length q eq,
       )
 

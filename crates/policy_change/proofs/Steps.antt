@@ -9,6 +9,7 @@ use lib.Dec.{eqb}
 use lib.ListN.{drop, length, length-map, length-replicate, replicate, take}
 use lib.Seq.{take-at}
 use borrow.Author.Tests.{ne-eqb}
+use Rattle.base.specs.Sums.{oneIf}
 use Rattle.base.specs.Refusals.{orElse, textLimit}
 use Rattle.base.specs.Words.{allBytes, bytesOf, wordBytes}
 use Rattle.base.specs.declared.Refusal.the-variants.{FeedEnded}
@@ -53,7 +54,7 @@ use Rattle.policy_change.specs.Bytes.{
   settledBytes,
 }
 use Rattle.policy_change.proofs.Selectors.{selectors-same, settled-under}
-use Rattle.policy_change.proofs.Standing.{Stands, call-is, changed-is, feed-is, flag, later-is, part-is, part-state, tail-is}
+use Rattle.policy_change.proofs.Standing.{Stands, call-is, changed-is, feed-is, later-is, part-is, part-state, tail-is}
 
 -- ---- a piece
 
@@ -90,7 +91,7 @@ module _ {B : List ℕ} {f : Feed} (s : Stands B f) where
   P = policyOf (s .own)
 
   -- The bytes after a call that leaves both policies.
-  kept-is : (g : Feed) → keptBytes B g ≡ bytesFor g p ++ (wordBytes (flag (s .changed)) ++ q)
+  kept-is : (g : Feed) → keptBytes B g ≡ bytesFor g p ++ (wordBytes (oneIf (s .changed)) ++ q)
   kept-is g =
       ap (λ (l : List ℕ). keptBytes l g) (s .bytes)
       ∙ ap₂ (λ (x y : List ℕ). bytesFor g x ++ y)
@@ -208,8 +209,8 @@ module _ {B : List ℕ} {f : Feed} (s : Stands B f) (policy : List ℕ) (ok : is
   words-front : take 120 B ≡ W
   unfolding bytesFor
   words-front =
-      ap (take 120) (s .bytes ∙ append-assoc W own (wordBytes (flag (s .changed)) ++ s .later))
-      ∙ take-at W (own ++ (wordBytes (flag (s .changed)) ++ s .later)) 120 (words-many (stateFor f))
+      ap (take 120) (s .bytes ∙ append-assoc W own (wordBytes (oneIf (s .changed)) ++ s .later))
+      ∙ take-at W (own ++ (wordBytes (oneIf (s .changed)) ++ s .later)) 120 (words-many (stateFor f))
 
   base-is : stateOf (feedPart B) .held .base ≡ heldFor (f .pending) .base
   unfolding stateFor

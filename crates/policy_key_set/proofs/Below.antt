@@ -7,8 +7,9 @@ use native.Mathlib.Nat.{add-zero, eq-or-lt-of-le, le-of-suc-le-suc, not-suc-le-z
 use native.Mathlib.Omega.{arith}
 use lib.Dec.{eqb}
 use borrow.Author.Tests.{ne-eqb}
+use Rattle.base.specs.Sums.{oneIf}
 use Rattle.base.proofs.Tests.{both-true}
-use Rattle.policy_key_set.specs.Sets.{allBelow, countBelow, differ, oneIf}
+use Rattle.policy_key_set.specs.Sets.{allBelow, countBelow, differ}
 
 pub all-below : (n : ℕ) (p : ℕ → Bool) → allBelow n p ≡ true → (k : ℕ) → k < n → p k ≡ true
 unfolding allBelow

@@ -8,14 +8,14 @@ use native.Mathlib.Omega.{arith}
 use lib.Dec.{eqb, leb}
 use lib.ListN.{getD, length, replicate, set}
 use borrow.Author.Tests.{eq-eqb, le-ltb, leb-true, lt-ltb, ne-eqb}
+use Rattle.base.proofs.Tests.{both-true, le-or-lt}
+use Rattle.base.specs.Bits.{one}
 use Rattle.unicode.specs.Unicode.{variationSequenceIndex}
 use Rattle.unicode.specs.UnicodeData.{variationEntries}
 use Rattle.unicode.specs.declared.VariationSequenceIndex.the-variants as Index
-use Rattle.base.proofs.Tests.{both-true, le-or-lt}
 use Rattle.unicode.proofs.Ascent.{entry-in, entry-out, index-holds, place-is-index}
 use Rattle.unicode.proofs.InOrder.{variation-entries-ascend}
-use Rattle.base.specs.Bits.{one}
-use Rattle.policy_key_set.specs.Sets.{Holds, HoldsChars, allBelow, entryCount, member, sizeOf}
+use Rattle.policy_key_set.specs.Sets.{Holds, HoldsChars, allBelow, entryCount, member, sizeOf, wordCount}
 use Rattle.policy_key_set.specs.KeySets.{wordsMatchRule}
 use Rattle.policy_key_set.proofs.Below.{count-le}
 use Rattle.policy_key_set.proofs.Members.{decide, holds-same, none-held, one-member, test-holds}
@@ -98,3 +98,7 @@ allWords =
 pub all-words : Holds (λ (i : ℕ). true) allWords
 unfolding wordsMatchRule allBelow member one entryCount variationEntries
 all-words = matching-words-hold (λ c. true) allWords refl
+
+pub six : wordCount ≡ 6
+unfolding wordCount
+six = omega (arith, entry-count)

@@ -3,6 +3,7 @@
 pub mod Bits
 pub mod Below
 pub mod Members
+pub mod TestWords
 pub mod Sizes
 pub mod Entries
 pub mod Contains

@@ -3,13 +3,14 @@ use mathlib.Core.Path.{_≡_, refl, sym, ap, _∙_}
 use mathlib.Core.Logic.{_⊎_, inl, inr, ⊎-elim}
 use mathlib.Core.Bool.{Bool, true, false, Bool·beq, _&&_, not, and-false, and-true}
 use mathlib.Core.List.{List}
-use Prim.Native.Nat.{ℕ, zero, suc, _+_, _*_, _/_, _%_, _^_, _<_, _≤_}
+use Prim.Native.Nat.{ℕ, _+_, _*_, _/_, _%_, _^_, _<_, _≤_}
 use native.Mathlib.Omega.{arith}
 use lib.Dec.{eqb, ltb}
 use lib.ListN.{List·getD-eq-default, getD, length, length-replicate, replicate, set}
 use lib.Seq.{ext-getD, getD-set-other, getD-set-same}
 use borrow.Author.Count.{below-more}
 use borrow.Author.Tests.{eq-eqb, eqb-false, eqb-true, le-ltb, lt-ltb, ne-eqb}
+use Rattle.base.proofs.Lists.{zeros}
 use Rattle.base.proofs.Tests.{beq-so, le-or-lt}
 use Rattle.base.specs.Bits.{one}
 use Rattle.base.proofs.Bits.{zero-one}
@@ -36,15 +37,10 @@ set-more P z i v l h p =
     below-more (λ (k : ℕ). P k (getD (set z i v) k 0)) i (λ k q. rw (getD-set-other z i k v 0 (λ e. omega arith)) (h k q))
     (rw (getD-set-same z i v 0 l) p)
 
-zeros-are : (n k : ℕ) → _≡_ {A = ℕ} (getD (replicate n 0) k 0) 0
-zeros-are zero k = refl
-zeros-are (suc n) zero = refl
-zeros-are (suc n) (suc k) = zeros-are n k
-
 -- Words that are 0 hold no entry.
 pub no-member : (n i : ℕ) → member i (replicate n 0) ≡ false
 unfolding member
-no-member n i = ap (one (i % 64)) (zeros-are n (i / 64)) ∙ zero-one (i % 64)
+no-member n i = ap (one (i % 64)) (zeros n (i / 64)) ∙ zero-one (i % 64)
 
 pub none-held : (n m : ℕ) → HoldsBelow n (λ (i : ℕ). false) (replicate m 0)
 none-held n m i = no-member m i ∙ sym (and-false (ltb i n))

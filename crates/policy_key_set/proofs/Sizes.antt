@@ -10,9 +10,10 @@ use lib.Count.{ones, ones-step}
 use lib.Dec.{eqb}
 use lib.ListN.{getD}
 use borrow.Author.Tests.{le-ltb}
+use Rattle.base.specs.Sums.{oneIf, sumBelow}
 use Rattle.base.specs.Bits.{one}
 use Rattle.base.proofs.Bits.{low-bit, next-bit}
-use Rattle.policy_key_set.specs.Sets.{HoldsBelow, countBelow, member, oneIf, sumBelow}
+use Rattle.policy_key_set.specs.Sets.{HoldsBelow, countBelow, member}
 use Rattle.policy_key_set.proofs.Below.{count-same, count-to}
 use Rattle.policy_key_set.proofs.Members.{held}
 

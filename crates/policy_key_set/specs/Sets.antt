@@ -2,10 +2,11 @@
 -- contract of every operation cites it.
 use mathlib.Core.Path.{_≡_}
 use mathlib.Core.Bool.{Bool, true, false, Bool·beq, _&&_, _||_, not}
-use mathlib.Core.List.{List}
-use Prim.Native.Nat.{ℕ, zero, suc, _+_, _/_, _%_}
+use mathlib.Core.List.{List, [], _∷_}
+use Prim.Native.Nat.{ℕ, zero, suc, _+_, _*_, _/_, _%_}
 use lib.Dec.{ltb}
 use lib.ListN.{getD, length}
+use Rattle.base.specs.Sums.{oneIf}
 use Rattle.base.specs.Bits.{one}
 use Rattle.unicode.specs.Unicode.{variationSequenceIndex}
 use Rattle.unicode.specs.UnicodeData.{variationEntries}
@@ -63,20 +64,10 @@ keeps Difference = butNot
 abbrev pub MadeBy : (Bool → Bool → Bool) → CharSet → CharSet → CharSet → Type 0
 MadeBy f a b r = Holds (λ (i : ℕ). f (member i (a .bits)) (member i (b .bits))) (r .bits)
 
--- 1 for true and 0 for false.
-abbrev pub oneIf : Bool → ℕ
-oneIf true = 1
-oneIf false = 0
-
 -- The number of the numbers below n that pass a test.
 unfoldable pub countBelow : ℕ → (ℕ → Bool) → ℕ
 countBelow zero p = 0
 countBelow (suc n) p = countBelow n p + oneIf (p n)
-
--- The sum of a function's values below n.
-unfoldable pub sumBelow : ℕ → (ℕ → ℕ) → ℕ
-sumBelow zero f = 0
-sumBelow (suc n) f = sumBelow n f + f n
 
 -- The size of a set after the unused bits are cleared: "The size of a set is the number of its one bits after that".
 unfoldable pub sizeOf : List ℕ → ℕ
@@ -99,3 +90,12 @@ memberAt Index.NoEntry ws = false
 -- The set holds a character: `CharSet::contains` of policy_key_set.rs.
 unfoldable pub contains : ℕ → List ℕ → Bool
 contains ch ws = memberAt (variationSequenceIndex ch) ws
+
+-- The word of n bits, and the n words of 64 bits, whose bits are 1 exactly where a test passes.
+unfoldable pub wordOf : ℕ → (ℕ → Bool) → ℕ
+wordOf zero p = 0
+wordOf (suc n) p = oneIf (p 0) + 2 * wordOf n (λ (i : ℕ). p (suc i))
+
+unfoldable pub wordsOf : ℕ → (ℕ → Bool) → List ℕ
+wordsOf zero p = []
+wordsOf (suc n) p = wordOf 64 p ∷ wordsOf n (λ (i : ℕ). p (64 + i))

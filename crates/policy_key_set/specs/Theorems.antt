@@ -7,6 +7,7 @@ use mathlib.Core.List.{List, [], _∷_}
 use Prim.Native.Nat.{ℕ, _+_, _*_, _^_, _<_, _≤_}
 use lib.Count.{ones}
 use lib.ListN.{getD, length}
+use Rattle.base.specs.Sums.{sumBelow}
 use Rattle.unicode.specs.Unicode.{hasVariationSequence, isEmojiDefault, isTextDefault}
 use Rattle.policy_key_set.specs.Sets.{
   Holds,
@@ -18,7 +19,6 @@ use Rattle.policy_key_set.specs.Sets.{
   member,
   sameEntries,
   sizeOf,
-  sumBelow,
   wordCount,
 }
 use Rattle.policy_key_set.specs.KeySets.{isAscii, isKeycapRgi, keycap, keysSize, ordinary, wordsMatchRule}

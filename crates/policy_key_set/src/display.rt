@@ -4,9 +4,9 @@
 ghost use mathlib.Core.Path.{_≡_};
 ghost use mathlib.Core.Bool.{true, false};
 ghost use Prim.Native.Nat.{_+_, _<_, _≤_};
-ghost use lib.ListN.{getD, length};
-ghost use Rattle.unicode.specs.UnicodeData.{variationEntries};
+ghost use lib.ListN.{length};
 ghost use Rattle.base.specs.Output.{PutAt, Wrote};
+ghost use Rattle.unicode.specs.UnicodeData.{variationEntries};
 ghost use Rattle.policy_key_set.specs.Display.{
   display,
   hexDigit,
@@ -22,19 +22,8 @@ ghost use Rattle.policy_key_set.specs.Display.{
 use crate::PolicyKeySet;
 use crate::char_set::CharSet;
 use base::WriteAnswer;
-use unicode::VariationEntry;
 use unicode::unicode_data::VARIATION_ENTRY_COUNT;
-
-// Returns variation entry i.
-fn entry(i: usize) -> u32
-    requires { ⌜ i < 354 ⌝ }
-    ensures { λ r. ⌜ r ≡ getD variationEntries i 0 ⌝ }
-{
-    match unicode::variation_entry(i) {
-        VariationEntry::Char(ch) => ch,
-        VariationEntry::NoEntry => 0,
-    }
-}
+use unicode::variation_char;
 
 fn hex_digit(d: u32) -> u8
     requires { ⌜ d < 16 ⌝ }
@@ -146,7 +135,7 @@ fn keys_end(start: usize, keycap: bool, set: CharSet) -> usize
     let mut at = start;
     let mut i = 0;
     while i < VARIATION_ENTRY_COUNT {
-        let ch = entry(i);
+        let ch = variation_char(i);
         if CharSet::contains(set, ch) {
             at += key_len(at, keycap, ch);
         }
@@ -164,7 +153,7 @@ fn put_keys(out: &mut [u8], start: usize, keycap: bool, set: CharSet) -> usize
     let mut at = start;
     let mut i = 0;
     while i < VARIATION_ENTRY_COUNT {
-        let ch = entry(i);
+        let ch = variation_char(i);
         if CharSet::contains(set, ch) {
             at = put_key(out, at, keycap, ch);
         }

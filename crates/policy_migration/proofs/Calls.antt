@@ -12,6 +12,7 @@ use Rattle.base.proofs.Tests.{and-both, le-or-lt}
 use Rattle.base.specs.Refusals.{After, unwritten, written}
 use Rattle.base.specs.Words.{bytesOf}
 use Rattle.base.specs.declared.Refusal.the-variants.{NotAPolicy, NotAnEntryList, OutputTooShort}
+use Rattle.base.proofs.Numbers.{length-bytesOf}
 use Rattle.unicode.specs.Tables.{ascending}
 use Rattle.unicode.specs.Theorems.{TablesInOrder}
 use Rattle.unicode.specs.UnicodeData.{variationEntries}
@@ -19,9 +20,8 @@ use Rattle.unicode.proofs.Ascent.{ascending-le}
 use Rattle.unicode.proofs.Claims.{tables-in-order}
 use Rattle.policy_key_set.specs.Sets.{entryCount, wordCount}
 use Rattle.policy_key_set.proofs.Entries.{entries-length}
-use Rattle.policy.specs.PolicyBytes.{PolicyValue, noUnusedBit, noUnusedBits, policyBytes, wordsFrom}
+use Rattle.policy.specs.PolicyBytes.{PolicyValue, noUnusedBit, noUnusedBits, numbersOf, policyBytes, wordsFrom}
 use Rattle.policy.specs.declared.Policy.{Policy}
-use Rattle.base.proofs.Numbers.{length-bytesOf}
 use Rattle.policy.proofs.RoundTrips.{read-words}
 use Rattle.policy_migration.specs.declared.CarryAnswer.{CarryAnswer}
 use Rattle.policy_migration.specs.declared.CarryAnswer.the-variants.{Refused, Written}
@@ -36,7 +36,6 @@ use Rattle.policy_migration.specs.Carry.{
   isOldList,
   isOldPolicy,
   noOldUnused,
-  numbersOf,
   oldSet,
   prefer-bare,
   prefer-bare-keycap,

@@ -12,6 +12,7 @@ use borrow.Author.Tests.{le-ltb, lt-ltb}
 use Rattle.base.specs.Words.{bytesOf, wordBytes}
 use Rattle.base.proofs.Words.{length-wordBytes}
 use Rattle.base.proofs.Tests.{and-both, both-true, either-left, either-right, le-or-lt}
+use Rattle.base.proofs.Numbers.{length-bytesOf}
 use Rattle.unicode.specs.Tables.{indexOf}
 use Rattle.unicode.specs.Tables as Tables
 use Rattle.unicode.specs.Unicode.{hasVariationSequence, variationSequenceIndex}
@@ -19,16 +20,16 @@ use Rattle.unicode.specs.UnicodeData.{unicodeVersion, variationEntries}
 use Rattle.unicode.specs.declared.VariationSequenceIndex.{VariationSequenceIndex}
 use Rattle.unicode.specs.declared.VariationSequenceIndex.the-variants as Index
 use Rattle.unicode.proofs.Ascent.{isAt, member-index}
+use Rattle.policy_key_set.proofs.TestWords.{words-hold, words-many, words-small}
 use Rattle.policy_key_set.specs.Sets.{contains, entryCount, member, memberAt, wordCount}
 use Rattle.policy_key_set.proofs.Below.{all-below, below-all}
 use Rattle.policy_key_set.proofs.Contains.{contains-entry, has-index}
-use Rattle.policy_key_set.proofs.Entries.{entry-count, index-has-place, place-has-index}
+use Rattle.policy_key_set.proofs.Entries.{entry-count, index-has-place, place-has-index, six}
 use Rattle.policy_key_set.proofs.Members.{member-past, members-determine}
 use Rattle.policy.specs.DefaultPolicy.{defaultPolicy}
 use Rattle.policy.specs.PolicyBytes.{PolicyValue, SetValue, noUnusedBit, noUnusedBits, policyBytes, policyOf, policyWords, setOf, wordsFrom}
 use Rattle.policy.specs.Theorems.{ReadWritten}
 use Rattle.policy.specs.declared.Policy.{Policy}
-use Rattle.base.proofs.Numbers.{length-bytesOf}
 use Rattle.policy.proofs.Claims.{read-written}
 use Rattle.policy.proofs.RoundTrips.{SixWordSets, many-words, same-policy, wordsFrom-drop}
 use Rattle.policy_migration.specs.Carry.{
@@ -46,11 +47,6 @@ use Rattle.policy_migration.specs.Carry.{
   setIn,
   versioned,
 }
-use Rattle.policy_migration.proofs.Bits.{words-hold, words-many, words-small}
-
-pub six : wordCount ≡ 6
-unfolding wordCount
-six = omega (arith, entry-count)
 
 pub versioned-length : (p : Policy) → PolicyValue p → (version : ℕ) → length (versioned version p) ≡ 200
 unfolding versioned

@@ -1,8 +1,9 @@
 -- The proof of each statement of specs/Theorems.antt.
 use mathlib.Core.Path.{_∙_}
+use Rattle.policy.specs.PolicyBytes.{numbersOf}
 use Rattle.policy.specs.Theorems.{ReadWritten}
 use Rattle.policy.proofs.Claims.{read-written}
-use Rattle.policy_migration.specs.Carry.{carried, numbersOf}
+use Rattle.policy_migration.specs.Carry.{carried}
 use Rattle.policy_migration.specs.Theorems.{CarriedHome, CarriedIsPolicy, CarriedMembers, CarryInOrder, TestsMean}
 use Rattle.policy_migration.proofs.Calls.{home-call, in-order}
 use Rattle.policy_migration.proofs.Carrying.{carried-length, home, members, no-unused, policy-value}

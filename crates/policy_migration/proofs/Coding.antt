@@ -1,30 +1,25 @@
 -- Laws that the functions' proofs cite.
-use mathlib.Core.Path.{_≡_, refl, ap, ap₂, sym, _∙_, subst}
-use mathlib.Core.Bool.{Bool, true, false, cond, not, _&&_, _||_, true≢false}
+use mathlib.Core.Path.{_≡_, refl, ap, ap₂, sym, _∙_}
+use mathlib.Core.Bool.{Bool, true, false, not, _&&_, _||_, true≢false}
 use mathlib.Core.Logic.{⊎-elim}
-use mathlib.Core.List.{List, [], _∷_, _++_, append-nil}
+use mathlib.Core.List.{List, [], _∷_}
 use Prim.Native.Nat.{ℕ, zero, suc, _+_, _*_, _-_, _/_, _%_, _^_, _≤_, _<_}
 use native.Mathlib.Omega.{arith}
 use lib.Dec.{ltb}
 use lib.ListN.{drop, getD, length, take}
-use lib.Seq.{drop-length}
-use borrow.Author.Tests.{le-leb, le-ltb, lt-ltb, ltb-true}
+use borrow.Author.Tests.{le-ltb, lt-ltb, ltb-true}
 use Rattle.base.specs.Bits.{one}
-use Rattle.base.specs.Output.{Wrote, bufferOf}
-use Rattle.base.specs.Words.{bytesOf, littleEndian, number, wordBytes}
-use Rattle.base.specs.declared.WriteAnswer.{WriteAnswer}
+use Rattle.base.specs.Words.{number}
 use Rattle.base.proofs.Tests.{and-both, both-true, either-left, either-right, fails, le-or-lt}
 use Rattle.unicode.specs.Tables.{ascending, ascendingFrom, indexOf}
 use Rattle.unicode.specs.declared.VariationSequenceIndex.the-variants as Index
 use Rattle.unicode.proofs.Ascent.{ascending-le, ascending-lt, index-first, index-none}
-use Rattle.policy_key_set.specs.Sets.{allBelow, entryCount, member, wordCount}
 use Rattle.unicode.specs.UnicodeData.{variationEntries}
+use Rattle.policy_key_set.specs.Sets.{allBelow, entryCount, member, wordCount}
 use Rattle.policy_key_set.proofs.Below.{all-below, below-all}
 use Rattle.policy.specs.DefaultPolicy.{bareAsText, bareAsTextKeycap, defaultPolicy, preferBare, preferBareKeycap}
-use Rattle.policy.specs.PolicyBytes.{PolicyValue, SetValue, keyWords, policyBytes, policyWords, wordsFrom}
-use Rattle.policy.specs.declared.Policy.{Policy}
+use Rattle.policy.specs.PolicyBytes.{PolicyValue, SetValue, numbersOf, wordsFrom}
 use Rattle.policy.proofs.Bytes.{getD-wordsFrom, length-wordsFrom}
-use Rattle.policy_migration.specs.Carry.{numbersOf}
 
 -- ---- numbers in bytes
 
@@ -102,22 +97,6 @@ default-value = record {
   bare-as-text = set-value bareAsText refl refl;
   bare-as-text-keycap = set-value bareAsTextKeycap refl refl;
 }
-
-filled : {o o′ r : List ℕ} {a : WriteAnswer} → length r ≡ length o → Wrote r o o′ a → o′ ≡ r
-unfolding bufferOf
-filled {o} {o′} {r} e w =
-    w .buffer ∙ ap (λ (t : Bool). cond t (r ++ drop (length r) o) o) (le-leb (length r) (length o) (omega arith))
-    ∙ ap (λ (k : ℕ). r ++ drop k o) e ∙ ap (λ (xs : List ℕ). r ++ xs) (drop-length o) ∙ append-nil r
-
-pub default-length : length (policyBytes defaultPolicy) ≡ 200
-unfolding policyBytes bytesOf policyWords keyWords defaultPolicy preferBare preferBareKeycap bareAsText bareAsTextKeycap wordBytes
-    littleEndian
-default-length = refl
-
-pub default-written : {o o′ : List ℕ} {p : Policy} {a : WriteAnswer} → length o ≡ 200 → p ≡ defaultPolicy → Wrote (policyBytes p) o o′ a
-    → o′ ≡ policyBytes defaultPolicy
-default-written {o} {o′} {a = a} l e w = filled (omega (arith, l, default-length))
-    (subst (λ (q : Policy). Wrote (policyBytes q) o o′ a) e w)
 
 -- ---- a search in an ascending list
 

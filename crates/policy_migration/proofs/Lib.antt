@@ -1,5 +1,4 @@
 -- Laws on carrying a policy over, and the proofs of the statements.
-pub mod Bits
 pub mod Carrying
 pub mod Coding
 pub mod Testing

@@ -12,6 +12,7 @@ use Rattle.base.proofs.Tests.{and-both, both-true, fails, le-or-lt}
 use Rattle.unicode.specs.Tables.{ascending}
 use Rattle.unicode.proofs.Ascent.{ascending-lt}
 use Rattle.policy_key_set.specs.Sets.{allBelow, member}
+use Rattle.policy.specs.PolicyBytes.{numbersOf}
 use Rattle.policy_migration.specs.Carry.{
   WhichSet,
   bare-as-text,
@@ -20,7 +21,6 @@ use Rattle.policy_migration.specs.Carry.{
   isOldList,
   isOldPolicy,
   noOldUnused,
-  numbersOf,
   oldSet,
   prefer-bare,
   prefer-bare-keycap,

@@ -14,12 +14,13 @@ use Rattle.base.proofs.Writer.{Writing, begin}
 use Rattle.base.specs.Refusals.{After}
 use Rattle.base.specs.Words.{bytesOf}
 use Rattle.base.specs.declared.Refusal.the-variants.{NotAPolicy, NotAnEntryList, OutputTooShort}
+use Rattle.base.proofs.Numbers.{length-bytesOf}
 use Rattle.unicode.specs.Tables.{ascending}
 use Rattle.unicode.specs.UnicodeData.{unicodeVersion}
+use Rattle.policy_key_set.proofs.Entries.{six}
 use Rattle.policy_key_set.specs.Sets.{allBelow, member}
-use Rattle.policy.specs.PolicyBytes.{keyWords, policyBytes, policyWords, wordsFrom}
+use Rattle.policy.specs.PolicyBytes.{keyWords, numbersOf, policyBytes, policyWords, wordsFrom}
 use Rattle.policy.specs.declared.Policy.{Policy}
-use Rattle.base.proofs.Numbers.{length-bytesOf}
 use Rattle.policy.proofs.RoundTrips.{SixWordSets, many-words}
 use Rattle.policy_migration.specs.declared.CarryAnswer.{CarryAnswer}
 use Rattle.policy_migration.specs.declared.CarryAnswer.the-variants.{Refused, Written}
@@ -33,7 +34,6 @@ use Rattle.policy_migration.specs.Carry.{
   isOldList,
   isOldPolicy,
   noOldUnused,
-  numbersOf,
   oldSet,
   placeOf,
   prefer-bare,
@@ -42,7 +42,7 @@ use Rattle.policy_migration.specs.Carry.{
   wordsFor,
 }
 use Rattle.policy_migration.specs.Helpers.{setAt}
-use Rattle.policy_migration.proofs.Carrying.{carried-length, carried-set, policy-value, six}
+use Rattle.policy_migration.proofs.Carrying.{carried-length, carried-set, policy-value}
 use Rattle.policy_migration.proofs.Coding.{many-numbers}
 use Rattle.policy_migration.proofs.Calls.{call-is, in-order}
 

@@ -7,6 +7,7 @@ use Prim.Native.Nat.{ℕ, zero, suc, _+_, _*_, _-_, _/_, _^_, _≤_, _<_}
 use native.Mathlib.Nat.{pow-suc}
 use native.Mathlib.Omega.{arith}
 use lib.ListN.{getD, length}
+use Rattle.base.specs.Sums.{oneIf}
 use Rattle.base.proofs.Tests.{le-or-lt}
 use Rattle.unicode.specs.Tables.{indexOf}
 use Rattle.unicode.specs.Unicode.{variationEntry}
@@ -15,9 +16,11 @@ use Rattle.unicode.specs.declared.VariationEntry.the-variants as Entry
 use Rattle.unicode.specs.declared.VariationSequenceIndex.{VariationSequenceIndex}
 use Rattle.unicode.specs.declared.VariationSequenceIndex.the-variants as Index
 use Rattle.unicode.proofs.Ascent.{entry-in, entry-out, index-holds}
-use Rattle.policy_key_set.specs.Sets.{entryCount, member, oneIf, wordCount}
+use Rattle.policy_key_set.proofs.Entries.{six}
+use Rattle.policy_key_set.proofs.TestWords.{word-small}
+use Rattle.policy_key_set.specs.Sets.{entryCount, member, wordCount, wordOf, wordsOf}
 use Rattle.policy.specs.DefaultPolicy.{defaultPolicy}
-use Rattle.policy.specs.PolicyBytes.{policyBytes, policyOf, setOf, wordsFrom}
+use Rattle.policy.specs.PolicyBytes.{numbersOf, policyBytes, policyOf, setOf, wordsFrom}
 use Rattle.policy.specs.Theorems.{ReadWritten}
 use Rattle.policy.specs.declared.Policy.{Policy}
 use Rattle.policy.proofs.Claims.{read-written}
@@ -25,20 +28,16 @@ use Rattle.policy_migration.specs.Carry.{
   WhichSet,
   bare-as-text,
   bare-as-text-keycap,
-  bitsOf,
   carriedTest,
   keptOr,
-  numbersOf,
   oldSet,
   placeOf,
   prefer-bare,
   prefer-bare-keycap,
   setIn,
-  wordsOf,
 }
 use Rattle.policy_migration.specs.Helpers.{setAt}
-use Rattle.policy_migration.proofs.Bits.{bits-small}
-use Rattle.policy_migration.proofs.Carrying.{at-entry, past, six}
+use Rattle.policy_migration.proofs.Carrying.{at-entry, past}
 use Rattle.policy_migration.proofs.Coding.{default-value, many-numbers}
 
 pub few-times : (k m : ℕ) → k < 4 → k * m ≤ 3 * m
@@ -124,13 +123,13 @@ module _ (es ps : List ℕ) (k i : ℕ) (lk : k < 4) where
 
 -- ---- a word, from its highest bit on
 
-pub bits-same : (n : ℕ) (p q : ℕ → Bool) → ((i : ℕ) → p i ≡ q i) → bitsOf n p ≡ bitsOf n q
-unfolding bitsOf
+pub bits-same : (n : ℕ) (p q : ℕ → Bool) → ((i : ℕ) → p i ≡ q i) → wordOf n p ≡ wordOf n q
+unfolding wordOf
 bits-same zero p q h = refl
 bits-same (suc n) p q h =
     ap₂ (λ (x : Bool) (y : ℕ). oneIf x + 2 * y) (h 0) (bits-same n (λ (i : ℕ). p (suc i)) (λ (i : ℕ). q (suc i)) (λ i. h (suc i)))
 
-word-at : (m : ℕ) (p : ℕ → Bool) (w : ℕ) → w < m → getD (wordsOf m p) w 0 ≡ bitsOf 64 (λ (b : ℕ). p (64 * w + b))
+word-at : (m : ℕ) (p : ℕ → Bool) (w : ℕ) → w < m → getD (wordsOf m p) w 0 ≡ wordOf 64 (λ (b : ℕ). p (64 * w + b))
 unfolding wordsOf
 word-at zero p w l = absurd (omega arith)
 word-at (suc m) p zero l = bits-same 64 p (λ (b : ℕ). p (64 * 0 + b)) (λ i. ap p (omega arith))
@@ -143,29 +142,29 @@ power-up n zero = let e : n + 0 ≡ n = omega arith in omega (arith, ap (λ (x :
 power-up n (suc k) = let e : n + suc k ≡ suc (n + k) = omega arith in
     omega (arith, power-up n k, pow-suc 2 (n + k), ap (λ (x : ℕ). 2 ^ x) e)
 
-open-bits : (n : ℕ) (q : ℕ → Bool) → bitsOf (suc n) q ≡ oneIf (q 0) + 2 * bitsOf n (λ (i : ℕ). q (suc i))
-unfolding bitsOf
+open-bits : (n : ℕ) (q : ℕ → Bool) → wordOf (suc n) q ≡ oneIf (q 0) + 2 * wordOf n (λ (i : ℕ). q (suc i))
+unfolding wordOf
 open-bits n q = refl
 
 module _ (p : ℕ → Bool) (w : ℕ) where
   -- the bits from b on
   abbrev pub high : ℕ → ℕ
-  high b = bitsOf (64 - b) (λ (i : ℕ). p (64 * w + b + i))
+  high b = wordOf (64 - b) (λ (i : ℕ). p (64 * w + b + i))
 
   pub none-high : 0 ≡ high 64
-  unfolding bitsOf
+  unfolding wordOf
   none-high = refl
 
   pub high-small : (b : ℕ) → 0 < b → b ≤ 64 → high b ≤ 9223372036854775807
   high-small b l h =
       let e : 64 - b + (b - 1) ≡ 63 = omega arith in
-      omega (arith, bits-small (64 - b) (λ (i : ℕ). p (64 * w + b + i)), power-up (64 - b) (b - 1), ap (λ (x : ℕ). 2 ^ x) e)
+      omega (arith, word-small (64 - b) (λ (i : ℕ). p (64 * w + b + i)), power-up (64 - b) (b - 1), ap (λ (x : ℕ). 2 ^ x) e)
 
   pub next-high : (b : ℕ) → 0 < b → b ≤ 64 → oneIf (p (64 * w + (b - 1))) + 2 * high b ≡ high (b - 1)
   next-high b l h =
       ap₂ (λ (x : Bool) (y : ℕ). oneIf x + 2 * y) (ap p (omega arith))
       (bits-same (64 - b) (λ (i : ℕ). p (64 * w + b + i)) (λ (i : ℕ). p (64 * w + (b - 1) + suc i)) (λ i. ap p (omega arith)))
-      ∙ sym (open-bits (64 - b) (λ (i : ℕ). p (64 * w + (b - 1) + i))) ∙ ap (λ (n : ℕ). bitsOf n (λ (i : ℕ). p (64 * w + (b - 1) + i)))
+      ∙ sym (open-bits (64 - b) (λ (i : ℕ). p (64 * w + (b - 1) + i))) ∙ ap (λ (n : ℕ). wordOf n (λ (i : ℕ). p (64 * w + (b - 1) + i)))
       (omega arith)
 
   pub all-high : (m : ℕ) → w < m → (b : ℕ) → b ≡ 0 → high b ≡ getD (wordsOf m p) w 0

@@ -1,8 +1,8 @@
 -- Carrying a policy over to our tables (document 02, xii): "Carry a policy over by character, to our tables' version". The old policy's
 -- bits are numbered by the old variation table, and the new policy's bits by ours. The whole outcome of the call is `carryCall`.
 use mathlib.Core.Bool.{Bool, cond, not, _&&_, _||_}
-use mathlib.Core.List.{List, [], _∷_}
-use Prim.Native.Nat.{ℕ, zero, suc, _+_, _*_, _/_, _%_}
+use mathlib.Core.List.{List, _∷_}
+use Prim.Native.Nat.{ℕ, _+_, _*_, _/_, _%_}
 use lib.Dec.{eqb, leb, ltb}
 use lib.ListN.{getD, length}
 use Rattle.base.specs.Answers.{done}
@@ -13,9 +13,9 @@ use Rattle.unicode.specs.Tables.{ascending, indexOf}
 use Rattle.unicode.specs.UnicodeData.{variationEntries}
 use Rattle.unicode.specs.declared.VariationSequenceIndex.{VariationSequenceIndex}
 use Rattle.unicode.specs.declared.VariationSequenceIndex.the-variants as Index
-use Rattle.policy_key_set.specs.Sets.{allBelow, entryCount, member, oneIf, wordCount}
+use Rattle.policy_key_set.specs.Sets.{allBelow, entryCount, member, wordCount, wordsOf}
 use Rattle.policy.specs.DefaultPolicy.{defaultPolicy}
-use Rattle.policy.specs.PolicyBytes.{policyBytes, policyWords, wordsFrom}
+use Rattle.policy.specs.PolicyBytes.{numbersOf, policyBytes, policyWords, wordsFrom}
 use Rattle.policy.specs.declared.Policy.{Policy}
 use Rattle.policy_migration.specs.declared.CarryAnswer.{CarryAnswer}
 use Rattle.policy_migration.specs.declared.CarryAnswer.the-variants.{Refused, Written}
@@ -43,10 +43,6 @@ setIn p bare-as-text-keycap = p .«bare_as_text» .«keycap_chars» .bits
 
 -- ---- the old list and the old policy
 
--- "The old variation table comes as a lent ascending list": its numbers, of 8 bytes each.
-abbrev pub numbersOf : List ℕ → List ℕ
-numbersOf bs = wordsFrom (length bs / 8) 0 bs
-
 -- W' of an old list of V' entries: V'/64 rounded up.
 abbrev pub wordsFor : List ℕ → ℕ
 wordsFor old = (length old + 63) / 64
@@ -59,7 +55,7 @@ oldSet old policy k = wordsFrom (wordsFor old) (8 + placeOf k * (wordsFor old * 
 unfoldable pub isOldList : List ℕ → List ℕ → Bool
 isOldList old policy = ascending old && eqb (length policy) (8 * (4 * wordsFor old + 1))
 
--- The bytes are whole numbers, and these are such a list.
+-- "The old variation table comes as a lent ascending list": the bytes are numbers of 8 bytes each, and these are such a list.
 abbrev pub isEntryList : List ℕ → List ℕ → Bool
 isEntryList entries policy = eqb (length entries % 8) 0 && isOldList (numbersOf entries) policy
 
@@ -85,16 +81,6 @@ unfoldable pub carriedTest : List ℕ → List ℕ → WhichSet → ℕ → Bool
 carriedTest old policy k i =
     ltb i entryCount
     && keptOr (indexOf (getD variationEntries i 0) old) (oldSet old policy k) (member i (setIn defaultPolicy k))
-
--- The number whose bits below n are 1 exactly where a test passes.
-unfoldable pub bitsOf : ℕ → (ℕ → Bool) → ℕ
-bitsOf zero p = 0
-bitsOf (suc n) p = oneIf (p 0) + 2 * bitsOf n (λ (i : ℕ). p (suc i))
-
--- The given number of words, whose bits are 1 exactly where a test passes.
-unfoldable pub wordsOf : ℕ → (ℕ → Bool) → List ℕ
-wordsOf zero p = []
-wordsOf (suc m) p = bitsOf 64 p ∷ wordsOf m (λ (i : ℕ). p (64 + i))
 
 abbrev pub carriedSet : List ℕ → List ℕ → WhichSet → List ℕ
 carriedSet old policy k = wordsOf wordCount (carriedTest old policy k)

@@ -14,20 +14,9 @@ use Rattle.unicode.specs.Unicode.{hasVariationSequence}
 use Rattle.unicode.specs.UnicodeData.{variationEntries}
 use Rattle.policy_key_set.specs.Sets.{contains, member, memberAt}
 use Rattle.policy.specs.DefaultPolicy.{defaultPolicy}
-use Rattle.policy.specs.PolicyBytes.{PolicyValue, isPolicy, noUnusedBits, policyBytes}
+use Rattle.policy.specs.PolicyBytes.{PolicyValue, isPolicy, noUnusedBits, numbersOf, policyBytes}
 use Rattle.policy.specs.declared.Policy.{Policy}
-use Rattle.policy_migration.specs.Carry.{
-  WhichSet,
-  carried,
-  carryCall,
-  isEntryList,
-  isOldPolicy,
-  numbersOf,
-  oldSet,
-  setIn,
-  versioned,
-  wordsFor,
-}
+use Rattle.policy_migration.specs.Carry.{WhichSet, carried, carryCall, isEntryList, isOldPolicy, oldSet, setIn, versioned, wordsFor}
 use Rattle.policy_migration.specs.declared.CarryAnswer.the-variants.{Refused, Written}
 
 -- "Carry a policy over by character": each character with an entry in our table, in each of the four sets. A character of the old list has

@@ -14,7 +14,7 @@ use Rattle.unicode.specs.Tables.{member as in-table}
 use Rattle.unicode.specs.Unicode.{hasVariationSequence}
 use Rattle.unicode.specs.UnicodeData.{variationEntries}
 use Rattle.policy_key_set.specs.Display.{hexDigit, hexDigits}
-use Rattle.policy_key_set.specs.Sets.{entryCount, member as in-set, wordCount}
+use Rattle.policy_key_set.specs.Sets.{entryCount, member as in-set, wordCount, wordOf, wordsOf}
 use Rattle.policy.specs.PolicyBytes.{isPolicy, policyBytes, policyOf}
 use Rattle.policy.specs.Theorems.{WriteRead}
 use Rattle.policy.specs.declared.Policy.{Policy}
@@ -22,7 +22,7 @@ use Rattle.policy.proofs.Claims.{write-read}
 use Rattle.policy.proofs.Refusals.{policy-parts}
 use Rattle.policy_sheet.specs.Calls.{readCall}
 use Rattle.policy_sheet.specs.Grammar.{Piece, Sheet, allowedDigits}
-use Rattle.policy_sheet.specs.Meaning.{AllEntries, FirstNonEntry, Means, Rising, covered, sheetPolicy, wordOf, wordsOf}
+use Rattle.policy_sheet.specs.Meaning.{AllEntries, FirstNonEntry, Means, Rising, covered, sheetPolicy}
 use Rattle.policy_sheet.specs.Reader.{
   SheetReading,
   firstDescending,

@@ -15,7 +15,7 @@ use Rattle.base.proofs.Tests.{both-true, le-or-lt}
 use Rattle.base.proofs.Words.{allBytes-drop}
 use Rattle.unicode.specs.UnicodeData.{unicodeVersion}
 use Rattle.policy_key_set.specs.Sets.{wordCount}
-use Rattle.policy_key_set.proofs.Entries.{entry-count}
+use Rattle.policy_key_set.proofs.Entries.{six}
 use Rattle.policy.specs.PolicyBytes.{PolicyValue, SetValue, policyBytes, policyOf, policyWords, wordsFrom}
 use Rattle.policy.specs.declared.Policy.{Policy}
 use Rattle.policy.proofs.Bytes.{getD-wordsFrom, length-wordsFrom}
@@ -48,10 +48,6 @@ value-of-bytes bs t = record {
   bare-as-text = set-of-bytes (8 + 2 * (wordCount * 8)) bs t;
   bare-as-text-keycap = set-of-bytes (8 + 3 * (wordCount * 8)) bs t;
 }
-
-six : wordCount ≡ 6
-unfolding wordCount
-six = omega (arith, entry-count)
 
 pub policy-bytes-many : (p : Policy) → PolicyValue p → length (policyBytes p) ≡ 200
 unfolding policyBytes

@@ -10,7 +10,7 @@ use lib.ListN.{getD, length}
 use borrow.Author.Tests.{le-ltb, lt-ltb, not-true}
 use Rattle.base.specs.Ranges.{within}
 use Rattle.base.specs.Texts.{parted}
-use Rattle.base.proofs.Tests.{both-true, either-true, le-or-lt}
+use Rattle.base.proofs.Tests.{both-true, either-true, le-or-lt, or-false}
 use Rattle.unicode.specs.Unicode.{hasVariationSequence}
 use Rattle.unicode.specs.UnicodeData.{variationEntries}
 use Rattle.unicode.proofs.Ascent.{ascending-le, ascending-lt, isAt}
@@ -168,10 +168,6 @@ module _ (a b c d : List ℕ) where
       simp (covered-append, pieces-cover)
 
 -- ---- what the lines mean
-
-or-false : (b : Bool) → (b || false) ≡ b
-or-false true = refl
-or-false false = refl
 
 unused : (ws : List ℕ) → length ws ≡ wordCount → noUnusedBit ws ≡ true → (i : ℕ) → entryCount ≤ i → member i ws ≡ false
 unfolding noUnusedBit

@@ -2,13 +2,13 @@
 use mathlib.Core.Path.{_≡_}
 use mathlib.Core.Bool.{Bool, true, false, _&&_, _||_}
 use mathlib.Core.List.{List, [], _∷_, _++_}
-use Prim.Native.Nat.{ℕ, zero, suc, _+_, _*_, _≤_}
+use Prim.Native.Nat.{ℕ, _≤_}
 use lib.Dec.{eqb, ltb}
 use lib.ListN.{getD}
 use Rattle.base.specs.Ranges.{within}
 use Rattle.unicode.specs.Unicode.{hasVariationSequence}
 use Rattle.unicode.specs.UnicodeData.{variationEntries}
-use Rattle.policy_key_set.specs.Sets.{Holds, entryCount, oneIf, wordCount}
+use Rattle.policy_key_set.specs.Sets.{Holds, entryCount, wordCount, wordsOf}
 use Rattle.policy_key_set.specs.declared.char_set.CharSet.{CharSet}
 use Rattle.policy.specs.PolicyBytes.{PolicyValue}
 use Rattle.policy.specs.declared.Policy.{Policy}
@@ -68,15 +68,6 @@ pub record FirstNonEntry (xs : List Piece) (n : ℕ) : Type 0 where
   pub offset : other .at ≡ n
 
 -- ---- the policy
-
--- A word of n bits, and n words of 64 bits, that hold what passes a test.
-unfoldable pub wordOf : ℕ → (ℕ → Bool) → ℕ
-wordOf zero p = 0
-wordOf (suc n) p = oneIf (p 0) + 2 * wordOf n (λ (k : ℕ). p (suc k))
-
-unfoldable pub wordsOf : ℕ → (ℕ → Bool) → List ℕ
-wordsOf zero p = []
-wordsOf (suc n) p = wordOf 64 p ∷ wordsOf n (λ (k : ℕ). p (64 + k))
 
 -- The set of the entries that pass a test.
 abbrev pub setBy : (ℕ → Bool) → CharSet

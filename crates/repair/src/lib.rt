@@ -7,7 +7,6 @@ ghost use lib.ListN.{drop, length, take};
 ghost use Rattle.base.specs.Answers.{EndsAs};
 ghost use Rattle.base.specs.Output.{PutAt};
 ghost use Rattle.base.specs.Refusals.{textLimit};
-ghost use Rattle.utf8.specs.Rfc3629.{validUpTo};
 ghost use Rattle.repair.specs.Repair.{repair, repairRow};
 ghost use Rattle.repair.specs.Repaired.{repaired, replacementBytes, replacements};
 use base::Refusal;
@@ -28,14 +27,6 @@ struct Size {
     replaced: usize,
 }
 
-// Returns the end of the longest run of well-formed characters that starts at an offset.
-fn well_formed_end(text: &[u8], at: usize) -> usize
-    requires { ⌜ at ≤ length (now text) ⌝ }
-    ensures { λ r. ⌜ r ≡ at + validUpTo (drop at (now (text .entry))) ⌝ }
-{
-    at + utf8_validity::valid_up_to(&text[at..])
-}
-
 // Measures the repaired text, without writing it. The text is within the limit.
 fn measure(text: &[u8]) -> Size
     requires { ⌜ length (now text) ≤ textLimit ⌝ }
@@ -46,7 +37,7 @@ fn measure(text: &[u8]) -> Size
     let mut len: usize = 0;
     let mut replaced: usize = 0;
     loop {
-        let stop = well_formed_end(text, at);
+        let stop = utf8_validity::valid_end(text, at);
         len += stop - at;
         if text.len() <= stop {
             return Size { len, replaced };
@@ -87,7 +78,7 @@ fn write_repaired(text: &[u8], out: &mut [u8]) -> Size
     let mut len: usize = 0;
     let mut replaced: usize = 0;
     loop {
-        let stop = well_formed_end(text, at);
+        let stop = utf8_validity::valid_end(text, at);
         len = put_part(text, at, stop, out, len);
         if text.len() <= stop {
             return Size { len, replaced };

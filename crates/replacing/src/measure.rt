@@ -8,21 +8,20 @@ ghost use Prim.Native.Nat.{_+_, _*_};
 ghost use lib.ListN.{drop, length};
 ghost use Rattle.base.specs.Sums.{capped};
 ghost use Rattle.utf8.specs.Rfc3629.{chars};
+ghost use Rattle.scanner.specs.Spans.{size, width};
 ghost use Rattle.analysis.specs.Analysis.{following};
 ghost use Rattle.analysis.specs.Helpers.{slotLength};
-ghost use Rattle.analysis.specs.CellView.{classInFront, formatCells, totalCells};
+ghost use Rattle.analysis.specs.CellView.{formatCells, totalCells};
 ghost use Rattle.analysis.specs.Cells.{cells, leading};
 ghost use Rattle.analysis.specs.Rules.{outcome};
-ghost use Rattle.scanner.specs.Spans.{size, width};
 use analysis::singleton::Outcome;
 use analysis::singleton::Slot;
 use analysis::singleton::analyze_singleton_base_selectors;
+use analysis::singleton::class_at;
 use analysis::types::NonCanonicality;
 use base::add_count;
 use policy::Policy;
 use scanner::char_class::Class;
-use scanner::char_class::Peeked;
-use scanner::char_class::peek;
 use scanner::selectors::PresentationSelectors;
 use scanner::selectors::SELECTOR_BYTES;
 use scanner::selectors::consume_presentation_selectors;
@@ -32,20 +31,6 @@ use scanner::selectors::selectors_end;
 pub struct CellOutcome {
     pub outcome: Outcome,
     pub end: usize,
-}
-
-// The class of the character at an offset; `Other` if no character begins there.
-fn class_at(text: &[u8], at: usize) -> Class
-    ensures { λ r. ⌜ r ≡ classInFront (chars (drop at (now (text .entry)))) ⌝ }
-{
-    match peek(text, at) {
-        Peeked::Char {
-            value: _,
-            class,
-            end: _,
-        } => class,
-        Peeked::NoChar => Class::Other,
-    }
 }
 
 // The result of the rules for a cell. Its character is `base`, and its selectors begin at the offset.

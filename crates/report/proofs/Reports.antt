@@ -3,18 +3,18 @@ use mathlib.Core.Path.{_≡_, ap, sym, _∙_}
 use mathlib.Core.List.{List, [], _++_, map}
 use Prim.Native.Nat.{ℕ}
 use Rattle.utf8.specs.Rfc3629.{chars}
-use Rattle.policy.specs.declared.Policy.{Policy}
 use Rattle.positions.specs.declared.TextCount.{TextCount}
+use Rattle.policy.specs.declared.Policy.{Policy}
+use Rattle.message_io.specs.Lines.{findingLine, totalLine}
 use Rattle.analysis.specs.CellView.{totalCells}
 use Rattle.analysis.specs.ItemAt.{analysisAt}
 use Rattle.analysis.specs.declared.ItemAnalysis.the-variants.{Canonical, End, NonCanonical}
 use Rattle.analysis.specs.declared.types.Finding.{Finding}
 use Rattle.analysis.specs.declared.types.NonCanonicality.{NonCanonicality}
-use Rattle.formatter.specs.Findings.{findingRow}
 use Rattle.formatter.specs.List.{countNumbers}
+use Rattle.formatter.specs.Findings.{findingRow}
 use Rattle.formatter.proofs.CellView.{totals-by-cells}
 use Rattle.formatter.proofs.Steps.{Ahead, analysis-says}
-use Rattle.message_io.specs.Lines.{findingLine, totalLine}
 use Rattle.report.specs.Report.{linesFrom, reportNumbers, findingLines, totalsAt}
 
 -- ---- the item at an offset

@@ -14,6 +14,8 @@ use Rattle.scanner.specs.Spans.{Found, found, size, width}
 use Rattle.scanner.proofs.Bytes.{size-chars}
 use Rattle.scanner.proofs.Rescan.{size-append}
 use Rattle.scanner.proofs.Tiling.{Filled, and-item, filled, no-item, tiling}
+use Rattle.message_io.specs.Lines.{findingLine, totalLine}
+use Rattle.message_io.proofs.LineLengths.{finding-length, total-length}
 use Rattle.analysis.specs.Analysis.{countCells, following, isFinding, nonCanonicality}
 use Rattle.analysis.specs.CellView.{totalCells}
 use Rattle.analysis.specs.Cells.{Cell, cells, leading, unsplit}
@@ -24,12 +26,10 @@ use Rattle.analysis.specs.declared.types.NonCanonicality.{NonCanonicality}
 use Rattle.analysis.proofs.Cells.{split-whole}
 use Rattle.analysis.proofs.Lengths.{bytes-some}
 use Rattle.analysis.proofs.Measuring.{few}
-use Rattle.formatter.specs.Findings.{findingRow, rowIn}
 use Rattle.formatter.specs.List.{countNumbers}
+use Rattle.formatter.specs.Findings.{findingRow, rowIn}
 use Rattle.formatter.proofs.CellView.{totals-by-cells}
 use Rattle.formatter.proofs.Marks.{foundTotals}
-use Rattle.message_io.specs.Lines.{findingLine, totalLine}
-use Rattle.message_io.proofs.LineLengths.{finding-length, total-length}
 use Rattle.report.specs.Report.{linesFrom, messageLimit, reportLines, reportNumbers, findingLines, totalsAt}
 use Rattle.report.specs.Theorems.{reportRoom}
 
@@ -55,11 +55,10 @@ module _ (p : Policy) where
   -- The line of a finding of a short text has at most 60 bytes.
   row-length : (f : Finding) → f .start ≤ messageLimit → f .end ≤ messageLimit → total (f .counts) ≤ messageLimit
       → length (findingLine (reportNumbers f)) ≤ 60
-  unfolding reportNumbers countNumbers
+  unfolding reportNumbers
   row-length f s e t = finding-length (f .start) (f .end ∷ countNumbers (f .counts)) (omega arith)
 
   totals-length : (n : NonCanonicality) → total n ≤ messageLimit → length (totalLine (countNumbers n)) ≤ 54
-  unfolding countNumbers
   totals-length n t = total-length (countNumbers n) (omega arith)
 
   -- The lines of items have at most 60 bytes for each character: an item has at least one character.

@@ -4,14 +4,14 @@ use Prim.Native.Nat.{ℕ}
 use Rattle.policy.specs.declared.Policy.{Policy}
 use Rattle.policy.specs.DefaultPolicy.{defaultPolicy}
 use Rattle.policy.specs.PolicyBytes.{policyBytes}
+use Rattle.scanner.specs.Spans.{Found}
+use Rattle.message_io.specs.Lines.{findingLine, programOutput, totalLine}
 use Rattle.analysis.specs.declared.types.Finding.{Finding}
 use Rattle.analysis.specs.declared.types.NonCanonicality.{NonCanonicality}
-use Rattle.scanner.specs.Spans.{Found}
 use Rattle.analysis.specs.Findings.{findingsFrom, totals}
+use Rattle.formatter.specs.List.{countNumbers}
 use Rattle.formatter.specs.Findings.{findingRow}
 use Rattle.formatter.specs.Intake.{intakeRefusal}
-use Rattle.formatter.specs.List.{countNumbers}
-use Rattle.message_io.specs.Lines.{findingLine, programOutput, totalLine}
 
 -- "Programs read at most 12,288 bytes under the default policy; more gives `refused 1`"
 abbrev pub messageLimit : ℕ

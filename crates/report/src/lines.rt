@@ -4,15 +4,15 @@
 ghost use mathlib.Core.Path.{_≡_};
 ghost use Prim.Native.Nat.{_+_, _≤_};
 ghost use lib.ListN.{drop, length, take};
-ghost use Rattle.io.specs.Counts.{Counts};
 ghost use Rattle.base.specs.Output.{PutAt};
 ghost use Rattle.base.specs.Refusals.{checked};
 ghost use Rattle.policy.specs.DefaultPolicy.{defaultPolicy};
 ghost use Rattle.policy.specs.PolicyBytes.{policyBytes};
 ghost use Rattle.message_io.specs.Lines.{findingLine, refusalLine, totalLine};
-ghost use Rattle.formatter.specs.Intake.{intakeRefusal};
 ghost use Rattle.formatter.specs.List.{countNumbers};
+ghost use Rattle.formatter.specs.Intake.{intakeRefusal};
 ghost use Rattle.report.specs.Report.{linesFrom, reportLines, reportNumbers, reported};
+ghost use Rattle.io.specs.Counts.{Counts};
 use analysis::ItemAnalysis;
 use analysis::types::Finding;
 use analysis::types::NonCanonicality;

@@ -102,7 +102,7 @@ as-long s v e = omega (arith, ap length e, length-append s v)
 
 -- ---- the characters of a part
 
-pass-append : {f : ℕ → Bool} {s t : List ℕ} → Passes f s → Passes f t → Passes f (s ++ t)
+pub pass-append : {f : ℕ → Bool} {s t : List ℕ} → Passes f s → Passes f t → Passes f (s ++ t)
 pass-append all-pass h = h
 pass-append (pass-and e p) h = pass-and e (pass-append p h)
 
@@ -128,7 +128,7 @@ and-selectors c {u} r d e = as-long (c ∷ u) (selectorsAt r) (e ∙ ap (λ (l :
 
 -- ---- tags and groups of tags
 
-all-tags : {t : List ℕ} → Tags t → Passes isTag t
+pub all-tags : {t : List ℕ} → Tags t → Passes isTag t
 all-tags (one-tag e) = pass-and e all-pass
 all-tags (tag-and e h) = pass-and e (all-tags h)
 
@@ -149,10 +149,10 @@ groups-pass (one-group t s) = pass-append (tags-pass t) (selectors-in-tags s)
 groups-pass (group-and t s g) = pass-append (tags-pass t) (pass-append (selectors-in-tags s) (groups-pass g))
 
 -- A list whose first character is a tag.
-data TagFirst : List ℕ → Type 0 where
+pub data TagFirst : List ℕ → Type 0 where
   tag-first : {c : ℕ} {t : List ℕ} → isTag c ≡ true → TagFirst (c ∷ t)
 
-tags-first : {t : List ℕ} (u : List ℕ) → Tags t → TagFirst (t ++ u)
+pub tags-first : {t : List ℕ} (u : List ℕ) → Tags t → TagFirst (t ++ u)
 tags-first u (one-tag e) = tag-first e
 tags-first u (tag-and e h) = tag-first e
 

@@ -9,7 +9,7 @@ use native.Mathlib.Omega.{arith}
 use lib.Dec.{eqb, ltb}
 use lib.ListN.{drop, drop-of-length-le, getD, length}
 use borrow.Author.Tests.{eq-eqb, eqb-true, ltb-true, ne-eqb}
-use Rattle.base.proofs.Tests.{both-true, either-true}
+use Rattle.base.proofs.Tests.{both-true, either-true, or-false}
 use Rattle.base.specs.Ranges.{within}
 use Rattle.unicode.specs.UnicodeData.{variationEntries}
 use Rattle.policy_key_set.specs.Sets.{Holds, entryCount}
@@ -31,22 +31,18 @@ use Rattle.policy_sheet.specs.Reader.{
   transition,
   transitionBy,
 }
+use Rattle.policy_sheet.proofs.Accepts.{close-step, run-cons, run-nil, run-stops, transition-in}
+use Rattle.policy_sheet.proofs.ByteKinds.{HasKind, is-comma, is-dash, is-digit, is-newline, is-other, kind}
+use Rattle.policy_sheet.proofs.Words.{one-meaning, pieces-mean}
+use Rattle.policy_sheet.proofs.Faults.{closed-pieces}
+use Rattle.policy_sheet.specs.Meaning.{covered, has, inSet, sheetPolicy}
+use Rattle.policy_sheet.proofs.ReadsBack.{covered-append}
 use Rattle.sheet_reading.specs.declared.cursor.Cursor.{Cursor}
 use Rattle.sheet_reading.specs.declared.cursor.Step.{Step}
 use Rattle.sheet_reading.specs.declared.cursor.Step.the-variants.{On, Stop}
-use Rattle.policy_sheet.proofs.Accepts.{close-step, run-cons, run-nil, run-stops, transition-in}
-use Rattle.policy_sheet.proofs.ByteKinds.{HasKind, is-comma, is-dash, is-digit, is-newline, is-other, kind}
 use Rattle.sheet_reading.proofs.Checking.{Checking, check-begin, here}
-use Rattle.policy_sheet.proofs.Words.{one-meaning, pieces-mean}
 use Rattle.sheet_reading.proofs.Tracked.{first-ranged, first-single}
-use Rattle.policy_sheet.proofs.Faults.{closed-pieces}
-use Rattle.policy_sheet.specs.Meaning.{covered, has, inSet, sheetPolicy}
 use Rattle.sheet_reading.specs.Tracking.{SetsHold, Tracks, Spans, StepResult, closing, on, piecesRead, stop}
-use Rattle.policy_sheet.proofs.ReadsBack.{covered-append}
-
-or-false : (b : Bool) → (b || false) ≡ b
-or-false true = refl
-or-false false = refl
 
 in-more : {line lo hi : ℕ} (xs : List Piece) (x : Piece) (k i : ℕ) → Spans x line lo hi
     → inSet (xs ++ (x ∷ [])) k i ≡ (inSet xs k i || (eqb line k && within lo hi (getD variationEntries i 0)))

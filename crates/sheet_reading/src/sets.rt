@@ -22,19 +22,8 @@ use policy::Policy;
 use policy_key_set::PolicyKeySet;
 use policy_key_set::char_set::CharSet;
 use policy_key_set::named_sets::CHARSET_WORDS;
-use unicode::VariationEntry;
 use unicode::unicode_data::VARIATION_ENTRY_COUNT;
-
-// Returns the variation entry at an index.
-fn entry(i: usize) -> u32
-    requires { ⌜ i < 354 ⌝ }
-    ensures { λ r. ⌜ r ≡ getD variationEntries i 0 ⌝ }
-{
-    match unicode::variation_entry(i) {
-        VariationEntry::Char(ch) => ch,
-        VariationEntry::NoEntry => 0,
-    }
-}
+use unicode::variation_char;
 
 // Returns the number of variation entries below a code point, by a binary search.
 fn entries_below(ch: u64) -> usize
@@ -45,7 +34,7 @@ fn entries_below(ch: u64) -> usize
     let mut hi = VARIATION_ENTRY_COUNT;
     while lo < hi {
         let mid = lo + (hi - lo) / 2;
-        let current = entry(mid) as u64;
+        let current = variation_char(mid) as u64;
         if current < ch {
             lo = mid + 1;
         } else {

@@ -5,11 +5,12 @@ use mathlib.Core.List.{List, [], _∷_, _++_, append-assoc, append-nil, map}
 use Prim.Native.Nat.{ℕ, suc, _<_}
 use native.Mathlib.Omega.{arith}
 use borrow.Author.Tests.{eq-eqb, ne-eqb}
+use Rattle.base.proofs.Tests.{or-false}
 use Rattle.base.specs.Texts.{parted}
 use Rattle.policy_sheet.specs.Meaning.{Each, each-and}
 use Rattle.policy_sheet.specs.Writer.{Run, firstIn, joined, pointText, runText, runsFrom, withEntry}
-use Rattle.sheet_writing.specs.OnePass.{entryText, withComma, lineFrom}
 use Rattle.policy_sheet.proofs.RunCovers.{Among, Up, runs-among, up-tail}
+use Rattle.sheet_writing.specs.OnePass.{entryText, withComma, lineFrom}
 
 -- ---- runs as texts with commas
 
@@ -84,10 +85,6 @@ module _ (c : ℕ) (cs : List ℕ) (up : Up (c ∷ cs)) where
       (record { first = c; last = c } ∷ rs)
   unfolding joinText
   single-text any rs = ap (λ (t : List ℕ). withComma any t ++ joinText true rs) (sym (run-single c))
-
-or-false : (b : Bool) → (b || false) ≡ b
-or-false true = refl
-or-false false = refl
 
 or-true : (b : Bool) → (b || true) ≡ true
 or-true true = refl

@@ -4,7 +4,7 @@ ghost use mathlib.Core.Path.{_≡_};
 ghost use mathlib.Core.Bool.{_||_, false};
 ghost use mathlib.Core.List.{_∷_};
 ghost use Prim.Native.Nat.{ℕ, _+_, _<_, _≤_};
-ghost use lib.ListN.{drop, getD, length};
+ghost use lib.ListN.{drop, length};
 ghost use Rattle.base.specs.Answers.{EndsAs};
 ghost use Rattle.base.specs.Output.{PutAt, Wrote};
 ghost use Rattle.unicode.specs.UnicodeData.{variationEntries};
@@ -21,19 +21,8 @@ use policy::read_policy;
 use policy_key_set::char_set::CharSet;
 use policy_sheet::SheetAnswer;
 use policy_sheet::sheet_answer;
-use unicode::VariationEntry;
 use unicode::unicode_data::VARIATION_ENTRY_COUNT;
-
-// Returns the variation entry at an index.
-fn entry(i: usize) -> u32
-    requires { ⌜ i < 354 ⌝ }
-    ensures { λ r. ⌜ r ≡ getD variationEntries i 0 ⌝ }
-{
-    match unicode::variation_entry(i) {
-        VariationEntry::Char(ch) => ch,
-        VariationEntry::NoEntry => 0,
-    }
-}
+use unicode::variation_char;
 
 // Returns the number of digits of a code point: "the fewest digits allowed".
 fn digits_of(ch: u32) -> usize
@@ -157,7 +146,7 @@ fn put_line(out: &mut [u8], start: usize, set: CharSet) -> usize
     let mut i = 0;
     while i < VARIATION_ENTRY_COUNT {
         let next = in_set(set, i + 1);
-        let ch = entry(i);
+        let ch = variation_char(i);
         at = put_entry(out, at, before, any, here, next, ch);
         before = here;
         any = either(any, here);
@@ -198,7 +187,7 @@ fn line_len(set: CharSet) -> usize
     let mut i = 0;
     while i < VARIATION_ENTRY_COUNT {
         let next = in_set(set, i + 1);
-        let ch = entry(i);
+        let ch = variation_char(i);
         n += entry_len(before, any, here, next, ch);
         before = here;
         any = either(any, here);

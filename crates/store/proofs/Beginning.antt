@@ -8,17 +8,19 @@ use lib.Dec.{eqb, leb}
 use lib.ListN.{drop, getD, length, length-append, length-replicate, replicate, take}
 use lib.Seq.{take-at}
 use borrow.Author.Tests.{leb-true}
+use Rattle.base.specs.Sums.{sumBelow}
 use Rattle.base.proofs.Numbers.{length-bytesOf}
 use Rattle.base.proofs.Tests.{both-true}
 use Rattle.base.specs.Refusals.{After, unwritten, written}
 use Rattle.base.specs.declared.Refusal.the-variants.{BadClientOrNumber, DoesNotFit, OutputTooShort}
+use Rattle.policy.specs.PolicyBytes.{numbersOf}
 use Rattle.policy.proofs.Bytes.{length-wordsFrom}
 use Rattle.store.specs.declared.StoreAnswer.{StoreAnswer}
 use Rattle.store.specs.declared.StoreAnswer.the-variants.{Done, Refused}
-use Rattle.store.specs.Store.{clients, newStore, reserve, sumTo}
-use Rattle.store.specs.Bytes.{beginCall, newBytes, newWords, reservesOf, storeBytes}
+use Rattle.store.specs.Store.{clients, newStore, reserve}
+use Rattle.store.specs.Bytes.{beginCall, newBytes, newWords, storeBytes}
 
-pub few-reserves : (rb : List ℕ) → length rb ≤ 128 → length (reservesOf rb) ≤ 16
+pub few-reserves : (rb : List ℕ) → length rb ≤ 128 → length (numbersOf rb) ≤ 16
 few-reserves rb h = omega (arith, length-wordsFrom (length rb / 8) 0 rb)
 
 pub new-length : (C : ℕ) (rs : List ℕ) → length rs ≤ 16 → length (newWords C rs) ≡ 4129
@@ -32,7 +34,7 @@ new-bytes-length C rs h = omega (arith, length-bytesOf (newWords C rs), new-leng
 
 module _ (C : ℕ) (rb st : List ℕ) where
   abbrev rs : List ℕ
-  rs = reservesOf rb
+  rs = numbersOf rb
 
   abbrev pub byTests : (long whole fit : Bool) → After StoreAnswer ℕ
   byTests long whole fit =
@@ -46,7 +48,7 @@ module _ (C : ℕ) (rb st : List ℕ) where
 
   -- The reserves sum to at most the capacity.
   abbrev pub Fit : Bool
-  Fit = leb (sumTo clients (λ (c : ℕ). getD rs c 0)) C
+  Fit = leb (sumBelow clients (λ (c : ℕ). getD rs c 0)) C
 
   pub begin-is : beginCall C rb st ≡ byTests (leb storeBytes (length st)) Whole Fit
   unfolding beginCall
@@ -55,7 +57,7 @@ module _ (C : ℕ) (rb st : List ℕ) where
   -- What is known of a store that was begun.
   pub record Begun : Type 0 where
     pub few : length rs ≤ clients
-    pub fit : sumTo clients (reserve (newStore C rs)) ≤ C
+    pub fit : sumBelow clients (reserve (newStore C rs)) ≤ C
     pub bytes : take storeBytes (beginCall C rb st .buffer) ≡ newBytes C rs
 
   pub begun : beginCall C rb st .answer ≡ Done storeBytes → Begun
@@ -72,7 +74,7 @@ module _ (C : ℕ) (rb st : List ℕ) where
           let m = few-reserves rb (leb-true (length rb) 128 (b .1)) in
           record {
             few = m;
-            fit = leb-true (sumTo clients (λ (c : ℕ). getD rs c 0)) C q;
+            fit = leb-true (sumBelow clients (λ (c : ℕ). getD rs c 0)) C q;
             bytes =
                 ap (λ (x : After StoreAnswer ℕ). take storeBytes (x .buffer)) z
                 ∙ take-at (newBytes C rs) (drop (length (newBytes C rs)) st) storeBytes (new-bytes-length C rs m);

@@ -7,12 +7,13 @@ use native.Mathlib.Omega.{arith}
 use lib.Dec.{leb}
 use lib.ListN.{length}
 use Rattle.base.specs.declared.Refusal.{Refusal}
+use Rattle.policy.specs.PolicyBytes.{numbersOf}
 use Rattle.formatter.specs.Format.{format}
 use Rattle.formatter.specs.declared.FormatAnswer.the-variants.{Refused}
 use Rattle.store.specs.declared.StoreAnswer.the-variants as Answered
 use Rattle.store.specs.Store.{newStore}
 use Rattle.store.specs.Calls.{chargeOf, outputBy, storeAfter}
-use Rattle.store.specs.Bytes.{beginCall, bytesAfter, fileBytes, fileCall, releaseBytes, releaseCall, reservesOf, storeBytes}
+use Rattle.store.specs.Bytes.{beginCall, bytesAfter, fileBytes, fileCall, releaseBytes, releaseCall, storeBytes}
 use Rattle.store.specs.Theorems.{EveryStoreInBytes, InBytes, RefusalsWriteNothing}
 use Rattle.store.proofs.NewStores.{every-store, in-bytes}
 use Rattle.store.proofs.Beginning.{Fit, Whole, begun, byTests}
@@ -21,9 +22,9 @@ pub every-store-in-bytes : EveryStoreInBytes
 unfolding EveryStoreInBytes
 every-store-in-bytes C rb st w e xs =
     let b = begun C rb st e in
-    let s = storeAfter (newStore C (reservesOf rb)) xs in (
-      subst (λ (bs : List ℕ). InBytes (bytesAfter bs xs) s) (sym (b .bytes)) (in-bytes C (reservesOf rb) (b .few) (b .fit) w xs),
-      every-store C (reservesOf rb) (b .few) (b .fit) xs,
+    let s = storeAfter (newStore C (numbersOf rb)) xs in (
+      subst (λ (bs : List ℕ). InBytes (bytesAfter bs xs) s) (sym (b .bytes)) (in-bytes C (numbersOf rb) (b .few) (b .fit) w xs),
+      every-store C (numbersOf rb) (b .few) (b .fit) xs,
     )
 
 -- ---- refusals

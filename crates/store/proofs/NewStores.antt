@@ -4,7 +4,8 @@ use mathlib.Core.List.{List}
 use Prim.Native.Nat.{ℕ, _^_, _≤_, _<_}
 use native.Mathlib.Omega.{arith}
 use lib.ListN.{length}
-use Rattle.store.specs.Store.{Sound, charged, clients, newStore, none-filed, overflow, reserve, sumTo}
+use Rattle.base.specs.Sums.{sumBelow}
+use Rattle.store.specs.Store.{Sound, charged, clients, newStore, none-filed, overflow, reserve}
 use Rattle.store.specs.Calls.{Call, changes, storeAfter}
 use Rattle.store.specs.Bytes.{bytesAfter, newBytes}
 use Rattle.store.specs.Theorems.{InBytes, StoreClaim}
@@ -14,7 +15,7 @@ use Rattle.store.proofs.Small.{small-use}
 use Rattle.store.proofs.Steps.{call-claim, file-claim, gives-back, takes}
 use Rattle.store.proofs.Sums.{sum-zero}
 
-module _ (C : ℕ) (rs : List ℕ) (f : length rs ≤ clients) (r : sumTo clients (reserve (newStore C rs)) ≤ C) where
+module _ (C : ℕ) (rs : List ℕ) (f : length rs ≤ clients) (r : sumBelow clients (reserve (newStore C rs)) ≤ C) where
   sound-new : Sound (newStore C rs)
   unfolding charged
   sound-new = record {

@@ -7,6 +7,8 @@ use native.Mathlib.Omega.{arith}
 use lib.Dec.{eqb, leb, ltb}
 use lib.ListN.{List·getD-eq-default, getD, length, length-append, length-replicate, replicate}
 use borrow.Author.Tests.{eq-eqb, eqb-false, eqb-true, lt-ltb, ltb-false, ltb-true}
+use Rattle.base.specs.Sums.{sumBelow}
+use Rattle.base.specs.Words.{wordAt}
 use Rattle.base.specs.Refusals.{textLimit}
 use Rattle.base.specs.declared.Refusal.the-variants.{BadClientOrNumber}
 use Rattle.base.proofs.Numbers.{length-bytesOf}
@@ -29,7 +31,6 @@ use Rattle.store.specs.Store.{
   numbers,
   overflow,
   reserve,
-  sumTo,
   used,
   without,
 }
@@ -81,7 +82,6 @@ use Rattle.store.specs.Bytes.{
   storeBytes,
   usedCall,
   usedWord,
-  wordAt,
 }
 use Rattle.store.proofs.Formats.{format-small}
 use Rattle.store.proofs.Sums.{sum-has, sum-same}
@@ -160,10 +160,10 @@ module _ (bs : List ℕ) (s : Store) (R : Represents bs s) (c n v w : ℕ) (lc :
 -- ---- answers
 
 module _ (bs : List ℕ) (s : Store) (R : Represents bs s) where
-  reserves-same : sumTo clients (λ (d : ℕ). wordAt (reserveWord d) bs) ≡ sumTo clients (reserve s)
+  reserves-same : sumBelow clients (λ (d : ℕ). wordAt (reserveWord d) bs) ≡ sumBelow clients (reserve s)
   reserves-same = sum-same clients (λ (d : ℕ). wordAt (reserveWord d) bs) (reserve s) (R .reserves)
 
-  overflow-same : sumTo clients (overflowOf bs) ≡ sumTo clients (overflow s)
+  overflow-same : sumBelow clients (overflowOf bs) ≡ sumBelow clients (overflow s)
   overflow-same = sum-same clients (overflowOf bs) (overflow s) (λ d l. ap₂ (λ (x y : ℕ). x - y) (R .sums d l) (R .reserves d l))
 
   left-same : (c : ℕ) → c < clients → leftOf bs c ≡ left s c
@@ -329,7 +329,7 @@ module _ (bs : List ℕ) (s : Store) (R : Represents bs s) where
 
 -- ---- a new store, and lists of calls
 
-module _ (C : ℕ) (rs : List ℕ) (w : C < 2 ^ 64) (f : length rs ≤ clients) (r : sumTo clients (reserve (newStore C rs)) ≤ C) where
+module _ (C : ℕ) (rs : List ℕ) (w : C < 2 ^ 64) (f : length rs ≤ clients) (r : sumBelow clients (reserve (newStore C rs)) ≤ C) where
   abbrev zs : List ℕ
   zs = replicate (4128 - length rs) 0
 

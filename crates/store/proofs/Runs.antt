@@ -6,11 +6,12 @@ use Prim.Native.Nat.{ℕ, _+_, _≤_, _<_}
 use native.Mathlib.Omega.{arith}
 use lib.Dec.{eqb}
 use borrow.Author.Tests.{eq-eqb, ne-eqb}
+use Rattle.base.specs.Sums.{sumBelow}
 use Rattle.formatter.specs.declared.FormatAnswer.{FormatAnswer}
 use Rattle.formatter.specs.declared.FormatAnswer.the-variants.{Changed, Refused, Unchanged}
 use Rattle.store.specs.declared.StoreAnswer.{StoreAnswer}
 use Rattle.store.specs.declared.StoreAnswer.the-variants as Answered
-use Rattle.store.specs.Store.{Filed, Sound, Store, charged, clients, isAt, overflow, reserve, sumTo, used, without}
+use Rattle.store.specs.Store.{Filed, Sound, Store, charged, clients, isAt, overflow, reserve, used, without}
 use Rattle.store.specs.Calls.{
   Call,
   Change,
@@ -97,7 +98,7 @@ data Named : List Change → Type 0 where
   and-nothing : {xs : List Change} → Named xs → Named (nothing ∷ xs)
 
 -- A charge to one client, summed over the clients.
-one-client : (d : ℕ) → d < clients → (k : ℕ) → sumTo clients (λ (c : ℕ). cond (eqb d c) k 0) ≡ k
+one-client : (d : ℕ) → d < clients → (k : ℕ) → sumBelow clients (λ (c : ℕ). cond (eqb d c) k 0) ≡ k
 one-client d l k =
     let f : ℕ → ℕ = λ c. cond (eqb d c) k 0 in
     let g : ℕ → ℕ = λ c. 0 in
@@ -105,7 +106,7 @@ one-client d l k =
     let o : (c : ℕ) → (c ≡ d → ⊥) → f c ≡ g c = λ c q. ap (λ (t : Bool). cond t k 0) (ne-eqb d c (λ e. q (sym e))) in
     omega (arith, sum-at clients f g d l o, sum-zero clients g (λ c. refl))
 
-sum-outstanding : (xs : List Change) → Named xs → sumTo clients (λ (c : ℕ). outstanding c xs) ≡ outstandingInAll xs
+sum-outstanding : (xs : List Change) → Named xs → sumBelow clients (λ (c : ℕ). outstanding c xs) ≡ outstandingInAll xs
 unfolding outstanding outstandingInAll
 sum-outstanding [] no-change = sum-zero clients (λ (c : ℕ). 0) (λ c. refl)
 sum-outstanding (adds m ∷ xs) (and-adds l h) = go (releasedIn xs m) (sum-outstanding xs h)
@@ -113,8 +114,8 @@ sum-outstanding (adds m ∷ xs) (and-adds l h) = go (releasedIn xs m) (sum-outst
     own : Bool → ℕ → ℕ
     own t c = cond t 0 (cond (eqb (m .client) c) (m .charge) 0)
 
-    go : (t : Bool) → sumTo clients (λ (c : ℕ). outstanding c xs) ≡ outstandingInAll xs
-        → sumTo clients (λ (c : ℕ). own t c + outstanding c xs) ≡ cond t 0 (m .charge) + outstandingInAll xs
+    go : (t : Bool) → sumBelow clients (λ (c : ℕ). outstanding c xs) ≡ outstandingInAll xs
+        → sumBelow clients (λ (c : ℕ). own t c + outstanding c xs) ≡ cond t 0 (m .charge) + outstandingInAll xs
     go true e = omega (arith, sum-plus clients (own true) (λ (c : ℕ). outstanding c xs), sum-zero clients (own true) (λ c. refl))
     go false e =
         omega (arith, sum-plus clients (own false) (λ (c : ℕ). outstanding c xs), one-client (m .client) l (m .charge))
@@ -143,7 +144,8 @@ named s (release c n ∷ xs) = go (releaseAnswer s c n) (named (next s (release 
     go (Answered.Done k) h = and-takes h
     go (Answered.Refused r) h = and-nothing h
 
-pub charges-in-all : (s : Store) (xs : List Call) → s .filed ≡ [] → sumTo clients (used (storeAfter s xs)) ≡ outstandingInAll (changes s xs)
+pub charges-in-all : (s : Store) (xs : List Call) → s .filed ≡ []
+    → sumBelow clients (used (storeAfter s xs)) ≡ outstandingInAll (changes s xs)
 charges-in-all s xs e =
     sum-same clients (used (storeAfter s xs)) (λ (c : ℕ). outstanding c (changes s xs)) (λ c l. charges s xs e c)
     ∙ sum-outstanding (changes s xs) (named s xs)
@@ -166,7 +168,7 @@ sound-after s h [] = h
 sound-after s h (x ∷ xs) = sound-after (next s x) (sound-next s h x) xs
 
 -- All clients together use at most the capacity.
-pub within-capacity : (s : Store) → Sound s → sumTo clients (used s) ≤ s .capacity
+pub within-capacity : (s : Store) → Sound s → sumBelow clients (used s) ≤ s .capacity
 within-capacity s h =
     let a = sum-le clients (used s) (λ (d : ℕ). reserve s d + overflow s d) (λ d. omega arith) in
     let b = sum-plus clients (reserve s) (overflow s) in

@@ -10,7 +10,7 @@ use Rattle.base.proofs.Tests.{and-both, both-true, fails}
 use Rattle.store.specs.Store.{Filed, chargeAt, inUse, isAt, without}
 use Rattle.store.specs.Bytes.{slot}
 
-abbrev message : ℕ → ℕ → ℕ → Filed
+abbrev pub message : ℕ → ℕ → ℕ → Filed
 message c n k = record { client = c; number = n; charge = k }
 
 pub slot-here : (c n k : ℕ) (ms : List Filed) → slot c n (message c n k ∷ ms) ≡ k + 1

@@ -7,6 +7,7 @@ use native.Mathlib.Nat.{suc-mul}
 use native.Mathlib.Omega.{arith}
 use lib.Dec.{eqb}
 use borrow.Author.Tests.{eq-eqb, eqb-true}
+use Rattle.base.specs.Sums.{sumBelow}
 use Rattle.base.proofs.Tests.{and-both, both-true, fails}
 use Rattle.base.specs.Refusals.{textLimit}
 use Rattle.formatter.specs.declared.FormatAnswer.{FormatAnswer}
@@ -25,7 +26,6 @@ use Rattle.store.specs.Store.{
   none-filed,
   numbers,
   one-more,
-  sumTo,
   used,
   without,
 }
@@ -50,7 +50,7 @@ use Rattle.store.proofs.Steps.{file-claim}
 
 -- ---- a client's numbers
 
-pub row-sum : (c : ℕ) (ms : List Filed) → Placed ms → charged c ms ≡ sumTo numbers (λ (n : ℕ). chargeAt c n ms)
+pub row-sum : (c : ℕ) (ms : List Filed) → Placed ms → charged c ms ≡ sumBelow numbers (λ (n : ℕ). chargeAt c n ms)
 unfolding charged chargeAt
 row-sum c [] none-filed = sym (sum-zero numbers (λ (n : ℕ). 0) (λ d. refl))
 row-sum c (m ∷ ms) (one-more u lc ln ps) = go (eqb (m .client) c) refl (row-sum c ms ps)
@@ -61,7 +61,7 @@ row-sum c (m ∷ ms) (one-more u lc ln ps) = go (eqb (m .client) c) refl (row-su
     g : ℕ → ℕ
     g n = chargeAt c n ms
 
-    go : (t : Bool) → eqb (m .client) c ≡ t → charged c ms ≡ sumTo numbers g → cond t (m .charge) 0 + charged c ms ≡ sumTo numbers f
+    go : (t : Bool) → eqb (m .client) c ≡ t → charged c ms ≡ sumBelow numbers g → cond t (m .charge) 0 + charged c ms ≡ sumBelow numbers f
     go true e h =
         let q = eqb-true (m .client) c e in
         let own = and-both (eqb (m .client) c) (eqb (m .number) (m .number)) e (eq-eqb (m .number) (m .number) refl) in
@@ -77,8 +77,8 @@ row-sum c (m ∷ ms) (one-more u lc ln ps) = go (eqb (m .client) c) refl (row-su
         λ d l. ap (λ (b : Bool). cond (b && eqb (m .number) d) (m .charge) (chargeAt c d ms)) e in
         omega (arith, sum-same numbers f g rest)
 
-sum-bound : (n : ℕ) (f : ℕ → ℕ) (k : ℕ) → ((d : ℕ) → f d ≤ k) → sumTo n f ≤ n * k
-unfolding sumTo
+sum-bound : (n : ℕ) (f : ℕ → ℕ) (k : ℕ) → ((d : ℕ) → f d ≤ k) → sumBelow n f ≤ n * k
+unfolding sumBelow
 sum-bound zero f k h = omega arith
 sum-bound (suc n) f k h = omega (arith, sum-bound n f k h, h n, step n k)
   where

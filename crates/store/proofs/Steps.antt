@@ -6,12 +6,14 @@ use Prim.Native.Nat.{ℕ, _+_, _-_, _≤_, _<_}
 use native.Mathlib.Omega.{arith}
 use lib.Dec.{leb, ltb}
 use borrow.Author.Tests.{eq-eqb, le-leb, leb-false, leb-true, lt-leb, ltb-true, ne-eqb, not-false}
+use Rattle.base.specs.Sums.{sumBelow}
 use Rattle.base.proofs.Tests.{both-false, both-true}
 use Rattle.base.specs.declared.Refusal.{Refusal}
 use Rattle.base.specs.declared.Refusal.the-variants.{BadClientOrNumber, DoesNotFit}
 use Rattle.formatter.specs.Format.{format}
 use Rattle.formatter.specs.declared.FormatAnswer.{FormatAnswer}
 use Rattle.formatter.specs.declared.FormatAnswer.the-variants.{Changed, Refused, Unchanged}
+use Rattle.store.proofs.Slots.{message}
 use Rattle.store.specs.declared.StoreAnswer.{StoreAnswer}
 use Rattle.store.specs.declared.StoreAnswer.the-variants as Answered
 use Rattle.store.specs.Store.{
@@ -31,7 +33,6 @@ use Rattle.store.specs.Store.{
   overflow,
   reserve,
   reserveLeft,
-  sumTo,
   used,
   without,
 }
@@ -63,9 +64,6 @@ use Rattle.store.proofs.Messages.{charged-other, charged-without, inUse
 
 -- ---- a message more, a message less
 
-abbrev message : ℕ → ℕ → ℕ → Filed
-message c n k = record { client = c; number = n; charge = k }
-
 pub charged-more : (c n k : ℕ) (ms : List Filed) → charged c (message c n k ∷ ms) ≡ charged c ms + k
 unfolding charged
 charged-more c n k ms = rw (eq-eqb c c refl) (omega arith)
@@ -80,7 +78,7 @@ module _ (s : Store) (h : Sound s) (c : ℕ) (lc : c < clients) (ms : List Filed
   S′ = withFiled s ms
 
   -- All clients' overflow, when one client's messages change.
-  pub moved : sumTo clients (overflow S′) + overflow s c ≡ sumTo clients (overflow s) + overflow S′ c
+  pub moved : sumBelow clients (overflow S′) + overflow s c ≡ sumBelow clients (overflow s) + overflow S′ c
   moved = sum-at clients (overflow S′) (overflow s) c lc (λ d e. ap (λ (k : ℕ). k - reserve s d) (beside d e))
 
 pub sound-more : (s : Store) → Sound s → (c n k : ℕ) → c < clients → n < numbers → inUse c n (s .filed) ≡ false → k ≤ left s c
@@ -131,20 +129,22 @@ takes-from s h c n k lc f =
     reserve′ false q e = let l = leb-false k (reserveLeft s c) q in omega arith
 
     common′ : (t : Bool) → leb k (reserveLeft s c) ≡ t → charged c (message c n k ∷ s .filed) ≡ used s c + k
-        → sumTo clients (overflow (withFiled s (message c n k ∷ s .filed))) + overflow s c
-        ≡ sumTo clients (overflow s) + overflow (withFiled s (message c n k ∷ s .filed)) c
+        → sumBelow clients (overflow (withFiled s (message c n k ∷ s .filed))) + overflow s c
+        ≡ sumBelow clients (overflow s) + overflow (withFiled s (message c n k ∷ s .filed)) c
         → commonLeft s ≡ commonLeft (withFiled s (message c n k ∷ s .filed)) + (k - cond t k (reserveLeft s c))
     common′ true q e m =
         let l = leb-true k (reserveLeft s c) q in
         let over = ap (λ (u : ℕ). u - reserve s c) e ∙ overflow-within (used s c) (reserve s c) k l in
-        let all = sum-more (sumTo clients (overflow s)) (sumTo clients (overflow (withFiled s (message c n k ∷ s .filed)))) _ _ _ m over in
-        common-less (common s) (sumTo clients (overflow s)) _ (k - k) all (none-more k (commonLeft s))
+        let all = sum-more (sumBelow clients (overflow s))
+        (sumBelow clients (overflow (withFiled s (message c n k ∷ s .filed)))) _ _ _ m over in
+        common-less (common s) (sumBelow clients (overflow s)) _ (k - k) all (none-more k (commonLeft s))
     common′ false q e m =
         let l : reserve s c - used s c < k = leb-false k (reserveLeft s c) q in
         let d = k - reserveLeft s c in
         let over = ap (λ (u : ℕ). u - reserve s c) e ∙ overflow-more (used s c) (reserve s c) k (omega arith) in
-        let all = sum-more (sumTo clients (overflow s)) (sumTo clients (overflow (withFiled s (message c n k ∷ s .filed)))) _ _ d m over in
-        common-less (common s) (sumTo clients (overflow s)) _ d all (beyond k (reserveLeft s c) (commonLeft s) f)
+        let all = sum-more (sumBelow clients (overflow s))
+        (sumBelow clients (overflow (withFiled s (message c n k ∷ s .filed)))) _ _ d m over in
+        common-less (common s) (sumBelow clients (overflow s)) _ d all (beyond k (reserveLeft s c) (commonLeft s) f)
 
 module _ (s : Store) (h : Sound s) (c n : ℕ) (lc : c < clients) where
   abbrev less : Store
@@ -156,7 +156,7 @@ module _ (s : Store) (h : Sound s) (c n : ℕ) (lc : c < clients) where
   abbrev own : charged c (without c n (s .filed)) + K ≡ used s c
   own = charged-without c n (s .filed) (h .placed)
 
-  abbrev sums : sumTo clients (overflow less) + overflow s c ≡ sumTo clients (overflow s) + overflow less c
+  abbrev sums : sumBelow clients (overflow less) + overflow s c ≡ sumBelow clients (overflow s) + overflow less c
   sums = moved s h c lc (without c n (s .filed)) (λ d q. charged-other c n d q (s .filed))
 
   pub sound-less : Sound less
@@ -175,8 +175,8 @@ module _ (s : Store) (h : Sound s) (c n : ℕ) (lc : c < clients) where
       record { bytes = a; to-common = common′ (leb K (overflow s c)) refl a b o; to-reserve = reserve′ (leb K (overflow s c)) refl a }
     where
       common′ : (t : Bool) → leb K (overflow s c) ≡ t → charged c (without c n (s .filed)) + K ≡ used s c
-          → sumTo clients (overflow less) + overflow s c ≡ sumTo clients (overflow s) + overflow less c
-          → sumTo clients (overflow s) ≤ common s → commonLeft less ≡ commonLeft s + cond t K (overflow s c)
+          → sumBelow clients (overflow less) + overflow s c ≡ sumBelow clients (overflow s) + overflow less c
+          → sumBelow clients (overflow s) ≤ common s → commonLeft less ≡ commonLeft s + cond t K (overflow s c)
       common′ true e a b o = let l = leb-true K (overflow s c) e in omega arith
       common′ false e a b o = let l = leb-false K (overflow s c) e in omega arith
 

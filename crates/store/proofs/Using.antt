@@ -6,12 +6,13 @@ use Prim.Native.Nat.{ℕ, _<_}
 use lib.Dec.{eqb, ltb}
 use lib.ListN.{length}
 use borrow.Author.Tests.{eq-eqb, eqb-true, lt-ltb, ltb-true}
+use Rattle.base.specs.Words.{wordAt}
 use Rattle.base.proofs.Tests.{both-true, fails}
 use Rattle.base.specs.declared.Refusal.the-variants.{BadClientOrNumber}
 use Rattle.store.specs.declared.StoreAnswer.{StoreAnswer}
 use Rattle.store.specs.declared.StoreAnswer.the-variants.{Done, Refused}
 use Rattle.store.specs.Store.{clients}
-use Rattle.store.specs.Bytes.{storeBytes, usedCall, usedWord, wordAt}
+use Rattle.store.specs.Bytes.{storeBytes, usedCall, usedWord}
 
 module _ (bs : List ℕ) (c : ℕ) where
   -- The bytes have the length of a store, and there is such a client.

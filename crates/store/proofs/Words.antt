@@ -8,11 +8,12 @@ use lib.Dec.{ltb}
 use lib.ListN.{drop, getD, length, length-append, length-drop, replicate, take, take-append-drop}
 use lib.Seq.{drop-append-add, drop-append-le, drop-at, drop-drop, length-sets, length-take-le, sets-eq, take-append-le, take-at}
 use borrow.Author.Tests.{ltb-false, ltb-true}
-use Rattle.base.specs.Words.{bytesOf, number, wordBytes}
+use Rattle.base.proofs.Lists.{zeros}
+use Rattle.base.specs.Words.{bytesOf, number, wordAt, wordBytes}
 use Rattle.base.proofs.Words.{length-wordBytes, number-littleEndian}
 use Rattle.policy.proofs.Bytes.{getD-wordsFrom}
 use Rattle.policy.proofs.RoundTrips.{read-words}
-use Rattle.store.specs.Bytes.{putWord, wordAt}
+use Rattle.store.specs.Bytes.{putWord}
 
 module _ (bs : List ℕ) (k w : ℕ) (room : 8 * k + 8 ≤ length bs) where
   abbrev A : List ℕ
@@ -82,11 +83,6 @@ word-of ws h k l =
     ap (λ (i : ℕ). number (take 8 (drop i (bytesOf ws)))) e
     ∙ sym (getD-wordsFrom (length ws) 0 (bytesOf ws) k l)
     ∙ ap (λ (vs : List ℕ). getD vs k 0) (read-words ws h)
-
-pub zeros : (m c : ℕ) → _≡_ {A = ℕ} (getD (replicate m 0) c 0) 0
-zeros zero c = refl
-zeros (suc m) zero = refl
-zeros (suc m) (suc c) = zeros m c
 
 pub padded : (rs : List ℕ) (m c : ℕ) → getD (rs ++ replicate m 0) c 0 ≡ getD rs c 0
 padded [] m c = zeros m c

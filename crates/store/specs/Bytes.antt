@@ -4,24 +4,24 @@ use mathlib.Core.Path.{_≡_}
 use mathlib.Core.Bool.{Bool, cond, not, _&&_, _||_}
 use mathlib.Core.List.{List, [], _∷_, _++_}
 use mathlib.Core.Option.{Option, none, some}
-use Prim.Native.Nat.{ℕ, _+_, _*_, _-_, _/_, _%_, _^_, _<_}
+use Prim.Native.Nat.{ℕ, _+_, _*_, _-_, _%_, _^_, _<_}
 use lib.Dec.{eqb, leb, ltb}
-use lib.ListN.{drop, getD, length, replicate, take}
+use lib.ListN.{getD, length, replicate}
 use lib.Seq.{sets}
 use Rattle.base.specs.Answers.{Answers, done}
 use Rattle.base.specs.Refusals.{After, RefusalRow, checked, orElse, refusalRow, unwritten, written}
-use Rattle.base.specs.Sums.{most}
+use Rattle.base.specs.Sums.{most, sumBelow}
 use Rattle.base.specs.declared.Check.{Check}
 use Rattle.base.specs.declared.Refusal.{Refusal}
 use Rattle.base.specs.declared.Refusal.the-variants.{BadClientOrNumber, DoesNotFit, OutputTooShort}
-use Rattle.base.specs.Words.{bytesOf, number, wordBytes}
-use Rattle.policy.specs.PolicyBytes.{wordsFrom}
+use Rattle.base.specs.Words.{bytesOf, wordAt, wordBytes}
+use Rattle.policy.specs.PolicyBytes.{numbersOf}
 use Rattle.formatter.specs.Format.{format, formatRow}
 use Rattle.formatter.specs.declared.FormatAnswer.{FormatAnswer}
 use Rattle.formatter.specs.declared.FormatAnswer.the-variants as Formatting
 use Rattle.store.specs.declared.StoreAnswer.{StoreAnswer}
 use Rattle.store.specs.declared.StoreAnswer.the-variants.{Done, Refused}
-use Rattle.store.specs.Store.{Filed, Store, clients, isAt, isPlace, reserve, sumTo, used}
+use Rattle.store.specs.Store.{Filed, Store, clients, isAt, isPlace, reserve, used}
 use Rattle.store.specs.Calls.{Answer, Call, afterFormat, chargeOf, file, of-file, of-release, outputBy, release}
 
 -- ---- the words
@@ -40,9 +40,6 @@ usedWord c = 17 + c
 abbrev pub placeWord : ℕ → ℕ → ℕ
 placeWord c n = 33 + 256 * c + n
 
-abbrev pub wordAt : ℕ → List ℕ → ℕ
-wordAt k bs = number (take 8 (drop (8 * k) bs))
-
 abbrev pub putWord : ℕ → ℕ → List ℕ → List ℕ
 putWord k w bs = sets bs (8 * k) (wordBytes w)
 
@@ -52,7 +49,7 @@ abbrev pub overflowOf : List ℕ → ℕ → ℕ
 overflowOf bs c = wordAt (usedWord c) bs - wordAt (reserveWord c) bs
 
 abbrev pub commonLeftOf : List ℕ → ℕ
-commonLeftOf bs = (wordAt 0 bs - sumTo clients (λ (c : ℕ). wordAt (reserveWord c) bs)) - sumTo clients (overflowOf bs)
+commonLeftOf bs = (wordAt 0 bs - sumBelow clients (λ (c : ℕ). wordAt (reserveWord c) bs)) - sumBelow clients (overflowOf bs)
 
 abbrev pub leftOf : List ℕ → ℕ → ℕ
 leftOf bs c = (wordAt (reserveWord c) bs - wordAt (usedWord c) bs) + commonLeftOf bs
@@ -138,18 +135,15 @@ newWords capacity reserves = capacity ∷ (reserves ++ replicate (4128 - length 
 unfoldable pub newBytes : ℕ → List ℕ → List ℕ
 newBytes capacity reserves = bytesOf (newWords capacity reserves)
 
--- The reserves, from client 0 on, that bytes encode.
-abbrev pub reservesOf : List ℕ → List ℕ
-reservesOf bs = wordsFrom (length bs / 8) 0 bs
-
 -- A new store is written at the front of a lent buffer. Refusals 8; 13, for reserves of more than 16 clients or bytes that are no whole
--- number; and 14, "a new store's reserves pass C, with C".
+-- number; and 14, "a new store's reserves pass C, with C". The numbers of the bytes are the reserves, from client 0 on.
 unfoldable pub beginCall : ℕ → List ℕ → List ℕ → After StoreAnswer ℕ
 beginCall capacity reserves store =
     cond (not (leb storeBytes (length store))) (unwritten (Refused (OutputTooShort storeBytes)) store)
     (cond (not (eqb (length reserves % 8) 0 && leb (length reserves) 128)) (unwritten (Refused BadClientOrNumber) store)
-    (cond (not (leb (sumTo clients (λ (c : ℕ). getD (reservesOf reserves) c 0)) capacity)) (unwritten (Refused (DoesNotFit capacity)) store)
-    (written (Done storeBytes) (newBytes capacity (reservesOf reserves)) store)))
+    (cond (not (leb (sumBelow clients (λ (c : ℕ). getD (numbersOf reserves) c 0)) capacity))
+    (unwritten (Refused (DoesNotFit capacity)) store)
+    (written (Done storeBytes) (newBytes capacity (numbersOf reserves)) store)))
 
 -- The bytes charged to a client.
 unfoldable pub usedCall : List ℕ → ℕ → StoreAnswer

@@ -2,9 +2,10 @@
 use mathlib.Core.Path.{_≡_}
 use mathlib.Core.Bool.{Bool, false, cond, _&&_, _||_}
 use mathlib.Core.List.{List, [], _∷_}
-use Prim.Native.Nat.{ℕ, zero, suc, _+_, _-_, _≤_, _<_}
+use Prim.Native.Nat.{ℕ, _+_, _-_, _≤_, _<_}
 use lib.Dec.{eqb, ltb}
 use lib.ListN.{getD, length}
+use Rattle.base.specs.Sums.{sumBelow}
 
 -- "Up to 16 clients"
 abbrev pub clients : ℕ
@@ -45,11 +46,6 @@ charged c (m ∷ ms) = cond (eqb (m .client) c) (m .charge) 0 + charged c ms
 abbrev pub used : Store → ℕ → ℕ
 used s c = charged c (s .filed)
 
--- The sum of a number over the clients below n.
-unfoldable pub sumTo : ℕ → (ℕ → ℕ) → ℕ
-sumTo zero f = 0
-sumTo (suc n) f = sumTo n f + f n
-
 -- "What a client uses beyond its reserve"; 0 if it is within its reserve.
 abbrev pub overflow : Store → ℕ → ℕ
 overflow s c = used s c - reserve s c
@@ -60,11 +56,11 @@ reserveLeft s c = reserve s c - used s c
 
 -- "the common part, C less all reserves"
 abbrev pub common : Store → ℕ
-common s = s .capacity - sumTo clients (reserve s)
+common s = s .capacity - sumBelow clients (reserve s)
 
 -- What is left of the common part: "What a client uses beyond its reserve comes out of the common part".
 abbrev pub commonLeft : Store → ℕ
-commonLeft s = common s - sumTo clients (overflow s)
+commonLeft s = common s - sumBelow clients (overflow s)
 
 -- "what is left of the client's reserve and of the common part together"
 abbrev pub left : Store → ℕ → ℕ
@@ -107,7 +103,7 @@ pub data Placed : List Filed → Type 0 where
 pub record Sound (s : Store) : Type 0 where
   pub few : length (s .reserves) ≤ clients
   -- "the reserves sum to at most C"
-  pub reserved : sumTo clients (reserve s) ≤ s .capacity
+  pub reserved : sumBelow clients (reserve s) ≤ s .capacity
   -- The common part holds what all clients use beyond their reserves.
-  pub holds : sumTo clients (overflow s) ≤ common s
+  pub holds : sumBelow clients (overflow s) ≤ common s
   pub placed : Placed (s .filed)

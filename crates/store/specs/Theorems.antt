@@ -5,27 +5,15 @@ use mathlib.Core.List.{List}
 use Prim.Native.Nat.{ℕ, _+_, _*_, _-_, _^_, _≤_, _<_}
 use lib.Dec.{leb}
 use lib.ListN.{take}
+use Rattle.base.specs.Sums.{sumBelow}
 use Rattle.base.specs.Refusals.{textLimit}
 use Rattle.base.specs.declared.Refusal.{Refusal}
 use Rattle.base.specs.declared.Refusal.the-variants.{BadClientOrNumber, DoesNotFit}
+use Rattle.policy.specs.PolicyBytes.{numbersOf}
 use Rattle.formatter.specs.Format.{format}
 use Rattle.formatter.specs.declared.FormatAnswer.the-variants.{Refused}
 use Rattle.store.specs.declared.StoreAnswer.the-variants as Answered
-use Rattle.store.specs.Store.{
-  Sound,
-  Store,
-  clients,
-  commonLeft,
-  inUse,
-  isPlace,
-  left,
-  newStore,
-  overflow,
-  reserve,
-  reserveLeft,
-  sumTo,
-  used,
-}
+use Rattle.store.specs.Store.{Sound, Store, clients, commonLeft, inUse, isPlace, left, newStore, overflow, reserve, reserveLeft, used}
 use Rattle.store.specs.Calls.{
   Call,
   Change,
@@ -48,18 +36,7 @@ use Rattle.store.specs.Calls.{
   releaseAnswer,
   storeAfter,
 }
-use Rattle.store.specs.Bytes.{
-  Represents,
-  answerOf,
-  beginCall,
-  bytesAfter,
-  fileCall,
-  outAfter,
-  releaseCall,
-  reservesOf,
-  storeBytes,
-  usedCall,
-}
+use Rattle.store.specs.Bytes.{Represents, answerOf, beginCall, bytesAfter, fileCall, outAfter, releaseCall, storeBytes, usedCall}
 
 -- ---- one call on a store
 
@@ -119,9 +96,9 @@ pub record StoreClaim (capacity : ℕ) (reserves : List ℕ) (history : List Cha
   pub sound : Sound s
   -- "the bytes charged equal the lengths filed and not yet released", for each client and in all
   pub charges : (c : ℕ) → used s c ≡ outstanding c history
-  pub in-all : sumTo clients (used s) ≡ outstandingInAll history
+  pub in-all : sumBelow clients (used s) ≡ outstandingInAll history
   -- All clients together use at most C bytes, and one client at most 256 formatted texts of the greatest length.
-  pub within-capacity : sumTo clients (used s) ≤ capacity
+  pub within-capacity : sumBelow clients (used s) ≤ capacity
   pub small-use : (c : ℕ) → used s c ≤ 256 * (4 * textLimit)
   -- The next call.
   pub calls : (x : Call) → CallClaim s x
@@ -143,9 +120,9 @@ EveryStoreInBytes =
     (capacity : ℕ) (reserves store : List ℕ) → capacity < 2 ^ 64 → beginCall capacity reserves store .answer ≡ Answered.Done storeBytes
     → (xs : List Call)
     → InBytes (bytesAfter (take storeBytes (beginCall capacity reserves store .buffer)) xs)
-    (storeAfter (newStore capacity (reservesOf reserves)) xs)
-    × StoreClaim capacity (reservesOf reserves) (changes (newStore capacity (reservesOf reserves)) xs)
-    (storeAfter (newStore capacity (reservesOf reserves)) xs)
+    (storeAfter (newStore capacity (numbersOf reserves)) xs)
+    × StoreClaim capacity (numbersOf reserves) (changes (newStore capacity (numbersOf reserves)) xs)
+    (storeAfter (newStore capacity (numbersOf reserves)) xs)
 
 -- Any bytes as a store: "for any other the answer is the program's choice, within the lent buffers, and a refusal still writes nothing."
 unfoldable pub RefusalsWriteNothing : Type 0

@@ -4,8 +4,9 @@
 // represent it, and `EveryStoreInBytes` of specs/Theorems.antt what holds after every list of calls.
 ghost use mathlib.Core.Path.{_≡_};
 ghost use Prim.Native.Nat.{_<_};
+ghost use Rattle.base.specs.Words.{wordAt};
 ghost use Rattle.base.specs.Answers.{Answers};
-ghost use Rattle.store.specs.Bytes.{storeRow, usedCall, wordAt};
+ghost use Rattle.store.specs.Bytes.{storeRow, usedCall};
 use base::Refusal;
 
 // The answer of a call that writes no text: its number of bytes, or a refusal. The number is that of a store's bytes, of the bytes given

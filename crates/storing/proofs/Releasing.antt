@@ -3,13 +3,14 @@ use mathlib.Core.Path.{_≡_, refl, ap, ap₂, sym, _∙_}
 use mathlib.Core.Bool.{Bool, true, false, cond, not, _&&_}
 use mathlib.Core.List.{List}
 use Prim.Native.Nat.{ℕ, _-_}
+use Rattle.base.specs.Words.{wordAt}
 use Rattle.base.proofs.Answering.{ends-as}
 use Rattle.base.specs.Answers.{EndsAs}
 use Rattle.base.specs.Refusals.{After}
 use Rattle.base.specs.declared.Refusal.the-variants.{BadClientOrNumber}
 use Rattle.store.specs.declared.StoreAnswer.{StoreAnswer}
 use Rattle.store.specs.declared.StoreAnswer.the-variants.{Done, Refused}
-use Rattle.store.specs.Bytes.{giveBack, hasPlace, isTaken, placeWord, releaseAnswerOf, releaseBytes, releaseCall, storeRow, wordAt}
+use Rattle.store.specs.Bytes.{giveBack, hasPlace, isTaken, placeWord, releaseAnswerOf, releaseBytes, releaseCall, storeRow}
 
 module _ (bs : List ℕ) (c n : ℕ) where
   abbrev outcome : StoreAnswer → After StoreAnswer ℕ

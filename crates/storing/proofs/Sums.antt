@@ -10,17 +10,17 @@ use lib.Seq.{getD-drop}
 use Rattle.base.proofs.Sums.{capped-held, capped-more}
 use Rattle.base.proofs.Tests.{le-or-lt}
 use Rattle.base.proofs.Words.{number-eight, number-four}
-use Rattle.base.specs.Sums.{capped, most}
-use Rattle.base.specs.Words.{number}
-use Rattle.store.specs.Bytes.{leftOf, overflowOf, reserveWord, usedWord, wordAt}
-use Rattle.store.specs.Store.{clients, sumTo}
+use Rattle.base.specs.Sums.{capped, most, sumBelow}
+use Rattle.base.specs.Words.{number, wordAt}
+use Rattle.store.specs.Bytes.{leftOf, overflowOf, reserveWord, usedWord}
+use Rattle.store.specs.Store.{clients}
 use Rattle.store.proofs.Sums.{sum-has}
 
 -- ---- sums
 
-pub sum-next : (f : ℕ → ℕ) (n : ℕ) → sumTo (n + 1) f ≡ sumTo n f + f n
-unfolding sumTo
-sum-next f n = ap (λ (k : ℕ). sumTo k f) (one-up n)
+pub sum-next : (f : ℕ → ℕ) (n : ℕ) → sumBelow (n + 1) f ≡ sumBelow n f + f n
+unfolding sumBelow
+sum-next f n = ap (λ (k : ℕ). sumBelow k f) (one-up n)
   where
     one-up : (n : ℕ) → n + 1 ≡ suc n
     one-up n = omega arith
@@ -33,15 +33,15 @@ capped-is n = go (le-or-lt n most)
     go (inl l) = omega (arith, capped-held n l)
     go (inr l) = omega (arith, capped-more n l)
 
-pub sum-none : (f : ℕ → ℕ) → 0 ≡ capped (sumTo 0 f)
-unfolding sumTo capped
+pub sum-none : (f : ℕ → ℕ) → 0 ≡ capped (sumBelow 0 f)
+unfolding sumBelow capped
 sum-none f = refl
 
-pub sum-more : (f : ℕ → ℕ) (n s v r : ℕ) → s ≡ capped (sumTo n f) → v ≡ f n → r ≡ capped (s + v) → r ≡ capped (sumTo (n + 1) f)
-sum-more f n s v r p q e = omega (arith, sum-next f n, capped-is (sumTo n f), capped-is (s + v), capped-is (sumTo (n + 1) f))
+pub sum-more : (f : ℕ → ℕ) (n s v r : ℕ) → s ≡ capped (sumBelow n f) → v ≡ f n → r ≡ capped (s + v) → r ≡ capped (sumBelow (n + 1) f)
+sum-more f n s v r p q e = omega (arith, sum-next f n, capped-is (sumBelow n f), capped-is (s + v), capped-is (sumBelow (n + 1) f))
 
-pub sum-done : (f : ℕ → ℕ) (n s : ℕ) → n ≡ 16 → s ≡ capped (sumTo n f) → s ≡ capped (sumTo 16 f)
-sum-done f n s e h = h ∙ ap (λ (k : ℕ). capped (sumTo k f)) e
+pub sum-done : (f : ℕ → ℕ) (n s : ℕ) → n ≡ 16 → s ≡ capped (sumBelow n f) → s ≡ capped (sumBelow 16 f)
+sum-done f n s e h = h ∙ ap (λ (k : ℕ). capped (sumBelow k f)) e
 
 -- ---- differences
 

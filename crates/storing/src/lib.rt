@@ -8,13 +8,14 @@ ghost use Prim.Native.Nat.{ℕ, _+_, _*_, _-_, _%_, _≤_, _<_};
 ghost use lib.Dec.{leb};
 ghost use lib.ListN.{getD, length};
 ghost use lib.Seq.{sets};
+ghost use Rattle.base.specs.Words.{wordAt};
 ghost use Rattle.base.specs.Answers.{EndsAs, checkRow};
-ghost use Rattle.base.specs.Sums.{capped, most};
+ghost use Rattle.base.specs.Sums.{capped, most, sumBelow};
+ghost use Rattle.policy.specs.PolicyBytes.{numbersOf};
 ghost use Rattle.store.specs.Bytes.{EndsFiled, beginCall, chargeCall, commonLeftOf, fileCall, giveBack, hasPlace, isTaken, leftOf};
-ghost use Rattle.store.specs.Bytes.{newBytes, newWords, overflowOf, putWord, releaseCall, reserveWord, reservesOf, storeRow};
-ghost use Rattle.store.specs.Bytes.{usedWord, wordAt};
+ghost use Rattle.store.specs.Bytes.{newBytes, newWords, overflowOf, putWord, releaseCall, reserveWord, storeRow};
+ghost use Rattle.store.specs.Bytes.{usedWord};
 ghost use Rattle.store.specs.Bytes as Bytes;
-ghost use Rattle.store.specs.Store.{sumTo};
 use base::Check;
 use base::Refusal;
 use base::add_count;
@@ -67,7 +68,7 @@ fn minus(a: usize, b: usize) -> usize
 
 // Returns the sum of all reserves, or the largest number.
 fn reserved(store: &[u8]) -> usize
-    ensures { λ r. ⌜ r ≡ capped (sumTo 16 (λ (c : ℕ). wordAt (reserveWord c) (now (store .entry)))) ⌝ }
+    ensures { λ r. ⌜ r ≡ capped (sumBelow 16 (λ (c : ℕ). wordAt (reserveWord c) (now (store .entry)))) ⌝ }
 {
     let mut sum: usize = 0;
     let mut c = 0;
@@ -88,7 +89,7 @@ fn overflow(store: &[u8], c: usize) -> usize
 
 // Returns what all clients use beyond their reserves, or the largest number.
 fn overflowed(store: &[u8]) -> usize
-    ensures { λ r. ⌜ r ≡ capped (sumTo 16 (overflowOf (now (store .entry)))) ⌝ }
+    ensures { λ r. ⌜ r ≡ capped (sumBelow 16 (overflowOf (now (store .entry)))) ⌝ }
 {
     let mut sum: usize = 0;
     let mut c = 0;
@@ -226,7 +227,7 @@ pub fn release(store: &mut [u8], client: usize, number: usize) -> StoreAnswer
 // Tests whether reserves sum to at most a capacity. Each reserve is taken from what is left of the capacity, because the sum can be greater
 // than the largest number.
 fn reserves_fit(capacity: usize, reserves: &[u8]) -> bool
-    ensures { λ r. ⌜ r ≡ leb (sumTo 16 (λ (c : ℕ). wordAt c (now (reserves .entry)))) capacity ⌝ }
+    ensures { λ r. ⌜ r ≡ leb (sumBelow 16 (λ (c : ℕ). wordAt c (now (reserves .entry)))) capacity ⌝ }
 {
     let mut rest = capacity;
     let mut c = 0;
@@ -244,7 +245,7 @@ fn reserves_fit(capacity: usize, reserves: &[u8]) -> bool
 // Returns a word of a new store: the capacity, a reserve, or 0.
 fn new_word(capacity: usize, reserves: &[u8], k: usize) -> usize
     requires { ⌜ (length (now reserves) % 8 ≡ 0) × (k < 4129) ⌝ }
-    ensures { λ r. ⌜ r ≡ getD (newWords capacity (reservesOf (now (reserves .entry)))) k 0 ⌝ }
+    ensures { λ r. ⌜ r ≡ getD (newWords capacity (numbersOf (now (reserves .entry)))) k 0 ⌝ }
 {
     if k == 0 {
         return capacity;
@@ -255,7 +256,7 @@ fn new_word(capacity: usize, reserves: &[u8], k: usize) -> usize
 // Puts the words of a new store at the front of a buffer.
 fn put_new(capacity: usize, reserves: &[u8], store: &mut [u8])
     requires { ⌜ (length (now reserves) % 8 ≡ 0) × (length (now reserves) ≤ 128) × (33032 ≤ length (now store)) ⌝ }
-    ensures { λ _. ⌜ now (store .exit) ≡ sets (now (store .entry)) 0 (newBytes capacity (reservesOf (now (reserves .entry)))) ⌝ }
+    ensures { λ _. ⌜ now (store .exit) ≡ sets (now (store .entry)) 0 (newBytes capacity (numbersOf (now (reserves .entry)))) ⌝ }
 {
     let mut at = 0;
     let mut k = 0;

@@ -32,11 +32,12 @@ use Rattle.analysis.specs.Analysis.{chosen, countCells, following, render}
 use Rattle.analysis.specs.CellView.{classInFront, formatCells, totalCells}
 use Rattle.analysis.specs.Cells.{Cell, cells, leading, unsplit}
 use Rattle.analysis.specs.Counts.{_⊕_, empty, total, unsanctioned}
-use Rattle.analysis.specs.Rules.{firstAsked, outcome, runWith}
+use Rattle.analysis.specs.Rules.{firstAsked, outcome, runWith, selectorNumber}
 use Rattle.analysis.specs.declared.singleton.Outcome.{Outcome}
 use Rattle.analysis.proofs.Cells.{split-selector, split-whole}
 use Rattle.analysis.proofs.CellsAt.{after-at, selectors-end, selectors-room, split-after}
 use Rattle.analysis.proofs.RuleLaws.{keeps, settles}
+use Rattle.analysis.proofs.Rules.{has-entry}
 use Rattle.text_pass.specs.Changes.{
   Advances,
   BaseChange,
@@ -46,19 +47,16 @@ use Rattle.text_pass.specs.Changes.{
   UnchangedBetween,
   formattedFrom,
   outcomeFrom,
-  selectorNumber,
   totalFrom,
 }
 use Rattle.text_pass.specs.declared.Change.{Change}
 use Rattle.text_pass.proofs.PlainText.{StaysAlone}
-use Rattle.analysis.proofs.Rules.{has-entry}
 use Rattle.text_pass.proofs.Kept.{outcome-read}
 use Rattle.text_pass.proofs.Staying.{between, step-bytes, step-formatted, step-total}
 
 -- ---- whether selectors change
 
 number-tells : (a b : FromSelector) → selectorNumber a ≡ selectorNumber b → a ≡ b
-unfolding selectorNumber
 number-tells NoSelector NoSelector e = refl
 number-tells NoSelector (Selector Text) e = absurd (omega arith)
 number-tells NoSelector (Selector Emoji) e = absurd (omega arith)

@@ -9,12 +9,24 @@ use Rattle.unicode.specs.declared.presentation.FromSelector.the-variants.{NoSel
 use Rattle.unicode.specs.declared.presentation.Presentation.{Presentation}
 use Rattle.unicode.specs.declared.presentation.Presentation.the-variants.{Emoji, Text}
 use Rattle.policy.specs.declared.SingletonRule.the-variants.{BareToEmoji, BareToText, EmojiToBare, TextToBare}
-use Rattle.analysis.specs.Rules.{byFirst, isBareSide, rule2, rule3, rule4, rule5, rule6, runWith, textFirst, withoutSelector}
+use Rattle.analysis.specs.Rules.{
+  byFirst,
+  isBareSide,
+  rule2,
+  rule3,
+  rule4,
+  rule5,
+  rule6,
+  runWith,
+  selectorNumber,
+  textFirst,
+  withoutSelector,
+}
 use Rattle.analysis.proofs.Rules.{rule23}
-use Rattle.text_pass.specs.Changes.{LeavesSelector, selectorNumber, selectorOf}
+use Rattle.text_pass.specs.Changes.{LeavesSelector, selectorOf}
 
 pub number-selector : (n : ℕ) → n ≤ 2 → selectorNumber (selectorOf n) ≡ n
-unfolding selectorNumber selectorOf
+unfolding selectorOf
 number-selector zero h = refl
 number-selector (suc zero) h = refl
 number-selector (suc (suc zero)) h = refl
@@ -30,28 +42,28 @@ selector-third (suc (suc n)) a b = refl
 
 pub text-to-bare : (f : FromSelector) (n : ℕ)
     → LeavesSelector (rule6 TextToBare (runWith f n) .slot) (0x20 / 2 ^ (2 * selectorNumber f) % 4)
-unfolding rule6 withoutSelector isBareSide runWith selectorNumber selectorOf
+unfolding rule6 withoutSelector isBareSide runWith selectorOf
 text-to-bare NoSelector n = record { few = omega arith; left = refl }
 text-to-bare (Selector Text) n = record { few = omega arith; left = refl }
 text-to-bare (Selector Emoji) n = record { few = omega arith; left = refl }
 
 pub emoji-to-bare : (f : FromSelector) (n : ℕ)
     → LeavesSelector (rule6 EmojiToBare (runWith f n) .slot) (0x04 / 2 ^ (2 * selectorNumber f) % 4)
-unfolding rule6 withoutSelector isBareSide runWith selectorNumber selectorOf
+unfolding rule6 withoutSelector isBareSide runWith selectorOf
 emoji-to-bare NoSelector n = record { few = omega arith; left = refl }
 emoji-to-bare (Selector Text) n = record { few = omega arith; left = refl }
 emoji-to-bare (Selector Emoji) n = record { few = omega arith; left = refl }
 
 pub bare-to-text : (f : FromSelector) (n : ℕ)
     → LeavesSelector (rule6 BareToText (runWith f n) .slot) (0x25 / 2 ^ (2 * selectorNumber f) % 4)
-unfolding rule6 withoutSelector isBareSide runWith selectorNumber selectorOf
+unfolding rule6 withoutSelector isBareSide runWith selectorOf
 bare-to-text NoSelector n = record { few = omega arith; left = refl }
 bare-to-text (Selector Text) n = record { few = omega arith; left = refl }
 bare-to-text (Selector Emoji) n = record { few = omega arith; left = refl }
 
 pub bare-to-emoji : (f : FromSelector) (n : ℕ)
     → LeavesSelector (rule6 BareToEmoji (runWith f n) .slot) (0x26 / 2 ^ (2 * selectorNumber f) % 4)
-unfolding rule6 withoutSelector isBareSide runWith selectorNumber selectorOf
+unfolding rule6 withoutSelector isBareSide runWith selectorOf
 bare-to-emoji NoSelector n = record { few = omega arith; left = refl }
 bare-to-emoji (Selector Text) n = record { few = omega arith; left = refl }
 bare-to-emoji (Selector Emoji) n = record { few = omega arith; left = refl }
@@ -59,13 +71,13 @@ bare-to-emoji (Selector Emoji) n = record { few = omega arith; left = refl }
 -- ---- rules 2 to 5
 
 pub modifier-text : (f : FromSelector) → selectorNumber f ≡ 1 → (b : Bool) (n : ℕ) → LeavesSelector (rule23 b (runWith f n) .slot) 1
-unfolding rule2 rule3 byFirst textFirst runWith selectorNumber selectorOf
+unfolding rule2 rule3 byFirst textFirst runWith selectorOf
 modifier-text NoSelector e b n = absurd (omega (arith, e))
 modifier-text (Selector Text) e b n = record { few = omega arith; left = refl }
 modifier-text (Selector Emoji) e b n = absurd (omega (arith, e))
 
 pub modifier-other : (f : FromSelector) → (selectorNumber f ≡ 1 → ⊥) → (b : Bool) (n : ℕ) → LeavesSelector (rule23 b (runWith f n) .slot) 0
-unfolding rule2 rule3 byFirst textFirst runWith selectorNumber selectorOf
+unfolding rule2 rule3 byFirst textFirst runWith selectorOf
 modifier-other NoSelector e b n = record { few = omega arith; left = refl }
 modifier-other (Selector Text) e b n = absurd (e refl)
 modifier-other (Selector Emoji) e b n = record { few = omega arith; left = refl }

@@ -56,7 +56,7 @@ use Rattle.analysis.specs.Analysis.{chosen, following}
 use Rattle.analysis.specs.CellView.{classInFront, totalCells}
 use Rattle.analysis.specs.Cells.{cells, leading}
 use Rattle.analysis.specs.Counts.{_⊕_, cappedSum, empty, total, unsanctioned}
-use Rattle.analysis.specs.Rules.{firstAsked, outcome, rule1, runWith}
+use Rattle.analysis.specs.Rules.{firstAsked, outcome, rule1, runWith, selectorNumber}
 use Rattle.analysis.specs.declared.singleton.Outcome.{Outcome}
 use Rattle.analysis.specs.declared.types.NonCanonicality.{NonCanonicality}
 use Rattle.analysis.proofs.CellsAt.{after-at, selectors-end, selectors-room, split-at}
@@ -65,7 +65,7 @@ use Rattle.analysis.proofs.Measuring.{few, total-char, total-leading}
 use Rattle.analysis.proofs.NumberRules.{by-numbers}
 use Rattle.analysis.proofs.Rules.{outcome-no-entry}
 use Rattle.analysis.proofs.Sums.{whole-sum}
-use Rattle.text_pass.specs.Changes.{SameRules, outcomeFrom, selectorNumber}
+use Rattle.text_pass.specs.Changes.{SameRules, outcomeFrom}
 use Rattle.text_pass.specs.Findings.{Counted, FindsFrom, FindingsBetween, ReadsCell}
 use Rattle.text_pass.specs.declared.findings.CellEnd.{CellEnd}
 use Rattle.text_pass.proofs.Bases.{no-change}

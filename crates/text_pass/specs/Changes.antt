@@ -92,12 +92,6 @@ pub record SameRules (j k : Class) : Type 0 where
   pub tags : byTags j ≡ byTags k
   pub keycap : byKeycap j ≡ byKeycap k
 
--- The number of a selector.
-unfoldable pub selectorNumber : FromSelector → ℕ
-selectorNumber NoSelector = 0
-selectorNumber (Selector Text) = 1
-selectorNumber (Selector Emoji) = 2
-
 -- The selector that has a number.
 unfoldable pub selectorOf : ℕ → FromSelector
 selectorOf zero = NoSelector

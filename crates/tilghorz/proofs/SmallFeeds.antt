@@ -20,22 +20,10 @@ use Rattle.utf8.proofs.Unfinished.{unfinished-few}
 use Rattle.policy.specs.PolicyBytes.{isPolicy, policyFault, policyRefusal}
 use Rattle.policy.proofs.Refusals.{fault-value}
 use Rattle.scanner.specs.declared.char_class.Class.the-variants.{Other as other}
-use Rattle.feed.specs.Bytes.{eightWords, feedOf, feedRow, leaves, outOf, refuses}
+use Rattle.formatter.specs.List.{countNumbers}
+use Rattle.feed.specs.Bytes.{feedOf, feedRow, leaves, outOf, refuses}
 use Rattle.feed.specs.Calls.{Answer, Call, Feed, after, answer, refused, wrote}
 use Rattle.feed.specs.Calls as Feed
-use Rattle.policy_change.specs.Calls as Changes
-use Rattle.policy_change.specs.Calls.{afterCall, answerTo}
-use Rattle.policy_change.specs.Bytes.{
-  begunChanging,
-  calledOn,
-  changingFeed,
-  changingTotals,
-  feedPart,
-  isChanging,
-  leavesAfter,
-  newChanging,
-  outOf as outBefore,
-}
 use Rattle.feed.specs.declared.FeedAnswer.{FeedAnswer}
 use Rattle.feed.specs.declared.FeedAnswer.the-variants.{Refused, Written}
 use Rattle.feed.proofs.Answered.{
@@ -52,6 +40,19 @@ use Rattle.feed.proofs.Answered.{
   piece-taken,
 }
 use Rattle.feed.proofs.PieceRoom.{held-few, piece-bytes, settle-bytes}
+use Rattle.policy_change.specs.Calls as Changes
+use Rattle.policy_change.specs.Calls.{afterCall, answerTo}
+use Rattle.policy_change.specs.Bytes.{
+  begunChanging,
+  calledOn,
+  changingFeed,
+  changingTotals,
+  feedPart,
+  isChanging,
+  leavesAfter,
+  newChanging,
+  outOf as outBefore,
+}
 use Rattle.feeding.proofs.LaterPieces.{part-feed}
 use Rattle.feeding.proofs.Settling.{feed-unfinished, short-len}
 use Rattle.tilghorz.proofs.SmallAnswers.{most}
@@ -126,12 +127,12 @@ module _ (bs : List ℕ) (c : Changes.Call) where
   unfolding calledOn
   called-small = tested (isChanging bs) refl
 
-pub totals-small : (feed out : List ℕ) → writeRow (answerOf (bytesOf (eightWords (changingTotals feed))) out) .value ≤ most
+pub totals-small : (feed out : List ℕ) → writeRow (answerOf (bytesOf (countNumbers (changingTotals feed))) out) .value ≤ most
 unfolding answerOf writeRow
-totals-small feed out = go (leb (length B) (length out)) (length-bytesOf (eightWords (changingTotals feed)))
+totals-small feed out = go (leb (length B) (length out)) (length-bytesOf (countNumbers (changingTotals feed)))
   where
     B : List ℕ
-    B = bytesOf (eightWords (changingTotals feed))
+    B = bytesOf (countNumbers (changingTotals feed))
 
     go : (b : Bool) → length B ≡ 64 → writeRow (cond b (Write.Written (length B)) (Write.TooShort (length B))) .value ≤ most
     go true h = omega arith

@@ -14,10 +14,11 @@ use Rattle.base.specs.declared.Refusal.{Refusal}
 use Rattle.base.specs.declared.Refusal.the-variants.{TableTooShort}
 use Rattle.base.proofs.Tests.{le-or-lt}
 use Rattle.analysis.specs.declared.types.Finding.{Finding}
+use Rattle.formatter.specs.Findings.{listed}
 use Rattle.formatter.specs.Intake.{intakeRefusal}
 use Rattle.formatter.specs.List.{rowBytes}
 use Rattle.formatter.proofs.Passing.{passed-accepted}
-use Rattle.findings_near.specs.Around.{AfterBoth, listAround, listed}
+use Rattle.findings_near.specs.Around.{AfterBoth, listAround}
 use Rattle.findings_near.specs.Nearest.{giveNearest, nearest, nearestBytes, nearestNumbers, nearestRow, writeNearest}
 use Rattle.findings_near.specs.Theorems.{AroundCall, insideNumber, sharingNumber}
 use Rattle.findings_near.specs.declared.AroundAnswer.{AroundAnswer}

@@ -7,25 +7,15 @@ use native.Mathlib.Omega.{arith}
 use lib.Dec.{eqb, leb, ltb}
 use lib.ListN.{length, take}
 use borrow.Author.Tests.{leb-false, ltb-true}
+use Rattle.base.specs.Words.{wordAt}
 use Rattle.base.specs.Refusals.{refusalRow, textLimit}
 use Rattle.base.specs.declared.Refusal.{Refusal}
 use Rattle.base.specs.declared.Refusal.the-variants.{BadClientOrNumber}
+use Rattle.policy.specs.PolicyBytes.{numbersOf}
 use Rattle.formatter.specs.Format.{format, formatRow}
 use Rattle.formatter.specs.declared.FormatAnswer.{FormatAnswer}
 use Rattle.formatter.specs.declared.FormatAnswer.the-variants.{Changed, Refused, Unchanged}
-use Rattle.store.specs.Bytes.{
-  beginCall,
-  bytesAfter,
-  fileAnswerOf,
-  fileCall,
-  releaseCall,
-  reservesOf,
-  storeBytes,
-  storeRow,
-  usedCall,
-  usedWord,
-  wordAt,
-}
+use Rattle.store.specs.Bytes.{beginCall, bytesAfter, fileAnswerOf, fileCall, releaseCall, storeBytes, storeRow, usedCall, usedWord}
 use Rattle.store.specs.Calls.{Call, afterFormat, badRelease, changes, chargeOf, isRefusal, release, releaseAnswer, storeAfter}
 use Rattle.store.specs.Store.{Store, chargeAt, clients, newStore}
 use Rattle.store.specs.Theorems.{EveryStoreInBytes, InBytes, StoreClaim}
@@ -73,14 +63,14 @@ module _ (C : ℕ) (rb st : List ℕ) (w : C < 2 ^ 64) (e : beginCall C rb st .a
   B = bytesAfter (take storeBytes (beginCall C rb st .buffer)) xs
 
   abbrev s : Store
-  s = storeAfter (newStore C (reservesOf rb)) xs
+  s = storeAfter (newStore C (numbersOf rb)) xs
 
   -- The claim on lists of calls.
   in-bytes : InBytes B s
   unfolding EveryStoreInBytes
   in-bytes = every-store-in-bytes C rb st w e xs .0
 
-  claim : StoreClaim C (reservesOf rb) (changes (newStore C (reservesOf rb)) xs) s
+  claim : StoreClaim C (numbersOf rb) (changes (newStore C (numbersOf rb)) xs) s
   unfolding EveryStoreInBytes
   claim = every-store-in-bytes C rb st w e xs .1
 

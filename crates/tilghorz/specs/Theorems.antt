@@ -6,33 +6,33 @@ use lib.ListN.{take}
 use Rattle.base.specs.Output.{answerOf}
 use Rattle.base.specs.Words.{bytesOf}
 use Rattle.base.specs.Refusals.{RefusalRow}
+use Rattle.base.specs.Answers.{done, listRow, writeRow}
 use Rattle.unicode.specs.Unicode.{variationEntry}
 use Rattle.unicode.specs.UnicodeData.{unicodeVersion}
+use Rattle.unicode.specs.Rows.{entryRow}
 use Rattle.policy.specs.DefaultPolicy.{defaultPolicy}
 use Rattle.policy.specs.PolicyBytes.{policyBytes}
-use Rattle.formatter.specs.Format.{format}
-use Rattle.formatter.specs.List.{listBytes, listItems}
-use Rattle.formatter.specs.Mend.{Call, mendCall}
+use Rattle.repair.specs.Repair.{repair, repairRow}
+use Rattle.repair.specs.declared.RepairAnswer.the-variants.{Repaired}
+use Rattle.policy_sheet.specs.Calls.{readCall, sheetRow, writeCall}
+use Rattle.policy_migration.specs.Carry.{carryCall, carryRow}
 use Rattle.analysis.specs.Decisions.{mendRow}
-use Rattle.base.specs.Answers.{done, listRow, writeRow}
+use Rattle.formatter.specs.Format.{format}
+use Rattle.formatter.specs.List.{countNumbers, listBytes, listItems}
+use Rattle.formatter.specs.Mend.{Call, mendCall}
 use Rattle.formatter.specs.Format.{formatRow}
-use Rattle.feed.specs.Bytes.{eightWords, feedRow}
+use Rattle.cutting.specs.Cut.{cutBefore, cutRow}
+use Rattle.store.specs.Bytes.{beginCall, bytesAfter, fileCall, releaseCall, storeBytes, storeRow, usedCall}
+use Rattle.store.specs.Calls as Store
+use Rattle.store.specs.declared.StoreAnswer.the-variants.{Done}
+use Rattle.feed.specs.Bytes.{feedRow}
 use Rattle.policy_change.specs.Bytes.{begunChanging, calledOn, changingTotals}
 use Rattle.policy_change.specs.Calls as Feed
-use Rattle.policy_migration.specs.Carry.{carryCall, carryRow}
-use Rattle.policy_sheet.specs.Calls.{readCall, sheetRow, writeCall}
 use Rattle.membership_flips.specs.Flips.{listTips}
 use Rattle.findings_near.specs.Around.{aroundRow, listAround}
 use Rattle.findings_near.specs.Nearest.{giveNearest, nearestRow}
 use Rattle.findings_near.specs.declared.AroundAnswer.the-variants.{Listed}
-use Rattle.cutting.specs.Cut.{cutBefore, cutRow}
-use Rattle.repair.specs.Repair.{repair, repairRow}
-use Rattle.repair.specs.declared.RepairAnswer.the-variants.{Repaired}
-use Rattle.store.specs.Bytes.{beginCall, bytesAfter, fileCall, releaseCall, storeBytes, storeRow, usedCall}
-use Rattle.store.specs.Calls as Store
-use Rattle.store.specs.declared.StoreAnswer.the-variants.{Done}
 use Rattle.tilghorz.specs.AnswerWord.{HeldBytes, cappedRow, word}
-use Rattle.unicode.specs.Rows.{entryRow}
 
 -- The words of a C function determine its answers: if two calls return the same word, their answers are equal, whatever the arguments. The
 -- top 8 bits of a word are the answer's number, and its low 56 bits are the answer's value.
@@ -56,7 +56,7 @@ WordsDetermineAnswers =
     × WordsDetermine repairRow (λ (c : List ℕ × List ℕ). repair (c .0) (c .1) .answer)
     × WordsDetermine feedRow (λ (c : List ℕ × List ℕ). begunChanging (c .0) (c .1) .answer)
     × WordsDetermine feedRow (λ (c : List ℕ × Feed.Call). calledOn (c .0) (c .1) .answer)
-    × WordsDetermine writeRow (λ (c : List ℕ × List ℕ). answerOf (bytesOf (eightWords (changingTotals (c .0)))) (c .1))
+    × WordsDetermine writeRow (λ (c : List ℕ × List ℕ). answerOf (bytesOf (countNumbers (changingTotals (c .0)))) (c .1))
     × WordsDetermine sheetRow (λ (c : List ℕ × List ℕ). readCall (c .0) (c .1) .answer)
     × WordsDetermine sheetRow (λ (c : List ℕ × List ℕ). writeCall (c .0) (c .1) .answer)
     × WordsDetermine listRow (λ (c : List ℕ × List ℕ × List ℕ). listTips (c .0) (c .1) (c .2) .answer)

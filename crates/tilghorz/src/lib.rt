@@ -6,29 +6,29 @@ pub mod answer_word;
 ghost use mathlib.Core.Path.{_≡_};
 ghost use Rattle.base.specs.Output.{answerOf, bufferOf};
 ghost use Rattle.base.specs.Words.{bytesOf};
+ghost use Rattle.base.specs.Answers.{done, listRow, writeRow};
 ghost use Rattle.unicode.specs.Unicode.{variationEntry};
 ghost use Rattle.unicode.specs.UnicodeData.{unicodeVersion};
+ghost use Rattle.unicode.specs.Rows.{entryRow};
 ghost use Rattle.policy.specs.DefaultPolicy.{defaultPolicy};
 ghost use Rattle.policy.specs.PolicyBytes.{policyBytes};
-ghost use Rattle.formatter.specs.Format.{format};
-ghost use Rattle.formatter.specs.List.{listBytes, listItems};
-ghost use Rattle.formatter.specs.Mend.{mend};
-ghost use Rattle.analysis.specs.Decisions.{mendRow};
-ghost use Rattle.base.specs.Answers.{done, listRow, writeRow};
-ghost use Rattle.formatter.specs.Format.{formatRow};
 ghost use Rattle.repair.specs.Repair.{repair, repairRow};
-ghost use Rattle.feed.specs.Bytes.{eightWords, feedRow};
+ghost use Rattle.policy_sheet.specs.Calls.{readCall, sheetRow, writeCall};
+ghost use Rattle.policy_migration.specs.Carry.{carryCall, carryRow};
+ghost use Rattle.analysis.specs.Decisions.{mendRow};
+ghost use Rattle.formatter.specs.Format.{format};
+ghost use Rattle.formatter.specs.List.{countNumbers, listBytes, listItems};
+ghost use Rattle.formatter.specs.Mend.{mend};
+ghost use Rattle.formatter.specs.Format.{formatRow};
+ghost use Rattle.cutting.specs.Cut.{cutBefore, cutRow};
+ghost use Rattle.store.specs.Bytes.{beginCall, fileCall, releaseCall, storeRow, usedCall};
+ghost use Rattle.feed.specs.Bytes.{feedRow};
 ghost use Rattle.policy_change.specs.Bytes.{begunChanging, calledOn, changingTotals};
 ghost use Rattle.policy_change.specs.Calls as Calls;
-ghost use Rattle.policy_migration.specs.Carry.{carryCall, carryRow};
-ghost use Rattle.policy_sheet.specs.Calls.{readCall, sheetRow, writeCall};
 ghost use Rattle.membership_flips.specs.Flips.{listTips};
 ghost use Rattle.findings_near.specs.Around.{aroundRow, listAround};
 ghost use Rattle.findings_near.specs.Nearest.{giveNearest, nearestRow};
-ghost use Rattle.store.specs.Bytes.{beginCall, fileCall, releaseCall, storeRow, usedCall};
-ghost use Rattle.cutting.specs.Cut.{cutBefore, cutRow};
 ghost use Rattle.tilghorz.specs.AnswerWord.{cappedRow, word};
-ghost use Rattle.unicode.specs.Rows.{entryRow};
 use answer_word::around_word;
 use answer_word::carry_word;
 use answer_word::cut_word;
@@ -194,9 +194,9 @@ pub extern "C" fn tilghorz_feed_policy(feed: &mut [u8], policy: &[u8]) -> u64
 #[no_mangle]
 pub extern "C" fn tilghorz_feed_totals(feed: &[u8], totals: &mut [u8]) -> u64
     ensures word { λ r. ⌜ r ≡ word (writeRow
-        (answerOf (bytesOf (eightWords (changingTotals (now (feed .entry))))) (now (totals .entry)))) ⌝ }
+        (answerOf (bytesOf (countNumbers (changingTotals (now (feed .entry))))) (now (totals .entry)))) ⌝ }
     ensures bytes { λ _. ⌜ now (totals .exit)
-        ≡ bufferOf (bytesOf (eightWords (changingTotals (now (feed .entry))))) (now (totals .entry)) ⌝ }
+        ≡ bufferOf (bytesOf (countNumbers (changingTotals (now (feed .entry))))) (now (totals .entry)) ⌝ }
 {
     write_word(feed_calls::totals(feed, totals))
 }

@@ -13,6 +13,7 @@ ghost use mathlib.Core.Path.{_≡_};
 ghost use mathlib.Core.Bool.{true};
 ghost use Prim.Native.Nat.{_%_, _^_, _≤_};
 ghost use lib.Count.{ones};
+ghost use lib.ListN.{getD};
 ghost use Rattle.base.specs.Ranges.{within};
 ghost use Rattle.unicode.specs.Blocks.{entryIn};
 ghost use Rattle.unicode.specs.Tables.{ascending, inRanges, indexOf, member, rangesApart};
@@ -29,6 +30,7 @@ ghost use Rattle.unicode.specs.Unicode.{
   variationEntry,
   variationSequenceIndex,
 };
+ghost use Rattle.unicode.specs.UnicodeData.{variationEntries};
 use blocks::Block;
 use unicode_data::EMOJI_MODIFIER_BASES;
 use unicode_data::EMOJI_MODIFIERS;
@@ -167,6 +169,16 @@ pub fn variation_entry(index: usize) -> VariationEntry
     } else {
         VariationEntry::NoEntry
     }
+}
+
+// Returns the character of the variation entry at an index, or 0 if there is none.
+pub fn variation_char(index: usize) -> u32
+    ensures { λ r. ⌜ r ≡ getD variationEntries index 0 ⌝ }
+{
+    if VARIATION_ENTRY_COUNT <= index {
+        return 0;
+    }
+    VARIATION_ENTRIES[index]
 }
 
 // Returns the index of a character in the list of the variation entries.

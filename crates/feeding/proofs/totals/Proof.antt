@@ -2,7 +2,7 @@
 use mathlib.Core.Path.{ap, _∙_}
 use borrow.Author.Needs.{needs}
 use Rattle.analysis.specs.declared.types.NonCanonicality.{NonCanonicality}
-use Rattle.feed.specs.Bytes.{eightWords}
+use Rattle.formatter.specs.List.{countNumbers}
 use Rattle.feeding.proofs.Ending.{totals-short, totals-written}
 use Rattle.feeding.proofs.totals.Statement.{statement}
 use Rattle.feeding.proofs.totals.Tie as tie
@@ -10,14 +10,14 @@ use Rattle.feeding.proofs.totals.Tie as tie
 returns : tie.Need-returns
 returns c =
     let x = c .before .before .before .before .before .before .before .before .before .before .args in
-    totals-written _ (c .before .before .before .before .before .before .count-words .ensures ∙ ap (λ (n : NonCanonicality). eightWords n)
+    totals-written _ (c .before .before .before .before .before .before .count-words .ensures ∙ ap (λ (n : NonCanonicality). countNumbers n)
     (c .before .before .before .before .before .before .before .totals-now .ensures))
     (x .out .now) _ (c .before .before .before .write-numbers .ensures) (c .if1 .taken)
 
 returns-2 : tie.Need-returns-2
 returns-2 c =
     let x = c .before .before .before .before .before .before .before .before .before .before .args in
-    totals-short _ (c .before .before .before .before .before .before .count-words .ensures ∙ ap (λ (n : NonCanonicality). eightWords n)
+    totals-short _ (c .before .before .before .before .before .before .count-words .ensures ∙ ap (λ (n : NonCanonicality). countNumbers n)
     (c .before .before .before .before .before .before .before .totals-now .ensures))
     (x .out .now) _ (c .before .before .before .write-numbers .ensures) (c .if1 .left)
 

@@ -3,16 +3,17 @@ use mathlib.Core.List.{List}
 use Prim.Native.Nat.{ℕ}
 use native.Mathlib.Omega.{arith}
 use borrow.Author.Needs.{needs}
-use Rattle.membership_flips.specs.Flips.{Membership, filtered, tipNumbers}
-use Rattle.membership_flips.specs.Pass.{numbered, tipTest}
+use Rattle.base.specs.Lists.{filter}
 use Rattle.base.proofs.TableBytes.{no-rows, rows-refused, rows-room, rows-written}
+use Rattle.membership_flips.specs.Flips.{Membership, tipNumbers}
+use Rattle.membership_flips.specs.Pass.{numbered, tipTest}
 use Rattle.membership_flips.proofs.Listing.{length-tip}
 use Rattle.membership_flips.proofs.fill_table.Statement.{statement}
 use Rattle.membership_flips.proofs.fill_table.Tie as tie
 
 -- The rows, by the policy and the flags.
 abbrev rows : List ℕ → List ℕ → List Membership
-rows policy flags = filtered (tipTest policy flags) (numbered 1416 0)
+rows policy flags = filter (tipTest policy flags) (numbered 1416 0)
 
 returns : tie.Need-returns
 returns c =

@@ -10,7 +10,7 @@ use Rattle.base.proofs.Words.{bytes-all}
 use Rattle.formatter.proofs.Calls.{pass-intake}
 use Rattle.formatter.proofs.Outcomes.{all-well-formed, not-well-formed}
 use Rattle.formatter.proofs.Passing.{first-passed, first-refused}
-use Rattle.membership_flips.proofs.Listing.{flags-tell, tips-passed, tips-refused, zeros}
+use Rattle.membership_flips.proofs.Listing.{flags-tell, no-flags, tips-passed, tips-refused}
 use Rattle.membership_flips.proofs.list_tips.Statement.{statement}
 use Rattle.membership_flips.proofs.list_tips.Tie as tie
 
@@ -22,7 +22,7 @@ returns c =
     (first-refused (x .text .now) (x .policy .now) (c .before .before .before .first-tests .ensures) (g .0 .0) (g .1)))
 
 flag-uses-requires : tie.Need-flag-uses-requires
-flag-uses-requires c κs = zeros 2124
+flag-uses-requires c κs = no-flags 2124
 
 returns-2 : tie.Need-returns-2
 returns-2 c =

@@ -2,11 +2,12 @@
 use native.Mathlib.Omega.{arith}
 use borrow.Author.Needs.{needs}
 use borrow.Author.Tests.{not-false, not-true}
+use Rattle.base.proofs.Writer.{put-no}
 use Rattle.base.specs.Words.{bytesOf}
 use Rattle.base.proofs.TableBytes.{row-put}
 use Rattle.membership_flips.specs.Flips.{tipNumbers}
 use Rattle.membership_flips.specs.Pass.{membershipAt}
-use Rattle.membership_flips.proofs.Listing.{length-tip, numbers-are, put-no, put-yes}
+use Rattle.membership_flips.proofs.Listing.{length-tip, numbers-are, put-yes}
 use Rattle.membership_flips.proofs.put_tip.Statement.{statement}
 use Rattle.membership_flips.proofs.put_tip.Tie as tie
 

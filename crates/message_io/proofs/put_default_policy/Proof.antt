@@ -2,7 +2,7 @@
 use mathlib.Core.Path.{_≡_, ap, _∙_}
 use lib.ListN.{length}
 use borrow.Author.Needs.{needs}
-use Rattle.message_io.proofs.DefaultBytes.{default-length, default-written}
+use Rattle.policy.proofs.DefaultBytes.{default-length, default-written}
 use Rattle.message_io.proofs.put_default_policy.Statement.{statement}
 use Rattle.message_io.proofs.put_default_policy.Tie as tie
 

@@ -3,7 +3,7 @@ use mathlib.Core.Path.{sym, _∙_}
 use Prim.Native.Nat.{_+_, _*_, _/_}
 use native.Mathlib.Omega.{arith}
 use lib.ListN.{length}
-use Rattle.policy_migration.specs.Carry.{numbersOf}
+use Rattle.policy.specs.PolicyBytes.{numbersOf}
 use Rattle.policy_migration.proofs.Coding.{many-numbers}
 use Rattle.policy_migration.proofs.Testing.{few-times, index-below, new-entry-bit, no-entry-bit, old-entry-bit}
 use borrow.Author.Needs.{needs}

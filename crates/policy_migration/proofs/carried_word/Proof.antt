@@ -3,10 +3,12 @@ use mathlib.Core.Path.{_≡_, ap, ap₂, _∙_}
 use Prim.Native.Nat.{ℕ, _+_, _*_, _≤_}
 use native.Mathlib.Omega.{arith}
 use borrow.Author.Needs.{needs}
-use Rattle.policy_key_set.specs.Sets.{oneIf, wordCount}
-use Rattle.policy_migration.specs.Carry.{carriedTest, numbersOf}
+use Rattle.base.specs.Sums.{oneIf}
+use Rattle.policy_key_set.proofs.Entries.{six}
+use Rattle.policy_key_set.specs.Sets.{wordCount}
+use Rattle.policy.specs.PolicyBytes.{numbersOf}
+use Rattle.policy_migration.specs.Carry.{carriedTest}
 use Rattle.policy_migration.specs.Helpers.{setAt}
-use Rattle.policy_migration.proofs.Carrying.{six}
 use Rattle.policy_migration.proofs.Testing.{all-high, high, high-small, next-high, none-high}
 use Rattle.policy_migration.proofs.carried_word.Statement.{statement}
 use Rattle.policy_migration.proofs.carried_word.Tie as tie

@@ -3,7 +3,7 @@ use mathlib.Core.Path.{sym, _∙_}
 use Prim.Native.Nat.{ℕ, _+_, _-_, _/_, _≤_, _<_}
 use native.Mathlib.Omega.{arith}
 use lib.ListN.{getD, length}
-use Rattle.policy_migration.specs.Carry.{numbersOf}
+use Rattle.policy.specs.PolicyBytes.{numbersOf}
 use Rattle.policy_migration.proofs.Coding.{found-at, found-none, goes-down, goes-up, many-numbers}
 use Rattle.policy_migration.proofs.index_of.Statement.{statement}
 use Rattle.policy_migration.proofs.index_of.Tie as tie

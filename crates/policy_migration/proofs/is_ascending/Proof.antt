@@ -3,7 +3,7 @@ use mathlib.Core.Path.{_≡_, refl}
 use Prim.Native.Nat.{ℕ, suc, _-_, _/_, _<_}
 use native.Mathlib.Omega.{arith}
 use lib.ListN.{getD, length}
-use Rattle.policy_migration.specs.Carry.{numbersOf}
+use Rattle.policy.specs.PolicyBytes.{numbersOf}
 use Rattle.policy_migration.proofs.Coding.{ascends, falls, many-numbers, next-pair}
 use Rattle.policy_migration.proofs.is_ascending.Statement.{statement}
 use Rattle.policy_migration.proofs.is_ascending.Tie as tie

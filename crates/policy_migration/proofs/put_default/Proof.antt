@@ -1,7 +1,7 @@
 -- `policy_migration::put_default` meets its contract: the buffer is as long as the policy.
 use mathlib.Core.Path.{_≡_, ap, _∙_}
 use lib.ListN.{length}
-use Rattle.policy_migration.proofs.Coding.{default-length, default-written}
+use Rattle.policy.proofs.DefaultBytes.{default-length, default-written}
 use borrow.Author.Needs.{needs}
 use Rattle.policy_migration.proofs.put_default.Statement.{statement}
 use Rattle.policy_migration.proofs.put_default.Tie as tie

@@ -26,7 +26,7 @@ loop-holds c = (omega arith, begin _ 0 _ (omega (arith, c .before .before .pre))
 
 put-part-requires : tie.Need-put-part-requires Inv-loop μ-loop
 put-part-requires c κs =
-    let e = c .before .well-formed-end in
+    let e = c .before .valid-end in
     let l = c .before .before .loop in
     let x = c .before .before .before .before .before .args in
     let t = x .text .now in
@@ -36,7 +36,7 @@ put-part-requires c κs =
 
 returns : tie.Need-returns Inv-loop μ-loop
 returns c =
-    let e = c .before .before .before .before .before .well-formed-end in
+    let e = c .before .before .before .before .before .valid-end in
     let l = c .before .before .before .before .before .before .loop in
     let x = c .before .before .before .before .before .before .before .before .before .args in
     let t = x .text .now in
@@ -48,7 +48,7 @@ returns c =
 
 put-replacement-requires : tie.Need-put-replacement-requires Inv-loop μ-loop
 put-replacement-requires c κs =
-    let e = c .before .before .before .before .before .before .well-formed-end in
+    let e = c .before .before .before .before .before .before .valid-end in
     let l = c .before .before .before .before .before .before .before .loop in
     let x = c .before .before .before .before .before .before .before .before .before .before .args in
     let t = x .text .now in
@@ -61,7 +61,7 @@ put-replacement-requires c κs =
 add-replaced : tie.Need-add-replaced Inv-loop μ-loop
 add-replaced c =
     let part = c .before .before .before .before .before .before .before in
-    let e = part .before .before .well-formed-end in
+    let e = part .before .before .valid-end in
     let l = part .before .before .before .loop in
     let s = part .before .before .before .before .before .before in
     let t = s .args .text .now in
@@ -72,7 +72,7 @@ add-replaced c =
 add-at : tie.Need-add-at Inv-loop μ-loop
 add-at c =
     let part = c .before .before .before .before .before .before .before .before in
-    let e = part .before .before .well-formed-end in
+    let e = part .before .before .valid-end in
     let l = part .before .before .before .loop in
     let t = part .before .before .before .before .before .before .args .text .now in
     let k = kept t (l .at) (e .result) (l .inv .0) (e .ensures) in
@@ -82,7 +82,7 @@ add-at c =
 loop-less : tie.Need-loop-less Inv-loop μ-loop
 loop-less c =
     let part = c .before .before .before .before .before .before .before .before in
-    let e = part .before .before .well-formed-end in
+    let e = part .before .before .valid-end in
     let l = part .before .before .before .loop in
     let t = part .before .before .before .before .before .before .args .text .now in
     let k = kept t (l .at) (e .result) (l .inv .0) (e .ensures) in
@@ -93,7 +93,7 @@ loop-less c =
 loop-again : tie.Need-loop-again Inv-loop μ-loop
 loop-again c =
     let part = c .before .before .before .before .before .before .before .before in
-    let e = part .before .before .well-formed-end in
+    let e = part .before .before .valid-end in
     let l = part .before .before .before .loop in
     let x = part .before .before .before .before .before .before .args in
     let t = x .text .now in

@@ -43,9 +43,9 @@ loop-again c =
       omega (arith, e .1),
       c .before .before .before .in-set2 .ensures,
       measured (l .n) _ (entryText (l .before) (l .any) (l .here) (c .before .before .before .in-set2 .result)
-          (c .before .before .entry .result)) _ _ (l .inv .3)
+          (c .before .before .variation-char .result)) _ _ (l .inv .3)
           (line-step (λ (j : ℕ). member j (a .set .bits)) variationEntries (l .i) (l .before) (l .any) (omega (arith, entries-length))
-          (l .inv .2) (c .before .before .before .in-set2 .ensures) (c .before .before .entry .ensures))
+          (l .inv .2) (c .before .before .before .in-set2 .ensures) (c .before .before .variation-char .ensures))
           (e .0)
           (ap (λ (x : Bool). lineFrom (λ (j : ℕ). member j (a .set .bits)) (l .i + 1) (l .here) x (drop (l .i + 1) variationEntries))
           (c .either .ensures)),

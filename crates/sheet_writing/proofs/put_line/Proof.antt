@@ -32,9 +32,10 @@ put-entry-requires : tie.Need-put-entry-requires Inv-loop μ-loop
 put-entry-requires c κs =
     let l = c .before .before .before .before .loop in
     let a = c .before .before .before .before .before .before .before .args in
-    room _ _ _ _ (entryText (l .before) (l .any) (l .here) (c .before .before .in-set2 .result) (c .before .entry .result)) _ (l .inv .2)
+    room _ _ _ _ (entryText (l .before) (l .any) (l .here) (c .before .before .in-set2 .result)
+    (c .before .variation-char .result)) _ (l .inv .2)
     (line-step (λ (j : ℕ). member j (a .set .bits)) variationEntries (l .i) (l .before) (l .any) (omega (arith, entries-length))
-    (l .inv .1) (c .before .before .in-set2 .ensures) (c .before .entry .ensures))
+    (l .inv .1) (c .before .before .in-set2 .ensures) (c .before .variation-char .ensures))
 
 loop-less : tie.Need-loop-less Inv-loop μ-loop
 loop-less c = omega arith
@@ -50,7 +51,7 @@ loop-again c =
           (put all (a .start) (a .out .now) _ _ (l .inv .2) (c .before .before .before .put-entry .ensures)
           (line-step (λ (j : ℕ). member j (a .set .bits)) variationEntries (l .i) (l .before) (l .any) (omega (arith, entries-length))
           (l .inv .1) (c .before .before .before .before .before .before .in-set2 .ensures)
-          (c .before .before .before .before .before .entry .ensures)))
+          (c .before .before .before .before .before .variation-char .ensures)))
           (ap (λ (x : Bool). lineFrom (λ (j : ℕ). member j (a .set .bits)) (l .i + 1) (l .here) x (drop (l .i + 1) variationEntries))
           (sym (c .either .ensures))),
     )

@@ -1,7 +1,7 @@
 -- Differences from sums that stop at the largest number.
 use mathlib.Core.Path.{ap, _∙_}
 use Prim.Native.Nat.{ℕ, _-_}
-use Rattle.store.specs.Bytes.{wordAt}
+use Rattle.base.specs.Words.{wordAt}
 use Rattle.storing.proofs.Sums.{common-is}
 use native.Mathlib.Omega.{arith}
 use borrow.Author.Needs.{needs}

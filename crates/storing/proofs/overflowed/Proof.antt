@@ -3,15 +3,14 @@ use mathlib.Core.Path.{_≡_}
 use Prim.Native.Nat.{_-_, _≤_}
 use native.Mathlib.Omega.{arith}
 use borrow.Author.Needs.{needs}
-use Rattle.store.specs.Store.{sumTo}
+use Rattle.base.specs.Sums.{capped, sumBelow}
 use Rattle.store.specs.Bytes.{overflowOf}
-use Rattle.base.specs.Sums.{capped}
 use Rattle.storing.proofs.Sums.{sum-done, sum-more, sum-none}
 use Rattle.storing.proofs.overflowed.Statement.{statement}
 use Rattle.storing.proofs.overflowed.Tie as tie
 
 abbrev Inv-loop : tie.InvT-loop
-Inv-loop store sum₀ c₀ sum c = (c ≤ 16) × (sum ≡ capped (sumTo c (overflowOf store)))
+Inv-loop store sum₀ c₀ sum c = (c ≤ 16) × (sum ≡ capped (sumBelow c (overflowOf store)))
 
 abbrev μ-loop : tie.MeasureT-loop
 μ-loop store sum₀ c₀ sum c = 16 - c

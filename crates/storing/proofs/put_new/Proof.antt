@@ -10,7 +10,8 @@ use lib.Seq.{sets}
 use Rattle.base.proofs.Numbers.{word-room, word-written}
 use Rattle.base.specs.Words.{bytesOf, hasRoom, wordBytes}
 use Rattle.base.proofs.Writer.{Writing, finish}
-use Rattle.store.specs.Bytes.{newBytes, newWords, reservesOf}
+use Rattle.policy.specs.PolicyBytes.{numbersOf}
+use Rattle.store.specs.Bytes.{newBytes, newWords}
 use Rattle.store.proofs.Beginning.{few-reserves, new-length}
 use Rattle.storing.proofs.Beginning.{begin-new}
 use Rattle.storing.proofs.put_new.Statement.{statement}
@@ -18,7 +19,7 @@ use Rattle.storing.proofs.put_new.Tie as tie
 
 abbrev Inv-loop : tie.InvT-loop
 Inv-loop capacity reserves store₀ at₀ k₀ store at k =
-    let ws = newWords capacity (reservesOf reserves) in
+    let ws = newWords capacity (numbersOf reserves) in
     (k ≤ 4129) × Writing (bytesOf ws) 0 store₀ (bytesOf (drop k ws)) store at
 
 abbrev μ-loop : tie.MeasureT-loop
@@ -29,7 +30,7 @@ loop-holds c =
     let s = c .before .before in
     let x = s .args in
     let f = few-reserves (x .reserves .now) (s .pre .1) in
-    (omega arith, begin-new (x .capacity) (reservesOf (x .reserves .now)) (x .store .now) f (s .pre .2))
+    (omega arith, begin-new (x .capacity) (numbersOf (x .reserves .now)) (x .store .now) f (s .pre .2))
 
 new-word-requires : tie.Need-new-word-requires Inv-loop μ-loop
 new-word-requires c κs = (c .before .before .before .before .before .pre .0, omega arith)
@@ -42,8 +43,8 @@ add-at c =
     let l = c .before .before .before .before .before .before in
     let s = l .before .before .before in
     let x = s .args in
-    let ws = newWords (x .capacity) (reservesOf (x .reserves .now)) in
-    let m = new-length (x .capacity) (reservesOf (x .reserves .now)) (few-reserves (x .reserves .now) (s .pre .1)) in
+    let ws = newWords (x .capacity) (numbersOf (x .reserves .now)) in
+    let m = new-length (x .capacity) (numbersOf (x .reserves .now)) (few-reserves (x .reserves .now) (s .pre .1)) in
     let r = word-room ws (x .store .now) (l .loop .store) 0 (l .loop .at) (l .loop .k) (omega arith) (l .loop .inv .1) in
     omega arith
 
@@ -58,8 +59,8 @@ loop-again c =
     let l = c .before .before .before .before .before .before .loop in
     let s = c .before .before .before .before .before .before .before .before .before in
     let x = s .args in
-    let ws = newWords (x .capacity) (reservesOf (x .reserves .now)) in
-    let m = new-length (x .capacity) (reservesOf (x .reserves .now)) (few-reserves (x .reserves .now) (s .pre .1)) in
+    let ws = newWords (x .capacity) (numbersOf (x .reserves .now)) in
+    let m = new-length (x .capacity) (numbersOf (x .reserves .now)) (few-reserves (x .reserves .now) (s .pre .1)) in
     let put : ℕ → List ℕ = λ w. cond (hasRoom (l .store) (l .at)) (sets (l .store) (l .at) (wordBytes w)) (l .store) in
     let e = c .before .before .write-word .ensures .1 ∙ ap put (c .before .before .before .new-word .ensures) in
     (omega arith, word-written ws (x .store .now) (l .store) 0 (l .at) (l .k) (omega arith) (l .inv .1) _ e)
@@ -73,8 +74,8 @@ returns c =
     let s = c .before .before .before .before in
     let x = s .args in
     let l = c .before .loop in
-    let ws = newWords (x .capacity) (reservesOf (x .reserves .now)) in
-    let m = new-length (x .capacity) (reservesOf (x .reserves .now)) (few-reserves (x .reserves .now) (s .pre .1)) in
+    let ws = newWords (x .capacity) (numbersOf (x .reserves .now)) in
+    let m = new-length (x .capacity) (numbersOf (x .reserves .now)) (few-reserves (x .reserves .now) (s .pre .1)) in
     let d = ap bytesOf (drop-of-length-le ws {i = l .k} (omega arith)) in
     finish (bytesOf ws) 0 (x .store .now) (bytesOf (drop (l .k) ws)) (l .inv .1) d .bytes
 

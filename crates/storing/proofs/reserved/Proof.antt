@@ -3,15 +3,15 @@ use mathlib.Core.Path.{_≡_}
 use Prim.Native.Nat.{ℕ, _-_, _≤_}
 use native.Mathlib.Omega.{arith}
 use borrow.Author.Needs.{needs}
-use Rattle.store.specs.Store.{sumTo}
-use Rattle.store.specs.Bytes.{reserveWord, wordAt}
-use Rattle.base.specs.Sums.{capped}
+use Rattle.base.specs.Words.{wordAt}
+use Rattle.base.specs.Sums.{capped, sumBelow}
+use Rattle.store.specs.Bytes.{reserveWord}
 use Rattle.storing.proofs.Sums.{sum-done, sum-more, sum-none}
 use Rattle.storing.proofs.reserved.Statement.{statement}
 use Rattle.storing.proofs.reserved.Tie as tie
 
 abbrev Inv-loop : tie.InvT-loop
-Inv-loop store sum₀ c₀ sum c = (c ≤ 16) × (sum ≡ capped (sumTo c (λ (c : ℕ). wordAt (reserveWord c) store)))
+Inv-loop store sum₀ c₀ sum c = (c ≤ 16) × (sum ≡ capped (sumBelow c (λ (c : ℕ). wordAt (reserveWord c) store)))
 
 abbrev μ-loop : tie.MeasureT-loop
 μ-loop store sum₀ c₀ sum c = 16 - c

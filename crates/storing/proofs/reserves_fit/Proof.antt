@@ -2,14 +2,14 @@
 use mathlib.Core.Path.{_≡_}
 use Prim.Native.Nat.{ℕ, _+_, _-_, _≤_}
 use native.Mathlib.Omega.{arith}
-use Rattle.store.specs.Store.{sumTo}
-use Rattle.store.specs.Bytes.{wordAt}
+use Rattle.base.specs.Sums.{sumBelow}
+use Rattle.base.specs.Words.{wordAt}
 use Rattle.storing.proofs.Beginning.{sum-fits, sum-goes, sum-passes, sum-starts}
 use Rattle.storing.proofs.reserves_fit.Statement.{statement}
 use Rattle.storing.proofs.reserves_fit.Tie as tie
 
 abbrev Inv-loop : tie.InvT-loop
-Inv-loop capacity reserves rest₀ c₀ rest c = (c ≤ 16) × (rest + sumTo c (λ (i : ℕ). wordAt i reserves) ≡ capacity)
+Inv-loop capacity reserves rest₀ c₀ rest c = (c ≤ 16) × (rest + sumBelow c (λ (i : ℕ). wordAt i reserves) ≡ capacity)
 
 abbrev μ-loop : tie.MeasureT-loop
 μ-loop capacity reserves rest₀ c₀ rest c = 16 - c

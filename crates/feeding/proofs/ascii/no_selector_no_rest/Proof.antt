@@ -4,7 +4,7 @@ use mathlib.Core.Bool.{true≢false}
 use Prim.Native.Nat.{ℕ, _-_, _<_, _≤_}
 use native.Mathlib.Omega.{arith}
 use borrow.Author.Tests.{eqb-true, not-false}
-use Rattle.feed.specs.Bytes.{wordAt}
+use Rattle.base.specs.Words.{wordAt}
 use Rattle.feeding.proofs.Copying.{and-next}
 use Rattle.feeding.proofs.ascii.no_selector_no_rest.Statement.{statement}
 use Rattle.feeding.proofs.ascii.no_selector_no_rest.Tie as tie

@@ -4,8 +4,8 @@ use mathlib.Core.Bool.{true≢false}
 use Prim.Native.Nat.{ℕ, _-_, _<_, _≤_}
 use native.Mathlib.Omega.{arith}
 use borrow.Author.Tests.{leb-true, not-false}
+use Rattle.base.specs.Words.{wordAt}
 use Rattle.base.specs.Refusals.{textLimit}
-use Rattle.feed.specs.Bytes.{wordAt}
 use Rattle.feeding.proofs.Copying.{and-next}
 use Rattle.feeding.proofs.ascii.totals_are_few.Statement.{statement}
 use Rattle.feeding.proofs.ascii.totals_are_few.Tie as tie

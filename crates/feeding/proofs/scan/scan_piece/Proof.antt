@@ -4,7 +4,7 @@ use native.Mathlib.Omega.{arith}
 use lib.ListN.{drop, length-drop}
 use borrow.Author.Needs.{needs}
 use Rattle.utf8.proofs.Texts.{validUpTo-le}
-use Rattle.feeding.proofs.Scanning.{change-inside, change-valid, first-fits, joint, scanned}
+use Rattle.feeding.proofs.Scanning.{change-valid, first-fits, joint, scanned}
 use Rattle.feeding.proofs.scan.scan_piece.Statement.{statement}
 use Rattle.feeding.proofs.scan.scan_piece.Tie as tie
 
@@ -12,13 +12,6 @@ piece-from-requires : tie.Need-piece-from-requires
 piece-from-requires c κs =
     let x = c .before .before .before .args in first-fits (x .n) (x .rest) (x .piece .now) (c .before .before .before .pre .2)
     (c .first-char .ensures)
-
-valid-end-requires : tie.Need-valid-end-requires
-valid-end-requires c κs =
-    let x = c .before .before .before .before .before .args in
-    let j = joint (x .n) (x .rest) (x .piece .now) (c .before .before .before .before .before .pre .2)
-    (c .before .before .first-char .ensures) (c .before .piece-from .ensures) in
-    change-inside (c .next-change .ensures) (j .inside)
 
 joined-valid-requires : tie.Need-joined-valid-requires
 joined-valid-requires c κs =
@@ -53,6 +46,6 @@ scan-piece-spec =
     (λ c κs. search needs)
     piece-from-requires
     (λ c κs. search needs)
-    valid-end-requires
+    (λ c κs. search needs)
     joined-valid-requires
     returns)

@@ -5,18 +5,14 @@ use borrow.Author.Needs.{needs}
 use borrow.Author.Tests.{not-false, not-true}
 use Rattle.policy.specs.PolicyBytes.{policyOf}
 use Rattle.formatter.specs.Findings.{findings}
-use Rattle.findings_near.specs.Around.{listed}
 use Rattle.findings_near.proofs.AroundPass.{goes-on}
 use Rattle.findings_near.proofs.CountPass.{none-around, some-around}
 use Rattle.findings_near.proofs.NextRows.{span-advances}
 use Rattle.findings_near.proofs.around.count_around.Statement.{statement}
 use Rattle.findings_near.proofs.around.count_around.Tie as tie
 
-well-formed-end-requires : tie.Need-well-formed-end-requires
-well-formed-end-requires c κs = span-advances (c .before .before .next-finding .ensures) .inside (omega arith)
-
 returns : tie.Need-returns
-unfolding listed findings
+unfolding findings
 returns c =
     let x = c .before .before .before .before .before .before .args in
     let n = c .before .before .before .next-finding in
@@ -24,7 +20,7 @@ returns c =
     let v = span-advances (n .ensures) in
     let e = none-around (policyOf (x .policy .now)) (x .text .now) (x .from) (x .to) (n .ensures) (b .ensures)
     (not-true (b .result) (c .before .if1 .taken)) in
-    (e .0, (e .1, omega (arith, c .well-formed-end .ensures, v .valid, v .on)))
+    (e .0, (e .1, omega (arith, c .valid-end .ensures, v .valid, v .on)))
 
 add-inside : tie.Need-add-inside
 add-inside c =
@@ -42,14 +38,8 @@ add-inside c =
 add-sharing : tie.Need-add-sharing
 add-sharing c = omega (arith, c .before .before .one-if2 .ensures .1, c .one-if3 .ensures .1)
 
-well-formed-end-requires-2 : tie.Need-well-formed-end-requires-2
-well-formed-end-requires-2 c κs =
-    let found = c .before .before .before .before .before .before in
-    let a = span-advances (found .before .before .before .next-finding .ensures) in
-    span-advances (found .next-finding2 .ensures) .inside (a .inside (omega arith))
-
 returns-2 : tie.Need-returns-2
-unfolding listed findings
+unfolding findings
 returns-2 c =
     let inside = c .before .before .before .before .before in
     let found = inside .before .before in
@@ -63,7 +53,7 @@ returns-2 c =
     let e = some-around (policyOf (x .policy .now)) (x .text .now) (x .from) (x .to) (n .ensures) (on .0) m
     (inside .before .is-inside .ensures) (inside .one-if .ensures .0) (c .before .before .before .before .is-sharing .ensures)
     (c .before .before .before .one-if2 .ensures .0) (c .before .before .is-before2 .ensures) (c .before .one-if3 .ensures .0) in
-    (e .0, (e .1, omega (arith, c .well-formed-end2 .ensures, v .valid, v .on, w .valid, w .on)))
+    (e .0, (e .1, omega (arith, c .valid-end2 .ensures, v .valid, v .on, w .valid, w .on)))
 
 pub count-around-spec : {M : Type 1} → statement M
 count-around-spec =
@@ -71,7 +61,7 @@ count-around-spec =
     (tie.spec
     (λ c κs. search needs)
     (λ c κs. search needs)
-    well-formed-end-requires
+    (λ c κs. search needs)
     returns
     (λ c κs. search needs)
     (λ c κs. search needs)
@@ -82,5 +72,5 @@ count-around-spec =
     (λ c κs. search needs)
     (λ c κs. search needs)
     add-sharing
-    well-formed-end-requires-2
+    (λ c κs. search needs)
     returns-2)

@@ -1,7 +1,9 @@
 -- `findings_near::around::fill_tables` meets its contract.
 use native.Mathlib.Omega.{arith}
 use borrow.Author.Needs.{needs}
-use Rattle.findings_near.specs.Around.{filter, inside, listed, onlyShares}
+use Rattle.base.specs.Lists.{filter}
+use Rattle.formatter.specs.Findings.{listed}
+use Rattle.findings_near.specs.Around.{inside, onlyShares}
 use Rattle.findings_near.proofs.AroundPass.{
   both-filled,
   inner-room,

@@ -4,11 +4,11 @@ use native.Mathlib.Omega.{arith}
 use borrow.Author.Needs.{needs}
 use borrow.Author.Tests.{not-false, not-true}
 use lib.ListN.{length}
-use Rattle.policy.specs.PolicyBytes.{policyOf}
 use Rattle.positions.specs.Positions.{AtPosition}
 use Rattle.positions.proofs.Counting.{at-start}
+use Rattle.policy.specs.PolicyBytes.{policyOf}
 use Rattle.formatter.specs.Findings.{findings}
-use Rattle.findings_near.specs.Around.{inside, listed, onlyShares}
+use Rattle.findings_near.specs.Around.{inside, onlyShares}
 use Rattle.findings_near.proofs.AroundPass.{
   Filling,
   filling-begin,
@@ -34,7 +34,7 @@ abbrev μ-loop : tie.MeasureT-loop
 μ-loop text policy from to inner₀ outer₀ at₀ before₀ inner-to₀ outer-to₀ inner outer at before inner-to outer-to = length text - at
 
 loop-holds : tie.Need-loop-holds Inv-loop μ-loop
-unfolding listed findings
+unfolding findings
 loop-holds c =
     let s = c .before .before .before .before in
     let x = s .args in
@@ -52,7 +52,7 @@ same-length-2 : tie.Need-same-length-2 Inv-loop μ-loop
 same-length-2 c = c .before .before .before .before .loop .inv .2 .same
 
 returns : tie.Need-returns Inv-loop μ-loop
-unfolding listed findings
+unfolding findings
 returns c =
     let x = c .before .before .before .before .before .before .before .before .before .args in
     let p = policyOf (x .policy .now) in

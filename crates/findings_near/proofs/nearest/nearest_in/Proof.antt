@@ -4,10 +4,9 @@ use native.Mathlib.Omega.{arith}
 use borrow.Author.Needs.{needs}
 use borrow.Author.Tests.{not-false, not-true}
 use lib.ListN.{length}
-use Rattle.policy.specs.PolicyBytes.{policyOf}
 use Rattle.positions.proofs.Counting.{at-start}
+use Rattle.policy.specs.PolicyBytes.{policyOf}
 use Rattle.formatter.specs.Findings.{findings}
-use Rattle.findings_near.specs.Around.{listed}
 use Rattle.findings_near.proofs.NearestPass.{Nearing, nearing-begin, nearing-end, nearing-on}
 use Rattle.findings_near.proofs.nearest.nearest_in.Statement.{statement}
 use Rattle.findings_near.proofs.nearest.nearest_in.Tie as tie
@@ -28,7 +27,7 @@ next-row-requires : tie.Need-next-row-requires Inv-loop μ-loop
 next-row-requires c κs = c .loop .inv .position
 
 returns : tie.Need-returns Inv-loop μ-loop
-unfolding listed findings
+unfolding findings
 returns c =
     let x = c .before .before .before .before .before .before .before .before .args in
     let n = c .before .before .before .next-row in

@@ -2,11 +2,12 @@
 use native.Mathlib.Omega.{arith}
 use borrow.Author.Needs.{needs}
 use borrow.Author.Tests.{not-false, not-true}
+use Rattle.base.proofs.Writer.{put-no}
 use Rattle.base.specs.Words.{bytesOf}
 use Rattle.base.proofs.TableBytes.{row-put}
 use Rattle.formatter.specs.List.{rowNumbers}
 use Rattle.formatter.proofs.RowBytes.{length-row}
-use Rattle.findings_near.proofs.NextRows.{put-no, put-yes}
+use Rattle.findings_near.proofs.NextRows.{put-yes}
 use Rattle.findings_near.proofs.rows.put_row_if.Statement.{statement}
 use Rattle.findings_near.proofs.rows.put_row_if.Tie as tie
 

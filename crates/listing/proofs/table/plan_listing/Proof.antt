@@ -6,15 +6,15 @@ use lib.ListN.{length, length-map}
 use borrow.Author.Needs.{needs}
 use Rattle.policy.specs.PolicyBytes.{policyOf}
 use Rattle.analysis.specs.Findings.{findingsFrom}
-use Rattle.formatter.specs.Findings.{findingRow, findings}
+use Rattle.formatter.specs.Findings.{findingRow, findings, listed}
 use Rattle.formatter.specs.Intake.{intakeRefusal}
 use Rattle.formatter.proofs.Passing.{checked-passed, checked-refused, read-policy}
-use Rattle.listing.proofs.Storing.{plan-all, plan-refused, plan-short, rowsOf}
+use Rattle.listing.proofs.Storing.{plan-all, plan-refused, plan-short}
 use Rattle.listing.proofs.table.plan_listing.Statement.{statement}
 use Rattle.listing.proofs.table.plan_listing.Tie as tie
 
 -- The number of findings counted is the number of rows.
-counted : (text policy : List ℕ) {n : ℕ} → n ≡ length (findingsFrom (policyOf policy) text 0) → n ≡ length (rowsOf text policy)
+counted : (text policy : List ℕ) {n : ℕ} → n ≡ length (findingsFrom (policyOf policy) text 0) → n ≡ length (listed text policy)
 unfolding findings
 counted text policy e = e ∙ sym (length-map (findingsFrom (policyOf policy) text 0) (findingRow (policyOf policy) text))
 

@@ -1,11 +1,9 @@
 -- An arm for each selector.
 use borrow.Author.Needs.{needs}
-use Rattle.text_pass.specs.Changes.{selectorNumber}
 use Rattle.membership_flips.proofs.pass.number_of.Statement.{statement}
 use Rattle.membership_flips.proofs.pass.number_of.Tie as tie
 
 pub number-of-spec : {M : Type 1} → statement M
-unfolding selectorNumber
 number-of-spec =
     tie.close
     (tie.spec

@@ -33,7 +33,7 @@ loop-again c =
     let l = c .before .before .before .before .loop in
     let a = c .before .before .before .before .before .args in
     let f = l .inv .3 in
-    let e = c .before .before .entry in
+    let e = c .before .before .variation-char in
     let h : l .i < length variationEntries = omega (arith, entries-length) in
     let m = contains-place (a .set .bits) (l .i) (omega arith) (e .ensures) (c .before .contains .ensures) in
     ⊎-elim

@@ -4,12 +4,12 @@ use mathlib.Core.Logic.{⊎-elim}
 use Prim.Native.Nat.{ℕ, _+_, _-_, _<_, _≤_}
 use native.Mathlib.Omega.{arith}
 use lib.ListN.{drop, length}
+use Rattle.base.proofs.Writer.{Writing, begin, finish, moved, pass, put, room}
 use Rattle.unicode.specs.UnicodeData.{variationEntries}
 use Rattle.policy_key_set.specs.Display.{keyText, keyTexts, withComma, writtenFrom}
 use Rattle.policy_key_set.proofs.Contains.{contains-place}
 use Rattle.policy_key_set.proofs.Entries.{entries-length}
 use Rattle.policy_key_set.proofs.Texts.{keys-done, keys-in, keys-out}
-use Rattle.base.proofs.Writer.{Writing, begin, finish, moved, pass, put, room}
 use Rattle.policy_key_set.proofs.display.put_keys.Statement.{statement}
 use Rattle.policy_key_set.proofs.display.put_keys.Tie as tie
 
@@ -29,7 +29,7 @@ put-key-requires : tie.Need-put-key-requires Inv-loop μ-loop
 put-key-requires c κs =
     let l = c .before .before .before .before .before .loop in
     let a = c .before .before .before .before .before .before .before .args in
-    let e = c .before .before .before .entry in
+    let e = c .before .before .before .variation-char in
     let m = contains-place (a .set .bits) (l .i) (omega arith) (e .ensures) (c .before .before .contains .ensures) in
     room _ _ _ _ (withComma (l .at) (keyText (a .keycap) (e .result))) _ (l .inv .1)
     (keys-in (a .keycap) (a .set .bits) variationEntries (l .i) (l .at) (omega (arith, entries-length)) (e .ensures)
@@ -40,7 +40,7 @@ loop-again c =
     let l = c .before .before .before .before .loop in
     let a = c .before .before .before .before .before .before .args in
     let all = writtenFrom (a .start) (keyTexts (a .keycap) (a .set .bits) 0 variationEntries) in
-    let e = c .before .before .entry in
+    let e = c .before .before .variation-char in
     let h : l .i < length variationEntries = omega (arith, entries-length) in
     let m = contains-place (a .set .bits) (l .i) (omega arith) (e .ensures) (c .before .contains .ensures) in
     let texts = keyTexts (a .keycap) (a .set .bits) (l .i + 1) (drop (l .i + 1) variationEntries) in

@@ -1,11 +1,9 @@
 -- `report::lines::count_numbers` meets its contract.
 use mathlib.Core.Path.{refl}
-use Rattle.formatter.specs.List.{countNumbers}
 use Rattle.report.proofs.lines.count_numbers.Statement.{statement}
 use Rattle.report.proofs.lines.count_numbers.Tie as tie
 
 returns : tie.Need-returns
-unfolding countNumbers
 returns c = refl
 
 pub count-numbers-spec : {M : Type 1} → statement M

@@ -4,8 +4,8 @@ use native.Mathlib.Omega.{arith}
 use lib.ListN.{length, length-append}
 use lib.Seq.{length-sets}
 use Rattle.base.proofs.Writer.{put-as, put-then}
-use Rattle.formatter.specs.List.{countNumbers}
 use Rattle.message_io.specs.Lines.{totalLine}
+use Rattle.formatter.specs.List.{countNumbers}
 use Rattle.report.specs.Report.{linesFrom, reportLines, totalsAt}
 use Rattle.report.proofs.Reports.{totals-are}
 use borrow.Author.Needs.{needs}

@@ -19,9 +19,6 @@ loop-holds c = search-begin (c .args .ch)
 add-mid : tie.Need-add-mid Inv-loop μ-loop
 add-mid c = omega (arith, c .before .loop .inv .inside)
 
-entry-requires : tie.Need-entry-requires Inv-loop μ-loop
-entry-requires c κs = omega (arith, c .before .loop .inv .inside)
-
 add-lo : tie.Need-add-lo Inv-loop μ-loop
 add-lo c = omega (arith, c .before .before .before .loop .inv .inside)
 
@@ -29,13 +26,13 @@ loop-again : tie.Need-loop-again Inv-loop μ-loop
 loop-again c =
     let l = c .before .before .before .loop in
     let m = l .lo + (l .hi - l .lo) / 2 in
-    search-up m (l .inv) (omega arith) (omega arith) (c .before .entry .ensures) (c .if1 .taken)
+    search-up m (l .inv) (omega arith) (omega arith) (c .before .variation-char .ensures) (c .if1 .taken)
 
 loop-again-2 : tie.Need-loop-again-2 Inv-loop μ-loop
 loop-again-2 c =
     let l = c .before .before .before .loop in
     let m = l .lo + (l .hi - l .lo) / 2 in
-    search-down m (l .inv) (omega arith) (omega arith) (c .before .entry .ensures) (c .if1 .left)
+    search-down m (l .inv) (omega arith) (omega arith) (c .before .variation-char .ensures) (c .if1 .left)
 
 returns : tie.Need-returns Inv-loop μ-loop
 returns c =
@@ -51,7 +48,7 @@ entries-below-spec =
     loop-holds
     (λ c. omega arith)
     add-mid
-    entry-requires
+    (λ c κs. search needs)
     (λ c. search needs)
     add-lo
     (λ c. omega arith)

@@ -3,8 +3,8 @@ use mathlib.Core.Path.{sym, subst}
 use Prim.Native.Nat.{_*_, _/_, _%_, _^_}
 use borrow.Author.Needs.{needs}
 use Rattle.policy.specs.declared.SingletonRule.{SingletonRule}
-use Rattle.analysis.specs.Rules.{rule6, runWith}
-use Rattle.text_pass.specs.Changes.{LeavesSelector, selectorNumber}
+use Rattle.analysis.specs.Rules.{rule6, runWith, selectorNumber}
+use Rattle.text_pass.specs.Changes.{LeavesSelector}
 use Rattle.text_pass.proofs.NumberedSelectors.{bare-to-emoji, bare-to-text, emoji-to-bare, text-to-bare}
 use Rattle.text_pass.proofs.base_selectors.kept_word.Statement.{statement}
 use Rattle.text_pass.proofs.base_selectors.kept_word.Tie as tie

@@ -8,12 +8,13 @@ use native.Mathlib.Omega.{arith}
 use lib.Dec.{eqb}
 use lib.ListN.{getD, length}
 use borrow.Author.Tests.{eq-eqb}
+use Rattle.base.specs.Sums.{oneIf}
 use Rattle.base.specs.Bits.{one}
 use Rattle.base.proofs.Bits.{low-bit, next-bit}
 use Rattle.base.proofs.Tests.{le-or-lt}
-use Rattle.policy_key_set.specs.Sets.{member, oneIf}
+use Rattle.policy_key_set.specs.Sets.{member, wordOf, wordsOf}
+use Rattle.policy_key_set.proofs.Below.{number-le}
 use Rattle.policy_key_set.proofs.Members.{member-past}
-use Rattle.policy_migration.specs.Carry.{bitsOf, wordsOf}
 
 low-test : (b : Bool) (x : ℕ) → eqb ((oneIf b + 2 * x) % 2) 1 ≡ b
 low-test true x = eq-eqb ((1 + 2 * x) % 2) 1 (omega arith)
@@ -27,23 +28,19 @@ half-test true x = omega arith
 half-test false x = omega arith
 
 -- A bit below n.
-pub bit-of : (n : ℕ) (p : ℕ → Bool) (k : ℕ) → k < n → one k (bitsOf n p) ≡ p k
-unfolding bitsOf
+pub bit-of : (n : ℕ) (p : ℕ → Bool) (k : ℕ) → k < n → one k (wordOf n p) ≡ p k
+unfolding wordOf
 bit-of zero p k l = absurd (omega arith)
-bit-of (suc n) p zero l = low-bit (oneIf (p 0) + 2 * bitsOf n (λ (i : ℕ). p (suc i))) ∙ low-test (p 0) (bitsOf n (λ (i : ℕ). p (suc i)))
+bit-of (suc n) p zero l = low-bit (oneIf (p 0) + 2 * wordOf n (λ (i : ℕ). p (suc i))) ∙ low-test (p 0) (wordOf n (λ (i : ℕ). p (suc i)))
 bit-of (suc n) p (suc k) l =
-    next-bit k (oneIf (p 0) + 2 * bitsOf n (λ (i : ℕ). p (suc i)))
-    ∙ ap (one k) (half-test (p 0) (bitsOf n (λ (i : ℕ). p (suc i))))
+    next-bit k (oneIf (p 0) + 2 * wordOf n (λ (i : ℕ). p (suc i)))
+    ∙ ap (one k) (half-test (p 0) (wordOf n (λ (i : ℕ). p (suc i))))
     ∙ bit-of n (λ (i : ℕ). p (suc i)) k (omega arith)
 
-number-le : (b : Bool) → oneIf b ≤ 1
-number-le true = omega arith
-number-le false = omega arith
-
-pub bits-small : (n : ℕ) (p : ℕ → Bool) → bitsOf n p < 2 ^ n
-unfolding bitsOf
-bits-small zero p = omega arith
-bits-small (suc n) p = omega (arith, pow-suc 2 n, bits-small n (λ (i : ℕ). p (suc i)), number-le (p 0))
+pub word-small : (n : ℕ) (p : ℕ → Bool) → wordOf n p < 2 ^ n
+unfolding wordOf
+word-small zero p = omega arith
+word-small (suc n) p = omega (arith, pow-suc 2 n, word-small n (λ (i : ℕ). p (suc i)), number-le (p 0))
 
 pub words-many : (m : ℕ) (p : ℕ → Bool) → length (wordsOf m p) ≡ m
 unfolding wordsOf
@@ -53,7 +50,7 @@ words-many (suc m) p = ap suc (words-many m (λ (i : ℕ). p (64 + i)))
 pub words-small : (m : ℕ) (p : ℕ → Bool) (k : ℕ) → getD (wordsOf m p) k 0 < 2 ^ 64
 unfolding wordsOf
 words-small zero p k = omega arith
-words-small (suc m) p zero = bits-small 64 p
+words-small (suc m) p zero = word-small 64 p
 words-small (suc m) p (suc k) = words-small m (λ (i : ℕ). p (64 + i)) k
 
 word-is : (m : ℕ) (p : ℕ → Bool) (k : ℕ) → k < m → (b : ℕ) → b < 64 → one b (getD (wordsOf m p) k 0) ≡ p (64 * k + b)

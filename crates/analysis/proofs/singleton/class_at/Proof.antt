@@ -1,10 +1,10 @@
--- `replacing::measure::class_at` meets its contract: the class of the first character, if there is one.
+-- `analysis::singleton::class_at` meets its contract: the class of the first character, if there is one.
 use mathlib.Core.Path.{ap, sym, _∙_}
 use borrow.Author.Needs.{needs}
 use Rattle.scanner.proofs.Peek.{seen, unseen}
 use Rattle.analysis.specs.CellView.{classInFront}
-use Rattle.replacing.proofs.measure.class_at.Statement.{statement}
-use Rattle.replacing.proofs.measure.class_at.Tie as tie
+use Rattle.analysis.proofs.singleton.class_at.Statement.{statement}
+use Rattle.analysis.proofs.singleton.class_at.Tie as tie
 
 returns : tie.Need-returns
 unfolding classInFront
