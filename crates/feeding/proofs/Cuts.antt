@@ -182,7 +182,6 @@ module _ (p : Policy) where
       → takeChars nothing (fedAs p (ms ++ (c ∷ map asSelector qs))) ≡ (base p c (firstAsked qs) (length qs), wholeEffect p ms)
   cut-before ms c qs e v =
       let A = takeChars nothing (fedAs p ms) in
-      let T = takeChars nothing (fedAs p (c ∷ map asSelector qs)) in
       let S = settle (A .0) (classOf c) in
       let same : joinEffects (A .1) (joinEffects S noEffect) ≡ wholeEffect p ms =
       ap (joinEffects (A .1)) (effect-path (append-nil (S .text)) (plus-empty (S .counts)) ∙ settle-as-other (A .0) c v) ∙ taken-whole ms in

@@ -75,7 +75,6 @@ sub-scan-piece c =
     let d = c .before .before .before .before .before .before .before .before .before .before in
     let x = d .args in
     let f = x .feed .now in
-    let b = x .piece .now in
     let i = sym (c .before .before .before .before .before .is-feed .ensures) ∙ not-false _
     (c .before .before .before .before .if1 .left) in
     omega (arith, feed-length f i)
@@ -85,7 +84,6 @@ part-scan-piece-start c =
     let d = c .before .before .before .before .before .before .before .before .before .before in
     let x = d .before .args in
     let f = x .feed .now in
-    let b = x .piece .now in
     let i = sym (c .before .before .before .before .before .before .is-feed .ensures) ∙ not-false _
     (c .before .before .before .before .before .if1 .left) in
     omega (arith, feed-length f i)
@@ -99,7 +97,6 @@ scan-piece-requires c κs =
     let i = sym (c .before .before .before .before .before .before .before .is-feed .ensures) ∙ not-false _
     (c .before .before .before .before .before .before .if1 .left) in
     let r = c .before .before .before .before .read-state .ensures .0 (omega (arith, d .before .before .pre)) in
-    let s = c .before .before .before .before .read-state .result in
     (few-rest f b i r, omega (arith, c .before .before .if3 .left), unfinished-rest f b i r)
 
 left-after-requires : tie.Need-left-after-requires
@@ -140,7 +137,6 @@ returns-4 c =
     let i = sym (d .before .before .is-feed .ensures) ∙ not-false _ (d .before .if1 .left) in
     let r = c .before .before .before .before .before .before .before .before .before .read-state .ensures .0 (omega
     (arith, d .before .before .before .before .before .before .before .pre)) in
-    let s = c .before .before .before .before .before .before .before .before .before .read-state .result in
     ends-called (piece-3 f b (x .out .now) i r (c .before .before .before .before .before .before .before .before .if2 .left)
     (c .before .before .before .before .before .before .before .if3 .left)
     (c .before .before .before .before .scan-piece .ensures .valid-is)
@@ -155,7 +151,6 @@ returns-5 c =
     let i = sym (d .before .before .is-feed .ensures) ∙ not-false _ (d .before .if1 .left) in
     let r = c .before .before .before .before .before .before .before .before .before .read-state .ensures .0 (omega
     (arith, d .before .before .before .before .before .before .before .pre)) in
-    let s = c .before .before .before .before .before .before .before .before .before .read-state .result in
     ends-called (piece-8 f b (x .out .now) i r (c .before .before .before .before .before .before .before .before .if2 .left)
     (c .before .before .before .before .before .before .before .if3 .left)
     (c .before .before .before .before .scan-piece .ensures .valid-is)
@@ -166,7 +161,6 @@ sub-take-all c =
     let d = c .before .before .before .before .before .before .before .before .before .before in
     let x = d .before .before .before .before .before .before .before .before .before .args in
     let f = x .feed .now in
-    let b = x .piece .now in
     let i = sym (d .before .before .before .before .is-feed .ensures) ∙ not-false _ (d .before .before .before .if1 .left) in
     omega (arith, feed-length f i)
 
@@ -176,7 +170,6 @@ part-take-all-start c =
     let e = d .before .before .before .before .before .before .before .before .before .before in
     let x = e .args in
     let f = x .feed .now in
-    let b = x .piece .now in
     let i = sym (d .before .before .before .before .before .is-feed .ensures) ∙ not-false _
     (d .before .before .before .before .if1 .left) in
     omega (arith, feed-length f i)
@@ -215,7 +208,6 @@ add-open-state c =
     let i = sym (e .before .before .before .before .is-feed .ensures) ∙ not-false _ (e .before .before .before .if1 .left) in
     let r = e .before .read-state .ensures .0 (omega
     (arith, e .before .before .before .before .before .before .before .before .before .pre)) in
-    let s = e .before .read-state .result in
     omega (arith, d .before .before .before .before .before .before .before .before .before .if3 .left, len-fits f b i r)
 
 put-state-requires : tie.Need-put-state-requires
@@ -225,7 +217,6 @@ put-state-requires c κs =
     let g = e .before .before .before .before .before .before .before .before .before .before in
     let x = g .args in
     let f = x .feed .now in
-    let b = x .piece .now in
     let i = sym (e .before .before .before .before .before .is-feed .ensures) ∙ not-false _
     (e .before .before .before .before .if1 .left) in
     omega (arith, feed-length f i)

@@ -15,7 +15,6 @@ put-pair-requires c κs = (omega arith, simp length-set (omega arith))
 
 same-length : tie.Need-same-length
 same-length c =
-    let x = c .before .before .before .before .before .args in
     ap length (c .before .before .put-pair .ensures) ∙ simp (length-sets, length-set)
 
 returns : tie.Need-returns

@@ -75,7 +75,6 @@ returns-2 c =
     (c .before .before .before .before .before .before .before .before .if1 .left) in
     let a = c .before .before .before .before .before .before .take-first .ensures in
     let g = c .before .before .before .take-selectors .ensures .so-far in
-    let r = c .before .before .before .take-selectors .result .taken in
     let S = front-chars q p (x .piece .now) (x .scan) (x .held) (x .counts) only a g in
     let F = front-is q p (x .piece .now) (x .scan) (x .held) (x .counts) only a g in
     let out = front-out q p (x .piece .now) (x .scan) (x .held) (x .counts) only a g in
