@@ -140,9 +140,6 @@ module _ {p : Policy} {text : List ℕ} {from : ℕ} {c : Change} (k : NextChang
       go true e = k .0 e .advances
       go false e = k .1 e .stays .advances
 
-  pub change-inside : from ≤ length text → c .end ≤ length text
-  change-inside l = moved .inside l
-
   pub change-valid : {end : ℕ} → end ≡ c .end + validUpTo (drop (c .end) text) → end ≡ from + validUpTo (drop from text)
   change-valid e = let o = moved .on in omega (arith, moved .valid)
 

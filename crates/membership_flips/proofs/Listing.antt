@@ -20,14 +20,11 @@ use Rattle.base.proofs.Numbers.{length-bytesOf}
 use Rattle.base.specs.Tables.{fillTable, rowsBytes}
 use Rattle.base.specs.declared.ListAnswer.the-variants.{Refused}
 use Rattle.unicode.specs.UnicodeData.{variationEntries}
-use Rattle.unicode.specs.declared.VariationEntry.the-variants as Entry
-use Rattle.unicode.specs.Unicode.{variationEntry}
-use Rattle.unicode.proofs.Ascent.{entry-in}
 use Rattle.unicode.specs.declared.presentation.FromSelector.{FromSelector}
 use Rattle.unicode.specs.declared.presentation.FromSelector.the-variants.{NoSelector, Selector}
 use Rattle.unicode.specs.declared.presentation.Presentation.the-variants.{Emoji, Text}
 use Rattle.policy_key_set.specs.Sets.{entryCount}
-use Rattle.policy_key_set.proofs.Entries.{entries-length, entry-count}
+use Rattle.policy_key_set.proofs.Entries.{entry-count}
 use Rattle.policy.specs.Policy.{entryRule, holdsEntry, ruleOf}
 use Rattle.policy.specs.PolicyBytes.{policyOf}
 use Rattle.policy.specs.declared.Policy.{Policy}
@@ -219,10 +216,6 @@ numbers-are n {c} e =
     ap (λ (x : ℕ). x ∷ n / 2 % 2 ∷ n % 2 ∷ []) e
     ∙ ap₂ (λ (x y : ℕ). getD variationEntries (n / 4) 0 ∷ x ∷ y ∷ []) (digit-two (n / 2 % 2) (omega arith))
     (digit-two (n % 2) (omega arith))
-
-pub entry-there : (i : ℕ) → i < 354 → variationEntry i ≡ Entry.Char (getD variationEntries i 0)
-unfolding variationEntry
-entry-there i h = entry-in i variationEntries (omega (arith, entries-length))
 
 pub put-yes : {o o′ xs : List ℕ} {s r : ℕ} {wanted : Bool} → wanted ≡ true → PutAt o s xs o′ r → PutAt o s (cond wanted xs []) o′ r
 put-yes {o} {o′} {xs} {s} {r} e p = subst (λ (b : Bool). PutAt o s (cond b xs []) o′ r) (sym e) p
