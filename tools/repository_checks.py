@@ -17,6 +17,7 @@ also a fault.
 - theorems:   every statement of a crate's specs/ has its proof, none is open or empty, and docs/AUDIT.md lists exactly these;
               the names in it and in docs/DECISIONS.md are declared (theorem_checks.py).
 - repeated:   no definition and no law stands twice, under one name or under two (repeated_laws.py).
+- unused:     every law is used (unused_laws.py).
 - lines:      no line of code, definition or proof has more than 140 characters. A constant of bytes may have more.
 - counts:     the last line of rt ci counts every crate and every must-fail edit.
 - edits:      the place that a must-fail edit names refuses it, because a fact is false there (edit_checks.py).
@@ -33,6 +34,7 @@ from crate_files import libraries, listed, rattle, uses
 from edit_checks import misfits, must_fail_edits, telling_nothing, wrong_programs
 from repeated_laws import repeated_laws
 from theorem_checks import empty_statements, open_statements, other_statements, unknown_names, unproved_statements
+from unused_laws import unused_laws
 
 CLAUSE = re.compile(r"\s*(requires|ensures|ghost)\b[^{]*\{")
 PUBLIC_FUNCTION = re.compile(r'\bpub\s+(?:const\s+)?(?:extern\s+"C"\s+)?fn\s+(\w+)')
@@ -191,6 +193,7 @@ SOURCE = (
     unlisted_crates,
     long_lines,
     repeated_laws,
+    unused_laws,
     libraries_that_call_c,
     misfits,
     weak_contracts,
