@@ -34,7 +34,7 @@ void __sanitizer_cov_trace_pc_indir(uintptr_t callee) { (void)callee; }
 
 int main(int count, char **paths) {
     size_t all = (size_t)(counters_end - counters);
-    // A counter has eight bits and can be 0 again after an input, so each input is looked at by itself.
+    // A counter has eight bits: after 256 visits it is 0 again. So the counters are read after each input, and not once at the end.
     uint8_t *reached = calloc(all + 1, 1);
     uint8_t *own = (uint8_t *)counters;
     for (int path = 1; path < count; path++) {

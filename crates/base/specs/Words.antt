@@ -33,6 +33,6 @@ allBytes (b ∷ bs) = leb b 255 && allBytes bs
 abbrev pub hasRoom : List ℕ → ℕ → Bool
 hasRoom out at = leb (at + 8) (length out)
 
--- The word at an index of words of eight bytes.
+-- Word k of bytes that are read as words of eight bytes.
 abbrev pub wordAt : ℕ → List ℕ → ℕ
 wordAt k bs = number (take 8 (drop (8 * k) bs))
