@@ -1,6 +1,8 @@
 // Finds the end of a run of ASCII bytes, eight bytes at a time. ASCII bytes are the bytes up to 7F; each is a character
 // of one byte (RFC 3629, section 4, UTF8-1). `ascii_end` equals `ascii_end` in specs/Ascii. The Rust crate has no such
 // function, since it gets a `str`.
+#![tactic(auto)]
+
 ghost use Rattle.std.specs.Prelude.{◌≡◌, ◌+◌, ◌/◌, ◌≤◌, ◌<◌, get_or};
 ghost use Rattle.std.specs.Int.Count.{count_trailing_zeros};
 ghost use Rattle.ascii_runs.specs.Ascii.{AllUpTo, ascii_end};

@@ -23,7 +23,8 @@ length_bytes_of_lem (w ∷ ws) =
 -- The bytes from number i on are the bytes of number i, then the bytes from number i + 1 on.
 pub bytes_of_drop : (ws : List ℕ) (i : ℕ) → i < length ws → bytes_of (drop i ws) ≡ word_bytes (get_or ws i 0) ++ bytes_of (drop (i + 1) ws)
 unfolding bytes_of
-bytes_of_drop ws i h = ap bytes_of (drop-cons ws i 0 h) ∙ ap (λ (k : ℕ). word_bytes (get_or ws i 0) ++ bytes_of (drop k ws)) (sym (add-one i))
+bytes_of_drop ws i h = ap bytes_of (drop-cons ws i 0 h)
+    ∙ ap (λ (k : ℕ). word_bytes (get_or ws i 0) ++ bytes_of (drop k ws)) (sym (add-one i))
 
 -- The bytes of two lists one after the other.
 pub bytes_of_append : (ws vs : List ℕ) → bytes_of (ws ++ vs) ≡ bytes_of ws ++ bytes_of vs

@@ -8,7 +8,6 @@ use Rattle.base.specs.Refusals.{RefusalRow, refusal_row}
 use Rattle.base.specs.Answers.{check_row, list_row, write_row}
 use Rattle.base.specs.Theorems.{RefusalRowsDistinct}
 use Rattle.base.specs.declared.Check.{Check}
-use Rattle.base.specs.declared.Check.TheVariants as Check
 use Rattle.base.specs.declared.ListAnswer.{ListAnswer}
 use Rattle.base.specs.declared.ListAnswer.TheVariants as Listing
 use Rattle.base.specs.declared.WriteAnswer.{WriteAnswer}

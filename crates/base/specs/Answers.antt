@@ -4,7 +4,6 @@
 use Rattle.std.specs.Prelude.{◌≡◌, List, ℕ, ◌+◌, ◌*◌, ◌^◌}
 use Rattle.base.specs.Refusals.{After, RefusalRow, refusal_row}
 use Rattle.base.specs.declared.Check.{Check}
-use Rattle.base.specs.declared.Check.TheVariants as Check
 use Rattle.base.specs.declared.ListAnswer.{ListAnswer}
 use Rattle.base.specs.declared.ListAnswer.TheVariants as Listing
 use Rattle.base.specs.declared.Refusal.TheVariants.{OutputTooShort}

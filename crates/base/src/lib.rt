@@ -2,6 +2,8 @@
 // reads of one byte, and numbers of eight bytes (document 01: "There a policy word, a start, an end or a count is 8 bytes, lowest
 // first"). `read_word` returns `number` of eight bytes. `write_word` writes `word_bytes`, `write_numbers` writes
 // `bytes_of`, and `write_bytes` writes its argument.
+#![tactic(auto)]
+
 pub mod refusals;
 
 ghost use Rattle.std.specs.Prelude.{◌≡◌, cond, ◌+◌, ◌*◌, ◌%◌, ◌≤◌, drop, get_or, length, take};
@@ -17,7 +19,7 @@ pub const WORD_BYTES: usize = 8;
 pub const TEXT_LIMIT: usize = 16_777_216;
 
 // The answer to writing a result into a lent buffer: the number of bytes written, or the number of bytes needed.
-#[derive(Drop)]
+#[derive(Clone, Copy)]
 pub enum WriteAnswer {
     Written { len: usize },
     TooShort { wanted: usize },
@@ -25,7 +27,7 @@ pub enum WriteAnswer {
 
 // The reason why a call is refused, with the value that is returned: a row of document 01's table, with those of
 // document 02. The functions in refusals.rt give the number and the value.
-#[derive(Drop)]
+#[derive(Clone, Copy)]
 pub enum Refusal {
     TextTooLong,
     NotAPolicy,
@@ -46,14 +48,14 @@ pub enum Refusal {
 }
 
 // The answer to filling a table: the number of rows written, or a refusal.
-#[derive(Drop)]
+#[derive(Clone, Copy)]
 pub enum ListAnswer {
     Listed { findings: usize },
     Refused(Refusal),
 }
 
 // The answer to the tests of a call's arguments: all tests passed, or the first refusal.
-#[derive(Drop)]
+#[derive(Clone, Copy)]
 pub enum Check {
     Passed,
     Refused(Refusal),

@@ -1,4 +1,4 @@
--- Contracts of helper functions (src/blocks.rt, and `entry_in_lem` of src/lib.rt); no public contract rests on this file.
+-- Contracts of helper functions (src/blocks.rt, and `entry_in` of src/lib.rt); no public contract rests on this file.
 -- Blocks of 64 code points. A block has the bits of its emoji, the bits of its variation entries, and the number of entries before it.
 -- Document 01 has no blocks: the fast forms use them, and proofs/BlockTables.antt proves that they hold document 01's tables.
 use Rattle.std.specs.Prelude.{cond, List, [], ◌∷◌, ℕ, ◌+◌, ◌-◌, ◌%◌, ◌^◌, eqb}

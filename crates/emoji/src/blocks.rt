@@ -12,7 +12,7 @@ ghost use Rattle.emoji.specs.BlockData.{
 
 // Bit j of `emoji` is 1 if character j of the block is emoji. Bit j of `entries` is 1 if character j is a variation
 // entry. `rank` is the number of variation entries before the block.
-#[derive(Drop)]
+#[derive(Clone, Copy)]
 pub(crate) struct Block {
     pub(crate) emoji: u64,
     pub(crate) entries: u64,

@@ -5,6 +5,8 @@
 // The scanner tests every character of a text. For these tests there are fast forms with the same contracts. They look
 // up the bits of the character's block of 64 code points (blocks.rt), or compare with the first and the last number of
 // the table.
+#![tactic(auto)]
+
 mod blocks;
 pub mod presentation;
 pub mod unicode_data;
@@ -47,21 +49,21 @@ pub const COMBINING_ENCLOSING_KEYCAP: u32 = 0x20E3;
 pub const ZWJ: u32 = 0x200D;
 
 // The index of a character in the list of the variation entries.
-#[derive(Drop)]
+#[derive(Clone, Copy)]
 pub enum VariationSequenceIndex {
     At(usize),
     NoEntry,
 }
 
 // The variation entry at an index.
-#[derive(Drop)]
+#[derive(Clone, Copy)]
 pub enum VariationEntry {
     Char(u32),
     NoEntry,
 }
 
 // The data that a block has for a character: whether it is emoji, and its index in the list of the variation entries.
-#[derive(Drop)]
+#[derive(Clone, Copy)]
 pub struct EmojiData {
     pub is_emoji: bool,
     pub index: VariationSequenceIndex,

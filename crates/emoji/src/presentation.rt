@@ -5,14 +5,14 @@ ghost use Rattle.emoji.specs.Presentation.{as_selector, from_selector};
 
 use crate::{EMOJI_PRESENTATION_SELECTOR, TEXT_PRESENTATION_SELECTOR};
 
-#[derive(Drop)]
+#[derive(Clone, Copy)]
 pub enum Presentation {
     Text,
     Emoji,
 }
 
 // The presentation that a character requests, if it is a selector.
-#[derive(Drop)]
+#[derive(Clone, Copy)]
 pub enum FromSelector {
     Selector(Presentation),
     NoSelector,

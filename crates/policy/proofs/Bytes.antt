@@ -32,7 +32,8 @@ get_d_words_from (suc n) at bs (suc k) h =
     get_d_words_from n (at + 8) bs k (le_of_suc-le-suc h) ∙ ap (λ (i : ℕ). number (take 8 (drop i bs))) e
 
 -- The policy made of four sets.
-pub policy-made : (a b c d : CharSet) (bs : List ℕ) → a.bits ≡ (set_of 0 bs).bits → b.bits ≡ (set_of 1 bs).bits → c.bits ≡ (set_of 2 bs).bits
+pub policy-made : (a b c d : CharSet) (bs : List ℕ) → a.bits ≡ (set_of 0 bs).bits → b.bits ≡ (set_of 1 bs).bits
+    → c.bits ≡ (set_of 2 bs).bits
     → d.bits ≡ (set_of 3 bs).bits
     → ◌≡◌ {A = Policy} (record {
       prefer_bare = record { chars = a; keycap_chars = b };

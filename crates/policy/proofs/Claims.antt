@@ -20,7 +20,13 @@ use Rattle.policy_key_set.specs.KeySets.{is_ascii, words_match_rule}
 use Rattle.policy_key_set.proofs.Contains.{contains-chars}
 use Rattle.policy_key_set.proofs.Entries.{matching_words_hold}
 use Rattle.policy.specs.Policy.{holds_base, rule_of, singleton_rule}
-use Rattle.policy.specs.DefaultPolicy.{bare_as_text_words, bare_as_text_keycap_words, default_policy, prefer_bare_words, prefer_bare_keycap_words}
+use Rattle.policy.specs.DefaultPolicy.{
+  bare_as_text_words,
+  bare_as_text_keycap_words,
+  default_policy,
+  prefer_bare_words,
+  prefer_bare_keycap_words,
+}
 use Rattle.policy.specs.PolicyBytes.{
   PolicyValue,
   is_policy,
@@ -65,7 +71,8 @@ use Rattle.policy.proofs.Unused.{refused-by, refused_for}
 
 -- The entries of each set of the default policy, by one computed test for each.
 holds_prefer_bare : words_match_rule (λ (c : ℕ). is_ascii c || is_emoji_default c) prefer_bare_words ≡ true
-unfolding words_match_rule all_below member one entry_count is_emoji_default is_emoji_presentation has_variation_sequence in_ranges Tables·member
+unfolding words_match_rule all_below member one entry_count is_emoji_default is_emoji_presentation has_variation_sequence in_ranges
+    Tables·member
     emoji_presentation_ranges variation_entries prefer_bare_words
 holds_prefer_bare = refl
 
@@ -74,7 +81,8 @@ unfolding words_match_rule all_below member one entry_count variation_entries pr
 holds_prefer_bare_keycap = refl
 
 holds_bare_as_text : words_match_rule is_text_default bare_as_text_words ≡ true
-unfolding words_match_rule all_below member one entry_count is_text_default is_emoji_presentation has_variation_sequence in_ranges Tables·member
+unfolding words_match_rule all_below member one entry_count is_text_default is_emoji_presentation has_variation_sequence in_ranges
+    Tables·member
     emoji_presentation_ranges variation_entries bare_as_text_words
 holds_bare_as_text = refl
 

@@ -10,7 +10,13 @@ use borrow.Author.Tests.{le-leb}
 use Rattle.base.specs.Output.{Wrote, buffer_of}
 use Rattle.base.specs.Words.{bytes_of, little_endian, word_bytes}
 use Rattle.base.specs.declared.WriteAnswer.{WriteAnswer}
-use Rattle.policy.specs.DefaultPolicy.{bare_as_text_words, bare_as_text_keycap_words, default_policy, prefer_bare_words, prefer_bare_keycap_words}
+use Rattle.policy.specs.DefaultPolicy.{
+  bare_as_text_words,
+  bare_as_text_keycap_words,
+  default_policy,
+  prefer_bare_words,
+  prefer_bare_keycap_words,
+}
 use Rattle.policy.specs.PolicyBytes.{key_words, policy_bytes, policy_words}
 use Rattle.policy.specs.declared.Policy.{Policy}
 
@@ -22,7 +28,9 @@ filled {o} {o'} {r} e w =
     ∙ ap (λ (k : ℕ). r ++ drop k o) e ∙ ap (λ (xs : List ℕ). r ++ xs) (drop-length o) ∙ append-nil r
 
 pub default_length : length (policy_bytes default_policy) ≡ 200
-unfolding policy_bytes bytes_of policy_words key_words default_policy prefer_bare_words prefer_bare_keycap_words bare_as_text_words bare_as_text_keycap_words word_bytes
+unfolding policy_bytes bytes_of policy_words key_words default_policy prefer_bare_words prefer_bare_keycap_words bare_as_text_words
+    bare_as_text_keycap_words
+    word_bytes
     little_endian
 default_length = refl
 

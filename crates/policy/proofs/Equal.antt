@@ -37,7 +37,8 @@ none-past {ws} v e i h = ⊎_elim past inside (le_or_lt (word_count * 64) i)
     inside : i < word_count * 64 → member i ws ≡ false
     inside l = not-true (member i ws) (sym (unused entry_count i (member i ws) h) ∙ all_below_lem (word_count * 64) test e i l)
 
-same_set : {ws vs : List ℕ} → SetValue ws → SetValue vs → no_unused_bit ws ≡ true → no_unused_bit vs ≡ true → same_entries ws vs ≡ true → ws ≡ vs
+same_set : {ws vs : List ℕ} → SetValue ws → SetValue vs → no_unused_bit ws ≡ true → no_unused_bit vs ≡ true → same_entries ws vs ≡ true
+    → ws ≡ vs
 unfolding SameEntriesMeans
 same_set {ws} {vs} v w e f t =
     members_determine ws vs (v.has_word_count ∙ sym w.has_word_count) v.words w.words

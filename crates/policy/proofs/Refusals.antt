@@ -89,7 +89,8 @@ module _ (bs : List ℕ) where
   pub length_first : (length bs ≡ policy_length → ⊥) → policy_refusal bs ≡ some NotAPolicy
   unfolding policy_refusal is_policy policy_fault
   length_first h =
-      same_tests {b = eqb (version_of bs) unicode_version} {c = no_unused_bits (policy_of bs)} (ne_eqb (length bs) policy_length h) refl refl
+      same_tests {b = eqb (version_of bs) unicode_version} {c = no_unused_bits (policy_of bs)} (ne_eqb (length bs) policy_length h) refl
+      refl
 
   module _ (h : length bs ≡ policy_length) where
     pub version-second : (version_of bs ≡ unicode_version → ⊥) → policy_refusal bs ≡ some OtherVersion

@@ -44,7 +44,8 @@ read_words (w ∷ ws) h =
     let eight = length_word_bytes w in
     ap₂ (λ (x : ℕ) (l : List ℕ). x ∷ l)
     (ap number (take_at (word_bytes w) (bytes_of ws) 8 eight) ∙ number-little_endian 8 w (h 0))
-    (words_from_drop (length ws) 8 (word_bytes w ++ bytes_of ws) ∙ ap (words_from (length ws) 0) (drop_at (word_bytes w) (bytes_of ws) 8 eight)
+    (words_from_drop (length ws) 8 (word_bytes w ++ bytes_of ws)
+    ∙ ap (words_from (length ws) 0) (drop_at (word_bytes w) (bytes_of ws) 8 eight)
     ∙ read_words ws (λ k. h (suc k)))
 
 -- Writing the words of bytes gives the bytes.

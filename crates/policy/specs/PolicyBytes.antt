@@ -1,7 +1,34 @@
 -- A policy as bytes. Document 02, change (xi): "A stored policy now begins with one more word, the version as major times 256 plus
 -- minor". Document 01 has the other 4W words: "prefer_bare ordinary, prefer_bare keycap, then bare_as_text likewise". A word is 8 bytes,
 -- lowest byte first. The test of such bytes is `is_policy` (refusals 2 and 15).
-use Rattle.std.specs.Prelude.{◌≡◌, Bool, true, cond, ◌&&◌, ◌||◌, not, List, [], ◌∷◌, ◌++◌, ℕ, zero, suc, ◌+◌, ◌*◌, ◌/◌, ◌^◌, ◌≤◌, ◌<◌, eqb, ltb, drop, get_or, length, take}
+use Rattle.std.specs.Prelude.{
+  ◌≡◌,
+  Bool,
+  true,
+  cond,
+  ◌&&◌,
+  ◌||◌,
+  not,
+  List,
+  [],
+  ◌∷◌,
+  ◌++◌,
+  ℕ,
+  zero,
+  suc,
+  ◌+◌,
+  ◌*◌,
+  ◌/◌,
+  ◌^◌,
+  ◌≤◌,
+  ◌<◌,
+  eqb,
+  ltb,
+  drop,
+  get_or,
+  length,
+  take,
+}
 use Rattle.std.proofs.Math.Option.{Option, none, some}
 use Rattle.base.specs.Words.{bytes_of, number}
 use Rattle.base.specs.declared.Refusal.{Refusal}

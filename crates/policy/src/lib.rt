@@ -1,6 +1,8 @@
 // Policies: policy.rs of the crate evfmt; document 01, "Key set and policy". A policy is two key sets. Outside the
 // library it is 4W + 1 words of 8 bytes: the version of the tables, then the sets (document 02, change (xi)).
 // `is_policy` tests such bytes (refusals 2 and 15).
+#![tactic(auto)]
+
 mod default_policy;
 pub mod policy_bytes;
 
@@ -20,14 +22,14 @@ use policy_key_set::char_set::CharSet;
 use policy_key_set::named_sets::{ALL_BITS, CHARSET_WORDS, TEXT_DEFAULT_BITS};
 
 // The keys for which bare is canonical, and the keys for which bare means text.
-#[derive(Drop)]
+#[derive(Clone, Copy)]
 pub struct Policy {
     pub prefer_bare: PolicyKeySet,
     pub bare_as_text: PolicyKeySet,
 }
 
 // The rule of a policy for a base: the selector that a bare base gets, or the selector that is removed.
-#[derive(Drop)]
+#[derive(Clone, Copy)]
 pub enum SingletonRule {
     BareToEmoji,
     BareToText,
@@ -158,7 +160,7 @@ impl Policy {
 }
 
 // The policy that bytes encode, and whether the bytes are accepted. A caller uses the policy only if they are.
-#[derive(Drop)]
+#[derive(Clone, Copy)]
 pub struct ReadPolicy {
     pub accepted: bool,
     pub policy: Policy,

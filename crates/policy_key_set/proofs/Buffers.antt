@@ -60,9 +60,14 @@ module _ (s : PolicyKeySet) where
 
   pub list_length : {i r : ℕ} → i ≡ 0 + length (written_from 0 ordinary_texts) → r ≡ i + length (written_from i keycap_texts)
       → r ≡ length (key_list s)
-  list_length {i} e f = omega (arith, ap length (after_first e), length-append (written_from 0 ordinary_texts) (written_from i keycap_texts))
+  list_length {i} e f = omega (
+    arith,
+    ap length (after_first e),
+    length-append (written_from 0 ordinary_texts) (written_from i keycap_texts),
+  )
 
-  pub list_put : {o o₁ o₂ : List ℕ} {i r : ℕ} → PutAt o 0 (written_from 0 ordinary_texts) o₁ i → PutAt o₁ i (written_from i keycap_texts) o₂ r
+  pub list_put : {o o₁ o₂ : List ℕ} {i r : ℕ} → PutAt o 0 (written_from 0 ordinary_texts) o₁ i
+      → PutAt o₁ i (written_from i keycap_texts) o₂ r
       → PutAt o 0 (key_list s) o₂ r
   list_put p q = put_as (key_list s) (after_first p.ends) (put_then p q)
 

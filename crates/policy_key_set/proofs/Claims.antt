@@ -149,6 +149,7 @@ size_of_all s =
     )
 
 pub display_example : DisplayExample
-unfolding DisplayExample display key_list parted key_texts key_text opening hex_width hex_digits hex_digit size_of count_below member one entry_count
+unfolding DisplayExample display key_list parted key_texts key_text opening hex_width hex_digits hex_digit size_of count_below member one
+    entry_count
     variation_entries
 display_example = refl

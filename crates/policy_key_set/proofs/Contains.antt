@@ -20,7 +20,8 @@ unfolding contains member_at
 contains_entry ws i h = ap (λ (x : VariationSequenceIndex). member_at x ws) (place-has_index i h)
 
 -- So the test for the character of entry i is the test for entry i.
-pub contains-place : {b : Bool} {ch : ℕ} (ws : List ℕ) (i : ℕ) → i < 354 → ch ≡ get_or variation_entries i 0 → b ≡ contains ch ws → member i ws
+pub contains-place : {b : Bool} {ch : ℕ} (ws : List ℕ) (i : ℕ) → i < 354 → ch ≡ get_or variation_entries i 0 → b ≡ contains ch ws
+    → member i ws
     ≡ b
 contains-place ws i h e f = sym (f ∙ ap (λ (c : ℕ). contains c ws) e ∙ contains_entry ws i (omega (arith, entry_count_lem)))
 

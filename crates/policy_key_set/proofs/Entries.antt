@@ -57,7 +57,8 @@ only_entry ch i e j h =
     ∙ sym (ne_eqb j i p))
     (decide j i)
 
-pub no_entry : (ch : ℕ) → variation_sequence_index ch ≡ Index.NoEntry → (j : ℕ) → j < entry_count → eqb (get_or variation_entries j 0) ch ≡ false
+pub no_entry : (ch : ℕ) → variation_sequence_index ch ≡ Index.NoEntry → (j : ℕ) → j < entry_count
+    → eqb (get_or variation_entries j 0) ch ≡ false
 no_entry ch e j h =
     ne_eqb (get_or variation_entries j 0) ch
     (λ q. let f = place-has_index j h in let g = ap variation_sequence_index q in let z : ◌≡◌ {A = ℕ} 0 1 = cc in omega arith)
@@ -68,7 +69,8 @@ pub singleton_held : (ch i w : ℕ) → variation_sequence_index ch ≡ Index.At
 singleton_held ch i w e h j =
     let l = (index_has_place ch i e).0 in
     one-member 6 i w (omega (arith, entry_count_lem)) h j
-    ∙ ⊎_elim (λ q. ne_eqb j i (λ r. omega arith) ∙ sym (ap (λ (b : Bool). b && eqb (get_or variation_entries j 0) ch) (le-ltb j entry_count q)))
+    ∙ ⊎_elim (λ q. ne_eqb j i (λ r. omega arith) ∙ sym
+    (ap (λ (b : Bool). b && eqb (get_or variation_entries j 0) ch) (le-ltb j entry_count q)))
     (λ q. sym (only_entry ch i e j q) ∙ sym (ap (λ (b : Bool). b && eqb (get_or variation_entries j 0) ch) (lt-ltb j entry_count q)))
     (le_or_lt entry_count j)
 

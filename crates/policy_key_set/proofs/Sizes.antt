@@ -79,7 +79,8 @@ sum-count ws h (suc m) =
     omega (arith, sum-count ws h m, ones_count 64 (get_or ws m 0) (h m), count_word ws m, e)
 
 -- The number of members of words that hold a test is the number of the numbers that pass it.
-pub count_held : (n m : ℕ) (p : ℕ → Bool) (ws : List ℕ) → n ≤ m → HoldsBelow n p ws → count_below m (λ (i : ℕ). member i ws) ≡ count_below n p
+pub count_held : (n m : ℕ) (p : ℕ → Bool) (ws : List ℕ) → n ≤ m → HoldsBelow n p ws
+    → count_below m (λ (i : ℕ). member i ws) ≡ count_below n p
 count_held n m p ws q h =
     count_to n m (λ (i : ℕ). member i ws) q (λ k l. h k ∙ ap (λ (b : Bool). b && p k) (le-ltb k n l))
     ∙ count_same n (λ (i : ℕ). member i ws) p (held n p ws h)

@@ -19,13 +19,13 @@ ghost use Rattle.policy_key_set.specs.Sets.{
 use crate::named_sets::{ALL_BITS, CHARSET_WORDS};
 use emoji::VariationSequenceIndex;
 
-#[derive(Drop)]
+#[derive(Clone, Copy)]
 pub struct CharSet {
     pub bits: [u64; CHARSET_WORDS],
 }
 
 // An operation on two sets.
-#[derive(Drop)]
+#[derive(Clone, Copy)]
 pub enum SetOperation {
     Union,
     Intersection,

@@ -1,6 +1,8 @@
 // Sets of policy keys: policy_key_set.rs of the crate evfmt; document 01, "Key set and policy". A key is a variation
 // entry in one of two domains, ordinary or keycap. `HoldsKeys` of specs/KeySets.antt says which keys a set holds. Each
 // operation applies the operation of `CharSet` in each domain.
+#![tactic(auto)]
+
 pub mod char_set;
 pub mod display;
 pub mod named_sets;
@@ -28,7 +30,7 @@ use named_sets::{
     ASCII_BITS, CHARSET_WORDS, EMOJI_DEFAULT_BITS, KEYCAP_RGI_BITS, TEXT_DEFAULT_BITS,
 };
 
-#[derive(Drop)]
+#[derive(Clone, Copy)]
 pub struct PolicyKeySet {
     pub chars: CharSet,
     pub keycap_chars: CharSet,
@@ -42,7 +44,7 @@ pub fn is_variation_sequence_character(ch: u32) -> bool
 }
 
 // The rules that define the named sets.
-#[derive(Drop)]
+#[derive(Clone, Copy)]
 pub enum NamedSet {
     Ascii,
     TextDefaults,

@@ -10,7 +10,16 @@ use lib.Seq.{drop-drop, get_or-drop, get_or-take, length-take-le, take-add, take
 use Rattle.base.proofs.Tests.{le_or_lt}
 use Rattle.utf8.specs.Rfc3629.{WellFormed, none, chars, encode, encode_all, is_scalar, all_scalar, valid_up_to_of}
 use Rattle.utf8.proofs.Encoding.{char_begins, end_empty}
-use Rattle.utf8.proofs.Folds.{Reading, read_end, read_ill_formed, read_more, reading, valid_up_to-char, valid_up_to_end, valid_up_to_ill_formed}
+use Rattle.utf8.proofs.Folds.{
+  Reading,
+  read_end,
+  read_ill_formed,
+  read_more,
+  reading,
+  valid_up_to-char,
+  valid_up_to_end,
+  valid_up_to_ill_formed,
+}
 use Rattle.utf8.proofs.Grammar.{encode_all_well_formed, longest_well_formed, well_formed_whole}
 use Rattle.utf8.proofs.Texts.{chars-all_scalar, encode_all-chars, valid_up_to_le}
 use Rattle.positions.specs.Positions.{Boundary, is_lead, leads, stretch}
@@ -69,7 +78,8 @@ first_boundary {s} (read_more v w e r) q (suc m) h f =
     let i = b.width in
     let o = inside-tail (encode v) z.rest z.byte (suc m) z.bytes z.one z.begins (omega arith) (omega arith) in
     let y : is_lead (get_or s (suc m) 0) ≡ is_lead (get_or (encode v) (suc m) 0) =
-    ap (λ (t : List ℕ). is_lead (get_or t (suc m) 0)) (sym b.bytes) ∙ ap is_lead (get_d_front (encode v) (drop w s) (suc m) (omega arith)) in
+    ap (λ (t : List ℕ). is_lead (get_or t (suc m) 0)) (sym b.bytes)
+    ∙ ap is_lead (get_d_front (encode v) (drop w s) (suc m) (omega arith)) in
     absurd (omega (arith, o, y, f)))
     (le_or_lt w (suc m))
 

@@ -67,6 +67,7 @@ unfolding UnitExamples utf16_units
 unit_examples = refl
 
 pub position-examples : PositionExamples
-unfolding PositionExamples position_at text_count units utf16_units chars fold_chars fold_step read_char read_four utf8_1 utf8_2 utf8_3 utf8_4
+unfolding PositionExamples position_at text_count units utf16_units chars fold_chars fold_step read_char read_four utf8_1 utf8_2 utf8_3
+    utf8_4
     count_between counted stretch leads long_leads_of is_lead is_long_lead
 position-examples = (refl, refl, refl)

@@ -283,9 +283,11 @@ pub leads-step : (s : List ℕ) (i : ℕ) → i < length s → leads (drop i s) 
 unfolding leads
 leads-step s i h = ap leads (drop-cons s i 0 h) ∙ ap (λ (n : ℕ). is_lead (get_or s i 0) + leads (drop n s)) (sym (add-one i))
 
-pub long_leads-step : (s : List ℕ) (i : ℕ) → i < length s → long_leads_of (drop i s) ≡ is_long_lead (get_or s i 0) + long_leads_of (drop (i + 1) s)
+pub long_leads-step : (s : List ℕ) (i : ℕ) → i < length s →
+    long_leads_of (drop i s) ≡ is_long_lead (get_or s i 0) + long_leads_of (drop (i + 1) s)
 unfolding long_leads_of
-long_leads-step s i h = ap long_leads_of (drop-cons s i 0 h) ∙ ap (λ (n : ℕ). is_long_lead (get_or s i 0) + long_leads_of (drop n s)) (sym (add-one i))
+long_leads-step s i h =
+    ap long_leads_of (drop-cons s i 0 h) ∙ ap (λ (n : ℕ). is_long_lead (get_or s i 0) + long_leads_of (drop n s)) (sym (add-one i))
 
 pub leads-on : (s : List ℕ) (i e : ℕ) → i ≤ e → leads (drop i s) ≡ leads (take (e - i) (drop i s)) + leads (drop e s)
 leads-on s i e h =
@@ -294,7 +296,8 @@ leads-on s i e h =
     ∙ ap (λ (l : List ℕ). leads (take n (drop i s)) + leads l)
     (drop-drop n i s ∙ ap (λ (k : ℕ). drop k s) (let q : i + n ≡ e = omega arith in q))
 
-pub long_leads-on : (s : List ℕ) (i e : ℕ) → i ≤ e → long_leads_of (drop i s) ≡ long_leads_of (take (e - i) (drop i s)) + long_leads_of (drop e s)
+pub long_leads-on : (s : List ℕ) (i e : ℕ) → i ≤ e →
+    long_leads_of (drop i s) ≡ long_leads_of (take (e - i) (drop i s)) + long_leads_of (drop e s)
 long_leads-on s i e h =
     let n = e - i in
     ap long_leads_of (sym (take-append-drop n (drop i s))) ∙ long_leads_append (take n (drop i s)) (drop n (drop i s))

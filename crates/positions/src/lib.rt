@@ -1,20 +1,22 @@
 // How many characters and UTF-16 units stand between two byte offsets of a text (document 02, v). The Rust crate counts bytes alone.
 // `count_between` equals `count_between` of specs/Positions.antt for all bytes and offsets. Between two character boundaries this is
 // the difference of their positions: specs/Theorems.antt, PositionsDiffer.
+#![tactic(auto)]
+
 ghost use Rattle.std.specs.Prelude.{◌≡◌, ◌≤◌, ◌<◌, length};
 ghost use Rattle.positions.specs.Positions.{capped_plus, count_between, counted, is_lead, is_long_lead, leads, long_leads_of};
 
 use base::add_count;
 
 // A number of characters, and a number of UTF-16 units.
-#[derive(Drop)]
+#[derive(Clone, Copy)]
 pub struct TextCount {
     pub chars: usize,
     pub units: usize,
 }
 
 // The lead bytes of a few bytes, and those of four bytes.
-#[derive(Drop)]
+#[derive(Clone, Copy)]
 struct FewLeads {
     leads: u8,
     long_leads: u8,

@@ -81,6 +81,6 @@ unfolding UnfinishedRest
 unfinished_rest s = (can_go_on s, λ g. is_unfinished s g.0 g.1)
 
 pub rfc3629_examples : Rfc3629Examples
-unfolding Rfc3629Examples utf8_1 utf8_2 utf8_3 utf8_4 begun_2 begun_3 subpart read_four read_char fold_step fold_chars chars valid_up_to_of encode
-    encode_all
+unfolding Rfc3629Examples utf8_1 utf8_2 utf8_3 utf8_4 begun_2 begun_3 subpart read_four read_char fold_step fold_chars chars valid_up_to_of
+    encode encode_all
 rfc3629_examples = (refl, refl, refl, refl, refl, refl)

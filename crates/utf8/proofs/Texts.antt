@@ -1,5 +1,5 @@
 -- Whole texts: their characters, the encoding of these, the longest well-formed prefix, and two texts one after the other. A text s is
--- well-formed where validUpTo s ≡ length s (Grammar proves that this is the RFC's grammar).
+-- well-formed where valid_up_to_of s ≡ length s (Grammar proves that this is the RFC's grammar).
 use mathlib.Core.Path.{◌≡◌, refl, sym, ap, ap₂, ◌∙◌}
 use mathlib.Core.Logic.{◌↔◌}
 use mathlib.Core.Bool.{Bool, true, ◌&&◌}
@@ -49,7 +49,8 @@ chars-encode_all (v ∷ vs) s e =
     ap chars (append_assoc (encode v) (encode_all vs) s) ∙ chars-encode v (encode_all vs ++ s) p.0
     ∙ ap (λ (r : List ℕ). v ∷ r) (chars-encode_all vs s p.1)
 
-pub valid_up_to-encode_all : (vs s : List ℕ) → all_scalar vs ≡ true → valid_up_to_of (encode_all vs ++ s) ≡ length (encode_all vs) + valid_up_to_of s
+pub valid_up_to-encode_all : (vs s : List ℕ) → all_scalar vs ≡ true
+    → valid_up_to_of (encode_all vs ++ s) ≡ length (encode_all vs) + valid_up_to_of s
 unfolding encode_all all_scalar
 valid_up_to-encode_all [] s e = sym (zero-add (valid_up_to_of s))
 valid_up_to-encode_all (v ∷ vs) s e =
@@ -98,7 +99,8 @@ encode_all-chars-rest s = reading-rest (reading s)
 reading_length : {s : List ℕ} → Reading s → length (encode_all (chars s)) ≡ valid_up_to_of s
 unfolding encode_all
 reading_length {s} (read_end e) = ap (λ (vs : List ℕ). length (encode_all vs)) (chars_end s e) ∙ sym (valid_up_to_end s e)
-reading_length {s} (read_ill_formed e) = ap (λ (vs : List ℕ). length (encode_all vs)) (chars_ill_formed s e) ∙ sym (valid_up_to_ill_formed s e)
+reading_length {s} (read_ill_formed e) = ap (λ (vs : List ℕ). length (encode_all vs)) (chars_ill_formed s e)
+    ∙ sym (valid_up_to_ill_formed s e)
 reading_length {s} (read_more v w e r) =
     ap (λ (vs : List ℕ). length (encode_all vs)) (chars-char s v w e) ∙ length-append (encode v) (encode_all (chars (drop w s)))
     ∙ ap₂ (λ (m n : ℕ). m + n) (char_begins s v w e).width (reading_length r) ∙ sym (valid_up_to-char s v w e)
@@ -128,7 +130,7 @@ valid_up_to_append s t e =
     ap (λ (l : List ℕ). valid_up_to_of (l ++ t)) (sym p) ∙ valid_up_to-encode_all (chars s) t (chars-all_scalar s)
     ∙ ap (λ (l : List ℕ). length l + valid_up_to_of t) p
 
--- ---- an encoding is well-formed, and no well-formed prefix is longer than validUpTo
+-- ---- an encoding is well-formed, and no well-formed prefix is longer than valid_up_to_of
 
 pub encode_all-whole : (vs : List ℕ) → all_scalar vs ≡ true → valid_up_to_of (encode_all vs) ≡ length (encode_all vs)
 encode_all-whole vs e =

@@ -21,7 +21,8 @@ use Rattle.utf8.proofs.Subparts.{char-some, no_char_at}
 
 -- ---- after the longest well-formed beginning there is a bad place, or the text ends
 
-stops : {s : List ℕ} → Reading s → valid_up_to_of s < length s → read_char (drop (valid_up_to_of s) s) ≡ IllFormed (subpart_of (drop (valid_up_to_of s) s))
+stops : {s : List ℕ} → Reading s → valid_up_to_of s < length s
+    → read_char (drop (valid_up_to_of s) s) ≡ IllFormed (subpart_of (drop (valid_up_to_of s) s))
 stops {s} (read_end e) h = absurd (omega (arith, ap length (end_empty s e)))
 stops {s} (read_ill_formed {n = n} e) h =
     let p : s ≡ drop (valid_up_to_of s) s = ap (λ (k : ℕ). drop k s) (sym (valid_up_to_ill_formed s e)) in
@@ -32,7 +33,8 @@ stops {s} (read_more v w e r) h =
     ∙ ap (λ (k : ℕ). drop k s) (sym (valid_up_to-char s v w e)) in
     subst (λ (t : List ℕ). read_char t ≡ IllFormed (subpart_of t)) p (stops r (omega (arith, valid_up_to-char s v w e, length-drop w s)))
 
-pub bad-after : (s : List ℕ) → valid_up_to_of s < length s → read_char (drop (valid_up_to_of s) s) ≡ IllFormed (subpart_of (drop (valid_up_to_of s) s))
+pub bad-after : (s : List ℕ) → valid_up_to_of s < length s
+    → read_char (drop (valid_up_to_of s) s) ≡ IllFormed (subpart_of (drop (valid_up_to_of s) s))
 bad-after s h = stops (reading s) h
 
 -- `read_char` reads a character of the grammar.

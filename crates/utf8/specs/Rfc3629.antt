@@ -1,6 +1,28 @@
 -- UTF-8 as in RFC 3629: the grammar of section 4, the values and the encoding of section 3, and the characters of a list of bytes.
 -- Document 01, "Character": a text is well-formed UTF-8 as in RFC 3629, with shortest forms, no surrogates, at most 10FFFF.
-use Rattle.std.specs.Prelude.{◌≡◌, Bool, true, false, cond, ◌&&◌, ◌||◌, List, [], ◌∷◌, ◌++◌, ℕ, zero, suc, ◌+◌, ◌*◌, ◌-◌, ◌/◌, ◌%◌, leb, get_or}
+use Rattle.std.specs.Prelude.{
+  ◌≡◌,
+  Bool,
+  true,
+  false,
+  cond,
+  ◌&&◌,
+  ◌||◌,
+  List,
+  [],
+  ◌∷◌,
+  ◌++◌,
+  ℕ,
+  zero,
+  suc,
+  ◌+◌,
+  ◌*◌,
+  ◌-◌,
+  ◌/◌,
+  ◌%◌,
+  leb,
+  get_or,
+}
 use Rattle.base.specs.Ranges.{within}
 use Rattle.utf8.specs.declared.ReadChar.{ReadChar}
 use Rattle.utf8.specs.declared.ReadChar.TheVariants.{Char, IllFormed, End}

@@ -22,7 +22,8 @@ WellFormedIffWhole = (s : List ℕ) → WellFormed s ↔ (valid_up_to_of s ≡ l
 unfoldable pub LongestBeginning : Type 0
 LongestBeginning =
     (s : List ℕ)
-    → (valid_up_to_of s ≤ length s) × WellFormed (take (valid_up_to_of s) s) × ((n : ℕ) → n ≤ length s → WellFormed (take n s) → n ≤ valid_up_to_of s)
+    → (valid_up_to_of s ≤ length s) × WellFormed (take (valid_up_to_of s) s)
+    × ((n : ℕ) → n ≤ length s → WellFormed (take n s) → n ≤ valid_up_to_of s)
 
 -- A character is read exactly when its value is a scalar value and the text begins with the bytes that encode it.
 unfoldable pub ReadCharIff : Type 0

@@ -1,12 +1,14 @@
 // Decodes characters as in RFC 3629, sections 3 and 4. Document 01 ("Character") adds this to the port, since the Rust
 // crate gets a `str`. The functions equal definitions of specs/Rfc3629: `read_char` is `read_char`, `char_len` its width,
 // `decode` its packed number, `bad_width` is `subpart_of`, and `is_scalar` is `is_scalar`.
+#![tactic(auto)]
+
 ghost use Rattle.std.specs.Prelude.{◌≡◌, ℕ, ◌+◌, ◌≤◌, length, drop, get_or};
 ghost use Rattle.base.specs.Ranges.{within};
 ghost use Rattle.utf8.specs.Rfc3629.{begun_2, read_four, read_char, char_len, packed, subpart_of, is_scalar};
 
 // The result of reading at an offset of a text: a character, a bad place with the number of bytes of its maximal subpart, or the end.
-#[derive(Drop)]
+#[derive(Clone, Copy)]
 pub enum ReadChar {
     Char { value: u32, width: usize },
     IllFormed { width: usize },

@@ -1,5 +1,7 @@
 // Encodes characters as in RFC 3629, section 3, and writes them into a lent buffer. `char_width` is the length of `encode` of the
 // crate utf8, specs/Rfc3629; `write_char` is `write_char` and `after_write_char` of specs/Write.
+#![tactic(auto)]
+
 ghost use Rattle.std.specs.Prelude.{◌≡◌, [], ◌∷◌, ◌+◌, ◌/◌, ◌%◌, ◌≤◌, length};
 ghost use Rattle.std.proofs.lemmas.List.Edits.{sets};
 ghost use Rattle.base.specs.Answers.{Answers};
@@ -7,7 +9,7 @@ ghost use Rattle.utf8.specs.Rfc3629.{encode};
 ghost use Rattle.utf8_encoding.specs.Write.{char_row, write_char, after_write_char};
 
 // The answer to writing a character: its width, or the reason why nothing was written.
-#[derive(Drop)]
+#[derive(Clone, Copy)]
 pub enum WriteChar {
     Written { width: usize },
     TooShort { width: usize },

@@ -44,7 +44,8 @@ times_le x b h = ⊎_elim one none (le_or_lt 1 b)
 module _ {s : List ℕ} {from at : ℕ} (p : CharsBetween s from at) where
   -- A character of one or two bytes, where m bytes follow its first one.
   pub short-more : at + 2 ≤ length s → (m : ℕ) → (m ≡ get_or s at 0 / 128) × (m ≤ 1)
-      → (0x80 ≤ get_or s at 0 → (0xC2 ≤ get_or s at 0) × (get_or s at 0 ≤ 0xDF) × (0x80 ≤ get_or s (at + m) 0) × (get_or s (at + m) 0 ≤ 0xBF))
+      → (0x80 ≤ get_or s at 0 →
+      (0xC2 ≤ get_or s at 0) × (get_or s at 0 ≤ 0xDF) × (0x80 ≤ get_or s (at + m) 0) × (get_or s (at + m) 0 ≤ 0xBF))
       → CharsBetween s from (at + (1 + m))
   short-more h m e f = ⊎_elim two one (le_or_lt 0x80 (get_or s at 0))
     where

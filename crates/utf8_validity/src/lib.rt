@@ -1,5 +1,7 @@
 // Finds the longest well-formed beginning of a text (document 01, "Turned back", number 3): `valid_up_to` equals `valid_up_to_of` of the
 // crate utf8, specs/Rfc3629. The Rust crate has no such function, since it gets a `str`.
+#![tactic(auto)]
+
 ghost use Rattle.std.specs.Prelude.{◌≡◌, ◌+◌, drop};
 ghost use Rattle.utf8.specs.Rfc3629.{valid_up_to_of};
 
