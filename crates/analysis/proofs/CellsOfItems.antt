@@ -11,7 +11,6 @@ use Rattle.emoji.specs.Presentation.{as_selector, is_selector}
 use Rattle.emoji.specs.Unicode.{has_variation_sequence}
 use Rattle.emoji.specs.declared.presentation.Presentation.{Presentation}
 use Rattle.policy.specs.declared.Policy.{Policy}
-use Rattle.utf8.specs.Rfc3629.{chars}
 use Rattle.scanner.specs.Classes.{strip, class_of}
 use Rattle.scanner.specs.declared.char_class.Class.{Class}
 use Rattle.scanner.specs.declared.char_class.Class.TheVariants.{
@@ -214,7 +213,8 @@ module _ (p : Policy) where
       ap (λ (l : List Piece). record { char = x.char; out = outcome p x.char (class_of y.char) x.after } ∷ l)
       (outs_same y ys k (λ v. emoji_transition q r (ap (transition q) (sym (entry_class y.char v)) ∙ s)) w e)
 
-  outs_same_text : {q : State} (c : ℕ) (s : List ℕ) (k : Class) → inner (start_state (class_of c)) ≡ true → Walk (start_state (class_of c)) s q
+  outs_same_text : {q : State} (c : ℕ) (s : List ℕ) (k : Class) → inner (start_state (class_of c)) ≡ true
+      → Walk (start_state (class_of c)) s q
       → Stop q k
       → outs k (cells (c ∷ s)) ≡ outs other (cells (c ∷ s))
   unfolding start_state
@@ -242,7 +242,8 @@ module _ (p : Policy) where
     pub said : cell_text (join xs) ≡ replace_all xs
     pub summed : cell_sum (join xs) ≡ totals p xs
 
-  plain_char : (c : ℕ) (t : List ℕ) → start_state (class_of c) ≡ plain → (cell_text (c ∷ t) ≡ c ∷ cell_text t) × (cell_sum (c ∷ t) ≡ cell_sum t)
+  plain_char : (c : ℕ) (t : List ℕ) → start_state (class_of c) ≡ plain
+      → (cell_text (c ∷ t) ≡ c ∷ cell_text t) × (cell_sum (c ∷ t) ≡ cell_sum t)
   unfolding start_state rule1
   plain_char c t e = (
     ap (λ (a : List Presentation × List Cell). say (outs other a.1)) f

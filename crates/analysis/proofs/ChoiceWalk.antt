@@ -70,7 +70,12 @@ module _ (p : Policy) (raw : List ℕ) where
 
   -- The choice at a decided cell.
   is_choice : (at : ℕ) (x : Cell) (xs : List Cell) (d : Presentation) → split (chars (drop at raw)) ≡ ([], x ∷ xs)
-      → IsChoice p raw (record { start = at; end = at + cells_length (front_unit (x ∷ xs)); next = at + cells_length (x ∷ []); default = d })
+      → IsChoice p raw (record {
+        start = at;
+        end = at + cells_length (front_unit (x ∷ xs));
+        next = at + cells_length (x ∷ []);
+        default = d;
+      })
       (record { default = d; text = render p (x ∷ up_to_link xs) (Text ∷ []); emoji = render p (x ∷ up_to_link xs) (Emoji ∷ []) })
   unfolding front_unit
   is_choice at x xs d e =

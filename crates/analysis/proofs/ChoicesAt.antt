@@ -24,7 +24,16 @@ use Rattle.scanner.proofs.Runs.{run_true}
 use Rattle.scanner.proofs.SelectorChars.{CharIs, a_selector, char_is, no_selector, width_selector}
 use Rattle.analysis.specs.Analysis.{following, up_to_link}
 use Rattle.analysis.specs.Cells.{Cell, cells, leading, split, unsplit}
-use Rattle.analysis.specs.ChoicesAt.{add_choice_at, cells_length, cells_from, cells_start, choice_at, choices_from, first_choice, front_unit}
+use Rattle.analysis.specs.ChoicesAt.{
+  add_choice_at,
+  cells_length,
+  cells_from,
+  cells_start,
+  choice_at,
+  choices_from,
+  first_choice,
+  front_unit,
+}
 use Rattle.analysis.specs.Rules.{Outcome, Slot, bare, decided, fixed, outcome}
 use Rattle.analysis.specs.declared.types.ChoiceStep.TheVariants.{Choice, End}
 use Rattle.analysis.specs.declared.types.ReplacementChoice.{ReplacementChoice}
@@ -219,4 +228,5 @@ module _ (p : Policy) (raw : List ℕ) (at : ℕ) where
           let m : last ≡ end + cells_length (up_to_link (cells_from raw next)) =
           omega (arith, after.0, ap (λ (l : List Cell). cells_length (up_to_link l)) after.1) in
           ap (λ (n : ℕ). Choice (record { start = at; end = n; next = end; default = d })) m
-          ∙ sym (from_cell ∙ ap (λ (s : Slot). first_choice (add_choice_at s own (choices_from p (cells_start raw end) (cells_from raw end)))) q)
+          ∙ sym (from_cell ∙ ap (λ (s : Slot). first_choice
+          (add_choice_at s own (choices_from p (cells_start raw end) (cells_from raw end)))) q)

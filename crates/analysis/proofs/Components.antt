@@ -229,7 +229,8 @@ module _ (p : Policy) where
 
   says_flag : {s t m r : List ℕ} {n : NonCanonicality} {es : List Element} (a b : ℕ) → is_ri a ≡ true → S s → is_ri b ≡ true → S t
       → Modifies m → Says r n es
-      → Says (a ∷ (s ++ (b ∷ (t ++ (m ++ r))))) (unsanctioned (length s) ⊕ (unsanctioned (length t) ⊕ (unsanctioned (selector_count m) ⊕ n)))
+      → Says (a ∷ (s ++ (b ∷ (t ++ (m ++ r))))) (unsanctioned (length s) ⊕
+      (unsanctioned (length t) ⊕ (unsanctioned (selector_count m) ⊕ n)))
       (always (a ∷ b ∷ strip m) ∷ es)
   unfolding assemble choices_in
   says_flag {s} {t} {m} {r} {n} {es} a b e h f k d i =
@@ -334,7 +335,8 @@ module _ (p : Policy) where
       ∙ sym (plus_assoc b (c ⊕ n) k) in
       let y = says_link (link_S e.0) (says_unit j.emoji e.1 (m j (Memᴰ.head refl)) z.1 z.0) in (
         subst (λ (t : List ℕ). Says (0x200D ∷ t) (b ⊕ (c ⊕ n) ⊕ k) (joined_elements p (j ∷ js) ++ link_elements ls)) a
-            (subst (λ (t : NonCanonicality). Says (0x200D ∷ (s ++ (v ++ (r ++ l)))) t (joined_elements p (j ∷ js) ++ link_elements ls)) q y),
+            (subst (λ (t : NonCanonicality). Says (0x200D ∷ (s ++ (v ++ (r ++ l)))) t (joined_elements p (j ∷ js) ++ link_elements ls)) q
+            y),
         text_link,
       )
 

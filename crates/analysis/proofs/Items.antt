@@ -37,7 +37,7 @@ use Rattle.scanner.proofs.Reading.{derive_head, derive_inner, derives_alike, onl
 use Rattle.scanner.proofs.Walk.{Walk, inner_no_selector, strip_selector}
 use Rattle.scanner.proofs.WalksDerive.{walk_derive}
 use Rattle.analysis.specs.Analysis.{count_cells, counts_of, is_finding, non_canonicality, render, replacement, replacement_of}
-use Rattle.analysis.specs.Cells.{Cell, cells, leading, selector_count, split, unsplit}
+use Rattle.analysis.specs.Cells.{Cell, cells, leading, selector_count, unsplit}
 use Rattle.analysis.specs.Counts.{adding, empty, removing, total}
 use Rattle.analysis.specs.declared.types.NonCanonicality.{NonCanonicality}
 use Rattle.analysis.proofs.Counts.{total-empty}

@@ -109,7 +109,8 @@ pub record ItemAt (text : List ℕ) (at : ℕ) (before : TextCount) (i : ScanIte
   pub kind_is : i.kind ≡ item.kind
   pub count_is : end_count i ≡ count_after before item
 
-pub item_at_lem : (text : List ℕ) (at : ℕ) (before : TextCount) (i : ScanItem) → scan_at text at before ≡ Step.Item i → ItemAt text at before i
+pub item_at_lem : (text : List ℕ) (at : ℕ) (before : TextCount) (i : ScanItem) → scan_at text at before ≡ Step.Item i
+    → ItemAt text at before i
 unfolding scan_at scan_from first_of spans
 item_at_lem text at before i e = go (items (chars (drop at text))) refl e
   where

@@ -15,7 +15,6 @@ use denote.Enum.Declared.{tag_of}
 use Rattle.base.specs.Output.{PutAt, buffer_of}
 use Rattle.base.specs.Refusals.{After, checked, unwritten, or_else, text_limit}
 use Rattle.base.specs.declared.Check.{Check}
-use Rattle.base.specs.declared.Check.TheVariants as Check
 use Rattle.base.specs.declared.Refusal.{Refusal}
 use Rattle.base.specs.declared.Refusal.TheVariants.{NoFinding, OutputTooShort, TextTooLong}
 use Rattle.base.proofs.Output.{wrote}
@@ -130,7 +129,8 @@ module _ (p : Policy) (text : List ℕ) (at : ℕ) where
   unfolding analysis_at analysis_of
   found_at f e = starts (starts_at at (scan text)) refl e
     where
-      go : starts_at at (scan text) ≡ true → (l : List Item) → items (chars (drop at text)) ≡ l → analysis_of p at no_count l ≡ NonCanonical f
+      go : starts_at at (scan text) ≡ true → (l : List Item) → items (chars (drop at text)) ≡ l
+          → analysis_of p at no_count l ≡ NonCanonical f
           → FoundAt p text at f
       go s [] i g = absurd (true≢false cc)
       go s (x ∷ xs) i g = by (is_finding p x) refl g
@@ -149,7 +149,8 @@ module _ (p : Policy) (text : List ℕ) (at : ℕ) where
           }
           by false h k = absurd (true≢false cc)
 
-      starts : (b : Bool) → starts_at at (scan text) ≡ b → cond b (analysis_at p text at no_count) End ≡ NonCanonical f → FoundAt p text at f
+      starts : (b : Bool) → starts_at at (scan text) ≡ b → cond b (analysis_at p text at no_count) End ≡ NonCanonical f
+          → FoundAt p text at f
       starts true s g = go s (items (chars (drop at text))) refl g
       starts false s g = absurd (true≢false cc)
 
@@ -172,7 +173,8 @@ module _ (p : Policy) (text : List ℕ) (at : ℕ) where
           by true h k = absurd (no _ k)
           by false h k = refl
 
-      starts : (b : Bool) → starts_at at (scan text) ≡ b → a ≡ cond b (analysis_at p text at no_count) End → finding_starting p text at ≡ none
+      starts : (b : Bool) → starts_at at (scan text) ≡ b → a ≡ cond b (analysis_at p text at no_count) End
+          → finding_starting p text at ≡ none
       starts true s g = starting_by s refl ∙ go (items (chars (drop at text))) g
       starts false s g = starting_by s refl
 

@@ -35,7 +35,8 @@ has_entry c i e = member_index c variation_entries ∙ ap is_at e
 abbrev pub rule23 : Bool → List Presentation → Outcome
 rule23 b s = cond (text_first s) (rule2 s) (rule3 b s)
 
-pub outcome_no_entry : (p : Policy) (c : ℕ) (k : Class) (s : List Presentation) → has_variation_sequence c ≡ false → outcome p c k s ≡ rule1 s
+pub outcome_no_entry : (p : Policy) (c : ℕ) (k : Class) (s : List Presentation) → has_variation_sequence c ≡ false
+    → outcome p c k s ≡ rule1 s
 unfolding outcome
 outcome_no_entry p c k s e = simp e
 

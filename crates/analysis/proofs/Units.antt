@@ -148,7 +148,8 @@ module _ (p : Policy) where
   cell_render x xs ds e = ap (λ (o : Outcome). x.char ∷ (map as_selector (chosen o.slot ds) ++ render p xs (remaining o.slot ds)))
       (outcome_bare x xs e)
 
-  pub cell_choices : (x : Cell) (xs : List Cell) → has_variation_sequence x.char ≡ false → choices_of_cells p (x ∷ xs) ≡ choices_of_cells p xs
+  pub cell_choices : (x : Cell) (xs : List Cell) → has_variation_sequence x.char ≡ false
+      → choices_of_cells p (x ∷ xs) ≡ choices_of_cells p xs
   unfolding choices_of_cells rule1
   cell_choices x xs e = ap (λ (o : Outcome). add_choice p o.slot (x ∷ up_to_link xs) (choices_of_cells p xs)) (outcome_bare x xs e)
 

@@ -226,7 +226,8 @@ unfoldable pub RuleExamples : Type 0
 RuleExamples =
     (analysed_items (0x1F476 ∷ 0xFE0F ∷ 0x1F3FB ∷ [])
     ≡ analysed (0x1F476 ∷ 0xFE0F ∷ 0x1F3FB ∷ []) (unsanctioned 1) (0x1F476 ∷ 0x1F3FB ∷ []) ∷ [])
-    × (analysed_items (0x231A ∷ 0xFE0F ∷ 0xE0061 ∷ []) ≡ analysed (0x231A ∷ 0xFE0F ∷ 0xE0061 ∷ []) tag_redundant (0x231A ∷ 0xE0061 ∷ []) ∷ [])
+    × (analysed_items (0x231A ∷ 0xFE0F ∷ 0xE0061 ∷ []) ≡ analysed (0x231A ∷ 0xFE0F ∷ 0xE0061 ∷ []) tag_redundant (0x231A ∷ 0xE0061 ∷ [])
+    ∷ [])
     × (analysed_items (0x231A ∷ 0xFE0E ∷ 0xE0061 ∷ [])
     ≡ analysed (0x231A ∷ 0xFE0E ∷ 0xE0061 ∷ []) tag_conflicting (0x231A ∷ 0xE0061 ∷ []) ∷ [])
     × (analysed_items (0x2764 ∷ 0xE0061 ∷ []) ≡ analysed (0x2764 ∷ 0xE0061 ∷ []) tag_forced (0x2764 ∷ 0xFE0F ∷ 0xE0061 ∷ []) ∷ [])

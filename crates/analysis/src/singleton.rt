@@ -32,7 +32,7 @@ use policy::{Policy, SingletonRule};
 use scanner::char_class::{Class, Peeked, peek};
 
 // What follows a base in the replacement: no selector, this selector, or the selector that a decision names, with its default.
-#[derive(Drop)]
+#[derive(Clone, Copy)]
 pub enum Slot {
     Bare,
     Fixed(Presentation),
@@ -40,7 +40,7 @@ pub enum Slot {
 }
 
 // The result of a rule for a base and its selectors.
-#[derive(Drop)]
+#[derive(Clone, Copy)]
 pub struct Outcome {
     pub counts: NonCanonicality,
     pub slot: Slot,

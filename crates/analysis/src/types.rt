@@ -7,7 +7,7 @@ use base::{Refusal, add_count};
 use emoji::presentation::Presentation;
 
 // The eight counts of an item, in document 01's order.
-#[derive(Drop)]
+#[derive(Clone, Copy)]
 pub struct NonCanonicality {
     pub unsanctioned_selectors: usize,
     pub modifier_defective_selectors: usize,
@@ -20,7 +20,7 @@ pub struct NonCanonicality {
 }
 
 // A listed finding: its bytes, from start up to end, the eight counts, and its start and end in characters and in UTF-16 units.
-#[derive(Drop)]
+#[derive(Clone, Copy)]
 pub struct Finding {
     pub start: usize,
     pub end: usize,
@@ -33,7 +33,7 @@ pub struct Finding {
 
 // A choice: the bytes of its unit, from start up to end, the offset at which the search for the next choice starts, and its
 // default.
-#[derive(Drop)]
+#[derive(Clone, Copy)]
 pub struct ReplacementChoice {
     pub start: usize,
     pub end: usize,
@@ -42,14 +42,14 @@ pub struct ReplacementChoice {
 }
 
 // The answer of a cursor over choices: the next choice, or that there is none.
-#[derive(Drop)]
+#[derive(Clone, Copy)]
 pub enum ChoiceStep {
     Choice(ReplacementChoice),
     End,
 }
 
 // The answer of mending: the number of bytes written, or a refusal.
-#[derive(Drop)]
+#[derive(Clone, Copy)]
 pub enum MendAnswer {
     Mended { len: usize },
     Refused(Refusal),

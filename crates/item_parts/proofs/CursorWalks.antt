@@ -12,7 +12,16 @@ use Rattle.emoji.specs.Unicode.{is_tag}
 use Rattle.scanner.proofs.LongestRuns.{TagFirst, all_tags, pass_append, tag_first, tags_first}
 use Rattle.scanner.specs.declared.char_class.Class.{Class}
 use Rattle.scanner.specs.Grammar.{S, no_selectors, selector_and, Tags, one_tag, tag_and}
-use Rattle.scanner.specs.Runs.{after_run, in_modifications, in_tags, is_modification, modification_at, run, selectors_at, tag_modification_at}
+use Rattle.scanner.specs.Runs.{
+  after_run,
+  in_modifications,
+  in_tags,
+  is_modification,
+  modification_at,
+  run,
+  selectors_at,
+  tag_modification_at,
+}
 use Rattle.scanner.specs.Spans.{size, width}
 use Rattle.scanner.specs.Structure.{
   EmojiModification,
@@ -128,7 +137,8 @@ front_read at t e f = ap (λ (l : List ℕ). first_from at (modifications_of l).
 
 module _ {c : ℕ} {k : Class} (h : HasClass c k) (s t : List ℕ) where
   -- The function reads a modifier or 20E3 and its selectors, before characters t.
-  one-read : (at : ℕ) → is_tag_class k ≡ false → is_modification_class k ≡ true → S s → Stops is_selector t → modification_read at (c ∷ (s ++ t))
+  one-read : (at : ℕ) → is_tag_class k ≡ false → is_modification_class k ≡ true → S s → Stops is_selector t
+      → modification_read at (c ∷ (s ++ t))
       ≡ first_from at (to_modifications k c (s, [])).1
   one-read at e f a p =
       front_read at (c ∷ (s ++ t)) (modification_other c (s ++ t) true (tag_test c ∙ ap is_tag_class (class_is h) ∙ e)

@@ -56,19 +56,21 @@ use Rattle.scanner.proofs.Structure.{
   links_are,
 }
 use Rattle.item_parts.proofs.UnitWalks.{Last, unit_walk}
-use Rattle.scanner.proofs.Units.{NoLink, no_link_and, no_more, unit_flatten, unit_no_link, unit_read_lem}
+use Rattle.scanner.proofs.Units.{NoLink, no_link_and, unit_flatten, unit_no_link, unit_read_lem}
 use Rattle.item_parts.proofs.UnitsAt.{joins-is, part-last, part-past}
 use Rattle.scanner.proofs.Walk.{strip_selector}
 
 -- ---- one link
 
-module _ (text : List ℕ) (end at : ℕ) {s t : List ℕ} (h : S s) (p : Stops is_selector t) (e : chars (drop at text) ≡ 0x200D ∷ (s ++ t)) where
+module _ (text : List ℕ) (end at : ℕ) {s t : List ℕ} (h : S s) (p : Stops is_selector t)
+    (e : chars (drop at text) ≡ 0x200D ∷ (s ++ t)) where
   the_link : ZwjLink
   the_link = record { after = s }
 
   link_is : Link (link_from at the_link) ≡ link_read at (chars (drop at text))
   unfolding link_read link_from the_link
-  link_is = sym (ap (link_read at) e ∙ ap (λ (x : List ℕ). Link (selectors_from (at + width 0x200D) x)) (run_all is_selector (S_passes h) p))
+  link_is = sym (ap (link_read at) e ∙ ap (λ (x : List ℕ). Link (selectors_from (at + width 0x200D) x))
+      (run_all is_selector (S_passes h) p))
 
   link_end : (link_from at the_link).end ≡ at + size width (0x200D ∷ s)
   unfolding link_from the_link
@@ -168,7 +170,7 @@ joins_walk : {v w : List ℕ} {js : List ZwjJoinedEmoji} {ls : List ZwjLink} (te
     → Stops is_selector r → Whole (v ++ w) r → chars (drop at text) ≡ w ++ r → at + size width w ≡ end → JoinsWalk text end at js ls
 unfolding flatten_link the_link
 joins_walk text end at r u (no_joins_are k) p n e z = no-more-units (links_walk text end at r k p e z)
-joins_walk text end at r u (join-are {s = s} {v = v} {w = w} h d k) p n e z =
+joins_walk {v = v'} text end at r u (join-are {s = s} {v = v} {w = w} h d k) p n e z =
     let b = unit_read_lem d in
     let q : chars (drop at text) ≡ 0x200D ∷ (s ++ (v ++ (w ++ r))) = e
     ∙ ap (λ (x : List ℕ). 0x200D ∷ x) (append_assoc s (v ++ w) r ∙ ap (λ (x : List ℕ). s ++ x) (append_assoc v w r)) in
@@ -184,7 +186,7 @@ joins_walk text end at r u (join-are {s = s} {v = v} {w = w} h d k) p n e z =
     unit-and (link_joins text end at h f q (omega (arith, z, i, j)) (omega (arith, z, i, j, link_end text end at h f q))
     (ap (λ (y : List ℕ). y ++ (w ++ r)) b.split) b.is_emoji_lem)
     (unit_walk text (at + size width (0x200D ∷ s)) (w ++ r) d (last_unit k p m) (chars-from text at (0x200D ∷ s) (v ++ (w ++ r)) q))
-    (joins_walk text end (at + size width ((0x200D ∷ s) ++ flatten_unit (emoji_like b.char b.rest))) r d k p m
+    (joins_walk {v = v} text end (at + size width ((0x200D ∷ s) ++ flatten_unit (emoji_like b.char b.rest))) r d k p m
     (ap (λ (y : ℕ). chars (drop y text)) g
     ∙ chars-from text (at + size width (0x200D ∷ s)) v (w ++ r) (chars-from text at (0x200D ∷ s) (v ++ (w ++ r)) q))
     (omega (arith, z, i, g)))

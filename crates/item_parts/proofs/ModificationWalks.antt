@@ -71,7 +71,8 @@ no_tags_at {c} h e = tags_test c ∙ ap is_tag_or_selector_class (class_is h) �
 
 pub data Mods (r : List ℕ) : List ℕ → List EmojiModification → Type 0 where
   mods_end : Stops in_modifications r → Mods r r []
-  mods_modifier : {c : ℕ} {s t : List ℕ} {ms : List EmojiModification} → is_emoji_modifier c ≡ true → S s → Stops is_selector t → Mods r t ms
+  mods_modifier : {c : ℕ} {s t : List ℕ} {ms : List EmojiModification} → is_emoji_modifier c ≡ true → S s → Stops is_selector t
+      → Mods r t ms
       → Mods r (c ∷ (s ++ t)) (EmojiModifier c s ∷ ms)
   mods_keycap : {s t : List ℕ} {ms : List EmojiModification} → S s → Stops is_selector t → Mods r t ms
       → Mods r (0x20E3 ∷ (s ++ t)) (EnclosingKeycap s ∷ ms)

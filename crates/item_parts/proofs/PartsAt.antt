@@ -172,7 +172,8 @@ module _ {text : List ℕ} {at v : ℕ} {k : Class} {next : ℕ} (h : Seen text 
       ap TagModifier (r ∙ ap (λ (l : List ℕ). at + size width l) (ap tag_modification_at h.chars_on ∙ sym m.flat))
       ∙ modification_is (modification_tag v (chars (drop next text)) p) m.is
 
-  pub modification_off : is_modification_class k ≡ false → is_tag_class k ≡ false → NoModification ≡ modification_read at (chars (drop at text))
+  pub modification_off : is_modification_class k ≡ false → is_tag_class k ≡ false
+      → NoModification ≡ modification_read at (chars (drop at text))
   unfolding modifications_of first_from
   modification_off e f =
       modification_is (modification_other v (chars (drop next text)) false (tested _ is_tag_class tag_test f)
@@ -199,7 +200,8 @@ module _ {text : List ℕ} {at v : ℕ} {k : Class} {next : ℕ} (h : Seen text 
       → r ≡ stem_read at (chars (drop at text))
   stem_ri e r = r ∙ sym (stem_by_lem true true (ap is_emoji_class e) (ap is_ri_class e))
 
-  pub stem_on : {r : PresentationSelectors} → is_emoji_class k ≡ true → is_ri_class k ≡ false → r ≡ selector_run text next → SingletonBase v r
+  pub stem_on : {r : PresentationSelectors} → is_emoji_class k ≡ true → is_ri_class k ≡ false → r ≡ selector_run text next
+      → SingletonBase v r
       ≡ stem_read at (chars (drop at text))
   unfolding stem_after selector_run
   stem_on e f r = ap (SingletonBase v) r ∙ sym (stem_by_lem true false e f)

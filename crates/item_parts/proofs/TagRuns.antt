@@ -91,4 +91,8 @@ of_tags c t e = go (modifications_of s).1 refl (one_tags passes)
 
     go : (ms : List EmojiModification) → (modifications_of s).1 ≡ ms → OneTags ms → OfTags s
     go _ p no_tags = absurd (cons-ne-nil c (run in_tags t) (sym (sym (ap flatten_modifications p) ∙ whole ∙ begins)))
-    go _ p (the_tags rs) = record { runs = rs; is = p; flat = sym (append-nil (flatten_runs rs)) ∙ sym (ap flatten_modifications p) ∙ whole }
+    go _ p (the_tags rs) = record {
+      runs = rs;
+      is = p;
+      flat = sym (append-nil (flatten_runs rs)) ∙ sym (ap flatten_modifications p) ∙ whole;
+    }

@@ -94,7 +94,7 @@ one_modification c e =
 -- No character of a modification stands after the unit.
 last-stops : {v : List ℕ} (r : List ℕ) → EmojiUnit v → Last v r → Stops in_modifications r
 last-stops [] u l = at_end
-last-stops (c ∷ t) u l = go l.no-selector
+last-stops (c ∷ t) u l = go l.no_selector
   where
     go : Stops is_selector (c ∷ t) → Stops in_modifications (c ∷ t)
     go (at_char f) = at_char (ap₂ (λ (x y : Bool). x || y)
@@ -119,14 +119,14 @@ unit_stem : {v : List ℕ} (at : ℕ) (r : List ℕ) (d : EmojiUnit v) → Last 
 unfolding stem_from unit_read_lem
 unit_stem at r (unit_of {m = m} (single {c = c} {s = s} e h) d) l =
     let front = modifications_front d in
-    let p : Stops is_selector (m ++ r) = stops_append (front-stops front) (λ _. l.no-selector) in
+    let p : Stops is_selector (m ++ r) = stops_append (front-stops front) (λ _. l.no_selector) in
     ap (λ (t : List ℕ). stem_read at (c ∷ t)) (append_assoc s m r) ∙ stem_emoji at c (s ++ (m ++ r)) true e
     ∙ ap (λ (u : EmojiLike). stem_after (at + width c) u.stem)
     (like_of_lem c h p
     ∙ like_single c s (m ++ r) (is_ri c) refl
     (λ i. stops_append (front_no_ri front) (λ n. no_ri_after r i h (subst (λ (x : List ℕ). Last ((c ∷ s) ++ x) r) n l))))
 unit_stem at r (unit_of {m = m} (flag {s = s} {t = t} a b e h f k) d) l =
-    let p : Stops is_selector (m ++ r) = stops_append (front-stops (modifications_front d)) (λ _. l.no-selector) in
+    let p : Stops is_selector (m ++ r) = stops_append (front-stops (modifications_front d)) (λ _. l.no_selector) in
     ap (λ (x : List ℕ). stem_read at (a ∷ x))
     (append_assoc (s ++ b ∷ t) m r ∙ append_assoc s (b ∷ t) (m ++ r))
     ∙ stem_emoji at a (s ++ b ∷ (t ++ (m ++ r))) true (ri_emoji a e)
@@ -151,7 +151,8 @@ run_in run_end = all_pass
 run_in (run_selector {c = c} e h) = pass-and (either-right (is_modification c) (is_selector c) e) (run_in h)
 run_in (run_modifier {c = c} e h) = pass-and
     (either_left (is_modification c) (is_selector c) (either_left (is_emoji_modifier c) (eqb c 0x20E3 || is_tag c) e)) (run_in h)
-run_in (run_keycap h) = pass-and (either_left (is_modification 0x20E3) (is_selector 0x20E3) (either-right (is_emoji_modifier 0x20E3) true refl))
+run_in (run_keycap h) = pass-and (either_left (is_modification 0x20E3) (is_selector 0x20E3)
+    (either-right (is_emoji_modifier 0x20E3) true refl))
     (run_in h)
 run_in (run_tag {c = c} e h) =
     pass-and (either_left (is_modification c) (is_selector c)
@@ -176,7 +177,7 @@ unit_walk {v} text at r d l e =
     let whole : chars (drop at text) ≡ flatten_stem u.stem ++ (m ++ r) = e ∙ ap (λ (y : List ℕ). y ++ r) u.whole
     ∙ append_assoc (flatten_stem u.stem) m r in
     let on : chars (drop start text) ≡ m ++ r = chars-from text at (flatten_stem u.stem) (m ++ r) whole in
-    let all : modifications_at (m ++ r) ≡ m = EmojiRuns.modifications_run (stops_append (front-stops front) (λ _. l.no-selector))
+    let all : modifications_at (m ++ r) ≡ m = EmojiRuns.modifications_run (stops_append (front-stops front) (λ _. l.no_selector))
     ∙ run_all in_modifications (run_in flow) stops in
     let n : size width (flatten_unit x) ≡ size width (flatten_stem u.stem) + size width m =
     size_append width (flatten_stem u.stem) (flatten_modifications ms)

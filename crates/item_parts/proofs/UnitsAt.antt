@@ -45,7 +45,8 @@ use Rattle.scanner.proofs.Runs.{run-after, run_false, run_true}
 -- ---- a run of tags
 
 pub tag_run_by : (at c : ℕ) (t : List ℕ) (b : Bool) → is_tag c ≡ b
-    → tag_run_read at (c ∷ t) ≡ cond b (tag_run_from at (record { tags = run is_tag (c ∷ t); after = selectors_at (after_run is_tag (c ∷ t)) }))
+    → tag_run_read at (c ∷ t) ≡ cond b (tag_run_from at
+    (record { tags = run is_tag (c ∷ t); after = selectors_at (after_run is_tag (c ∷ t)) }))
     NoTags
 unfolding tag_run_read
 tag_run_by at c t b f = ap (λ (x : Bool). cond x
@@ -67,7 +68,8 @@ module _ (text : List ℕ) (at : ℕ) {end : ℕ} (e : end ≡ at + size width (
           by true f = absurd (omega (arith, ap (size width) (run_true is_tag c t f), width_some c))
           by false f = sym (tag_run_by at c t false f)
 
-  pub some_tags : (end ≡ at → ⊥) → {r : PresentationSelectors} → r ≡ selector_run text end → Run end r ≡ tag_run_read at (chars (drop at text))
+  pub some_tags : (end ≡ at → ⊥) → {r : PresentationSelectors} → r ≡ selector_run text end
+      → Run end r ≡ tag_run_read at (chars (drop at text))
   unfolding selector_run tag_run_from run
   some_tags n {r} g = go (chars (drop at text)) refl tags_end
     where
@@ -107,7 +109,8 @@ ends_by at c true false s m = omega (arith, ap (size width) (append-nil s))
 ends_by at c true true s [] = omega (arith, ap (size width) (append-nil s))
 ends_by at c true true s (d ∷ u) = go (is_ri d)
   where
-    go : (x : Bool) → stem_end_lem at (stem_after (at + width c) (cond x (Structure.Flag c s d (selectors_at u)) (Structure.SingletonBase c s)))
+    go : (x : Bool) → stem_end_lem at (stem_after (at + width c)
+        (cond x (Structure.Flag c s d (selectors_at u)) (Structure.SingletonBase c s)))
         ≡ at + size width (c ∷ (s ++ cond x (d ∷ selectors_at u) []))
     go true = omega (arith, size_append width s (d ∷ selectors_at u))
     go false = omega (arith, ap (size width) (append-nil s))

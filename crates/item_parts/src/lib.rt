@@ -4,6 +4,8 @@
 // the links after a unit.
 // Each function equals a definition of specs/Parts.antt for every slice and offset. Called from an item's start to its end, they
 // give its structure (specs/Walks.antt, StructureIsWalked).
+#![tactic(auto)]
+
 ghost use Rattle.std.specs.Prelude.{◌≡◌, ◌+◌, drop};
 ghost use Rattle.utf8.specs.Rfc3629.{chars};
 ghost use Rattle.scanner.specs.Runs.{modifications_at};
@@ -16,7 +18,7 @@ use scanner::char_runs::{RunKind, run_end};
 use scanner::selectors::{PresentationSelectors, consume_presentation_selectors};
 
 // One or more tags, up to the offset tags_end, and the selectors after them.
-#[derive(Drop)]
+#[derive(Clone, Copy)]
 pub enum EmojiTagRun {
     Run {
         tags_end: usize,
@@ -26,7 +28,7 @@ pub enum EmojiTagRun {
 }
 
 // A modification of a stem. `consume_emoji_tag_run` reads the runs of a tag modification, from its start up to its end.
-#[derive(Drop)]
+#[derive(Clone, Copy)]
 pub enum EmojiModification {
     EmojiModifier {
         modifier: u32,
@@ -42,7 +44,7 @@ pub enum EmojiModification {
 }
 
 // The stem of a unit: one emoji, or the two regional indicators of a flag, each with its selectors.
-#[derive(Drop)]
+#[derive(Clone, Copy)]
 pub enum EmojiStem {
     SingletonBase {
         base: u32,
@@ -58,7 +60,7 @@ pub enum EmojiStem {
 }
 
 // A unit: its stem, and its modifications from modifiers_start up to end. `consume_emoji_modification` reads these.
-#[derive(Drop)]
+#[derive(Clone, Copy)]
 pub struct EmojiLike {
     pub stem: EmojiStem,
     pub modifiers_start: usize,
@@ -66,14 +68,14 @@ pub struct EmojiLike {
 }
 
 // A link: 200D, with the selectors after it.
-#[derive(Drop)]
+#[derive(Clone, Copy)]
 pub enum ZwjLink {
     Link { selectors: PresentationSelectors },
     NoLink,
 }
 
 // The part after a unit, or in an item of links: a link that joins the unit after its selectors, a link left over, or no part.
-#[derive(Drop)]
+#[derive(Clone, Copy)]
 pub enum SequencePart {
     JoiningLink(PresentationSelectors),
     LeftOverLink(PresentationSelectors),

@@ -61,7 +61,8 @@ module _ {text : List ℕ} {at v : ℕ} {k : Class} {next : ℕ} (h : Seen text 
       (split_from-none p v (chars (drop next text)) (ap (transition p) (sym h.class) ∙ next_stop (transition p k) e))
 
   -- The rest from the next character on has the same end.
-  width-on : (q : State) → next_of (transition p k) ≡ Next.On q → at + size width (rest_at text at p) ≡ next + size width (rest_at text next q)
+  width-on : (q : State) → next_of (transition p k) ≡ Next.On q
+      → at + size width (rest_at text at p) ≡ next + size width (rest_at text next q)
   width-on q e = omega (arith, h.after, ap (size width) (rest-on q e))
 
 -- ---- a tag modification in the rest of an item
@@ -98,7 +99,8 @@ module _ {text : List ℕ} {at v next : ℕ} (h : Seen text at v tag next) (p : 
   unfolding transition
   rest_parts =
       rest-on h p unit e ∙ sym (rest-on h unit unit refl) ∙ ap (λ (l : List ℕ). (split_from unit l).0) (sym (run-after in_tags t))
-      ∙ ap (λ (r : List ℕ × List Item). r.0) (split_from_walk (walk_passes unit in_tags tags_stay (run-passes in_tags t)) (after_run in_tags t))
+      ∙ ap (λ (r : List ℕ × List Item). r.0) (split_from_walk (walk_passes unit in_tags tags_stay (run-passes in_tags t))
+      (after_run in_tags t))
       ∙ ap (λ (l : List ℕ). tags ++ (split_from unit l).0) (sym after_tags)
 
   tags_width : at + size width (rest_at text at p) ≡ end + size width (rest_at text end unit)
@@ -131,7 +133,7 @@ module _ {text : List ℕ} {from at : ℕ} {first p : State} {b : Bool} (l : Rea
     reading-on n = record {
       end_same = l.end_same ∙ width-on h p q e;
       tags_same =
-          l.tags-same
+          l.tags_same
           ∙ ap (λ (c : Bool). b && c) (ap (tags_complete_of (kind_of p)) (rest-on h p q e)
           ∙ tags_on p q v (rest_at text next q) h.class (next-on (transition p k) q e) n);
     }
@@ -151,7 +153,7 @@ module _ {text : List ℕ} {from at : ℕ} {first p : State} {b : Bool} (l : Rea
           record {
             end_same = l.end_same ∙ tags_width s p r ∙ ap (λ (n : ℕ). n + size width (rest_at text n unit)) (sym f);
             tags_same =
-                l.tags-same ∙ ap (λ (x : Bool). b && x) (tags_parts s p r)
+                l.tags_same ∙ ap (λ (x : Bool). b && x) (tags_parts s p r)
                 ∙ sym (and_assoc b (all_complete (tag_modifications (run in_tags (chars (drop at text)))))
                 (tags_complete_of (kind_of unit) (rest_at text (at + size width (run in_tags (chars (drop at text)))) unit)))
                 ∙ ap₂ (λ (x : Bool) (n : ℕ). (b && x) && tags_complete_of (kind_of unit) (rest_at text n unit)) (sym g) (sym f);
@@ -163,7 +165,7 @@ module _ {text : List ℕ} {from at : ℕ} {first p : State} {b : Bool} (l : Rea
       × (b ≡ tags_complete_of (kind_of first) (rest_at text from first))
   reading-done e = (
     let m = l.end_same in omega (arith, ap (size width) e),
-    sym (l.tags-same ∙ ap (λ (c : Bool). b && c) (ap (tags_complete_of (kind_of p)) e ∙ tags_nil (kind_of p)) ∙ and-true b),
+    sym (l.tags_same ∙ ap (λ (c : Bool). b && c) (ap (tags_complete_of (kind_of p)) e ∙ tags_nil (kind_of p)) ∙ and-true b),
   )
 
 -- ---- the item at an offset

@@ -15,14 +15,14 @@ use scanner::char_class::{Class, Peeked, peek};
 pub const CANCEL_TAG: u32 = 0xE007F;
 
 // A tag modification: the offset of its end, and whether it is complete.
-#[derive(Drop)]
+#[derive(Clone, Copy)]
 pub struct TagModification {
     pub end: usize,
     pub complete: bool,
 }
 
 // What the tags of a tag modification are, as far as they have been read.
-#[derive(Drop)]
+#[derive(Clone, Copy)]
 enum TagState {
     // no tag
     NoTag,

@@ -3,6 +3,8 @@
 // `scan_at` of the crate scanner, specs/Spans, for every slice, offset and count. Its loop is `item_rest`, which follows the automaton
 // `scanner::state`. An item has its start and end in bytes, characters and UTF-16 units (document 02, v): the caller gives the
 // characters and units before the item, and the cursor counts those of the item.
+#![tactic(auto)]
+
 pub mod consume;
 
 ghost use Rattle.std.specs.Prelude.{◌≡◌, ◌&&◌, ◌+◌};
@@ -17,7 +19,7 @@ use scanner::state::{Next, State};
 use scanner::{ScanItem, ScanStep};
 
 // The result of reading an item after its first character: the offset of the item's end, and whether its tags are complete.
-#[derive(Drop)]
+#[derive(Clone, Copy)]
 struct ItemRest {
     end: usize,
     tags_complete: bool,

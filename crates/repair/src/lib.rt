@@ -1,6 +1,8 @@
 // Taking damaged text in: `repair` replaces each bad place of a text by FFFD (document 02, ii). The crate evfmt takes a `str`, and has no
 // such call. `repair` goes through the text from bad place to bad place and writes the repaired text on the way. Only if the output may be
 // too short, it first measures the repaired text. `repair` equals `repair` of specs/Repair.antt.
+#![tactic(auto)]
+
 ghost use Rattle.std.specs.Prelude.{◌≡◌, ◌+◌, ◌-◌, ◌≤◌, drop, length, take};
 ghost use Rattle.base.specs.Answers.{EndsAs};
 ghost use Rattle.base.specs.Output.{PutAt};
@@ -14,14 +16,14 @@ use base::{Refusal, TEXT_LIMIT};
 const REPLACEMENT_BYTES: usize = 3;
 
 // The answer: the length of the repaired text and the number of replacements, or a refusal.
-#[derive(Drop)]
+#[derive(Clone, Copy)]
 pub enum RepairAnswer {
     Repaired { len: usize, replaced: usize },
     Refused(Refusal),
 }
 
 // The length of a repaired text, and the number of replacements in it.
-#[derive(Drop)]
+#[derive(Clone, Copy)]
 struct Size {
     len: usize,
     replaced: usize,

@@ -3,6 +3,8 @@
 // rules.
 // The functions read the item from the text itself. They take no item from the caller, so that no field of one must be trusted.
 // `analyze_scan_item` equals `analysis_at` of crate analysis, specs/ItemAt.antt.
+#![tactic(auto)]
+
 pub mod choice;
 pub mod decisions;
 pub mod measure;

@@ -23,7 +23,7 @@ use scanner::selectors::{
 };
 
 // The result of the rules for a cell, and the offset of the cell's end.
-#[derive(Drop)]
+#[derive(Clone, Copy)]
 pub struct CellOutcome {
     pub outcome: Outcome,
     pub end: usize,
@@ -47,7 +47,7 @@ pub fn cell_outcome(text: &[u8], at: usize, base: u32, policy: Policy) -> CellOu
 }
 
 // The counts of a slice, and the number of bytes of its renewed cells, which is the same under all decisions.
-#[derive(Drop)]
+#[derive(Clone, Copy)]
 pub struct Measure {
     pub counts: NonCanonicality,
     pub len: usize,

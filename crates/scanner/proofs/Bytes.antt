@@ -63,7 +63,8 @@ pub chars_drop : (s vs us : List ℕ) → chars s ≡ vs ++ us → chars (drop (
 chars_drop s vs us e =
     ap (λ (l : List ℕ). chars (drop (length (encode_all vs)) l)) (split_bytes s vs us e)
     ∙ ap chars (drop-append_seam (encode_all vs) (encode_all us ++ drop (valid_up_to_of s) s))
-    ∙ chars-encode_all us (drop (valid_up_to_of s) s) (scalar-after vs us (subst (λ (l : List ℕ). all_scalar l ≡ true) e (chars-all_scalar s)))
+    ∙ chars-encode_all us (drop (valid_up_to_of s) s)
+    (scalar-after vs us (subst (λ (l : List ℕ). all_scalar l ≡ true) e (chars-all_scalar s)))
     ∙ ap (λ (l : List ℕ). us ++ l) (rest-empty s) ∙ append-nil us
 
 -- The same for a text from an offset on: the next offset is the first plus the size of the characters.

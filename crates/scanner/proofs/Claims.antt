@@ -258,20 +258,26 @@ tags_complete_means t x m k =
     (all_complete_means (tag_modifications x.chars)))
 
 pub item-examples : ItemExamples
-unfolding ItemExamples class_of is_selector is_tag is_ri is_emoji_modifier is_emoji in_ranges member emoji_modifiers emoji_ranges ri_ranges transition
+unfolding ItemExamples class_of is_selector is_tag is_ri is_emoji_modifier is_emoji in_ranges member emoji_modifiers emoji_ranges ri_ranges
+    transition
     start_state kind_of split_from items
 item-examples = (refl, refl, refl, refl, refl)
 
 pub tag_examples : TagExamples
-unfolding TagExamples class_of is_selector is_tag is_ri is_emoji_modifier is_emoji in_ranges member emoji_modifiers emoji_ranges ri_ranges transition
-    start_state kind_of split_from items utf8_1 utf8_2 utf8_3 utf8_4 read_four read_char fold_step fold_chars chars encode encode_all width spans
-    scan_from scan capped_plus capped text_count units utf16_units tags_complete_of tag_modifications tag_runs with_tags all_complete complete
+unfolding TagExamples class_of is_selector is_tag is_ri is_emoji_modifier is_emoji in_ranges member emoji_modifiers emoji_ranges ri_ranges
+    transition
+    start_state kind_of split_from items utf8_1 utf8_2 utf8_3 utf8_4 read_four read_char fold_step fold_chars chars encode encode_all width
+    spans
+    scan_from scan capped_plus capped text_count units utf16_units tags_complete_of tag_modifications tag_runs with_tags all_complete
+    complete
     ends_in_cancel
 tag_examples = (refl, refl, refl, refl, refl, refl, refl, refl, refl, refl, refl, refl, refl, refl, refl)
 
 pub structure_example : StructureExample
-unfolding StructureExample class_of is_selector is_tag is_ri is_emoji_modifier is_emoji in_ranges member emoji_modifiers emoji_ranges ri_ranges run
-    after_run tag_to_runs tag_to_modifications to_modifications modifications_of ri_stem after_second_ri emoji_like split_at_links join_one joined_of
+unfolding StructureExample class_of is_selector is_tag is_ri is_emoji_modifier is_emoji in_ranges member emoji_modifiers emoji_ranges
+    ri_ranges run
+    after_run tag_to_runs tag_to_modifications to_modifications modifications_of ri_stem after_second_ri emoji_like split_at_links join_one
+    joined_of
     sequence_of structure
 structure_example = refl
 

@@ -53,7 +53,8 @@ unfolding class_of
 has_class c = go (is_selector c) (eqb c 0x200D) (eqb c 0x20E3) (is_tag c) (is_ri c) (is_emoji_modifier c)
     (is_emoji c) refl refl refl refl refl refl refl
   where
-    go : (s l k t r m e : Bool) → is_selector c ≡ s → eqb c 0x200D ≡ l → eqb c 0x20E3 ≡ k → is_tag c ≡ t → is_ri c ≡ r → is_emoji_modifier c ≡ m
+    go : (s l k t r m e : Bool) → is_selector c ≡ s → eqb c 0x200D ≡ l → eqb c 0x20E3 ≡ k → is_tag c ≡ t → is_ri c ≡ r
+        → is_emoji_modifier c ≡ m
         → is_emoji c ≡ e
         → HasClass c (cond s selector (cond l link (cond k keycap (cond t tag (cond r ri (cond m modifier (cond e emoji other)))))))
     go true l k t r m e s' l' k' t' r' m' e' = is_selector_lem s'
@@ -68,7 +69,7 @@ has_class c = go (is_selector c) (eqb c 0x200D) (eqb c 0x20E3) (is_tag c) (is_ri
 
 -- ---- a character has only one class
 
--- If the test f passes only where isEmoji is x, then f fails where isEmoji is not x.
+-- If the test f passes only where is_emoji is x, then f fails where is_emoji is not x.
 contrary : (f : ℕ → Bool) (x : Bool) → ((c : ℕ) → f c ≡ true → is_emoji c ≡ x) → (c : ℕ) → is_emoji c ≡ not x → f c ≡ false
 contrary f x h c e = fails (f c) (λ p. never x (sym (h c p) ∙ e))
   where
@@ -143,7 +144,8 @@ class_is {c} (is_other p k t) =
     simp (p.no_selector, p.no_link, k, t, contrary is_ri true ri_emoji c e, contrary is_emoji_modifier true modifier_emoji c e, e)
 
 -- A character that is not an emoji and has none of the other classes has the class other.
-pub class_other : (c : ℕ) → is_emoji c ≡ false → (c ≡ 0xFE0E → ⊥) → (c ≡ 0xFE0F → ⊥) → (c ≡ 0x200D → ⊥) → (c ≡ 0x20E3 → ⊥) → is_tag c ≡ false
+pub class_other : (c : ℕ) → is_emoji c ≡ false → (c ≡ 0xFE0E → ⊥) → (c ≡ 0xFE0F → ⊥) → (c ≡ 0x200D → ⊥) → (c ≡ 0x20E3 → ⊥)
+    → is_tag c ≡ false
     → class_of c ≡ other
 unfolding is_selector
 class_other c e s s' l k t =

@@ -187,6 +187,11 @@ pub to_joined : (p : State) → InUnit p → transition p link ≡ some joined
 unfolding transition
 to_joined one_ri in_one_ri = refl
 to_joined unit in_unit_lem = refl
+to_joined plain x' = elim x' [ ]
+to_joined selectors x'' = elim x'' [ ]
+to_joined links x3 = elim x3 [ ]
+to_joined joined x4 = elim x4 [ ]
+to_joined left_over x5 = elim x5 [ ]
 
 pub walk_link : {s : List ℕ} {p : State} (q : State) → transition p link ≡ some q → transition q selector ≡ some q → Link s → Walk p s q
 walk_link q e f (a_link s) = via (is_link refl) e (walk_S q f s)

@@ -62,7 +62,8 @@ modification_on : (c : ℕ) → is_modification c ≡ true → transition unit (
 unfolding transition is_modification
 modification_on c e =
     ⊎_elim (λ m. ap (transition unit) (class_is (is_modifier m)))
-    (λ o. ⊎_elim (λ k. ap (transition unit) (class_is (is_keycap (eqb-true c 0x20E3 k)))) (λ t. ap (transition unit) (class_is (is_tag_lem t)))
+    (λ o. ⊎_elim (λ k. ap (transition unit) (class_is (is_keycap (eqb-true c 0x20E3 k))))
+    (λ t. ap (transition unit) (class_is (is_tag_lem t)))
     (either_true _ _ o))
     (either_true _ _ e)
 
@@ -174,7 +175,8 @@ stem_read_lem c t e = go (emoji_class c e)
     go (an_ri r) = stem_ri c t r
     go (a_modifier m) = stem_single e (not-ri (modifier_no_ri c m)) in_unit_lem refl (ap start_state (class_is (is_modifier m)))
         (λ z. absurd (unit_not_one_ri z))
-    go (an_emoji h) = stem_single e (not-ri (emoji_not_ri h)) in_unit_lem refl (ap start_state (class_is h)) (λ z. absurd (unit_not_one_ri z))
+    go (an_emoji h) = stem_single e (not-ri (emoji_not_ri h)) in_unit_lem refl (ap start_state (class_is h))
+        (λ z. absurd (unit_not_one_ri z))
 
 pub after_stem_lem : {c : ℕ} {t : List ℕ} (r : StemRead c t) → after_stem (c ∷ t) ≡ r.rest
 unfolding after_stem
@@ -207,7 +209,8 @@ unfolding split_from
 split_from_one_ri at_end i = refl
 split_from_one_ri (at_char {c = c} {s = t} e) (at_char f) = split_from-transition one_ri unit c t (same-transition (has_class c) e f)
 
-split_from_stem : {p : State} {r : List ℕ} → InUnit p → Stops is_selector r → (p ≡ one_ri → Stops is_ri r) → split_from p r ≡ split_from unit r
+split_from_stem : {p : State} {r : List ℕ} → InUnit p → Stops is_selector r → (p ≡ one_ri → Stops is_ri r)
+    → split_from p r ≡ split_from unit r
 split_from_stem in_one_ri s n = split_from_one_ri s (n refl)
 split_from_stem in_unit_lem s n = refl
 

@@ -107,9 +107,11 @@ passthrough_off (is_other s k t) e = absurd (true≢false (sym (is_passthrough_l
 
 passthrough_on : {c : ℕ} {k : Class} → HasClass c k → is_passthrough c ≡ true → transition plain k ≡ some plain
 unfolding transition is_selector
-passthrough_on {c} (is_selector_lem s) e = absurd (true≢false (sym (either_left (is_selector c) (eqb c 0x200D || is_emoji c) s) ∙ not-true _ e))
+passthrough_on {c} (is_selector_lem s) e = absurd (true≢false
+    (sym (either_left (is_selector c) (eqb c 0x200D || is_emoji c) s) ∙ not-true _ e))
 passthrough_on {c} (is_link s) e = absurd
-    (true≢false (sym (either-right (is_selector c) (eqb c 0x200D || is_emoji c) (either_left (eqb c 0x200D) (is_emoji c) (eq-eqb c 0x200D s)))
+    (true≢false (sym (either-right (is_selector c) (eqb c 0x200D || is_emoji c)
+    (either_left (eqb c 0x200D) (is_emoji c) (eq-eqb c 0x200D s)))
     ∙ not-true _ e))
 passthrough_on (is_keycap s) e = refl
 passthrough_on (is_tag_lem s) e = refl
@@ -120,7 +122,8 @@ passthrough_on {c} (is_modifier s) e = absurd
     (true≢false (sym (either-right (is_selector c) (eqb c 0x200D || is_emoji c)
     (either-right (eqb c 0x200D) (is_emoji c) (modifier_emoji c s))) ∙ not-true _ e))
 passthrough_on {c} (is_emoji_lem s r m) e = absurd
-    (true≢false (sym (either-right (is_selector c) (eqb c 0x200D || is_emoji c) (either-right (eqb c 0x200D) (is_emoji c) s)) ∙ not-true _ e))
+    (true≢false (sym (either-right (is_selector c) (eqb c 0x200D || is_emoji c) (either-right (eqb c 0x200D) (is_emoji c) s))
+    ∙ not-true _ e))
 passthrough_on (is_other s k t) e = refl
 
 -- The item at a selector, at 200D, and at a plain character.
@@ -136,9 +139,11 @@ unfolding start_state transition links_at
 item-links c t e =
     ap (λ (k : Class). c ∷ (split_from (start_state k) t).0) (class_link c e)
     ∙ ap (λ (l : List ℕ). c ∷ l) (split_from-run links in_links (links-on links refl refl) (λ d f. (links_off (has_class d) f).0) t)
-    ∙ sym (run_true in_links c t (either_left (eqb c 0x200D) (is_selector c) e)) ∙ ap (λ (b : Bool). cond b (run in_links (c ∷ t)) []) (sym e)
+    ∙ sym (run_true in_links c t (either_left (eqb c 0x200D) (is_selector c) e))
+    ∙ ap (λ (b : Bool). cond b (run in_links (c ∷ t)) []) (sym e)
 
-pub item_passthrough : (c : ℕ) (t : List ℕ) → is_passthrough c ≡ true → c ∷ (split_from (start_state (class_of c)) t).0 ≡ passthrough_at (c ∷ t)
+pub item_passthrough : (c : ℕ) (t : List ℕ) → is_passthrough c ≡ true
+    → c ∷ (split_from (start_state (class_of c)) t).0 ≡ passthrough_at (c ∷ t)
 unfolding passthrough_at
 item_passthrough c t e =
     ap (λ (p : State). c ∷ (split_from p t).0) (go (class_of c) (passthrough_on (has_class c) e))

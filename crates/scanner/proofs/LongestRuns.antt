@@ -204,7 +204,8 @@ tag_is c e = either-right (is_emoji_modifier c) _ (either-right (eqb c 0x20E3) (
 modification_longest : (s r : List ℕ) → Modification s → length s ≤ length (modification_at (s ++ r))
 modification_longest s r (modifier_with_selectors {c = c} {s = u} e d) =
     and_selectors c r d (modification_other c (u ++ r) true (emoji_no_tag c (modifier_emoji c e)) (modifier_is c e))
-modification_longest s r (keycap_with_selectors {s = u} d) = and_selectors 0x20E3 r d (modification_other 0x20E3 (u ++ r) true keycap_no_tag keycap_is)
+modification_longest s r (keycap_with_selectors {s = u} d) =
+    and_selectors 0x20E3 r d (modification_other 0x20E3 (u ++ r) true keycap_no_tag keycap_is)
 modification_longest s r (tag_groups g) = as_long s (run in_tags r) (tags_at_lem r (groups_first g) ∙ run_on (groups_pass g) r)
 
 modification_front : (t : List ℕ) → Front (modification_at t) t

@@ -81,6 +81,7 @@ data EachPositioned (text : List ℕ) : List ScanItem → Type 0 where
 each_member : {text : List ℕ} {x : ScanItem} {xs : List ScanItem} → EachPositioned text xs → Memᴰ x xs → Positioned text x
 each_member {text} (item_and c h) (Memᴰ.head p) = subst (Positioned text) (sym p) c
 each_member (item_and c h) (Memᴰ.tail m) = each_member h m
+each_member {text = text} none_left x4 = elim x4 [ ]
 
 spans-positioned : (text : List ℕ) (at : ℕ) (before : TextCount) (xs : List Item) → AtPosition text at before
     → chars (drop at text) ≡ join xs → EachPositioned text (spans at before xs)

@@ -142,7 +142,12 @@ unit_head (unit_of s m) = head_more _ (stem_head s)
 
 pub derive_head : {k : ScanKind} {s : List ℕ} → Derives k s → HeadIs k s
 unfolding kind_of start_state
-derive_head (only_links (a_link s) l) = record { char = 0x200D; tail = _; split = refl; kind = rw (class_is {c = 0x200D} (is_link refl)) }
+derive_head (only_links (a_link s) l) = record {
+  char = 0x200D;
+  tail = _;
+  split = refl;
+  kind = rw (class_is {c = 0x200D} (is_link refl));
+}
 derive_head (run_of_selectors {c = c} e s) = record { char = c; tail = _; split = refl; kind = rw (class_selector c e) }
 derive_head (headed_by_emoji v j l) = head_more _ (unit_head v)
 derive_head (passthrough {c = c} p h) = record {
@@ -201,6 +206,7 @@ only-reading t xs h = unique h (reading t) refl
 pub reads_derive : {t : List ℕ} {xs : List Item} {x : Item} → Reads t xs → Memᴰ x xs → Derives x.kind x.chars
 reads_derive (reads_item r d l h) (Memᴰ.head p) = subst (λ (y : Item). Derives y.kind y.chars) (sym p) d
 reads_derive (reads_item r d l h) (Memᴰ.tail m) = reads_derive h m
+reads_derive at_the_end x8 = elim x8 [ ]
 
 pub item_derives : (t : List ℕ) (x : Item) → Memᴰ x (items t) → Derives x.kind x.chars
 item_derives t x m = reads_derive (reading t) m

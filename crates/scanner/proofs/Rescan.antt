@@ -83,7 +83,8 @@ module _ (test : Item → Bool) (w : ℕ → ℕ) (plain-fails : (x : Item) → 
     whole = λ _. ap (λ (a : List ℕ × List Item). a.0) (split_from-next p x xs c s e k l wk);
   }
     where
-      go : (b : Bool) → is_plain (start_state (class_of c)) ≡ b → (n : ℕ) → found test w (n + 0) (next x xs q c s ∷ (split_from q (join xs)).1)
+      go : (b : Bool) → is_plain (start_state (class_of c)) ≡ b → (n : ℕ)
+          → found test w (n + 0) (next x xs q c s ∷ (split_from q (join xs)).1)
           ≡ found test w n (x ∷ xs)
       go true i n =
           let kp : x.kind ≡ Passthrough = k ∙ kind_plain (start_state (class_of c)) i in

@@ -65,7 +65,8 @@ unit_off {c} (is_tag_lem s) e f = absurd
     (either-right (is_emoji_modifier c) (eqb c 0x20E3 || is_tag c) (either-right (eqb c 0x20E3) (is_tag c) s))) ∙ e))
 unit_off (is_ri_lem s) e f = refl
 unit_off {c} (is_modifier s) e f = absurd
-    (true≢false (sym (either_left (is_modification c) (is_selector c) (either_left (is_emoji_modifier c) (eqb c 0x20E3 || is_tag c) s)) ∙ e))
+    (true≢false (sym (either_left (is_modification c) (is_selector c) (either_left (is_emoji_modifier c) (eqb c 0x20E3 || is_tag c) s))
+    ∙ e))
 unit_off (is_emoji_lem s r m) e f = refl
 unit_off (is_other s k t) e f = refl
 
@@ -123,7 +124,9 @@ joined-links (at_char {c = c} {s = t} e) (at_char g) = go (eqb c 0x200D) refl
     go : (b : Bool) → eqb c 0x200D ≡ b → (split_from joined (c ∷ t)).0 ≡ run in_links (c ∷ t)
     go true f =
         ap (λ (a : List ℕ × List Item). a.0) (split_from-some joined left_over c t (ap (transition joined) (class_link c f)))
-        ∙ ap (λ (l : List ℕ). c ∷ l) (split_from-run left_over in_links (links-on left_over refl refl) (λ d h. (links_off (has_class d) h).1) t)
+        ∙ ap (λ (l : List ℕ). c ∷ l) (split_from-run left_over in_links (links-on left_over refl refl)
+        (λ d h. (links_off (has_class d) h).1)
+        t)
         ∙ sym (run_true in_links c t (either_left (eqb c 0x200D) (is_selector c) f))
     go false f =
         ap (λ (a : List ℕ × List Item). a.0) (split_from-none joined c t (joined_off (has_class c) e f g))

@@ -161,7 +161,8 @@ modifications_passes (pass-and {c = c} {s = s} e h) =
     ⊎_elim (λ i. ⊎_elim (λ m. run_modifier m r)
     (λ o. ⊎_elim (λ k. subst (λ (x : ℕ). ModRun (x ∷ s)) (sym (eqb-true c 0x20E3 k)) (run_keycap r)) (λ g. run_tag g r)
     (either_true (eqb c 0x20E3) (is_tag c) o))
-    (either_true (is_emoji_modifier c) (eqb c 0x20E3 || is_tag c) i)) (λ f. run_selector f r) (either_true (is_modification c) (is_selector c) e)
+    (either_true (is_emoji_modifier c) (eqb c 0x20E3 || is_tag c) i)) (λ f. run_selector f r)
+    (either_true (is_modification c) (is_selector c) e)
 
 run_derived : {s : List ℕ} → ModRun s → ModFront s → Modifications s
 run_derived {s} r f =

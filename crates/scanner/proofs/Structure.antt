@@ -75,7 +75,8 @@ use Rattle.scanner.proofs.Reading.{item_derives}
 
 -- ---- splitting at links
 
-split_at_links-char : (c : ℕ) (t : List ℕ) → eqb c 0x200D ≡ false → split_at_links (c ∷ t) ≡ (c ∷ (split_at_links t).0, (split_at_links t).1)
+split_at_links-char : (c : ℕ) (t : List ℕ) → eqb c 0x200D ≡ false
+    → split_at_links (c ∷ t) ≡ (c ∷ (split_at_links t).0, (split_at_links t).1)
 unfolding split_at_links
 split_at_links-char c t e = simp e
 
@@ -209,7 +210,8 @@ one-join {s} {v} {w} h d r =
     let x : EmojiLike = emoji_like u.char u.rest in
     let st : Stops is_selector v = subst (Stops is_selector) (sym u.split) (at_char (emoji_no_selector u.char u.is_emoji_lem)) in
     let c : split_at_links (0x200D ∷ (s ++ (v ++ w))) ≡ ([], (s ++ v) ∷ ss) =
-    split_at_links_link (s ++ (v ++ w)) ∙ ap (λ (a : List ℕ × List (List ℕ)). ([], a.0 ∷ a.1)) (split_at_links_no_link (v ++ w) (S_no_link h)
+    split_at_links_link (s ++ (v ++ w)) ∙ ap (λ (a : List ℕ × List (List ℕ)). ([], a.0 ∷ a.1))
+    (split_at_links_no_link (v ++ w) (S_no_link h)
     ∙ ap (λ (a : List ℕ × List (List ℕ)). (s ++ a.0, a.1))
     (split_at_links_no_link w (unit_no_link d) ∙ ap (λ (b : List ℕ). (b, ss)) (ap (λ (b : List ℕ). v ++ b) r.before ∙ append-nil v))) in
     let p : selectors_at (s ++ v) ≡ s = run_all is_selector (S_passes h) st in

@@ -16,7 +16,8 @@ use Rattle.scanner.specs.TextCheck.{text_refusal}
 abbrev pub by_text_tests : Bool → Bool → List ℕ → Option Refusal
 by_text_tests short formed text = cond (not short) (some TextTooLong) (cond (not formed) (some (NotWellFormed (valid_up_to_of text))) none)
 
-pub text_is : (text : List ℕ) {a f : Bool} → leb (length text) text_limit ≡ a → eqb (valid_up_to_of text) (length text) ≡ f → text_refusal text
+pub text_is : (text : List ℕ) {a f : Bool} → leb (length text) text_limit ≡ a → eqb (valid_up_to_of text) (length text) ≡ f
+    → text_refusal text
     ≡ by_text_tests a f text
 unfolding text_refusal
 text_is text {a} {f} p r =

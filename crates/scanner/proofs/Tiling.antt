@@ -22,7 +22,8 @@ pub split_from-some : (p q : State) (c : ℕ) (t : List ℕ) → transition p (c
 unfolding split_from
 split_from-some p q c t e = rw (e, split_from)
 
-pub split_from-none : (p : State) (c : ℕ) (t : List ℕ) → transition p (class_of c) ≡ none → split_from p (c ∷ t) ≡ ([], first c t ∷ after c t)
+pub split_from-none : (p : State) (c : ℕ) (t : List ℕ) → transition p (class_of c) ≡ none
+    → split_from p (c ∷ t) ≡ ([], first c t ∷ after c t)
 unfolding split_from
 split_from-none p c t e = rw (e, split_from)
 
@@ -104,6 +105,7 @@ filled (c ∷ t) = and_item c _ refl (split_from-filled (start_state (class_of c
 filled-member : {xs : List Item} {x : Item} → Filled xs → Memᴰ x xs → x.chars ≢ []
 filled-member (and_item c s l h) (Memᴰ.head p) e = cons-ne-nil c s (sym l ∙ ap (λ (i : Item). i.chars) (sym p) ∙ e)
 filled-member (and_item c s l h) (Memᴰ.tail m) e = filled-member h m e
+filled-member no_item x8 e = elim x8 [ ]
 
 pub never_empty : (t : List ℕ) (x : Item) → Memᴰ x (items t) → x.chars ≢ []
 never_empty t x m = filled-member (filled t) m

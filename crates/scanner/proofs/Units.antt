@@ -80,7 +80,8 @@ second : (a : ℕ) (s : List ℕ) (b : ℕ) {t m : List ℕ} → is_ri b ≡ tru
     → (ri_stem a s (b ∷ (t ++ m)) ≡ Flag a s b t) × (after_second_ri (b ∷ (t ++ m)) ≡ m)
 unfolding ri_stem after_second_ri
 second a s b {t} {m} e h p = (
-  ap (λ (x : Bool). cond x (Flag a s b (selectors_at (t ++ m))) (SingletonBase a s)) e ∙ ap (Flag a s b) (run_all is_selector (S_passes h) p),
+  ap (λ (x : Bool). cond x (Flag a s b (selectors_at (t ++ m))) (SingletonBase a s)) e
+      ∙ ap (Flag a s b) (run_all is_selector (S_passes h) p),
   ap (λ (x : Bool). cond x (after_selectors (t ++ m)) (b ∷ (t ++ m))) e ∙ after_all is_selector (S_passes h) p,
 )
 
@@ -94,7 +95,8 @@ like_of c s m = record {
 
 pub like_of_lem : (c : ℕ) {s m : List ℕ} → S s → Stops is_selector m → emoji_like c (s ++ m) ≡ like_of c s m
 unfolding emoji_like
-like_of_lem c {s} {m} h p = ap₂ (λ (a b : List ℕ). like_of c a b) (run_all is_selector (S_passes h) p) (after_all is_selector (S_passes h) p)
+like_of_lem c {s} {m} h p = ap₂ (λ (a b : List ℕ). like_of c a b) (run_all is_selector (S_passes h) p)
+    (after_all is_selector (S_passes h) p)
 
 pub like_single : (c : ℕ) (s m : List ℕ) (b : Bool) → is_ri c ≡ b → (b ≡ true → Stops is_ri m) → like_of c s m
     ≡ record { stem = SingletonBase c s; modifiers = (modifications_of m).1 }
@@ -150,7 +152,8 @@ unit_read_lem (unit_of {m = m} (single {c = c} {s = s} e h) d) = record {
   stem_derives = single e h;
   modifications_derive = d;
   whole = refl;
-  like = like_of_lem c h (front-stops (modifications_front d)) ∙ like_single c s m (is_ri c) refl (λ _. front_no_ri (modifications_front d));
+  like = like_of_lem c h (front-stops (modifications_front d))
+      ∙ like_single c s m (is_ri c) refl (λ _. front_no_ri (modifications_front d));
 }
 unit_read_lem (unit_of {m = m} (flag {s = s} {t = t} a b e h f k) d) = record {
   char = a;

@@ -249,5 +249,6 @@ derive_class (is_keycap e) w = keycap_derive e (tail_walk w)
 derive_class {c = c} (is_tag_lem e) w = passthrough (tag_plain c e) (tail_walk w)
 derive_class (is_other p k t) w = passthrough p (tail_walk w)
 
-pub walk_derive : {q : State} (c : ℕ) {s : List ℕ} → Walk (start_state (class_of c)) s q → Derives (kind_of (start_state (class_of c))) (c ∷ s)
+pub walk_derive : {q : State} (c : ℕ) {s : List ℕ} → Walk (start_state (class_of c)) s q
+    → Derives (kind_of (start_state (class_of c))) (c ∷ s)
 walk_derive c w = derive_class (has_class c) w

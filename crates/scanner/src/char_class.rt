@@ -14,7 +14,7 @@ use emoji::{
 };
 
 // The classes of characters: a selector, a link, an RI, a modifier, another emoji, 20E3, a tag, or any other character.
-#[derive(Drop)]
+#[derive(Clone, Copy)]
 pub enum Class {
     Selector,
     Link,
@@ -27,14 +27,14 @@ pub enum Class {
 }
 
 // The class of a character, and its index among the variation entries, if it has one.
-#[derive(Drop)]
+#[derive(Clone, Copy)]
 pub struct Classified {
     pub class: Class,
     pub index: VariationSequenceIndex,
 }
 
 // The character at an offset, its class and the offset after it; or that no character begins there.
-#[derive(Drop)]
+#[derive(Clone, Copy)]
 pub enum Peeked {
     Char {
         value: u32,

@@ -9,7 +9,7 @@ ghost use Rattle.scanner.specs.Spans.{size, width};
 use crate::char_class::{Class, Peeked, peek};
 
 // The runs that are determined by a test on each single character.
-#[derive(Drop)]
+#[derive(Clone, Copy)]
 pub enum RunKind {
     Selectors,
     Links,

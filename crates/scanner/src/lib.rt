@@ -3,6 +3,8 @@
 // selectors and a run of characters of one kind. The automaton of src/state.rt says where an item ends. The crate item_scanner finds
 // items, and the crate item_parts reads their parts. An item has its start and end in bytes, characters and UTF-16 units (document 02,
 // v).
+#![tactic(auto)]
+
 pub mod char_class;
 pub mod char_runs;
 pub mod selectors;
@@ -13,7 +15,7 @@ ghost use Rattle.std.specs.Prelude.{◌≡◌, ◌↔◌, true};
 ghost use Rattle.scanner.specs.Spans.{kind_number};
 
 // The kind of an item.
-#[derive(Drop)]
+#[derive(Clone, Copy)]
 pub enum ScanKind {
     Passthrough,
     UnsanctionedPresentationSelectors,
@@ -23,7 +25,7 @@ pub enum ScanKind {
 
 // An item: its bytes from start up to end, its kind, whether its tags are complete, and its start and end in characters and in UTF-16
 // units.
-#[derive(Drop)]
+#[derive(Clone, Copy)]
 pub struct ScanItem {
     pub start: usize,
     pub end: usize,
@@ -80,7 +82,7 @@ impl ScanItem {
 }
 
 // The answer of a cursor: the item at its offset, or that there is none.
-#[derive(Drop)]
+#[derive(Clone, Copy)]
 pub enum ScanStep {
     Item(ScanItem),
     End,

@@ -14,7 +14,7 @@ use emoji::presentation::{FromSelector, Presentation};
 pub const SELECTOR_BYTES: usize = 3;
 
 // A run of selectors: the first two, their number, and the offset of their end.
-#[derive(Drop)]
+#[derive(Clone, Copy)]
 pub struct PresentationSelectors {
     pub first: FromSelector,
     pub second: FromSelector,

@@ -11,7 +11,7 @@ ghost use Rattle.scanner.specs.Rows.{class_place, numbered, state_of};
 use crate::ScanKind;
 use crate::char_class::Class;
 
-#[derive(Drop)]
+#[derive(Clone, Copy)]
 pub enum State {
     // in passthrough
     Plain,
@@ -30,7 +30,7 @@ pub enum State {
 }
 
 // The next state, or that the item ends before the character.
-#[derive(Drop)]
+#[derive(Clone, Copy)]
 pub enum Next {
     On(State),
     Stop,

@@ -32,7 +32,18 @@ use Rattle.scanner.specs.Spans.{size, width}
 use Rattle.scanner.specs.declared.char_class.Class.{Class}
 use Rattle.scanner.specs.declared.char_class.Class.TheVariants.{Emoji as emoji, Other as other}
 use Rattle.scanner.specs.declared.state.State.TheVariants.{Unit as unit}
-use Rattle.scanner.proofs.Classes.{HasClass, has_class, is_emoji_lem, is_keycap, is_link, is_modifier, is_other, is_ri_lem, is_selector_lem, is_tag_lem}
+use Rattle.scanner.proofs.Classes.{
+  HasClass,
+  has_class,
+  is_emoji_lem,
+  is_keycap,
+  is_link,
+  is_modifier,
+  is_other,
+  is_ri_lem,
+  is_selector_lem,
+  is_tag_lem,
+}
 use Rattle.scanner.proofs.Tiling.{split_from-none}
 use Rattle.analysis.specs.Analysis.{chosen, following}
 use Rattle.analysis.specs.Cells.{Cell, cells, leading, split}

@@ -100,7 +100,8 @@ no_change p c k s a h = same_test _ _ quiet loud
         let z : (outcome p c k s).counts ≡ empty = ap (λ (x : List Presentation). (outcome p c k x).counts) (sym e) ∙ settles p c k s [] in
         eq-eqb _ 0 (ap total z)
 
-    loud : eqb (total (outcome p c k s).counts) 0 ≡ true → (eqb (selector_number (first_asked s)) (selector_number a) && leb (3 * length s) 3)
+    loud : eqb (total (outcome p c k s).counts) 0 ≡ true
+        → (eqb (selector_number (first_asked s)) (selector_number a) && leb (3 * length s) 3)
         ≡ true
     loud t =
         let e : run_with a 1 ≡ s = h ∙ keeps p c k s (eqb-true _ 0 t) in

@@ -145,7 +145,8 @@ module _ (p : Policy) (text : List ℕ) (at end : ℕ) {x : Item} {xs : List Ite
   pub counted-item : (m : NonCanonicality) → 1 ≤ total m → total_cells p (chars (drop at text)) ≡ m ⊕ total_cells p (chars (drop end text))
       → Counted p text at end m
   counted-item m l q =
-      let c : m ≡ non_canonicality p x = plus_cancel m (non_canonicality p x) (total_cells p (chars (drop end text))) (sym q ∙ item_counts) in
+      let c : m ≡ non_canonicality p x = plus_cancel m (non_canonicality p x) (total_cells p (chars (drop end text)))
+      (sym q ∙ item_counts) in
       record {
         finds = record {
           item = x;

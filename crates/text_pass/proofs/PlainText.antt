@@ -161,8 +161,8 @@ pub stays_plain : (p : Policy) {text : List ℕ} {at v w : ℕ} → Step text at
 unfolding rule1
 stays_plain p {text} {at} {v} {w} h c =
     let t = chars (drop (at + w) text) in
-    let o : outcome_from p text v (at + w) ≡ rule1 (leading t) = outcome_no_entry p v (following (cells t)) (leading t) c.no-entry in
-    stays-char p h c.no-selector (rw o refl) (rw o (omega arith))
+    let o : outcome_from p text v (at + w) ≡ rule1 (leading t) = outcome_no_entry p v (following (cells t)) (leading t) c.no_entry in
+    stays-char p h c.no_selector (rw o refl) (rw o (omega arith))
 
 -- ---- links and tags
 

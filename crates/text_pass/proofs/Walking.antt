@@ -130,7 +130,8 @@ as_changed false e f = f ∙ sym e
 
 -- In the arm for every state but that of passthrough, the state is not that of passthrough.
 pub not_plain : (q : State) → OneOf (1 ∷ 2 ∷ 3 ∷ 4 ∷ 5 ∷ 6 ∷ []) (tag_of the-state q) → q ≡ plain → ⊥
-not_plain q o e = miss (1 ∷ 2 ∷ 3 ∷ 4 ∷ 5 ∷ 6 ∷ []) 0 tt (subst (λ (r : State). OneOf (1 ∷ 2 ∷ 3 ∷ 4 ∷ 5 ∷ 6 ∷ []) (tag_of the-state r)) e o)
+not_plain q o e = miss (1 ∷ 2 ∷ 3 ∷ 4 ∷ 5 ∷ 6 ∷ []) 0 tt
+    (subst (λ (r : State). OneOf (1 ∷ 2 ∷ 3 ∷ 4 ∷ 5 ∷ 6 ∷ []) (tag_of the-state r)) e o)
 
 -- ---- the invariant of the loop: the current item, and what is counted in it so far
 
@@ -265,18 +266,18 @@ module _ {p : Policy} {text : List ℕ} {limit from start base : ℕ} {index : V
   total-on : total_cells p (chars (drop start text)) ≡ Sum ⊕ total_cells p U
   total-on =
       l.counted
-      ∙ ap (λ (t : List ℕ). l.sum ⊕ total_cells p t) (l.reads.chars_on ∙ ap (λ (n : ℕ). base ∷ chars (drop n text)) (sym l.at-is))
+      ∙ ap (λ (t : List ℕ). l.sum ⊕ total_cells p t) (l.reads.chars_on ∙ ap (λ (n : ℕ). base ∷ chars (drop n text)) (sym l.at_is))
       ∙ ap (λ (m : NonCanonicality). l.sum ⊕ m) (total-char p base T U l.clean (split_at text at c.end_is))
       ∙ sym (plus_assoc l.sum gain (total_cells p U))
 
   few_on : total Sum + start ≤ cell.end
-  few_on = omega (arith, l.few-counts, few p base (following (cells T)) (leading T), c.end_is, l.at-is, l.reads.some)
+  few_on = omega (arith, l.few_counts, few p base (following (cells T)) (leading T), c.end_is, l.at_is, l.reads.some)
 
   pub room : cell.end ≤ length text
-  room = omega (arith, c.end_is, l.at-is, selectors_room text at (omega (arith, l.at-is, l.reads.room)))
+  room = omega (arith, c.end_is, l.at_is, selectors_room text at (omega (arith, l.at_is, l.reads.room)))
 
   pub further : start < cell.end
-  further = omega (arith, c.end_is, l.at-is, l.on, l.reads.some)
+  further = omega (arith, c.end_is, l.at_is, l.on, l.reads.some)
 
   -- The variable `counts` after `add_cell`.
   pub keeps_on : length text ≤ most → {q : Bool} {k : NonCanonicality} → q ≡ cell.changes && leb limit start
@@ -288,20 +289,20 @@ module _ {p : Policy} {text : List ℕ} {limit from start base : ℕ} {index : V
       cell-counts =
           let i : (cell.end - at) / 3 ≡ length (leading T) = omega (arith, c.end_is) in
           ap (λ (o : Outcome). o.counts)
-          (ap₂ (λ (f : FromSelector) (m : ℕ). outcome p base cell.class (run_with f m)) c.first-is i
-          ∙ sym (by-numbers p base cell.class (leading T)) ∙ c.outcome-is)
+          (ap₂ (λ (f : FromSelector) (m : ℕ). outcome p base cell.class (run_with f m)) c.first_is i
+          ∙ sym (by-numbers p base cell.class (leading T)) ∙ c.outcome_is)
 
       after-limit : (x : Bool) → cell.changes ≡ x → limit ≤ start → k ≡ Sum
       after-limit true t h =
           let s = whole_sum l.sum gain (omega (arith, few_on, room, room_most)) in
           z ∙ simp (e, t, le-leb limit start h) (ap₂ capped_sum (l.kept.0 h) cell-counts ∙ s)
       after-limit false t h =
-          let g : gain ≡ empty = total-empty gain (eqb-true (total gain) 0 (not-false _ (sym c.changes-is ∙ t))) in
+          let g : gain ≡ empty = total-empty gain (eqb-true (total gain) 0 (not-false _ (sym c.changes_is ∙ t))) in
           z ∙ simp (e, t) (l.kept.0 h ∙ sym (plus-empty l.sum) ∙ ap (λ (m : NonCanonicality). l.sum ⊕ m) (sym g))
 
   module _ {b : Bool} (d : b ≡ changed || cell.changes) where
     changed-on : b ≡ not (eqb (total Sum) 0)
-    changed-on = d ∙ ap₂ (λ (x y : Bool). x || y) l.changed-is c.changes-is ∙ go (total l.sum) (total gain)
+    changed-on = d ∙ ap₂ (λ (x y : Bool). x || y) l.changed_is c.changes_is ∙ go (total l.sum) (total gain)
         ∙ ap (λ (x : ℕ). not (eqb x 0)) both
       where
         both : total l.sum + total gain ≡ total Sum
@@ -315,14 +316,14 @@ module _ {p : Policy} {text : List ℕ} {limit from start base : ℕ} {index : V
     -- ---- the character after the cell
 
     no_char : cell.packed ≡ 0 → U ≡ []
-    no_char z = (packed_stop text cell.end cell.packed c.packed-is z).chars_none
+    no_char z = (packed_stop text cell.end cell.packed c.packed_is z).chars_none
 
     other-class : cell.packed ≡ 0 → cell.class ≡ other
-    other-class z = c.class-is ∙ ap (λ (n : ℕ). class_of (n / 8)) z ∙ ascii_other 0 (omega arith) (λ e. omega arith) (λ e. omega arith)
+    other-class z = c.class_is ∙ ap (λ (n : ℕ). class_of (n / 8)) z ∙ ascii_other 0 (omega arith) (λ e. omega arith) (λ e. omega arith)
         (λ i j. omega arith)
 
     pub reads-next : 1 ≤ cell.packed → Step text cell.end (cell.packed / 8) (cell.packed % 8)
-    reads-next h = packed_step text cell.end cell.packed c.packed-is (λ z. omega arith)
+    reads-next h = packed_step text cell.end cell.packed c.packed_is (λ z. omega arith)
 
     no-selector-next : {v w : ℕ} → Step text cell.end v w → is_selector v ≡ false
     no-selector-next {v} {w} s = go (after-stops is_selector T) (sym text_after_lem ∙ s.chars_on)
@@ -355,7 +356,7 @@ module _ {p : Policy} {text : List ℕ} {limit from start base : ℕ} {index : V
         go h =
             let s = reads-next h in
             let v = cell.packed / 8 in
-            let m : transition state (class_of v) ≡ some q = ap (transition state) (sym c.class-is) ∙ on in
+            let m : transition state (class_of v) ≡ some q = ap (transition state) (sym c.class_is) ∙ on in
             let t = chars (drop (cell.end + cell.packed % 8) text) in
             let f : (split_from state U).0 ≡ v ∷ (split_from q t).0 = ap (λ (x : List ℕ). (split_from state x).0) s.chars_on
             ∙ ap (λ (a : List ℕ × List Item). a.0) (split_from-some state q v t m) in
@@ -371,7 +372,7 @@ module _ {p : Policy} {text : List ℕ} {limit from start base : ℕ} {index : V
               on = omega (arith, further);
               item = l.item;
               after = l.after;
-              items_are = l.items-are;
+              items_are = l.items_are;
               end_same = omega (arith, end_on, ap (size width) f, step-width s);
               sum = Sum;
               counted = total-on;
@@ -389,7 +390,7 @@ module _ {p : Policy} {text : List ℕ} {limit from start base : ℕ} {index : V
           go : 1 ≤ cell.packed → (split_from state U).0 ≡ []
           go h =
               let s = reads-next h in
-              let m : transition state (class_of (cell.packed / 8)) ≡ none = ap (transition state) (sym c.class-is)
+              let m : transition state (class_of (cell.packed / 8)) ≡ none = ap (transition state) (sym c.class_is)
               ∙ next_stop (transition state cell.class) e in
               ap (λ (x : List ℕ). (split_from state x).0) s.chars_on
               ∙ ap (λ (a : List ℕ × List Item). a.0)
@@ -399,7 +400,7 @@ module _ {p : Policy} {text : List ℕ} {limit from start base : ℕ} {index : V
       ends-here = omega (arith, end_on, ap (size width) split_from-empty)
 
       finds : b ≡ true → Counted p text start cell.end Sum
-      finds t = counted-item p text start cell.end l.items-are ends-here Sum (some_of (total Sum) refl) total-on
+      finds t = counted-item p text start cell.end l.items_are ends-here Sum (some_of (total Sum) refl) total-on
         where
           some_of : (m : ℕ) → total Sum ≡ m → 1 ≤ m
           some_of zero z = absurd (true≢false (sym t ∙ changed-on ∙ ap not (eq-eqb (total Sum) 0 z)))
@@ -428,7 +429,7 @@ module _ {p : Policy} {text : List ℕ} {limit from start base : ℕ} {index : V
               let s : total Sum ≡ 0 = eqb-true (total Sum) 0 (not-false _ (sym changed-on ∙ t)) in
               let k : n ≡ n + m = omega (arith, y) in
               subst (λ (i : ℕ). FindingsBetween p text limit from cell.end i) k
-              (over_passes l.passed (uncounted_item p text start cell.end l.items-are ends-here
+              (over_passes l.passed (uncounted_item p text start cell.end l.items_are ends-here
               (omega (arith, ap total total-on))))
 
       pub none_kept : {k : NonCanonicality} → Keeps limit start Sum k → {q : Bool} → q ≡ b && ltb limit cell.end → q ≡ false → k ≡ empty
@@ -451,7 +452,7 @@ module _ {p : Policy} {text : List ℕ} {limit from start base : ℕ} {index : V
               (start_state cell.class) false m k
           go h =
               let s = reads-next h in
-              let j = c.class-is in
+              let j = c.class_is in
               let i : inner (start_state (class_of (cell.packed / 8))) ≡ true =
               begins_inner (class_of (cell.packed / 8)) (λ z. true≢false (sym (selector_class (cell.packed / 8) z) ∙ no-selector-next s))
               (λ z. q (ap start_state j ∙ z)) in

@@ -1,6 +1,28 @@
 -- Contracts of helper functions: where formatting changes a text (document 01, "Replacement and text"). `NextChange` says which bytes stay
 -- from an offset on, and what the next change is. The formatted text and the totals are those of crates/analysis/specs/CellView.antt.
-use Rattle.std.specs.Prelude.{◌≡◌, ◌⊎◌, true, false, not, List, [], ◌++◌, map, ℕ, zero, suc, ◌+◌, ◌*◌, ◌-◌, ◌<◌, ◌≤◌, eqb, drop, length, take}
+use Rattle.std.specs.Prelude.{
+  ◌≡◌,
+  ◌⊎◌,
+  true,
+  false,
+  not,
+  List,
+  [],
+  ◌++◌,
+  map,
+  ℕ,
+  zero,
+  suc,
+  ◌+◌,
+  ◌*◌,
+  ◌-◌,
+  ◌<◌,
+  ◌≤◌,
+  eqb,
+  drop,
+  length,
+  take,
+}
 use Rattle.utf8.specs.Rfc3629.{chars, encode_all, valid_up_to_of}
 use Rattle.emoji.specs.Presentation.{as_selector}
 use Rattle.emoji.specs.Unicode.{has_variation_sequence}

@@ -30,7 +30,7 @@ use scanner::state::{Next, State};
 // The next finding: its bytes, from `start` up to `end`, and its eight counts if it does not start before the limit. Where no finding is
 // left, `present` is false, both offsets are the end of the longest well-formed beginning, and the counts are empty. `passed` is the number
 // of findings passed before it.
-#[derive(Drop)]
+#[derive(Clone, Copy)]
 pub struct FindingSpan {
     pub start: usize,
     pub end: usize,
@@ -41,7 +41,7 @@ pub struct FindingSpan {
 
 // The rest of a cell, after its character: where its selectors end, the first of them, and whether the rules count anything. Then the
 // character after the cell: its packed number (0 where there is none), its class and its index among the variation entries.
-#[derive(Drop)]
+#[derive(Clone, Copy)]
 struct CellEnd {
     end: usize,
     first: FromSelector,

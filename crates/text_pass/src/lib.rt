@@ -1,6 +1,8 @@
 // Where formatting changes a text (document 01, "Replacement and text"): `next_change` finds the next change from an offset on. Formatting
 // copies the bytes between two changes; formatter.rs of the crate evfmt builds each item anew instead. `next_change` meets `NextChange` of
 // specs/Changes.antt for every text, policy and offset.
+#![tactic(auto)]
+
 mod base_selectors;
 pub mod findings;
 mod plain;
@@ -19,7 +21,7 @@ use scanner::selectors::selectors_end;
 
 // A change of a text: formatting keeps the bytes before `start`, and writes `selector`, or nothing, for the bytes from `start` up to
 // `end`. Where no change is left, `present` is false, and both offsets are the end of the longest well-formed beginning.
-#[derive(Drop)]
+#[derive(Clone, Copy)]
 pub struct Change {
     pub start: usize,
     pub selector: FromSelector,

@@ -2,7 +2,7 @@
 -- place after it.
 use mathlib.Core.Path.{◌≡◌, ap, sym, ◌∙◌}
 use mathlib.Core.List.{List}
-use Prim.Native.Nat.{ℕ, ◌^◌, ◌<◌}
+use Prim.Native.Nat.{ℕ}
 use lib.ListN.{length}
 use Rattle.base.specs.declared.Check.{Check}
 use Rattle.base.specs.declared.Check.TheVariants.{Passed, Refused}
@@ -14,10 +14,6 @@ use Rattle.scanner.specs.declared.ScanStep.{ScanStep}
 use Rattle.scanner.specs.declared.ScanStep.TheVariants.{End, Item}
 use Rattle.text_scanner.specs.declared.Advanced.{Advanced}
 use Rattle.text_scanner.specs.declared.Opened.{Opened}
-
--- The numbers of a place fit the code's numbers.
-abbrev pub Fits : Place → Type 0
-Fits p = (p.offset < 2 ^ 64) × (p.chars < 2 ^ 64) × (p.units < 2 ^ 64)
 
 abbrev moved : ScanStep → Place → Advanced
 moved s p = record { step = s; offset = p.offset; chars = p.chars; units = p.units }

@@ -87,16 +87,13 @@ pub no_call : (text : List ℕ) (p : Place) {n : ℕ} → n ≡ 0 → place_afte
 unfolding place_after
 no_call text p e = ap (place_after text p) e
 
-pub fewer_left : (s : ScanStep) (n : ℕ) → 0 < n → left_after s n < n
-fewer_left (Step.Item x) n l = omega arith
-fewer_left Step.End n l = l
-
 -- ---- the scanner that `scan` makes
 
 -- No item begins at the end of a text.
 none_after : (text : List ℕ) (before : TextCount) → scan_from text (length text) before ≡ []
 unfolding scan_from spans items
-none_after text before = ap (λ (t : List ℕ). spans (length text) before (items t)) (ap chars (drop-length text) ∙ chars_end [] read_char_nil)
+none_after text before = ap (λ (t : List ℕ). spans (length text) before (items t))
+    (ap chars (drop-length text) ∙ chars_end [] read_char_nil)
 
 pub scan-gives : (text : List ℕ) → items_at text (start_place (verdict_of text) text) ≡ items_of (verdict_of text) text
 unfolding scan
@@ -129,7 +126,8 @@ tiles_le (x ∷ xs) t = let l = tiles_le xs t.2 in omega (arith, t.0, t.1)
 within : (text : List ℕ) (at : ℕ) (before : TextCount) (x : ScanItem) (xs : List ScanItem) → scan_from text at before ≡ x ∷ xs
     → (x.start ≤ x.end) × (x.end ≤ length text)
 within text at before x xs e =
-    let t : Tiles at (x ∷ xs) (at + valid_up_to_of (drop at text)) = subst (λ (ys : List ScanItem). Tiles at ys (at + valid_up_to_of (drop at text)))
+    let t : Tiles at (x ∷ xs) (at + valid_up_to_of (drop at text)) =
+    subst (λ (ys : List ScanItem). Tiles at ys (at + valid_up_to_of (drop at text)))
     e (scan_tiles text at before) in
     let l = tiles_le xs t.2 in
     (omega (arith, t.1), omega (arith, t.0, t.1, valid_up_to_le (drop at text), length-drop at text))

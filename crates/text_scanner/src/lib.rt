@@ -4,9 +4,10 @@
 // The crate `scanner` says what an item is, and `next_item` of the crate `item_scanner` reads one.
 // `scan` tests the text and makes a scanner. `next` and `raw` are thin functions over `advance` and `part`, which take the slice
 // and numbers.
-// The functions that take or return the struct are proved by walks of their code, and so is a caller that holds a scanner
-// (`put_items` of the crate listing). Other callers use `nth_item` and `nth_raw`, whose parameters are plain.
+// Most callers use `nth_item` and `nth_raw`, whose parameters are plain; `put_items` of the crate listing holds a scanner.
 // Each function equals a definition of specs/Scanner.antt or specs/Helpers.antt for all inputs.
+#![tactic(auto)]
+
 ghost use Rattle.std.specs.Prelude.{◌≡◌};
 ghost use Rattle.base.specs.Answers.{Answers, check_row};
 ghost use Rattle.text_scanner.specs.Helpers.{advanced, item_in, left_after, opened, skipped};
@@ -19,7 +20,7 @@ use scanner::text_check::check_text;
 use scanner::{ScanItem, ScanKind, ScanStep};
 
 // A text, the offset from which the next item is read, and the characters and UTF-16 units before that offset.
-#[derive(Drop)]
+#[derive(Clone, Copy)]
 pub struct Scanner<'a> {
     pub text: &'a [u8],
     pub offset: usize,
@@ -28,21 +29,21 @@ pub struct Scanner<'a> {
 }
 
 // A scanner, and the verdict on its text.
-#[derive(Drop)]
+#[derive(Clone, Copy)]
 pub struct Scanned<'a> {
     pub verdict: Check,
     pub scanner: Scanner<'a>,
 }
 
 // The verdict on a text, and the offset where its scanner starts.
-#[derive(Drop)]
+#[derive(Clone, Copy)]
 pub struct Opened {
     pub verdict: Check,
     pub offset: usize,
 }
 
 // The answer of a cursor, and the offset, the characters and the units that the scanner remembers after it.
-#[derive(Drop)]
+#[derive(Clone, Copy)]
 pub struct Advanced {
     pub step: ScanStep,
     pub offset: usize,
@@ -51,7 +52,7 @@ pub struct Advanced {
 }
 
 // The verdict on a text, and its n-th item or the end.
-#[derive(Drop)]
+#[derive(Clone, Copy)]
 pub struct NthItem {
     pub verdict: Check,
     pub step: ScanStep,

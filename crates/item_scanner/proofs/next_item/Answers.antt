@@ -1,0 +1,21 @@
+-- `item_scanner::next_item` meets its contract: the item is its first character and the rest (Cursor, cursor_item).
+use mathlib.Core.Path.{sym, ◌∙◌}
+use Rattle.item_scanner.proofs.Cursor.{cursor_end, cursor_item}
+use Rattle.scanner.proofs.Peek.{seen, unseen}
+use Rattle.item_scanner.proofs.next_item.Goals as goal
+
+pub returns-in-Char : goal.returns-in-Char
+returns-in-Char c =
+    let x = c.args in
+    let i = c.item_rest-end in
+    let f = c.start_state-first in
+    let k = seen x.text.now x.at (sym c.peek.ensures
+    ∙ c.in-Char.is) in
+    cursor_item k f.result i.result.end i.result.tags_complete c.kind_of-kind.result x.before
+    c.count_between-more.result c.add_counts-after.result f.ensures i.ensures.end i.ensures.tags c.kind_of-kind.ensures
+    c.count_between-more.ensures c.add_counts-after.ensures
+
+pub returns-in-NoChar : goal.returns-in-NoChar
+returns-in-NoChar c =
+    let x = c.args in
+    sym (cursor_end x.before (unseen x.text.now x.at (sym c.peek.ensures ∙ c.in-NoChar.is)))

@@ -1,0 +1,75 @@
+-- `replacing::render::canonical_replacement_with_decisions` meets its contract: each return is a law of Replacing.
+use mathlib.Core.Path.{sym, ◌∙◌}
+use native.Mathlib.Omega.{arith}
+use Rattle.base.proofs.Answering.{ends_as, whole}
+use Rattle.analysis.proofs.Replacing.{
+  found_at,
+  found_from,
+  found_within,
+  none_found,
+  part-written,
+  replace-none,
+  replace-refused,
+  replace_turned_back,
+  replace-written,
+  text_passed,
+  text_refused,
+  text_within,
+}
+use borrow.Enum.Refused.{opened}
+use Rattle.replacing.proofs.render.canonical_replacement_with_decisions.Goals as goal
+
+pub returns-in-Refused : goal.returns-in-Refused
+returns-in-Refused c =
+    let x = c.args in
+    let t = x.text.now in
+    ends_as (replace_turned_back x.policy t x.at x.decisions.now x.out.now
+    (text_refused t c.check_text.ensures.same c.in-Refused.is))
+
+pub returns-in_default-analyze_starting_item : goal.returns-in_default-analyze_starting_item
+returns-in_default-analyze_starting_item c =
+    let a = c.analyze_starting_item in
+    let x = c.args in
+    let t = x.text.now in
+    let n = text_passed t c.check_text.ensures.same c.in_default.is in
+    ends_as (replace-none x.policy t x.at x.decisions.now x.out.now n
+    (none_found x.policy t x.at a.result (opened c.in_default-analyze_starting_item.in_default-analyze_starting_item-own.keys2) a.ensures))
+
+pub slice_bounds-write_cells-count : goal.slice_bounds-write_cells-count
+slice_bounds-write_cells-count c =
+    let x = c.args in
+    let h = found_at x.policy x.text.now x.at c.in-NonCanonical.finding (sym c.analyze_starting_item.ensures ∙ c.in-NonCanonical.is) in
+    found_from x.policy x.text.now x.at h
+
+pub slice_bounds-write_cells-start : goal.slice_bounds-write_cells-start
+slice_bounds-write_cells-start c =
+    let x = c.args in
+    let h = found_at x.policy x.text.now x.at c.in-NonCanonical.finding (sym c.analyze_starting_item.ensures ∙ c.in-NonCanonical.is) in
+    omega (arith, found_from x.policy x.text.now x.at h)
+
+pub slice_bounds-write_cells-end : goal.slice_bounds-write_cells-end
+slice_bounds-write_cells-end c =
+    let x = c.args in
+    let h = found_at x.policy x.text.now x.at c.in-NonCanonical.finding (sym c.analyze_starting_item.ensures ∙ c.in-NonCanonical.is) in
+    omega (arith, found_within x.policy x.text.now x.at h)
+
+pub returns-in-Refused-check_decisions : goal.returns-in-Refused-check_decisions
+returns-in-Refused-check_decisions c =
+    let k = c.check_decisions in
+    let x = c.args in
+    let t = x.text.now in
+    let h = found_at x.policy t x.at c.in-NonCanonical.finding (sym c.analyze_starting_item.ensures ∙ c.in-NonCanonical.is) in
+    let n = text_passed t c.check_text.ensures.same c.in_default.is in
+    ends_as (replace-refused x.policy t x.at x.decisions.now x.out.now n h _ k.result k.ensures.same
+    c.in-Refused-check_decisions.is)
+
+pub returns-in-Passed : goal.returns-in-Passed
+returns-in-Passed c =
+    let k = c.check_decisions in
+    let x = c.args in
+    let t = x.text.now in
+    let h = found_at x.policy t x.at c.in-NonCanonical.finding (sym c.analyze_starting_item.ensures ∙ c.in-NonCanonical.is) in
+    let n = text_passed t c.check_text.ensures.same c.in_default.is in
+    ends_as (replace-written x.policy t x.at x.decisions.now x.out.now n h k.result _ k.ensures.same
+    c.in-Passed.is
+    (part-written t x.out.now x.at c.in-NonCanonical.finding.end (text_within t n) (whole c.write_cells.ensures)))
