@@ -1,6 +1,8 @@
 // Where a text may be cut for two workers (document 02, xiii). The crate evfmt has no such function.
 // `cut_before` equals `cut_before` of specs/Cut.antt for all bytes and offsets. specs/Theorems.antt says that a well-formed text cut there
 // formats to the two results joined: EveryCut, EveryAnswerJoins.
+#![tactic(auto)]
+
 ghost use Rattle.std.specs.Prelude.{◌≡◌, drop};
 ghost use Rattle.utf8.specs.Rfc3629.{chars};
 ghost use Rattle.cutting.specs.Cut.{cut_before, first_may_begin};
@@ -9,7 +11,7 @@ ghost use Rattle.cutting.specs.Helpers.{class_may_begin};
 use scanner::char_class::{Class, Peeked, peek};
 
 // The answer: the cut, or that there is none.
-#[derive(Drop)]
+#[derive(Clone, Copy)]
 pub enum Cut {
     At(usize),
     Nowhere,

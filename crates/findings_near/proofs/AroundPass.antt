@@ -225,7 +225,8 @@ module _ (p : Policy) (text : List ℕ) (test : Finding → Bool) (table₀ : Li
     module _ {f : Finding} (n : IsNext p text at f) {a : Bool} (e : a ≡ test f) where
       next_bytes_lem : rows_bytes row_numbers (filter test (rows_from p text at))
           ≡ cond a (bytes_of (row_numbers f)) [] ++ rows_bytes row_numbers (filter test (rows_from p text f.end))
-      next_bytes_lem = ap (λ (l : List Finding). rows_bytes row_numbers (filter test l)) n.rows ∙ write-one test f (rows_from p text f.end) e
+      next_bytes_lem = ap (λ (l : List Finding). rows_bytes row_numbers (filter test l)) n.rows
+          ∙ write-one test f (rows_from p text f.end) e
 
       pub filling-room : a ≡ true → to + row_bytes ≤ length table
       filling-room g =

@@ -122,7 +122,8 @@ module _ (text policy : List ℕ) (o : ℕ) (row : List ℕ) where
   abbrev given_by : Option Refusal → After NearestAnswer ℕ
   given_by x = or_else x (λ (r : Refusal). unwritten (Nearest.Refused r) row) (write_nearest o (nearest o (listed text policy)) row)
 
-  pub near_refused : (r : Refusal) → intake_refusal text policy ≡ some r → unwritten (Nearest.Refused r) row ≡ give_nearest text policy o row
+  pub near_refused : (r : Refusal) → intake_refusal text policy ≡ some r
+      → unwritten (Nearest.Refused r) row ≡ give_nearest text policy o row
   unfolding give_nearest
   near_refused r e = sym (ap given_by e)
 

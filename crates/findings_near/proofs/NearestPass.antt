@@ -99,7 +99,8 @@ module _ (p : Policy) (text : List ℕ) (o : ℕ) where
           position = n.after;
         }
 
-    pub nearing-end : {stop : ℕ} → IsLast p text at stop → (given found best ≡ nearest o (rows_from p text 0)) × (stop ≡ valid_up_to_of text)
+    pub nearing-end : {stop : ℕ} → IsLast p text at stop
+        → (given found best ≡ nearest o (rows_from p text 0)) × (stop ≡ valid_up_to_of text)
     unfolding nearest
     nearing-end l = (
       sym (both-none o found best) ∙ ap (λ (l : List Finding). both o (given found best) (nearest o l)) (sym l.rows) ∙ s.nearest-is,
@@ -135,7 +136,8 @@ module _ (o : ℕ) (f : Finding) (row : List ℕ) {found : Bool} where
   unfolding write_nearest
   none-given e = ap (λ (b : Bool). write_nearest o (given b f) row) (sym e)
 
-  pub row-short : found ≡ true → length row < nearest_bytes → unwritten (Refused (TableTooShort 1)) row ≡ write_nearest o (given found f) row
+  pub row-short : found ≡ true → length row < nearest_bytes
+      → unwritten (Refused (TableTooShort 1)) row ≡ write_nearest o (given found f) row
   unfolding write_nearest
   row-short e h = sym (ap (λ (b : Bool). write_nearest o (given b f) row) e ∙ simp (lt-leb nearest_bytes (length row) h))
 

@@ -20,7 +20,7 @@ use positions::TextCount;
 use text_pass::findings::{FindingSpan, next_finding};
 
 // How many findings lie inside a stretch, how many only share a byte with it, and the length of the longest well-formed beginning.
-#[derive(Drop)]
+#[derive(Clone, Copy)]
 struct AroundCount {
     inside: usize,
     sharing: usize,
@@ -28,7 +28,7 @@ struct AroundCount {
 }
 
 // Where the rows of the two tables end.
-#[derive(Drop)]
+#[derive(Clone, Copy)]
 struct RowEnds {
     inner: usize,
     outer: usize,

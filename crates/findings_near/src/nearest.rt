@@ -22,7 +22,7 @@ use positions::TextCount;
 const NEAREST_BYTES: usize = ROW_BYTES + WORD_BYTES;
 
 // The nearest finding, if one was found, and the length of the longest well-formed beginning.
-#[derive(Drop)]
+#[derive(Clone, Copy)]
 struct Nearby {
     found: bool,
     finding: Finding,

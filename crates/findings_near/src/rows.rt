@@ -14,14 +14,14 @@ use positions::{TextCount, add_counts, count_between};
 use text_pass::findings::{FindingSpan, next_finding};
 
 // A finding, if one is present. Else `finding` starts at the end of the longest well-formed beginning.
-#[derive(Drop)]
+#[derive(Clone, Copy)]
 pub(crate) struct NextRow {
     pub(crate) present: bool,
     pub(crate) finding: Finding,
 }
 
 // The positions of a finding's start and of its end.
-#[derive(Drop)]
+#[derive(Clone, Copy)]
 pub(crate) struct SpanPositions {
     pub(crate) first: TextCount,
     pub(crate) last: TextCount,

@@ -73,7 +73,8 @@ module _ (p : Policy) where
       ∙ ap (λ (r : List ℕ). r ++ strip (book_chars p es)) (strip_entry e.mark e.item d)
       ∙ ap (λ (r : List ℕ). strip e.item.chars ++ r) (strip_book es h) ∙ sym (strip_append e.item.chars (join (items_of es)))
 
-  pub scalar_book : (es : List Entry) → Each Derived (items_of es) → all_scalar (join (items_of es)) ≡ true → all_scalar (book_chars p es) ≡ true
+  pub scalar_book : (es : List Entry) → Each Derived (items_of es) → all_scalar (join (items_of es)) ≡ true
+      → all_scalar (book_chars p es) ≡ true
   scalar_book es d h = scalar-strip (book_chars p es) ∙ ap all_scalar (strip_book es d) ∙ sym (scalar-strip (join (items_of es))) ∙ h
 
   size_entry : (m : Mark) (x : Item) → Derived x → size width (entry_chars p m x) ≤ 4 * size width x.chars

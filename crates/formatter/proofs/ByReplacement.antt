@@ -108,7 +108,8 @@ test_alike text policy offset decisions out room r q h =
     let ds = map meaning decisions in
     let W = exchanged text p offset ds x in
     let R = replacement_bytes p x ds in
-    let by : Option Refusal → After MendAnswer ℕ = λ o. or_else o (λ (f : Refusal). unwritten (Refused f) out) (judge p x decisions W out) in
+    let by : Option Refusal → After MendAnswer ℕ = λ o. or_else o (λ (f : Refusal). unwritten (Refused f) out)
+    (judge p x decisions W out) in
     let t = ap (λ (o : Option Refusal). (by o).answer) (text_tests text policy q) in (
       λ e. tested-alike p r h (text_refusal text) x decisions W R out room (sym t ∙ e),
       λ e. t ∙ tested-alike p r h (text_refusal text) x decisions R W room out e,

@@ -130,7 +130,8 @@ module _ (policy : List ℕ) where
 
     -- What an accepted call on the book writes.
     pub book-writes : (es : List Entry) (c : Call) → mends policy es c ≡ true
-        → book_outcome policy es c ≡ written (Mended (length (book_text policy (marked policy es c)))) (book_text policy (marked policy es c))
+        → book_outcome policy es c ≡ written (Mended (length (book_text policy (marked policy es c))))
+        (book_text policy (marked policy es c))
         c.out
     book-writes es c e =
         mended_written P (finding_at c.offset (map at_place (open_findings policy es))) c.decisions

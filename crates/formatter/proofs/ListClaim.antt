@@ -103,7 +103,8 @@ module _ (policy : List ℕ) where
     call_is before c = ap (λ (t : List ℕ). mend_call t policy c) (text_is before)
         ∙ call_same policy ok (book policy b before) c (sound-is before)
 
-    accepted-is : (before : List Call) (c : Call) → is_mended (call_outcome policy b before c).answer ≡ mends policy (book policy b before) c
+    accepted-is : (before : List Call) (c : Call) → is_mended (call_outcome policy b before c).answer
+        ≡ mends policy (book policy b before) c
     accepted-is before c =
         ap (λ (t : List ℕ). is_mended (mend_call t policy c).answer) (text_is before)
         ∙ accepted-same policy ok (book policy b before) c (sound-is before)

@@ -234,7 +234,8 @@ module _ (policy : List ℕ) (ok : is_policy policy ≡ true) where
   open_rows text es = map (open_row (policy_of policy) text) (open_findings policy es)
 
   rows_book : (es : List Entry) → Sound policy es
-      → map (finding_row (policy_of policy) (book_text policy es)) (findings (book_text policy es) policy) ≡ open_rows (book_text policy es) es
+      → map (finding_row (policy_of policy) (book_text policy es)) (findings (book_text policy es) policy)
+      ≡ open_rows (book_text policy es) es
   rows_book es h = ap (map (finding_row (policy_of policy) (book_text policy es))) (findings-open policy ok es h.base)
       ∙ row_open (policy_of policy) (book_text policy es) (open_findings policy es)
 

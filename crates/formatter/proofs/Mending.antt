@@ -55,7 +55,8 @@ module _ (p : Policy) where
   after [] = []
   after (e ∷ es) = after_one_lem e.mark e.item.kind e.item (after es)
 
-  join_one : (m : Mark) (k : ScanKind) (x : Item) (xs : List Item) → x.kind ≡ k → join (after_one_lem m k x xs) ≡ entry_chars p m x ++ join xs
+  join_one : (m : Mark) (k : ScanKind) (x : Item) (xs : List Item) → x.kind ≡ k
+      → join (after_one_lem m k x xs) ≡ entry_chars p m x ++ join xs
   join_one untouched k x xs e = refl
   join_one (mended ds) Passthrough x xs e = refl
   join_one (mended ds) UnsanctionedPresentationSelectors x xs e = ap (λ (l : List ℕ). l ++ join xs) (sym (replacement_selectors p x ds e))
@@ -75,7 +76,8 @@ module _ (p : Policy) where
 
   chain-inner : {a b : State} {ys : List Item} (x : Item) (ds : List Presentation) (c : ℕ) (s : List ℕ) → Structured x.kind
       → inner (start_state (class_of c)) ≡ true
-      → Ends a (class_of c) → x.kind ≡ kind_of (start_state (class_of c)) → x.chars ≡ c ∷ s → Walk (start_state (class_of c)) s b → Chain b ys
+      → Ends a (class_of c) → x.kind ≡ kind_of (start_state (class_of c)) → x.chars ≡ c ∷ s → Walk (start_state (class_of c)) s b
+      → Chain b ys
       → Chain a (replaced x ds ∷ ys)
   chain-inner x ds c s o i en k l w h = then c (renewed p c s ds) en k (replacement_cons p x ds c s o i l) (renewed_walk p c s ds i w) h
 

@@ -43,7 +43,8 @@ use Rattle.formatter.proofs.Alike.{alike-join, alike_move, alike_of, alike_refl,
 module _ (p : Policy) where
   -- A call adds the mending of the open finding at its offset to the mendings of the book.
   pub log_mark : (n t k o : ℕ) (ds : List Presentation) (es : List Entry)
-      → Alike (mended_from n (mark_from p n t k o ds es)) (mending_of ds (open_finding_at o (open_findings_from p n t k es)) ++ mended_from n es)
+      → Alike (mended_from n (mark_from p n t k o ds es))
+      (mending_of ds (open_finding_at o (open_findings_from p n t k es)) ++ mended_from n es)
   unfolding mended_from mark_from open_finding_at open_findings_from
   log_mark n t k o ds [] = alike_refl []
   log_mark n t k o ds (e ∷ es) =
@@ -154,7 +155,8 @@ module _ (p : Policy) where
       past : Ih → (x ≡ here) ⊎ Memᴰ x (O untouched)
           → cond (eqb (placed n t k) (place x)) (some here) (open_finding_at (place x) (O untouched)) ≡ some x
       past ih (inl j) =
-          ap (λ (b : Bool). cond b (some here) (open_finding_at (place x) (O untouched))) (eq-eqb (placed n t k) (place x) (sym (ap place j)))
+          ap (λ (b : Bool). cond b (some here) (open_finding_at (place x) (O untouched)))
+          (eq-eqb (placed n t k) (place x) (sym (ap place j)))
           ∙ ap some (sym j)
       past ih (inr h) =
           let i = from_place (n + S) (t + 0) (k + 0) es x (omega arith) h in

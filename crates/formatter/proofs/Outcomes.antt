@@ -64,7 +64,8 @@ comes_first text policy r e =
     )
 
 -- The text is within the limit and the policy is accepted: the length n of the longest well-formed beginning decides.
-module _ (text policy : List ℕ) (short : length text ≤ text_limit) (fit : is_policy policy ≡ true) {n : ℕ} (e : n ≡ valid_up_to_of text) where
+module _ (text policy : List ℕ) (short : length text ≤ text_limit) (fit : is_policy policy ≡ true) {n : ℕ}
+    (e : n ≡ valid_up_to_of text) where
   pub all_well_formed : n ≡ length text → Accepted policy text
   all_well_formed l = record { short = short; is_policy_lem = fit; well_formed = whole_well_formed text (sym e ∙ l) }
 

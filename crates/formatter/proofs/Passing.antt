@@ -104,14 +104,16 @@ module _ (text policy : List ℕ) {r : Check} (e : Answers check_row (checked (f
 -- ---- the well-formed bytes
 
 -- The well-formed beginning of the text from an offset on, which the code takes as a part of the text.
-pub rest_valid : (text : List ℕ) (at : ℕ) {n : ℕ} → n ≡ valid_up_to_of (take (length text - at) (drop at text)) → n ≡ valid_up_to_of (drop at text)
+pub rest_valid : (text : List ℕ) (at : ℕ) {n : ℕ} → n ≡ valid_up_to_of (take (length text - at) (drop at text))
+    → n ≡ valid_up_to_of (drop at text)
 rest_valid text at e = e ∙ ap valid_up_to_of (take_all (length text - at) (drop at text) (omega (arith, length-drop at text)))
 
 -- ---- an accepted text
 
 -- A text that passes the intake is accepted.
 pub passed-accepted : (text policy : List ℕ) → intake_refusal text policy ≡ none → Accepted policy text
-passed-accepted text policy e = go (leb (length text) text_limit) (is_policy policy) (eqb (valid_up_to_of text) (length text)) refl refl refl
+passed-accepted text policy e = go (leb (length text) text_limit) (is_policy policy) (eqb (valid_up_to_of text) (length text)) refl refl
+    refl
   where
     go : (a b f : Bool) → leb (length text) text_limit ≡ a → is_policy policy ≡ b → eqb (valid_up_to_of text) (length text) ≡ f
         → Accepted policy text

@@ -41,7 +41,8 @@ length_item x = length_bytes_of_lem (item_numbers x)
 -- ---- the call on a table of bytes, after the intake
 
 pub list-passed : (text policy table : List ℕ) → intake_refusal text policy ≡ none
-    → fill_table row_numbers row_bytes (map (finding_row (policy_of policy) text) (findings text policy)) table ≡ list_bytes text policy table
+    → fill_table row_numbers row_bytes (map (finding_row (policy_of policy) text) (findings text policy)) table
+    ≡ list_bytes text policy table
 unfolding list_bytes
 list-passed text policy table e =
     sym (ap (λ (o : Option Refusal). or_else o (λ (r : Refusal). unwritten (Refused r) table)
@@ -49,7 +50,8 @@ list-passed text policy table e =
 
 -- The outcome of listing items, by the refusal of the text.
 pub items-by : (text table : List ℕ) {o : Option Refusal} → text_refusal text ≡ o
-    → or_else o (λ (r : Refusal). unwritten (Refused r) table) (fill_table item_numbers item_bytes (scan text) table) ≡ list_items text table
+    → or_else o (λ (r : Refusal). unwritten (Refused r) table) (fill_table item_numbers item_bytes (scan text) table)
+    ≡ list_items text table
 unfolding list_items
 items-by text table e =
     sym (ap (λ (o : Option Refusal). or_else o (λ (r : Refusal). unwritten (Refused r) table)

@@ -58,7 +58,8 @@ module _ (policy : List ℕ) (ok : is_policy policy ≡ true) where
       ∙ sym (opens_mark P 0 c.offset (map meaning c.decisions) es (found_at policy ok es c e).item (found-open policy ok es c e))
   step_opens es c false e = refl
 
-  pub list-number : (es : List Entry) (cs : List Call) → Sound policy es → accepted_calls (outcomes (book_text policy es) policy cs) + opens P
+  pub list-number : (es : List Entry) (cs : List Call) → Sound policy es
+      → accepted_calls (outcomes (book_text policy es) policy cs) + opens P
       (book_after policy es cs) ≡ opens P es
   unfolding outcomes book_after
   list-number es [] h = zero-add (opens P es)

@@ -158,7 +158,8 @@ module _ (p : Policy) where
 
   -- ---- these offsets are the places as document 01 defines them
 
-  pub openings_are : (n t k : ℕ) (es : List Entry) → k ≤ n + t → map at_place (open_findings_from p n t k es) ≡ open_found p (placed n t k) es
+  pub openings_are : (n t k : ℕ) (es : List Entry) → k ≤ n + t
+      → map at_place (open_findings_from p n t k es) ≡ open_found p (placed n t k) es
   unfolding open_findings_from open_found
   openings_are n t k [] h = refl
   openings_are n t k (e ∷ es) h = go e.mark (is_finding p e.item) (λ a b c i. openings_are a b c es i)

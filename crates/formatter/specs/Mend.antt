@@ -1,7 +1,7 @@
 -- Mending: the whole outcome of the call, `mend`, and of a list of such calls (document 01, "Replacement and text", "Mending in sequence").
 use Rattle.std.specs.Prelude.{List, [], ◌∷◌, ◌++◌, map, ℕ, ◌+◌, drop, length, take}
 use Rattle.std.proofs.Math.Option.{Option, none, some}
-use Rattle.utf8.specs.Rfc3629.{chars, encode_all}
+use Rattle.utf8.specs.Rfc3629.{encode_all}
 use Rattle.emoji.specs.declared.presentation.Presentation.{Presentation}
 use Rattle.policy.specs.declared.Policy.{Policy}
 use Rattle.policy.specs.PolicyBytes.{policy_of}

@@ -101,7 +101,8 @@ unfoldable pub ColumnsInOrder : Type 0
 ColumnsInOrder =
     (row_numbers numbered_finding ≡ 9 ∷ 10 ∷ 1 ∷ 2 ∷ 3 ∷ 4 ∷ 5 ∷ 6 ∷ 7 ∷ 8 ∷ 11 ∷ 12 ∷ 13 ∷ 14 ∷ [])
     × (bytes_of (row_numbers numbered_finding)
-    ≡ low_byte 9 ++ low_byte 10 ++ low_byte 1 ++ low_byte 2 ++ low_byte 3 ++ low_byte 4 ++ low_byte 5 ++ low_byte 6 ++ low_byte 7 ++ low_byte 8
+    ≡ low_byte 9 ++ low_byte 10 ++ low_byte 1 ++ low_byte 2 ++ low_byte 3 ++ low_byte 4 ++ low_byte 5 ++ low_byte 6 ++ low_byte 7
+    ++ low_byte 8
     ++ low_byte 11 ++ low_byte 12 ++ low_byte 13 ++ low_byte 14)
 
 -- A listed finding starts and ends at character boundaries, and its four new numbers are the positions of its start and its end.

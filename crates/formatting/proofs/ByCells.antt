@@ -46,7 +46,8 @@ none-counted p n (x ∷ xs) e = go (eqb (total (non_canonicality p x)) 0) refl e
     F : List Found
     F = found (is_finding p) width (n + size width x.chars) xs
 
-    go : (b : Bool) → eqb (total (non_canonicality p x)) 0 ≡ b → total (found_totals p (cond (not b) (record { start = n; item = x } ∷ F) F))
+    go : (b : Bool) → eqb (total (non_canonicality p x)) 0 ≡ b
+        → total (found_totals p (cond (not b) (record { start = n; item = x } ∷ F) F))
         ≡ 0
         → (total (found_totals p F) ≡ 0 → F ≡ []) → cond (not b) (record { start = n; item = x } ∷ F) F ≡ []
     go true f e h = h e

@@ -2,6 +2,8 @@
 // `format_text` goes through the text from change to change (crate text_pass) and writes the formatted text on the way. Only if the output
 // may be too short, it first measures the formatted text. `format_text` equals `format` of crates/formatter/specs/Format.antt.
 // `format_answer` gives the answer of `format` and writes nothing, and `write_formatted` writes without an answer.
+#![tactic(auto)]
+
 ghost use Rattle.std.specs.Prelude.{◌≡◌, true, false, List, [], ◌∷◌, ◌++◌, ℕ, ◌+◌, ◌-◌, ◌≤◌, ◌<◌, leb, drop, length, take};
 ghost use Rattle.base.specs.Answers.{EndsAs};
 ghost use Rattle.base.specs.Output.{PutAt};
@@ -26,7 +28,7 @@ use text_pass::{Change, next_change};
 const MOST_TIMES: usize = 4;
 
 // The result of measuring a text: the length of its longest well-formed beginning, and the length of that beginning when formatted.
-#[derive(Drop)]
+#[derive(Clone, Copy)]
 struct Survey {
     valid_up_to: usize,
     len: usize,

@@ -2,4 +2,3 @@
 pub mod NextFindings
 pub mod Storing
 pub mod ItemRows
-pub mod Relending

@@ -12,7 +12,7 @@ use Rattle.policy.specs.PolicyBytes.{policy_of}
 use Rattle.analysis.specs.Counts.{empty}
 use Rattle.analysis.specs.declared.types.Finding.{Finding}
 use Rattle.analysis.specs.Findings.{findings_from}
-use Rattle.formatter.specs.Findings.{finding_row, findings, listed}
+use Rattle.formatter.specs.Findings.{finding_row, listed}
 use Rattle.formatter.specs.Intake.{intake_refusal}
 use Rattle.formatter.specs.List.{list}
 use Rattle.listing.specs.declared.table.FewFindings.{FewFindings}

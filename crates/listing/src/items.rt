@@ -73,7 +73,7 @@ fn put_item(table: &mut [u8], start: usize, item: ScanItem) -> usize
 }
 
 // Where the next row goes, and whether the scanner may have more items.
-#[derive(Drop)]
+#[derive(Clone, Copy)]
 struct PutRows {
     to: usize,
     more: bool,

@@ -3,6 +3,8 @@
 // (document 02, v). `list_findings` goes through the text from finding to finding (crate text_pass): once to count the findings, and once
 // more to write their rows, if there are any and all fit. Characters and units are counted from finding to finding, each byte once.
 // `list_findings` equals `list_bytes` of crates/formatter/specs/List.antt.
+#![tactic(auto)]
+
 pub mod items;
 pub mod table;
 
@@ -30,7 +32,7 @@ pub const ROW_NUMBERS: usize = 14;
 pub const ROW_BYTES: usize = ROW_NUMBERS * WORD_BYTES;
 
 // The number of findings of a text, and the length of its longest well-formed beginning.
-#[derive(Drop)]
+#[derive(Clone, Copy)]
 pub(crate) struct FindingCount {
     pub(crate) findings: usize,
     pub(crate) valid_up_to: usize,

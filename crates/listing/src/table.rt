@@ -22,7 +22,7 @@ use replacing::analyze_scan_item;
 pub const FEW: usize = 8;
 
 // What `list_into_table` is to do: how many findings it stores, under which policy, and what it answers.
-#[derive(Drop)]
+#[derive(Clone, Copy)]
 struct ListingPlan {
     places: usize,
     policy: Policy,
@@ -30,7 +30,7 @@ struct ListingPlan {
 }
 
 // The answer of `list_few`, and its table with the findings at the front.
-#[derive(Drop)]
+#[derive(Clone, Copy)]
 pub struct FewFindings {
     pub answer: ListAnswer,
     pub findings: [Finding; FEW],

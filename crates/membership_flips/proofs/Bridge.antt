@@ -141,7 +141,8 @@ module _ (i : ℕ) where
         let f : eqb i k ≡ false = ne_eqb i k (λ (z : i ≡ k). omega arith) in
         let m : member k (flip_bit i ws) ≡ member k ws = member-flip i k ws (omega (arith, entry_count_lem)) ∙ ap (differ (member k ws)) f
         ∙ same-as (member k ws) in
-        ap (λ (x : Bool). ltb k entry_count || not x) m ∙ all_below_lem (word_count * 64) (λ (j : ℕ). ltb j entry_count || not (member j ws)) e k
+        ap (λ (x : Bool). ltb k entry_count || not x) m
+        ∙ all_below_lem (word_count * 64) (λ (j : ℕ). ltb j entry_count || not (member j ws)) e k
         h)
         (λ (g : k < entry_count). ap (λ (x : Bool). x || not (member k (flip_bit i ws))) (lt-ltb k entry_count g))
         (le_or_lt entry_count k))

@@ -282,14 +282,16 @@ module _ (text : List ℕ) (after i : ℕ) (flags : List ℕ) where
   abbrev B : List ℕ
   B = chars (drop after text)
 
-  pub next_class : {end : ℕ} {next : Class} → end ≡ after + size width (selectors_at B) → next ≡ class_in_front (chars (drop end text)) → next
+  pub next_class : {end : ℕ} {next : Class} → end ≡ after + size width (selectors_at B) → next ≡ class_in_front (chars (drop end text))
+      → next
       ≡ following (cells B)
   next_class {end} e h = h ∙ follows (policy_of []) text 0 after end (e ∙ selectors_end text after)
 
   module _ {next : Class} (n : next ≡ following (cells B)) {judged : Bool} (j : judged ≡ is_judged next) where
     pub entry-not-judged : judged ≡ false → flags ≡ with_entry B i flags
     unfolding with_entry
-    entry-not-judged e = sym (ap (λ (b : Bool). cond b (set flags (flag_index i (by_keycap (following (cells B))) (first_asked (leading B))) 1)
+    entry-not-judged e = sym (ap (λ (b : Bool). cond b
+        (set flags (flag_index i (by_keycap (following (cells B))) (first_asked (leading B))) 1)
         flags) (ap is_judged (sym n) ∙ sym j ∙ e))
 
     pub entry-judged : judged ≡ true → {first : FromSelector} → first ≡ first_selector B → {k : Bool} → k ≡ by_keycap next → {at : ℕ} → at

@@ -49,5 +49,6 @@ module _ {text : List ℕ} where
       go (Index.At i) f = absurd (true≢false (sym (has_index v ∙ ap is_at f) ∙ (other_plain v e).no_entry))
       go Index.NoEntry f = none-char s f
 
-  pub none_ascii : (at : ℕ) → at < length text → get_or text at 0 ≤ 0x7F → class_of (get_or text at 0) ≡ other → NoEntryBetween text at (at + 1)
+  pub none_ascii : (at : ℕ) → at < length text → get_or text at 0 ≤ 0x7F → class_of (get_or text at 0) ≡ other
+      → NoEntryBetween text at (at + 1)
   none_ascii at l h e = none_other (step text at (get_or text at 0) 1 (read_char_ascii_at text at l h)) e

@@ -1,6 +1,28 @@
 -- The pass over a text as the code makes it: a flag for each entry, each domain, and each first selector or none. Then the memberships by
 -- number, and the test that the code makes for each.
-use Rattle.std.specs.Prelude.{◌≡◌, Bool, ◌&&◌, ◌||◌, cond, not, List, [], ◌∷◌, ℕ, zero, suc, ◌+◌, ◌*◌, ◌/◌, ◌%◌, ◌<◌, eqb, drop, get_or, set}
+use Rattle.std.specs.Prelude.{
+  ◌≡◌,
+  Bool,
+  ◌&&◌,
+  ◌||◌,
+  cond,
+  not,
+  List,
+  [],
+  ◌∷◌,
+  ℕ,
+  zero,
+  suc,
+  ◌+◌,
+  ◌*◌,
+  ◌/◌,
+  ◌%◌,
+  ◌<◌,
+  eqb,
+  drop,
+  get_or,
+  set,
+}
 use Rattle.utf8.specs.Rfc3629.{chars}
 use Rattle.emoji.specs.UnicodeData.{variation_entries}
 use Rattle.emoji.specs.declared.VariationSequenceIndex.{VariationSequenceIndex}

@@ -1,6 +1,8 @@
 // Which single membership of a policy alters the formatted text (document 02, viii). The code makes one pass over the text (src/pass.rt),
 // and then goes through the 1,416 memberships in the order of the list: once to count those whose flip alters the text, and once more to
 // write their rows, if all fit. `list_tips` equals `list_tips` of specs/Flips.antt. The Rust crate has no such function.
+#![tactic(auto)]
+
 mod pass;
 mod plain;
 

@@ -84,7 +84,8 @@ module _ (p : Policy) (text : List ℕ) (start : ℕ) (decisions : List ℕ) {en
       → {o : List ℕ} → o ≡ sets (sets out 0 (take start text)) (start + n) (drop end text)
       → {w : MendAnswer} {b : List ℕ} → record { answer = w; buffer = b }
       ≡ within_limit (part text start end) (take k (drop start o)) (write_out B (take k (drop start o)))
-      → record { answer = Mended (start + n + (length text - end)); buffer = take start o ++ (b ++ drop k (drop start o)) } ≡ write_out R out
+      → record { answer = Mended (start + n + (length text - end)); buffer = take start o ++ (b ++ drop k (drop start o)) }
+      ≡ write_out R out
   exchange_written l {k} f {o} c {w} {b} r =
       let a = take start text in
       let d = drop end text in

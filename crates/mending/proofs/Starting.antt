@@ -11,7 +11,7 @@ use borrow.Author.Tests.{eq-eqb, eqb-true, ne_eqb}
 use Rattle.utf8.specs.Rfc3629.{chars, valid_up_to_of}
 use Rattle.policy.specs.declared.Policy.{Policy}
 use Rattle.scanner.specs.Items.{items}
-use Rattle.scanner.specs.Spans.{Found, found, size, width}
+use Rattle.scanner.specs.Spans.{Found, size, width}
 use Rattle.analysis.specs.Findings.{finding_at, findings_from}
 use Rattle.text_pass.specs.Findings.{Finds, SkipsFindings, NextFinding, none_skipped, one_skipped}
 use Rattle.text_pass.specs.declared.findings.FindingSpan.{FindingSpan}

@@ -1,5 +1,7 @@
 // Mending one finding of a text (document 01, "Replacement and text", "Turned back"): once every test has passed, `mend` writes the whole
 // text, with the finding exchanged for its replacement. `mend` equals `mend` of crates/formatter/specs/Mend.antt.
+#![tactic(auto)]
+
 ghost use Rattle.std.specs.Prelude.{◌≡◌, map, ◌+◌, ◌-◌, ◌≤◌, drop, length, take};
 ghost use Rattle.std.proofs.lemmas.List.Edits.{sets};
 ghost use Rattle.base.specs.Answers.{EndsAs};
@@ -22,7 +24,7 @@ use text_pass::findings::next_finding;
 
 // Whether a finding starts at a given offset, and where the search for it ended: at the end of the first finding that ends after the
 // offset, or at the end of the longest well-formed beginning. Up to `end` the text is well-formed.
-#[derive(Drop)]
+#[derive(Clone, Copy)]
 struct FindingStart {
     end: usize,
     present: bool,

@@ -7,7 +7,20 @@ use lib.ListN.{get_or, length}
 use borrow.Author.Tests.{le-leb}
 use Rattle.base.specs.Bits.{one}
 use Rattle.base.specs.Words.{bytes_of, little_endian, number, word_bytes}
-use Rattle.utf8.specs.Rfc3629.{chars, encode, encode_all, fold_chars, fold_step, read_char, read_four, utf8_1, utf8_2, utf8_3, utf8_4, valid_up_to_of}
+use Rattle.utf8.specs.Rfc3629.{
+  chars,
+  encode,
+  encode_all,
+  fold_chars,
+  fold_step,
+  read_char,
+  read_four,
+  utf8_1,
+  utf8_2,
+  utf8_3,
+  utf8_4,
+  valid_up_to_of,
+}
 use Rattle.emoji.specs.Presentation.{as_selector, from_selector, is_selector}
 use Rattle.emoji.specs.Tables.{in_ranges, index_of, member, next}
 use Rattle.emoji.specs.Unicode.{
@@ -32,7 +45,13 @@ use Rattle.emoji.specs.UnicodeData.{
 }
 use Rattle.policy_key_set.specs.KeySets.{is_ascii, ordinary}
 use Rattle.policy_key_set.specs.Sets.{all_below, contains, entry_count, member as Sets·member, member_at, word_count}
-use Rattle.policy.specs.DefaultPolicy.{bare_as_text_words, bare_as_text_keycap_words, default_policy, prefer_bare_words, prefer_bare_keycap_words}
+use Rattle.policy.specs.DefaultPolicy.{
+  bare_as_text_words,
+  bare_as_text_keycap_words,
+  default_policy,
+  prefer_bare_words,
+  prefer_bare_keycap_words,
+}
 use Rattle.policy.specs.Policy.{holds_base, rule_of, singleton_rule}
 use Rattle.policy.specs.PolicyBytes.{
   ascii_keys_bare,
@@ -112,24 +131,35 @@ room_is_enough text policy out a e h =
 
 pub copyright_sign_reaches : CopyrightSignReaches
 unfolding CopyrightSignReaches format format_items formatted same_bytes first_tests intake_refusal policy_refusal little_endian number
-    word_bytes chars encode encode_all fold_chars fold_step read_char read_four utf8_1 utf8_2 utf8_3 utf8_4 valid_up_to_of as_selector from_selector
+    word_bytes chars encode encode_all fold_chars fold_step read_char read_four utf8_1 utf8_2 utf8_3 utf8_4 valid_up_to_of as_selector
+    from_selector
     is_selector in_ranges index_of member next has_variation_sequence is_emoji is_emoji_default is_emoji_modifier is_emoji_modifier_base
-    is_emoji_presentation is_ri is_tag variation_sequence_index emoji_modifier_bases emoji_modifiers emoji_presentation_ranges emoji_ranges ri_ranges
-    variation_entries all_below contains entry_count Sets·member member_at one bare_as_text_words bare_as_text_keycap_words default_policy prefer_bare_words
-    prefer_bare_keycap_words holds_base rule_of singleton_rule bytes_of is_policy key_words no_unused_bit no_unused_bits policy_bytes policy_of policy_words
-    word_count words_from class_of start_state split_from items kind_of transition add_char split count_cells counts_of following non_canonicality
+    is_emoji_presentation is_ri is_tag variation_sequence_index emoji_modifier_bases emoji_modifiers emoji_presentation_ranges emoji_ranges
+    ri_ranges
+    variation_entries all_below contains entry_count Sets·member member_at one bare_as_text_words bare_as_text_keycap_words default_policy
+    prefer_bare_words
+    prefer_bare_keycap_words holds_base rule_of singleton_rule bytes_of is_policy key_words no_unused_bit no_unused_bits policy_bytes
+    policy_of
+    policy_words
+    word_count words_from class_of start_state split_from items kind_of transition add_char split count_cells counts_of following
+    non_canonicality
     render renew replacement replacement_of by_first by_keycap by_modifier by_tags is_bare_side outcome rule1 rule2 rule3 rule4 rule5 rule6
     text_first without_selector unicode_version
 copyright_sign_reaches = (refl, refl)
 
 pub digit_reaches_four : DigitReachesFour
 unfolding DigitReachesFour format format_items formatted same_bytes first_tests intake_refusal policy_refusal little_endian number
-    word_bytes chars encode encode_all fold_chars fold_step read_char read_four utf8_1 utf8_2 utf8_3 utf8_4 valid_up_to_of as_selector from_selector
+    word_bytes chars encode encode_all fold_chars fold_step read_char read_four utf8_1 utf8_2 utf8_3 utf8_4 valid_up_to_of as_selector
+    from_selector
     is_selector in_ranges index_of member next has_variation_sequence is_emoji is_emoji_default is_emoji_modifier is_emoji_modifier_base
-    is_emoji_presentation is_ri is_tag variation_sequence_index emoji_modifier_bases emoji_modifiers emoji_presentation_ranges emoji_ranges ri_ranges
-    variation_entries all_below contains entry_count Sets·member member_at one holds_base rule_of singleton_rule bytes_of is_policy key_words
-    no_unused_bit no_unused_bits policy_bytes policy_of policy_words word_count words_from class_of start_state split_from items kind_of transition
-    add_char split count_cells counts_of following non_canonicality render renew replacement replacement_of by_first by_keycap by_modifier by_tags
+    is_emoji_presentation is_ri is_tag variation_sequence_index emoji_modifier_bases emoji_modifiers emoji_presentation_ranges emoji_ranges
+    ri_ranges
+    variation_entries all_below contains entry_count Sets·member member_at one holds_base rule_of singleton_rule bytes_of is_policy
+    key_words
+    no_unused_bit no_unused_bits policy_bytes policy_of policy_words word_count words_from class_of start_state split_from items kind_of
+    transition
+    add_char split count_cells counts_of following non_canonicality render renew replacement replacement_of by_first by_keycap by_modifier
+    by_tags
     is_bare_side outcome rule1 rule2 rule3 rule4 rule5 rule6 text_first without_selector unicode_version
 digit_reaches_four = (refl, refl)
 

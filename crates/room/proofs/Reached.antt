@@ -24,9 +24,22 @@ use Rattle.emoji.specs.Unicode.{
   is_tag,
   variation_sequence_index,
 }
-use Rattle.emoji.specs.UnicodeData.{emoji_modifier_bases, emoji_modifiers, emoji_presentation_ranges, emoji_ranges, ri_ranges, variation_entries}
+use Rattle.emoji.specs.UnicodeData.{
+  emoji_modifier_bases,
+  emoji_modifiers,
+  emoji_presentation_ranges,
+  emoji_ranges,
+  ri_ranges,
+  variation_entries,
+}
 use Rattle.policy_key_set.specs.Sets.{contains, entry_count, member as Sets·member, member_at, word_count}
-use Rattle.policy.specs.DefaultPolicy.{bare_as_text_words, bare_as_text_keycap_words, default_policy, prefer_bare_words, prefer_bare_keycap_words}
+use Rattle.policy.specs.DefaultPolicy.{
+  bare_as_text_words,
+  bare_as_text_keycap_words,
+  default_policy,
+  prefer_bare_words,
+  prefer_bare_keycap_words,
+}
 use Rattle.policy.specs.Policy.{holds_base, rule_of, singleton_rule}
 use Rattle.policy.specs.PolicyBytes.{key_words, policy_bytes, policy_of, policy_words, words_from}
 use Rattle.policy.specs.declared.Policy.{Policy}
@@ -77,9 +90,12 @@ split-signs (suc n) = ap (add_char 0xA9 NoSelector) (split-signs n)
 -- Each sign gets a selector, whether another sign follows or nothing.
 slot-sign : (n : ℕ) → slot_at default_policy sign (replicate n sign) ≡ 3
 unfolding following class_of from_selector is_selector in_ranges index_of member next has_variation_sequence is_emoji is_emoji_default
-    is_emoji_modifier is_emoji_modifier_base is_emoji_presentation is_ri is_tag variation_sequence_index emoji_modifier_bases emoji_modifiers
+    is_emoji_modifier is_emoji_modifier_base is_emoji_presentation is_ri is_tag variation_sequence_index emoji_modifier_bases
+    emoji_modifiers
     emoji_presentation_ranges emoji_ranges ri_ranges variation_entries contains entry_count Sets·member member_at one bare_as_text_words
-    bare_as_text_keycap_words default_policy prefer_bare_words prefer_bare_keycap_words holds_base rule_of singleton_rule word_count by_first by_keycap by_modifier
+    bare_as_text_keycap_words default_policy prefer_bare_words prefer_bare_keycap_words holds_base rule_of singleton_rule word_count
+    by_first by_keycap
+    by_modifier
     by_tags is_bare_side outcome rule1 rule2 rule3 rule4 rule5 rule6 text_first without_selector
 slot-sign zero = refl
 slot-sign (suc n) = refl

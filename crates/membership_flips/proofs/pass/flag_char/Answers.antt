@@ -1,0 +1,24 @@
+-- `membership_flips::pass::flag_char` meets its contract.
+use mathlib.Core.Path.{sym, ◌∙◌}
+use Rattle.membership_flips.proofs.Flagging.{entry_small, with_entry-char, with_no_entry}
+use Rattle.membership_flips.proofs.pass.flag_char.Goals as goal
+
+pub flag_entry-requires : goal.flag_entry-requires
+flag_entry-requires c = (
+  entry_small c.args.ch
+      c.in-At.i (sym c.variation_sequence_index_by_block-index.ensures
+      ∙ c.in-At.is),
+  c.requires,
+)
+
+pub returns-in-At : goal.returns-in-At
+returns-in-At c =
+    let x = c.args in
+    with_entry-char x.text.now x.at c.in-At.i x.flags.now x.ch
+    (sym c.variation_sequence_index_by_block-index.ensures
+    ∙ c.in-At.is) c.flag_entry.ensures
+
+pub returns-in-NoEntry : goal.returns-in-NoEntry
+returns-in-NoEntry c =
+    let x = c.args in
+    with_no_entry x.ch _ x.flags.now (sym c.variation_sequence_index_by_block-index.ensures ∙ c.in-NoEntry.is)
