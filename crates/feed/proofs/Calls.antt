@@ -11,7 +11,14 @@ use Rattle.utf8.specs.Rfc3629.{WellFormed, chars, encode_all, valid_up_to_of}
 use Rattle.utf8.proofs.Folds.{chars_end, valid_up_to_end}
 use Rattle.utf8.proofs.Fronts.{read_char_nil}
 use Rattle.utf8.proofs.Grammar.{whole_well_formed}
-use Rattle.utf8.proofs.Texts.{chars-all_scalar, chars-encode_all, encode_all_append, encode_all-chars-rest, valid_up_to-encode_all, valid_up_to_le}
+use Rattle.utf8.proofs.Texts.{
+  chars-all_scalar,
+  chars-encode_all,
+  encode_all_append,
+  encode_all-chars-rest,
+  valid_up_to-encode_all,
+  valid_up_to_le,
+}
 use Rattle.policy.specs.declared.Policy.{Policy}
 use Rattle.emoji.specs.Presentation.{from_selector}
 use Rattle.scanner.specs.declared.char_class.Class.TheVariants.{Other as other}
@@ -72,7 +79,10 @@ abbrev pub R : Type 0
 R = Pending × Effect
 
 pub take_append : (s : Pending) (xs ys : List Fed)
-    → take_chars s (xs ++ ys) ≡ ((take_chars (take_chars s xs).0 ys).0, join_effects (take_chars s xs).1 (take_chars (take_chars s xs).0 ys).1)
+    → take_chars s (xs ++ ys) ≡ (
+      (take_chars (take_chars s xs).0 ys).0,
+      join_effects (take_chars s xs).1 (take_chars (take_chars s xs).0 ys).1,
+    )
 unfolding take_chars
 take_append s [] ys =
     λ i. ((take_chars s ys).0, record { text = (take_chars s ys).1.text; counts = sym (empty-plus (take_chars s ys).1.counts) i })
@@ -214,7 +224,8 @@ unfolding feed_after thread all_fed outputs
 runs h [] = same h
 runs {f} {T} {X} {W} h (c ∷ cs) =
     let a = answer f c in
-    let k = runs (by_answer h (answered f c)) cs in
+    let k = runs {f = next f c} {T = T ++ bytes_taken c a} {X = X ++ chars_taken f c a} {W = W ++ bytes_written a}
+    (by_answer h (answered f c)) cs in
     subst (λ (t : List ℕ). Inv (feed_after (next f c) cs) t (X ++ (chars_taken f c a ++ all_fed (next f c) cs))
     (W ++ (bytes_written a ++ outputs (next f c) cs))) (append_assoc T (bytes_taken c a) (thread (next f c) cs))
     (subst (λ (x : List Fed). Inv (feed_after (next f c) cs) ((T ++ bytes_taken c a) ++ thread (next f c) cs) x

@@ -302,6 +302,8 @@ step_selector (base p c (Selector r) (suc n)) (held e) q p' xs = record {
       selector_counts p c e q p' xs (run_with (Selector r) (suc n)) (run_with (Selector r) (suc (suc n))) (one_more p c e q p' xs r n) ∙ sym
       (empty-plus _);
 }
+step_selector (base p c (Selector r) zero) x6 q p' xs = elim x6 [ ]
+step_selector (base p c NoSelector (suc n)) x7 q p' xs = elim x7 [ ]
 
 step-char : (s : Pending) → Sound s → (d : ℕ) (p' : Policy) (xs : List Fed) → is_selector d ≡ false
     → Step s (record { char = d; policy = p' }) xs (take_char p' s d NoSelector)
@@ -319,7 +321,8 @@ step-char (base p c f n) h d p' xs g =
     record {
       sound = begun_sound d p' xs g b;
       text =
-          settle_text p c f n e d p' xs g ∙ ap (λ (l : List ℕ). (settle (base p c f n) (class_of d)).text ++ l) (front_text d p' xs g b refl)
+          settle_text p c f n e d p' xs g ∙ ap (λ (l : List ℕ). (settle (base p c f n) (class_of d)).text ++ l)
+          (front_text d p' xs g b refl)
           ∙ sym (append_assoc (settle (base p c f n) (class_of d)).text (written_alone d b)
           (format_fed (pending_fed (held_after_of p' d b) ++ xs)));
       counts =

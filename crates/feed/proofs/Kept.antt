@@ -74,6 +74,8 @@ settle-few nothing none_held k = omega arith
 settle-few (base p c NoSelector zero) (bare_held_lem e) k = omega (arith, few p c k (run_with NoSelector 0))
 settle-few (base p c (Selector q) (suc n)) (held e) k =
     omega (arith, few p c k (run_with (Selector q) (suc n)), length-replicate (suc n - 1) q)
+settle-few (base p c (Selector q) zero) x6 k = elim x6 [ ]
+settle-few (base p c NoSelector (suc n)) x7 k = elim x7 [ ]
 
 held-weight : (p : Policy) (c : ℕ) (b : Bool) → weight (held_after_of p c b) ≤ 1
 unfolding weight
@@ -123,9 +125,9 @@ pub chars-held : (p : Policy) {s : Pending} → HeldUnder p s → (cs : List ℕ
     → HeldUnder p (take_chars s (fed_as p cs)).0
 unfolding take_chars all_scalar
 chars-held p h [] e = h
-chars-held p h (c ∷ cs) e =
+chars-held p {s = s} h (c ∷ cs) e =
     let b = both_true (is_scalar c) (all_scalar cs) e in
-    chars-held p (char-held p h c (from_selector c) b.0) cs b.1
+    chars-held p {s = (take_char p s c (from_selector c)).0} (char-held p h c (from_selector c) b.0) cs b.1
 
 -- ---- what is kept
 

@@ -67,7 +67,8 @@ module _ (p : Policy) where
       go : CharIs c → HeldLast p (cs ++ (c ∷ [])) (take_char p h c (from_selector c)).0
       go (a_selector q e) =
           subst (λ (d : ℕ). HeldLast p (cs ++ (d ∷ [])) (take_char p h d (from_selector d)).0) (sym e)
-          (subst (λ (y : FromSelector). HeldLast p (cs ++ (as_selector q ∷ [])) (take_char p h (as_selector q) y).0) (sym (from_selector_lem q))
+          (subst (λ (y : FromSelector). HeldLast p (cs ++ (as_selector q ∷ [])) (take_char p h (as_selector q) y).0)
+          (sym (from_selector_lem q))
           (selector_last l q))
       go (no_selector i) =
           subst (λ (y : FromSelector). HeldLast p (cs ++ (c ∷ [])) (take_char p h c y).0) (sym (from-other c i))
@@ -81,7 +82,7 @@ module _ (p : Policy) where
   chars-last {cs = cs} {h = h} l [] = subst (λ (k : List ℕ). HeldLast p k h) (sym (append-nil cs)) l
   chars-last {cs = cs} {h = h} l (d ∷ ds) =
       subst (λ (k : List ℕ). HeldLast p k (take_chars (take_char p h d (from_selector d)).0 (fed_as p ds)).0) (append_assoc cs (d ∷ []) ds)
-      (chars-last (char-last l d) ds)
+      (chars-last {cs = cs ++ (d ∷ [])} (char-last l d) ds)
 
   -- From the first character on.
   pub all_last : (cs : List ℕ) → HeldLast p cs (take_chars nothing (fed_as p cs)).0

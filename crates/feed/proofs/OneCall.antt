@@ -75,7 +75,8 @@ module _ (p : Policy) where
   unfolding format_fed format_cells renewed render renew split
   format_tag =
       by-chars (λ t. format_fed (fed_as p t) ≡ render p (cells t) []) refl
-      (λ q t h. ap (λ (b : Bool). cond b (format_fed (fed_as p t)) (cell_before (one (as_selector q)) (fed_as p t) (format_fed (fed_as p t))))
+      (λ q t h. ap (λ (b : Bool). cond b (format_fed (fed_as p t))
+      (cell_before (one (as_selector q)) (fed_as p t) (format_fed (fed_as p t))))
       (selector_is q) ∙ h
       ∙ sym (ap (λ (a : P). render p a.1 []) (split_selector q t)))
       (λ c t e h. ap (λ (b : Bool). cond b (format_fed (fed_as p t)) (cell_before (one c) (fed_as p t) (format_fed (fed_as p t)))) e
@@ -89,7 +90,8 @@ module _ (p : Policy) where
   unfolding count_fed count_cells split
   count_tag =
       by-chars (λ t. count_fed (fed_as p t) ≡ count_cells p (cells t)) refl
-      (λ q t h. ap (λ (b : Bool). cond b (count_fed (fed_as p t)) ((judged (one (as_selector q)) (fed_as p t)).counts ⊕ count_fed (fed_as p t)))
+      (λ q t h. ap (λ (b : Bool). cond b (count_fed (fed_as p t))
+      ((judged (one (as_selector q)) (fed_as p t)).counts ⊕ count_fed (fed_as p t)))
       (selector_is q) ∙ h
       ∙ sym (ap (λ (a : P). count_cells p a.1) (split_selector q t)))
       (λ c t e h. ap (λ (b : Bool). cond b (count_fed (fed_as p t)) ((judged (one c) (fed_as p t)).counts ⊕ count_fed (fed_as p t))) e
@@ -106,7 +108,8 @@ module _ (p : Policy) where
   tag_append (c ∷ a) b = ap (λ (l : List Fed). one c ∷ l) (tag_append a b)
 
   two : (xs ys : List Fed) → xs ≡ fed_as p (chars_of xs) → ys ≡ fed_as p (chars_of ys) → xs ++ ys ≡ fed_as p (chars_of (xs ++ ys))
-  two xs ys e g = ap₂ (λ (k l : List Fed). k ++ l) e g ∙ tag_append (chars_of xs) (chars_of ys) ∙ ap (fed_as p) (sym (chars_of_append xs ys))
+  two xs ys e g = ap₂ (λ (k l : List Fed). k ++ l) e g ∙ tag_append (chars_of xs) (chars_of ys)
+      ∙ ap (fed_as p) (sym (chars_of_append xs ys))
 
   fed_tag : (f : Feed) → f.policy ≡ p → (c : Call) (a : Answer) → chars_taken f c a ≡ fed_as p (chars_of (chars_taken f c a))
   fed_tag f e (piece b out) (wrote o) =
@@ -134,7 +137,8 @@ chars-whole t =
 
 -- The thread's whole characters formatted in one call.
 pub record WholeThread (policy : List ℕ) (cs : List Call) : Type 0 where
-  pub ended_text : (F (policy_of policy) cs).ended ≡ true → outputs (new_feed (policy_of policy)) cs ≡ formatted (T (policy_of policy) cs) policy
+  pub ended_text : (F (policy_of policy) cs).ended ≡ true
+      → outputs (new_feed (policy_of policy)) cs ≡ formatted (T (policy_of policy) cs) policy
   pub open_text : (F (policy_of policy) cs).ended ≡ false
       → outputs (new_feed (policy_of policy)) cs ++ encode_all (settle (F (policy_of policy) cs).pending other).text
       ≡ formatted (T (policy_of policy) cs) policy

@@ -31,7 +31,19 @@ use Rattle.analysis.specs.declared.singleton.Slot.{Slot}
 use Rattle.analysis.specs.declared.singleton.Slot.TheVariants.{Bare as bare, Decided as decided, Fixed as fixed}
 use Rattle.utf8.specs.Subparts.{unfinished}
 use Rattle.utf8.proofs.Unfinished.{unfinished-few, unfinished_no_char}
-use Rattle.feed.specs.Feed.{Fed, Pending, written_alone, base, held_after_of, chars_of, nothing, settle, take_char, take_chars, take_selector}
+use Rattle.feed.specs.Feed.{
+  Fed,
+  Pending,
+  written_alone,
+  base,
+  held_after_of,
+  chars_of,
+  nothing,
+  settle,
+  take_char,
+  take_chars,
+  take_selector,
+}
 use Rattle.feed.specs.Calls.{Feed, fed_by}
 use Rattle.feed.proofs.Calls.{chars_tagged}
 
@@ -71,7 +83,8 @@ settle_bytes (base p c f n) k =
           (outcome p c k (run_with f n)).slot,
     )
 
-pub alone_bytes : (p : Policy) (c : ℕ) (h : Bool) → length (encode_all (written_alone c h)) + held (held_after_of p c h) ≤ length (encode c) + 3
+pub alone_bytes : (p : Policy) (c : ℕ) (h : Bool) → length (encode_all (written_alone c h)) + held (held_after_of p c h) ≤ length (encode c)
+    + 3
 unfolding encode_all held
 alone_bytes p c true = omega arith
 alone_bytes p c false = omega (arith, length-append (encode c) [])
@@ -127,7 +140,7 @@ completed r b e = go (read_char (r ++ b)) refl
         ⊎_elim
         (λ h.
         let t : take w r ≡ encode v = sym (take-append-le w r b h) ∙ ap (take w) (sym c.bytes) ∙ take_at (encode v) d w c.width in
-        absurd (unfinished_no_char r e w (ap utf8_char t ∙ utf8_char_encode v c.is-scalar)))
+        absurd (unfinished_no_char r e w (ap utf8_char t ∙ utf8_char_encode v c.is_scalar_lem)))
         (λ h. omega (
           arith,
           ap length (chars-char (r ++ b) v w p),
@@ -146,7 +159,8 @@ piece_bytes f b e =
     let u = f.rest ++ b in
     let xs = fed_by f b in
     let n : length xs ≡ length (chars u) = length-map (chars u) (λ (c : ℕ). record { char = c; policy = f.policy }) in
-    let k : length (encode_all (chars_of xs)) ≡ valid_up_to_of u = ap (λ (l : List ℕ). length (encode_all l)) (chars_tagged f.policy (chars u))
+    let k : length (encode_all (chars_of xs)) ≡ valid_up_to_of u =
+    ap (λ (l : List ℕ). length (encode_all l)) (chars_tagged f.policy (chars u))
     ∙ length_encode_all_chars u in
     omega (
       arith,

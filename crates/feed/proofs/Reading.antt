@@ -16,7 +16,8 @@ use Rattle.feed.specs.declared.Held.{Held}
 use Rattle.feed.specs.declared.State.{State}
 use Rattle.feed.specs.Bytes.{counts_of, selector_of, held_of, small_to, state_of}
 
-pub held-made : (bs : List ℕ) {b n : ℕ} {f : FromSelector} → b ≡ word_at 1 bs % 4294967296 → f ≡ selector_of (word_at 2 bs) → n ≡ word_at 3 bs
+pub held-made : (bs : List ℕ) {b n : ℕ} {f : FromSelector} → b ≡ word_at 1 bs % 4294967296 → f ≡ selector_of (word_at 2 bs)
+    → n ≡ word_at 3 bs
     → ◌≡◌ {A = Held} (record { base = b; first = f; count = n }) (held_of bs)
 unfolding held_of
 held-made bs p q r = λ i. record { base = p i; first = q i; count = r i }
@@ -36,7 +37,8 @@ small-on bs (suc k) h l = let e : suc k - 1 ≡ k = omega arith in go k e (ap (�
   where
     go : (j : ℕ) → suc k - 1 ≡ k → word_at (suc k - 1) bs ≡ word_at k bs → word_at (suc k - 1) bs ≤ text_limit
         → leb (word_at k bs) text_limit && small_to k bs ≡ small_to (suc k - 1) bs
-    go j e w l = ap (λ (t : Bool). t && small_to k bs) (le-leb (word_at k bs) text_limit (omega arith)) ∙ ap (λ (i : ℕ). small_to i bs) (sym e)
+    go j e w l = ap (λ (t : Bool). t && small_to k bs) (le-leb (word_at k bs) text_limit (omega arith))
+        ∙ ap (λ (i : ℕ). small_to i bs) (sym e)
 
 pub small_not : (bs : List ℕ) (k : ℕ) → 0 < k → text_limit < word_at (k - 1) bs → small_to k bs ≡ false
 unfolding small_to

@@ -1,6 +1,28 @@
 -- A feed in lent bytes (document 02, iii): which bytes are a feed, and what each call answers and leaves in the lent buffers, for any
 -- bytes. For a feed begun new and handed on from call to call, specs/Theorems.antt (EveryFeedInBytes) says what this amounts to.
-use Rattle.std.specs.Prelude.{◌≡◌, Bool, true, false, cond, not, ◌&&◌, ◌||◌, List, [], ◌∷◌, ◌++◌, ℕ, zero, suc, ◌%◌, eqb, leb, drop, length, take}
+use Rattle.std.specs.Prelude.{
+  ◌≡◌,
+  Bool,
+  true,
+  false,
+  cond,
+  not,
+  ◌&&◌,
+  ◌||◌,
+  List,
+  [],
+  ◌∷◌,
+  ◌++◌,
+  ℕ,
+  zero,
+  suc,
+  ◌%◌,
+  eqb,
+  leb,
+  drop,
+  length,
+  take,
+}
 use Rattle.base.specs.Sums.{one_if}
 use Rattle.base.specs.Answers.{Answers, done}
 use Rattle.base.specs.Refusals.{After, RefusalRow, or_else, refusal_row, text_limit, unwritten, written}

@@ -1,6 +1,9 @@
 // A feed in lent bytes: a thread that is formatted as it arrives (document 02, iii). The Rust crate formats whole texts and has no such
-// type. This crate has the types of the state and the functions that test, read and write it: `is_feed` equals `is_feed`, `read_state`
-// equals `state_of`, and `write_state` writes the bytes of `state_words` (specs/Bytes.antt). The calls are in crate feeding.
+// type. This crate has the types of the state and the functions that test, read and write it: `is_feed` equals the definition of its
+// name, `read_state` equals `state_of`, and `write_state` writes the bytes of `state_words` (specs/Bytes.antt). The calls are in crate
+// feeding.
+#![tactic(auto)]
+
 ghost use Rattle.std.specs.Prelude.{true, ◌≡◌, ◌%◌, ◌<◌, ◌≤◌, length};
 ghost use Rattle.base.specs.Sums.{one_if};
 ghost use Rattle.base.specs.Output.{WritesAt};
@@ -15,7 +18,7 @@ use base::{Refusal, TEXT_LIMIT};
 use emoji::presentation::{FromSelector, Presentation};
 
 // The held base, or 0 if none is held, its first selector, and the number of its selectors.
-#[derive(Drop)]
+#[derive(Clone, Copy)]
 pub struct Held {
     pub base: u32,
     pub first: FromSelector,
@@ -23,7 +26,7 @@ pub struct Held {
 }
 
 // The words of a feed. The unfinished bytes are a number, lowest byte first.
-#[derive(Drop)]
+#[derive(Clone, Copy)]
 pub struct State {
     pub ended: bool,
     pub held: Held,
@@ -34,7 +37,7 @@ pub struct State {
 }
 
 // The answer to a call: the number of bytes written, or a refusal.
-#[derive(Drop)]
+#[derive(Clone, Copy)]
 pub enum FeedAnswer {
     Written { len: usize },
     Refused(Refusal),

@@ -112,7 +112,8 @@ module _ (bs : List ℕ) where
     unfolding called_on answer_to changing_feed feed_of
     change-9 e i t = let d : (state_of A).ended ≡ true = ap (λ (y : State). y.ended) (sym i) ∙ t in sym (simp (e, d))
 
-    pub change-2 : {s : State} {r : Refusal} → is_changing bs ≡ true → s ≡ state_of (feed_part bs) → s.ended ≡ false → is_policy policy ≡ false
+    pub change-2 : {s : State} {r : Refusal} → is_changing bs ≡ true → s ≡ state_of (feed_part bs) → s.ended ≡ false
+        → is_policy policy ≡ false
         → r ≡ policy_fault policy → refuses (Refused r) bs [] ≡ called_on bs (change policy)
     unfolding called_on answer_to changing_feed feed_of policy_refusal
     change-2 e i t o q =

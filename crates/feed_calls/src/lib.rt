@@ -1,6 +1,8 @@
 // The calls of a feed whose policy may change: document 02, (iii) and (xii). `begin` equals `begun_changing`; `end` and `change` equal
 // `called_on`; `totals` writes the eight counts of `changing_totals` (crate policy_change, specs/Bytes.antt), each for any bytes. The first
 // 320 bytes are a feed of crate feed. The call for a piece is `feeding::later::piece`.
+#![tactic(auto)]
+
 ghost use Rattle.std.specs.Prelude.{◌≡◌, cond, [], ◌++◌, eqb, length, take};
 ghost use Rattle.base.specs.Answers.{EndsAs};
 ghost use Rattle.base.specs.Output.{Wrote};

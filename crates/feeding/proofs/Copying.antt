@@ -42,7 +42,19 @@ use Rattle.analysis.proofs.Rules.{outcome_entry, outcome_no_entry}
 use Rattle.text_pass.specs.Changes.{AsciiBare}
 use Rattle.text_pass.proofs.PlainText.{ascii_other, other_plain}
 use Rattle.text_pass.proofs.RuleClasses.{rules_before, same_outcome}
-use Rattle.feed.specs.Bytes.{Called, called, counts_of, held_for, pending_of, policy_part, rest_of, selector_of, small_to, state_of, state_words}
+use Rattle.feed.specs.Bytes.{
+  Called,
+  called,
+  counts_of,
+  held_for,
+  pending_of,
+  policy_part,
+  rest_of,
+  selector_of,
+  small_to,
+  state_of,
+  state_words,
+}
 use Rattle.feed.specs.Feed.{Effect, Pending, fed_as, held_after_of, join_effects, no_effect, settle, take_char, take_chars, written_alone}
 use Rattle.feed.specs.Calls.{piece}
 use Rattle.feed.specs.declared.FeedAnswer.TheVariants.{Written}
@@ -245,7 +257,8 @@ module _ (bs : List ℕ) (k : CopiesAscii bs) (out out' : List ℕ) where
 
   pub copied_taken : (b : List ℕ) {last e : ℕ} → 0 < length b → AllAscii b → last ≡ held_entry (get_or b (length b - 1) 0)
       → PutAt out 0 (held_list c ++ take (copied_length (length b) last) b) out' e
-      → TakenBy p (bare_held c) (counts_of bs) (fed_as p (chars b)) out 0 out' (record { held = bare_held last; end = e; counts = counts_of bs })
+      → TakenBy p (bare_held c) (counts_of bs) (fed_as p (chars b)) out 0 out'
+      (record { held = bare_held last; end = e; counts = counts_of bs })
   copied_taken [] s f q w = absurd (omega arith)
   copied_taken (x ∷ xs) {last} {e} s f q w =
       let L : last ≡ last_entry_lem x xs = q ∙ sym (last_is x xs) in
@@ -255,7 +268,8 @@ module _ (bs : List ℕ) (k : CopiesAscii bs) (out out' : List ℕ) where
       (sym (copied_is x xs))
       ∙ ap₂ (λ (a b : List ℕ). a ++ b) (sym (encode-held c k.base)) (sym (encode_copied x xs f))
       ∙ sym (encode_all_append (held_list c) B) in
-      by p (bare_held c) (counts_of bs) (fed_as p (chars (x ∷ xs))) out 0 out' (record { held = bare_held last; end = e; counts = counts_of bs })
+      by p (bare_held c) (counts_of bs) (fed_as p (chars (x ∷ xs))) out 0 out'
+      (record { held = bare_held last; end = e; counts = counts_of bs })
       (pending_of p (bare_held (last_entry_lem x xs)), record { text = held_list c ++ B; counts = empty })
       (ap (λ (cs : List ℕ). take_chars (pending_of p (bare_held c)) (fed_as p cs)) (chars_ascii (x ∷ xs) f)
       ∙ takes p (ascii_rule_bare (drop 120 bs) k.bare) c x xs k.base f)
@@ -345,7 +359,8 @@ module _ (bs : List ℕ) (w : WordsFit bs) (h : length bs ≡ 320) (t : all_byte
       ∙ words_put (word_at 0 bs) (word_at 1 bs) (word_at 2 bs) (word_at 3 bs) (word_at 4 bs) (word_at 5 bs) (word_at 6 bs) (word_at 7 bs)
       (word_at 8 bs) (word_at 9 bs) (word_at 10 bs) (word_at 11 bs) (word_at 12 bs) (word_at 13 bs) (word_at 14 bs) last len (drop 120 bs)
       ∙ (λ i. bytes_of (w.goes_on i ∷ last ∷ W 2 (omega arith) (omega arith) i ∷ W 3 (omega arith) (omega arith) i
-      ∷ W 4 (omega arith) (omega arith) i ∷ W 5 (omega arith) (omega arith) i ∷ len ∷ word_at 7 bs ∷ word_at 8 bs ∷ word_at 9 bs ∷ word_at 10 bs
+      ∷ W 4 (omega arith) (omega arith) i ∷ W 5 (omega arith) (omega arith) i ∷ len ∷ word_at 7 bs ∷ word_at 8 bs ∷ word_at 9 bs
+      ∷ word_at 10 bs
       ∷ word_at 11 bs ∷ word_at 12 bs ∷ word_at 13 bs ∷ word_at 14 bs ∷ []) ++ drop 120 bs)
 
   many : 120 ≡ 0 + length (bytes_of (state_words S))
@@ -480,5 +495,6 @@ copy_done bs b out {last} {len} {e} {bs'} {out'} k q l w n v =
 pub copied_as : {len n room : ℕ} {b : List ℕ} → len ≡ n → CopiedPiece len b room → CopiedPiece n b room
 copied_as {len} {n} {room} {b} e q = subst (λ (m : ℕ). CopiedPiece m b room) e q
 
-pub copied_base : (xs : List ℕ) {c d e : ℕ} {o o' : List ℕ} → c ≡ d → PutAt o 0 (held_list c ++ xs) o' e → PutAt o 0 (held_list d ++ xs) o' e
+pub copied_base : (xs : List ℕ) {c d e : ℕ} {o o' : List ℕ} → c ≡ d → PutAt o 0 (held_list c ++ xs) o' e
+    → PutAt o 0 (held_list d ++ xs) o' e
 copied_base xs {c} {d} {e} {o} {o'} q w = subst (λ (k : ℕ). PutAt o 0 (held_list k ++ xs) o' e) q w

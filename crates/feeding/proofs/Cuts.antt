@@ -200,7 +200,10 @@ module _ (p : Policy) where
 
     pub middle-held : (ms : List ℕ) (c : ℕ) (qs : List Presentation) → x ∷ xs ≡ ms ++ (c ∷ map as_selector qs) → is_selector c ≡ false
         → has_variation_sequence c ≡ true
-        → take_chars s (fed_as p (x ∷ xs)) ≡ (base p c (first_asked qs) (length qs), join_effects (settle s (class_of x)) (whole_effect p ms))
+        → take_chars s (fed_as p (x ∷ xs)) ≡ (
+          base p c (first_asked qs) (length qs),
+          join_effects (settle s (class_of x)) (whole_effect p ms),
+        )
     middle-held ms c qs m f v =
         begins (base p c (first_asked qs) (length qs)) (whole_effect p ms)
         (ap (λ (l : List ℕ). take_chars nothing (fed_as p l)) m ∙ cut_before_lem ms c qs f v)

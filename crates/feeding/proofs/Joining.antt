@@ -51,11 +51,13 @@ module _ (u : List ℕ) (k : ℕ) where
   unfolding packed
   char-none h = ap packed (sym (read_char-past_end u k h))
 
-  pub char_four : {a b c d r : ℕ} → k < length u → a ≡ get_or u k 0 → b ≡ get_or u (k + 1) 0 → c ≡ get_or u (k + 2) 0 → d ≡ get_or u (k + 3) 0
+  pub char_four : {a b c d r : ℕ} → k < length u → a ≡ get_or u k 0 → b ≡ get_or u (k + 1) 0 → c ≡ get_or u (k + 2) 0
+      → d ≡ get_or u (k + 3) 0
       → r ≡ packed (read_char (drop 0 (a ∷ b ∷ c ∷ d ∷ []))) → r ≡ packed (read_char (drop k u))
   unfolding read_char
   char_four {c = c} {d = d} h p q s t e =
-      e ∙ ap₂ (λ (y z : ℕ). packed (read_four y z c d)) p q ∙ ap₂ (λ (y z : ℕ). packed (read_four (get_or u k 0) (get_or u (k + 1) 0) y z)) s t
+      e ∙ ap₂ (λ (y z : ℕ). packed (read_four y z c d)) p q
+      ∙ ap₂ (λ (y z : ℕ). packed (read_four (get_or u k 0) (get_or u (k + 1) 0) y z)) s t
       ∙ ap packed (read_four_at u k h)
 
 -- ---- the bytes that are left

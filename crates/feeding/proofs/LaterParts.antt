@@ -21,7 +21,16 @@ use Rattle.policy.specs.declared.Policy.{Policy}
 use Rattle.scanner.specs.Classes.{class_of}
 use Rattle.scanner.specs.declared.char_class.Class.{Class}
 use Rattle.scanner.specs.SelectorRun.{first_selector}
-use Rattle.scanner.proofs.SelectorChars.{CharIs, a_selector, char_is, from_selector_lem, no_selector, other_value, selector_is, selector_value}
+use Rattle.scanner.proofs.SelectorChars.{
+  CharIs,
+  a_selector,
+  char_is,
+  from_selector_lem,
+  no_selector,
+  other_value,
+  selector_is,
+  selector_value,
+}
 use Rattle.analysis.specs.Counts.{◌⊕◌, empty, total}
 use Rattle.analysis.specs.declared.types.NonCanonicality.{NonCanonicality}
 use Rattle.analysis.proofs.Counts.{empty-plus, plus_assoc, plus-empty}

@@ -331,7 +331,8 @@ module _ (bs : List ℕ) where
       unfolding called_on
       on-changing e = ap (λ (t : Bool). cond t (on (changing_feed bs)) (refuses (Refused FeedEnded) bs out)) e
 
-      done-is : S.ended ≡ false → S.len + length b ≤ text_limit → unfinished (drop (valid_up_to_of U) U) ≡ true → 4 * length b + 16 ≤ length out
+      done-is : S.ended ≡ false → S.len + length b ≤ text_limit → unfinished (drop (valid_up_to_of U) U) ≡ true
+          → 4 * length b + 16 ≤ length out
           → on G₁ ≡ record {
             answer = Written (length W);
             feed = cond (is_changed bs && not (only_selectors (chars ((changing_feed bs).rest ++ b)))) (settled_bytes bs (after_piece G₁ b))
@@ -389,7 +390,8 @@ module _ (bs : List ℕ) where
           ∙ sym (on-changing e ∙ ap on (feed_is c) ∙ done-is t sh n z)
 
       pub later-done : {s : State} {i : ℕ} {k : Held} {l : Left} {r : Later} {bs₁ bs' out' : List ℕ} → is_changing bs ≡ true
-          → is_changed bs ≡ true → s ≡ state_of (feed_part bs) → s.ended ≡ false → length b ≤ 16777216 - s.len → i ≡ valid_up_to_of (joined s)
+          → is_changed bs ≡ true → s ≡ state_of (feed_part bs) → s.ended ≡ false → length b ≤ 16777216 - s.len
+          → i ≡ valid_up_to_of (joined s)
           → LeftAt (joined s) i l → l.good ≡ true → 4 * length b + 16 ≤ length out
           → TakenLater q p s.held s.counts (chars (joined s)) out out' r
           → k ≡ held_for (pending_of (cond r.settled p q) r.taken.held)

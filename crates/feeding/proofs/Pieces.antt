@@ -117,7 +117,8 @@ module _ (bs b : List ℕ) where
     abbrev U : List ℕ
     U = joined (state_of bs)
 
-    three-is : is_feed bs ≡ true → (state_of bs).ended ≡ false → length b ≤ 16777216 - (state_of bs).len → unfinished (drop (valid_up_to_of U) U)
+    three-is : is_feed bs ≡ true → (state_of bs).ended ≡ false → length b ≤ 16777216 - (state_of bs).len
+        → unfinished (drop (valid_up_to_of U) U)
         ≡ false
         → refuses (Refused (NotWellFormed ((state_of bs).len - (state_of bs).rest_len + valid_up_to_of U))) bs out ≡ called bs (piece b out)
     unfolding called answer feed_of
@@ -136,7 +137,8 @@ module _ (bs b : List ℕ) where
         ap₂ (λ (i j : ℕ). refuses (Refused (NotWellFormed (i + j))) bs out) M Q
         ∙ three-is e (ap (λ (y : State). y.ended) (sym p) ∙ t) (omega (arith, ap (λ (y : State). y.len) p)) G
 
-    eight_is : is_feed bs ≡ true → (state_of bs).ended ≡ false → length b ≤ 16777216 - (state_of bs).len → unfinished (drop (valid_up_to_of U) U)
+    eight_is : is_feed bs ≡ true → (state_of bs).ended ≡ false → length b ≤ 16777216 - (state_of bs).len
+        → unfinished (drop (valid_up_to_of U) U)
         ≡ true → length out < 4 * length b + 16
         → refuses (Refused (OutputTooShort (4 * length b + 16))) bs out ≡ called bs (piece b out)
     unfolding called answer feed_of
@@ -153,7 +155,8 @@ module _ (bs b : List ℕ) where
     good-at : {s : State} {v : ℕ} {l : Left} → s ≡ state_of bs → v ≡ valid_up_to_of (joined s) → LeftAt (joined s) v l → l.good ≡ true
         → unfinished (drop (valid_up_to_of U) U) ≡ true
     good-at {s} {v} p q k g =
-        ap₂ (λ (i : ℕ) (y : State). unfinished (drop i (joined y))) (sym (q ∙ ap (λ (y : State). valid_up_to_of (joined y)) p)) (sym p) ∙ sym
+        ap₂ (λ (i : ℕ) (y : State). unfinished (drop i (joined y))) (sym (q ∙ ap (λ (y : State). valid_up_to_of (joined y)) p)) (sym p)
+        ∙ sym
         k.good ∙ g
 
     pub piece_8 : {s : State} {v : ℕ} {l : Left} → is_feed bs ≡ true → s ≡ state_of bs → s.ended ≡ false → length b ≤ 16777216 - s.len → v
@@ -166,7 +169,8 @@ module _ (bs b : List ℕ) where
     abbrev W : List ℕ
     W = encode_all (take_chars (pending_of (policy_part bs) (state_of bs).held) (fed_as (policy_part bs) (chars U))).1.text
 
-    taken_is : is_feed bs ≡ true → (state_of bs).ended ≡ false → length b ≤ 16777216 - (state_of bs).len → unfinished (drop (valid_up_to_of U) U)
+    taken_is : is_feed bs ≡ true → (state_of bs).ended ≡ false → length b ≤ 16777216 - (state_of bs).len
+        → unfinished (drop (valid_up_to_of U) U)
         ≡ true → 4 * length b + 16 ≤ length out
         → called bs (piece b out) ≡ record {
           answer = Written (length W);

@@ -21,7 +21,6 @@ use Rattle.utf8.proofs.Places.{Step}
 use Rattle.utf8.proofs.Texts.{valid_up_to_le}
 use Rattle.utf8.proofs.Unfinished.{unfinished_no_char}
 use Rattle.policy.specs.declared.Policy.{Policy}
-use Rattle.scanner.specs.Spans.{width}
 use Rattle.analysis.specs.Analysis.{count_cells}
 use Rattle.analysis.specs.CellView.{total_cells}
 use Rattle.analysis.specs.Cells.{split}

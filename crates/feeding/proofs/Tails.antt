@@ -20,7 +20,6 @@ use Rattle.emoji.specs.declared.presentation.FromSelector.{FromSelector}
 use Rattle.emoji.specs.declared.presentation.FromSelector.TheVariants.{NoSelector, Selector}
 use Rattle.emoji.specs.declared.presentation.Presentation.{Presentation}
 use Rattle.scanner.specs.SelectorRun.{first_selector}
-use Rattle.scanner.specs.Spans.{width}
 use Rattle.scanner.proofs.Bytes.{chars-from, chars_inside, size-chars, size-width}
 use Rattle.scanner.proofs.SelectorBytes.{selector_here}
 use Rattle.scanner.proofs.SelectorChars.{from_selector_lem, other_value}
@@ -114,7 +113,8 @@ module _ {text : List ℕ} {from to start : ℕ} (l : LastChar text from to star
       (λ g. omega arith)
       (le_or_lt (to - start) w)
 
-  pub found-last : (w n : ℕ) → n ≡ char_len (read_char (drop (to - w) text)) → n ≡ w → 1 ≤ w → w ≤ to - start → LastChar text from to (to - w)
+  pub found-last : (w n : ℕ) → n ≡ char_len (read_char (drop (to - w) text)) → n ≡ w → 1 ≤ w → w ≤ to - start
+      → LastChar text from to (to - w)
   found-last w n e d m h =
       ⊎_elim
       (λ g. let same : start ≡ to - w = omega (arith, l.before) in subst (LastChar text from to) same l)

@@ -59,7 +59,8 @@ take_one s x =
 pub one_selector : (p : Policy) (s : Pending) (q : Presentation) → take_chars s (fed_as p (as_selector q ∷ [])) ≡ take_selector s q
 unfolding take_char
 one_selector p s q =
-    take_one s (record { char = as_selector q; policy = p }) ∙ ap (λ (y : FromSelector). take_char p s (as_selector q) y) (from_selector_lem q)
+    take_one s (record { char = as_selector q; policy = p })
+    ∙ ap (λ (y : FromSelector). take_char p s (as_selector q) y) (from_selector_lem q)
 
 abbrev otherwise : Policy → Pending → ℕ → Bool → R
 otherwise p s c b =

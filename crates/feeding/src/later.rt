@@ -32,7 +32,7 @@ use policy_change::{CHANGING_BYTES, POLICY_AT, is_changing};
 use scanner::char_class::{Class, class_of};
 
 // The characters of a piece that were taken, and whether one of them settled the held base.
-#[derive(Drop)]
+#[derive(Clone, Copy)]
 pub(crate) struct Later {
     pub(crate) settled: bool,
     pub(crate) taken: Taken,

@@ -3,6 +3,8 @@
 // A piece goes through formatting's own passes, part by part (`take_all`): the character that it completes, its first selectors, the
 // characters that are formatted by themselves, and the last base, which is held. The definition takes the characters one after the other
 // (`take_chars` of crate feed, specs/Feed.antt).
+#![tactic(auto)]
+
 mod ascii;
 pub mod later;
 mod middle;
@@ -143,7 +145,7 @@ fn selector_of(slot: Slot) -> FromSelector
 }
 
 // Where the held base ends in the output, and its counts.
-#[derive(Drop)]
+#[derive(Clone, Copy)]
 pub(crate) struct Settled {
     pub(crate) end: usize,
     pub(crate) counts: NonCanonicality,
@@ -327,7 +329,7 @@ pub(crate) fn joined_char(n: usize, rest: usize, piece: &[u8], k: usize) -> u32
 }
 
 // The bytes after the well-formed ones: whether they are unfinished, how many they are, and the number that they encode.
-#[derive(Drop)]
+#[derive(Clone, Copy)]
 pub(crate) struct Left {
     pub(crate) good: bool,
     pub(crate) len: usize,
@@ -370,7 +372,7 @@ pub(crate) fn left_after(n: usize, rest: usize, piece: &[u8], at: usize) -> Left
 }
 
 // The held base after characters that were taken, where their text ends in the output, and the counts.
-#[derive(Drop)]
+#[derive(Clone, Copy)]
 pub(crate) struct Taken {
     pub(crate) held: Held,
     pub(crate) end: usize,
@@ -456,7 +458,7 @@ fn take_char(policy: &[u8], taken: Taken, ch: u32, out: &mut [u8]) -> Taken
 }
 
 // Selectors at the front of a piece that were taken, and the offset after them.
-#[derive(Drop)]
+#[derive(Clone, Copy)]
 pub(crate) struct Front {
     pub(crate) taken: Taken,
     pub(crate) at: usize,

@@ -13,7 +13,7 @@ use text_pass::next_change;
 // What the tests of a piece found. `first` is the completed character as one number, or 0. The piece goes on at `from`, and its
 // well-formed bytes end at `end`. `valid` is the length of the longest well-formed beginning of the unfinished bytes and the piece. If
 // `plain` is true, formatting changes nothing from `from` on.
-#[derive(Drop)]
+#[derive(Clone, Copy)]
 pub(crate) struct PieceScan {
     pub(crate) first: u32,
     pub(crate) from: usize,

@@ -12,7 +12,7 @@ use scanner::selectors::{SELECTOR_BYTES, selector_at};
 
 // The offset at which the held base begins, and the base with its first selector and the number of its selectors. If none is held, the
 // offset is the end, and the base is 0.
-#[derive(Drop)]
+#[derive(Clone, Copy)]
 pub(crate) struct HeldTail {
     pub(crate) start: usize,
     pub(crate) held: Held,

@@ -36,7 +36,7 @@ unfolding take_chars
 more {cs} {h} l [] = subst (λ (k : List ℕ). HoldsLast k h) (sym (append-nil cs)) l
 more {cs} {h} l (x ∷ xs) =
     subst (λ (k : List ℕ). HoldsLast k (take_chars (take_char x.policy h x.char (from_selector x.char)).0 xs).0)
-    (append_assoc cs (x.char ∷ []) (chars_of xs)) (more (one_more l x.policy x.char) xs)
+    (append_assoc cs (x.char ∷ []) (chars_of xs)) (more {cs = cs ++ (x.char ∷ [])} (one_more l x.policy x.char) xs)
 
 -- From the first character on.
 pub all_held : (p : Policy) (xs : List Fed) → HoldsLast (chars_of xs) (take_chars nothing xs).0

@@ -107,7 +107,7 @@ completed-late r b ds p q e h = go (read_char (r ++ b)) refl
         ⊎_elim
         (λ m.
         let t : take w r ≡ encode v = sym (take-append-le w r b m) ∙ ap (take w) (sym c.bytes) ∙ take_at (encode v) d w c.width in
-        absurd (unfinished_no_char r e w (ap utf8_char t ∙ utf8_char_encode v c.is-scalar)))
+        absurd (unfinished_no_char r e w (ap utf8_char t ∙ utf8_char_encode v c.is_scalar_lem)))
         (λ m.
         ap (λ (l : List ℕ). fed_with l (ds ++ replicate (length b) p) q) C
         ∙ first-late v (chars d) ds (length b) p q (omega (arith, c.width))
@@ -123,7 +123,8 @@ completed-late r b ds p q e h = go (read_char (r ++ b)) refl
 
 -- A piece after a thread.
 pub with_piece : (T b : List ℕ) (ps : List Policy) (p q : Policy) → length ps ≡ length T → unfinished (drop (valid_up_to_of T) T) ≡ true
-    → fed_with (chars (T ++ b)) (ps ++ replicate (length b) p) q ≡ fed_with (chars T) ps q ++ fed_as p (chars (drop (valid_up_to_of T) T ++ b))
+    → fed_with (chars (T ++ b)) (ps ++ replicate (length b) p) q ≡ fed_with (chars T) ps q
+    ++ fed_as p (chars (drop (valid_up_to_of T) T ++ b))
 with_piece T b ps p q h u =
     let D = drop (valid_up_to_of T) T in
     let rs = replicate (length b) p in

@@ -237,10 +237,10 @@ module _ {b : Policy} where
       subst (λ (x : Bool). AtLast b F (T ++ (t ++ h)) (P ++ (l ++ q)) (W ++ (o ++ j)) x)
       (or_assoc E (end_taken c r.answer) (has_ended r.feed cs)) k₃
 
-  runs : {B T : List ℕ} {P : List Policy} {W : List ℕ} {E : Bool} {p : Policy} → At b B T P W E p → {cs : List Call} → OfBytes cs
+  runs : {cs : List Call} → OfBytes cs → {B T : List ℕ} {P : List Policy} {W : List ℕ} {E : Bool} {p : Policy} → At b B T P W E p
       → AtLast b (feed_after_calls B cs) (T ++ thread_of B cs) (P ++ policies_of B p cs) (W ++ joined_outputs B cs) (E || has_ended B cs)
   unfolding feed_after_calls thread_of policies_of joined_outputs has_ended
-  runs {B} {T} {P} {W} {E} {p} a no_call = record {
+  runs no_call {B = B} {T = T} {P = P} {W = W} {E = E} {p = p} a = record {
     now = p;
     at = record {
       feed = a.feed;
@@ -253,12 +253,12 @@ module _ {b : Policy} where
       ended_is = a.ended_is ∙ sym (or_false E);
     };
   }
-  runs {B} {T} {P} {W} {E} {p} a (and_piece {b = x} {out = out} {cs = cs} e o) =
-      one_more B T P W E p (piece x out) cs (runs (step a (piece x out) e) o)
-  runs {B} {T} {P} {W} {E} {p} a (and_end {out = out} {cs = cs} o) =
-      one_more B T P W E p (end out) cs (runs (step a (end out) refl) o)
-  runs {B} {T} {P} {W} {E} {p} a (and_change {policy = policy} {cs = cs} o) =
-      one_more B T P W E p (change policy) cs (runs (step a (change policy) refl) o)
+  runs (and_piece {b = x} {out = out} {cs = cs} e o) {B = B} {T = T} {P = P} {W = W} {E = E} {p = p} a =
+      one_more B T P W E p (piece x out) cs (runs o (step a (piece x out) e))
+  runs (and_end {out = out} {cs = cs} o) {B = B} {T = T} {P = P} {W = W} {E = E} {p = p} a =
+      one_more B T P W E p (end out) cs (runs o (step a (end out) refl))
+  runs (and_change {policy = policy} {cs = cs} o) {B = B} {T = T} {P = P} {W = W} {E = E} {p = p} a =
+      one_more B T P W E p (change policy) cs (runs o (step a (change policy) refl))
 
 -- ---- from a new feed
 
@@ -286,4 +286,4 @@ from_new policy ok o =
       in_force = refl;
       ended_is = refl;
     } in
-    runs a o
+    runs o a

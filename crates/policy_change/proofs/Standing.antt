@@ -49,7 +49,12 @@ pub record Stands (B : List ℕ) (f : Feed) : Type 0 where
 
 pub feed_bytes_lem : (f : Feed) (p : List ℕ) → is_policy p ≡ true → length (bytes_for f p) ≡ 320
 unfolding bytes_for
-feed_bytes_lem f p e = omega (arith, length-append (bytes_of (state_words (state_for f))) p, words_many (state_for f), policy_length_lem p e)
+feed_bytes_lem f p e = omega (
+  arith,
+  length-append (bytes_of (state_words (state_for f))) p,
+  words_many (state_for f),
+  policy_length_lem p e,
+)
 
 -- The parts of such bytes.
 module _ (f : Feed) (p q : List ℕ) (c : Bool) (ep : is_policy p ≡ true) (eq : is_policy q ≡ true) where
@@ -115,7 +120,8 @@ module _ (f : Feed) (p q : List ℕ) (c : Bool) (ep : is_policy p ≡ true) (eq 
     reading : cond c (policy_of q) (policy_of p) ≡ f.policy → changing_feed B ≡ f
     unfolding changing_feed
     reading e =
-        ap₂ (λ (t : Bool) (l : List ℕ). under (cond t (policy_of l) (feed_of (feed_part B)).policy) (feed_of (feed_part B))) changed_is later_is
+        ap₂ (λ (t : Bool) (l : List ℕ). under (cond t (policy_of l) (feed_of (feed_part B)).policy) (feed_of (feed_part B))) changed_is
+        later_is
         ∙ ap (λ (g : Feed). under (cond c (policy_of q) g.policy) g) part-feed ∙ ap (λ (r : Policy). under r f) e
 
 module _ {B : List ℕ} {f : Feed} (s : Stands B f) where
@@ -129,7 +135,8 @@ module _ {B : List ℕ} {f : Feed} (s : Stands B f) where
   pub call_is : (c : Call) → called_on B c ≡ leaves_after B c (after_call f c (answer_to f c)) (answer_to f c)
   unfolding called_on
   call_is c =
-      ap (λ (t : Bool). cond t (leaves_after B c (after_call (changing_feed B) c (answer_to (changing_feed B) c)) (answer_to (changing_feed B) c))
+      ap (λ (t : Bool). cond t (leaves_after B c (after_call (changing_feed B) c (answer_to (changing_feed B) c))
+      (answer_to (changing_feed B) c))
       (refuses (Refused FeedEnded) B (out_of c))) passes
       ∙ ap (λ (g : Feed). leaves_after B c (after_call g c (answer_to g c)) (answer_to g c)) feed_is
 

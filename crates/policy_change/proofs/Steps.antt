@@ -159,7 +159,8 @@ module _ {B : List ℕ} {f : Feed} (s : Stands B f) where
         (after_piece f b)
     unsettled t = stays (after_piece f b) (taken-same t held-under) refl
 
-    pub piece-stands : Stands (cond (is_changed B && not (only_selectors C)) (settled_bytes B (after_piece f b)) (kept_bytes B (after_piece f b)))
+    pub piece-stands : Stands (cond (is_changed B && not (only_selectors C)) (settled_bytes B (after_piece f b))
+        (kept_bytes B (after_piece f b)))
         (after_piece f b)
     piece-stands = go s.changed refl (only_selectors C) refl
       where
@@ -240,7 +241,8 @@ module _ {B : List ℕ} {f : Feed} (s : Stands B f) (policy : List ℕ) (ok : is
       unfinished_rest = s.kept.unfinished_rest;
       rest_bytes = s.kept.rest_bytes;
     };
-    bytes = ap (λ (l : List ℕ). l ++ (policy ++ (word_bytes 0 ++ policy))) words_front ∙ sym (append_assoc W policy (word_bytes 0 ++ policy));
+    bytes = ap (λ (l : List ℕ). l ++ (policy ++ (word_bytes 0 ++ policy))) words_front
+        ∙ sym (append_assoc W policy (word_bytes 0 ++ policy));
     in_force = refl;
   }
 
@@ -298,7 +300,8 @@ module _ {B : List ℕ} {f : Feed} (s : Stands B f) where
   by_end out (end_taken_lem h l r) = stays s (after_end f) (end_kept s.kept h l) refl
 
   by_change : (policy : List ℕ)
-      → Stands (leaves_after B (change policy) (after_call f (change policy) (answer_to f (change policy))) (answer_to f (change policy))).feed
+      → Stands (leaves_after B (change policy) (after_call f (change policy) (answer_to f (change policy)))
+      (answer_to f (change policy))).feed
       (after_call f (change policy) (answer_to f (change policy)))
   unfolding answer_to policy_refusal
   by_change policy = go f.ended (is_policy policy) refl

@@ -1,6 +1,8 @@
 // A feed whose policy may change between two pieces (document 02, xii): its bytes and the test of them. The crate evfmt has no such type.
-// `is_changing` equals `is_changing` (specs/Bytes.antt). The calls on these bytes are defined there too, and the theorem on every list of
-// them is EveryChangingFeed (specs/Theorems.antt).
+// `is_changing` equals the definition of its name (specs/Bytes.antt). The calls on these bytes are defined there too, and the theorem on
+// every list of them is EveryChangingFeed (specs/Theorems.antt).
+#![tactic(auto)]
+
 ghost use Rattle.std.specs.Prelude.{◌≡◌};
 ghost use Rattle.policy_change.specs.Bytes.{is_changing};
 

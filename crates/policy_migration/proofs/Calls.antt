@@ -157,7 +157,8 @@ module _ (p : Policy) (v : PolicyValue p) (u : no_unused_bits p ≡ true) (versi
       and_both _ _ (and_both _ _ (no_old prefer_bare_set) (no_old prefer_bare_keycap_set))
       (and_both _ _ (no_old bare_as_text_set) (no_old bare_as_text_keycap_set))
 
-  pub home_call : (out : List ℕ) → 200 ≤ length out → carry_call (bytes_of variation_entries) Vs out ≡ written (Written 200) (policy_bytes p)
+  pub home_call : (out : List ℕ) → 200 ≤ length out
+      → carry_call (bytes_of variation_entries) Vs out ≡ written (Written 200) (policy_bytes p)
       out
   home_call out h =
       let E = bytes_of variation_entries in

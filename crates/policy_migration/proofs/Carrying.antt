@@ -27,7 +27,17 @@ use Rattle.policy_key_set.proofs.Contains.{contains_entry, has_index}
 use Rattle.policy_key_set.proofs.Entries.{entry_count_lem, index_has_place, place-has_index, six}
 use Rattle.policy_key_set.proofs.Members.{member-past, members_determine}
 use Rattle.policy.specs.DefaultPolicy.{default_policy}
-use Rattle.policy.specs.PolicyBytes.{PolicyValue, SetValue, no_unused_bit, no_unused_bits, policy_bytes, policy_of, policy_words, set_of, words_from}
+use Rattle.policy.specs.PolicyBytes.{
+  PolicyValue,
+  SetValue,
+  no_unused_bit,
+  no_unused_bits,
+  policy_bytes,
+  policy_of,
+  policy_words,
+  set_of,
+  words_from,
+}
 use Rattle.policy.specs.Theorems.{ReadWritten}
 use Rattle.policy.specs.declared.Policy.{Policy}
 use Rattle.policy.proofs.Claims.{read-written}
@@ -71,7 +81,8 @@ module _ (old policy : List ℕ) where
   pub past : (k : WhichSet) (i : ℕ) → entry_count ≤ i → carried_test old policy k i ≡ false
   unfolding carried_test
   past k i l =
-      ap (λ (b : Bool). b && kept_or (index_of (get_or variation_entries i 0) old) (old_set old policy k) (member i (set_in default_policy k)))
+      ap (λ (b : Bool). b && kept_or (index_of (get_or variation_entries i 0) old) (old_set old policy k)
+      (member i (set_in default_policy k)))
       (le-ltb i entry_count l)
 
   pub held : (k : WhichSet) (i : ℕ) → member i (carried_set old policy k) ≡ carried_test old policy k i
@@ -82,7 +93,8 @@ module _ (old policy : List ℕ) where
       (member i (set_in default_policy k))
   unfolding carried_test
   at_entry k i l =
-      ap (λ (b : Bool). b && kept_or (index_of (get_or variation_entries i 0) old) (old_set old policy k) (member i (set_in default_policy k)))
+      ap (λ (b : Bool). b && kept_or (index_of (get_or variation_entries i 0) old) (old_set old policy k)
+      (member i (set_in default_policy k)))
       (lt-ltb i entry_count l)
 
   by_index : (r : VariationSequenceIndex) (ws : List ℕ) (new : Bool) → kept_or r ws new ≡ cond (is_at r) (member_at r ws) new
@@ -116,7 +128,10 @@ module _ (old policy : List ℕ) where
 
   value : (k : WhichSet) → SetValue (carried_set old policy k)
   value k =
-      record { has_word_count = words_many word_count (carried_test old policy k); words = words_small word_count (carried_test old policy k) }
+      record {
+        has_word_count = words_many word_count (carried_test old policy k);
+        words = words_small word_count (carried_test old policy k);
+      }
 
   pub policy_value : PolicyValue (carried old policy)
   unfolding carried

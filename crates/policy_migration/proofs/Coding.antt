@@ -17,7 +17,13 @@ use Rattle.emoji.proofs.Ascent.{ascending_le, ascending_lt, index_first, index_n
 use Rattle.emoji.specs.UnicodeData.{variation_entries}
 use Rattle.policy_key_set.specs.Sets.{all_below, entry_count, member, word_count}
 use Rattle.policy_key_set.proofs.Below.{all_below_lem, below_all}
-use Rattle.policy.specs.DefaultPolicy.{bare_as_text_words, bare_as_text_keycap_words, default_policy, prefer_bare_words, prefer_bare_keycap_words}
+use Rattle.policy.specs.DefaultPolicy.{
+  bare_as_text_words,
+  bare_as_text_keycap_words,
+  default_policy,
+  prefer_bare_words,
+  prefer_bare_keycap_words,
+}
 use Rattle.policy.specs.PolicyBytes.{PolicyValue, SetValue, numbers_of, words_from}
 use Rattle.policy.proofs.Bytes.{get_d_words_from, length_words_from}
 
@@ -90,7 +96,9 @@ set_value : (ws : List ℕ) → length ws ≡ word_count → small ws ≡ true �
 set_value ws l e = record { has_word_count = l; words = small_words ws e }
 
 pub default_value : PolicyValue default_policy
-unfolding default_policy prefer_bare_words prefer_bare_keycap_words bare_as_text_words bare_as_text_keycap_words small word_count entry_count variation_entries
+unfolding default_policy prefer_bare_words prefer_bare_keycap_words bare_as_text_words bare_as_text_keycap_words small word_count
+    entry_count
+    variation_entries
 default_value = record {
   prefer_bare_set = set_value prefer_bare_words refl refl;
   prefer_bare_keycap_set = set_value prefer_bare_keycap_words refl refl;

@@ -57,7 +57,7 @@ module _ (entries policy : List ℕ) where
   list-accepted l =
       and_both Whole (ascending old && Count) (eq-eqb (length entries % 8) 0 l.whole_numbers)
       (and_both (ascending old) Count (sym (ascends old (λ i h. l.ascends i (suc i) (omega arith) h)))
-      (eq-eqb (length policy) (8 * (4 * words_for old + 1)) l.word_count))
+      (eq-eqb (length policy) (8 * (4 * words_for old + 1)) l.has_word_count))
 
 -- ---- the old policy
 
@@ -103,7 +103,8 @@ module _ (old policy : List ℕ) where
   unfolding is_old_policy
   unused-one e = four (U prefer_bare_set) (U prefer_bare_keycap_set) (U bare_as_text_set) (U bare_as_text_keycap_set) refl refl refl refl e
     where
-      four : (a b c d : Bool) → U prefer_bare_set ≡ a → U prefer_bare_keycap_set ≡ b → U bare_as_text_set ≡ c → U bare_as_text_keycap_set ≡ d
+      four : (a b c d : Bool) → U prefer_bare_set ≡ a → U prefer_bare_keycap_set ≡ b → U bare_as_text_set ≡ c
+          → U bare_as_text_keycap_set ≡ d
           → ((a && b) && (c && d)) ≡ false → OldUnused old policy
       four false b c d p q r s e = one_set prefer_bare_set p
       four true false c d p q r s e = one_set prefer_bare_keycap_set q
@@ -125,7 +126,8 @@ module _ (old policy : List ℕ) where
       let c = both_true (U bare_as_text_set) (U bare_as_text_keycap_set) a.1 in
       go b.0 b.1 c.0 c.1 k
     where
-      go : U prefer_bare_set ≡ true → U prefer_bare_keycap_set ≡ true → U bare_as_text_set ≡ true → U bare_as_text_keycap_set ≡ true → (k : WhichSet)
+      go : U prefer_bare_set ≡ true → U prefer_bare_keycap_set ≡ true → U bare_as_text_set ≡ true → U bare_as_text_keycap_set ≡ true
+          → (k : WhichSet)
           → U k ≡ true
       go p q r s prefer_bare_set = p
       go p q r s prefer_bare_keycap_set = q

@@ -80,7 +80,8 @@ set_of_lem p prefer_bare_keycap_set = refl
 set_of_lem p bare_as_text_set = refl
 set_of_lem p bare_as_text_keycap_set = refl
 
-default_set : (k : WhichSet) → words_from word_count (8 + place_of k * (word_count * 8)) (policy_bytes default_policy) ≡ set_in default_policy k
+default_set : (k : WhichSet) → words_from word_count (8 + place_of k * (word_count * 8)) (policy_bytes default_policy)
+    ≡ set_in default_policy k
 unfolding ReadWritten
 default_set k = set_of_lem default_policy k ∙ ap (λ (q : Policy). set_in q k) (read-written default_policy default_value).0
 

@@ -1,6 +1,8 @@
 // Carrying a policy over from the tables of another Unicode version (document 02, xii). The crate evfmt has no such call. `carry_policy`
 // equals `carry_call` (specs/Carry.antt) for all inputs: an entry of both tables keeps its four memberships, an entry that is gone is
 // dropped, and a new entry gets the memberships of the default policy.
+#![tactic(auto)]
+
 ghost use Rattle.std.specs.Prelude.{◌≡◌, true, ◌||◌, not, ◌∷◌, ℕ, ◌+◌, ◌*◌, ◌/◌, ◌%◌, ◌≤◌, ◌<◌, ltb, get_or, length};
 ghost use Rattle.std.proofs.lemmas.List.Edits.{sets};
 ghost use Rattle.base.specs.Sums.{one_if};
@@ -21,7 +23,7 @@ use policy::{POLICY_BYTES, Policy};
 use policy_key_set::named_sets::CHARSET_WORDS;
 
 // The answer to carrying a policy over: the number of bytes of a policy, or a refusal.
-#[derive(Drop)]
+#[derive(Clone, Copy)]
 pub enum CarryAnswer {
     Written { len: usize },
     Refused(Refusal),

@@ -223,16 +223,19 @@ fewest-digits c s h = (fewest h, point_written c (point_small h))
 -- ---- examples
 
 pub sheet_examples : SheetExamples
-unfolding SheetExamples read_sheet answer_of run transition transition_by kind_of allowed_digits is_none or_else first_descending first_non_entry
+unfolding SheetExamples read_sheet answer_of run transition transition_by kind_of allowed_digits is_none or_else first_descending
+    first_non_entry
     has_variation_sequence in_table variation_entries
 sheet_examples = (refl, refl, refl, refl, refl, refl, refl, refl, refl, refl, refl, refl, refl, refl, refl, refl, refl)
 
 pub reading_example : ReadingExample
-unfolding ReadingExample read_sheet answer_of run transition transition_by kind_of allowed_digits is_none or_else first_descending first_non_entry
+unfolding ReadingExample read_sheet answer_of run transition transition_by kind_of allowed_digits is_none or_else first_descending
+    first_non_entry
     has_variation_sequence in_table variation_entries sheet_policy words_of word_of covered word_count entry_count
 reading_example = refl
 
 pub writing_example : WritingExample
-unfolding WritingExample write_sheet line_text run_text runs_from with_entry joined first_in fewest_digits hex_digits hex_digit parted in-set one
+unfolding WritingExample write_sheet line_text run_text runs_from with_entry joined first_in fewest_digits hex_digits hex_digit parted
+    in-set one
     variation_entries
 writing_example = refl

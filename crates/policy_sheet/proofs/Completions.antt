@@ -34,7 +34,8 @@ lines_left : (n k at from : ℕ) (xs : List Piece) → k + n ≡ 4 → Completes
 unfolding allowed_digits
 lines_left zero k at from xs e = record { rest = []; last = before_piece k true xs from; runs = no_run; whole = omega arith }
 lines_left (suc n) k at from xs e =
-    by-step (newline_step at (before_piece k true xs from) (omega arith) refl refl) (lines_left n (suc k) (at + 1) (at + 1) xs (omega arith))
+    by-step (newline_step at (before_piece k true xs from) (omega arith) refl refl)
+    (lines_left n (suc k) (at + 1) (at + 1) xs (omega arith))
 
 -- The number of lines that are left.
 left : (k : ℕ) → k ≤ 4 → (n : ℕ) × (k + n ≡ 4)

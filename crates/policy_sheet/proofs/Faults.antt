@@ -222,7 +222,8 @@ module _ (s : List ℕ) (ran : RunResult) (same : run 0 start s ≡ ran) where
       ∙ e) p.first)) (late n l h f))
 
   -- None did, and it is a sheet.
-  no_fault : (xs : List Piece) → Sheet s xs → first_descending (pieces_of ran) ≡ none → first_descending xs ≡ none → Verdict s (read_pieces xs)
+  no_fault : (xs : List Piece) → Sheet s xs → first_descending (pieces_of ran) ≡ none → first_descending xs ≡ none
+      → Verdict s (read_pieces xs)
   no_fault xs g e p = formed g p (λ m f. go f)
     where
       whole : Begins (take (length s) s)

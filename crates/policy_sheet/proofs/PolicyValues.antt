@@ -37,7 +37,11 @@ set_of_bytes at bs t = record { has_word_count = length_words_from word_count at
         ⊎_elim
         (λ h. let e : get_or (words_from word_count at bs) k 0 ≡ 0
         = get_or-eq_default (words_from word_count at bs) 0 (omega (arith, length_words_from word_count at bs)) in omega arith)
-        (λ h. omega (arith, get_d_words_from word_count at bs k h, number-below 8 (drop (at + k * 8) bs) (all_bytes_drop (at + k * 8) bs t)))
+        (λ h. omega (
+          arith,
+          get_d_words_from word_count at bs k h,
+          number-below 8 (drop (at + k * 8) bs) (all_bytes_drop (at + k * 8) bs t),
+        ))
         (le_or_lt word_count k)
 
 pub value_of_bytes : (bs : List ℕ) → all_bytes bs ≡ true → PolicyValue (policy_of bs)

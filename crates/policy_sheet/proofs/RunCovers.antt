@@ -72,7 +72,8 @@ runs-among p i [] = each_none
 runs-among p i (c ∷ cs) = with_among c cs (p i) (first_in p (suc i) cs) (runs_from p (suc i) cs) (runs-among p (suc i) cs)
 
 -- A code point below every entry is in no run.
-below_none : (cs : List ℕ) (x : ℕ) (rs : List Run) → ((k : ℕ) → k < length cs → x < get_or cs k 0) → Each (Among cs) rs → covers rs x ≡ false
+below_none : (cs : List ℕ) (x : ℕ) (rs : List Run) → ((k : ℕ) → k < length cs → x < get_or cs k 0) → Each (Among cs) rs
+    → covers rs x ≡ false
 unfolding covers
 below_none cs x [] h each_none = refl
 below_none cs x (r ∷ rs) h (each_and a as') =
@@ -136,7 +137,8 @@ module _ (c : ℕ) (cs : List ℕ) (up : Up (c ∷ cs)) where
           (omega (arith, above 0 (omega arith))) (head_le k l))
 
 -- An entry is in a run exactly if it passes the test.
-pub runs_cover : (p : ℕ → Bool) (j : ℕ) (cs : List ℕ) → Up cs → (i : ℕ) → i < length cs → covers (runs_from p j cs) (get_or cs i 0) ≡ p (j + i)
+pub runs_cover : (p : ℕ → Bool) (j : ℕ) (cs : List ℕ) → Up cs → (i : ℕ) → i < length cs
+    → covers (runs_from p j cs) (get_or cs i 0) ≡ p (j + i)
 unfolding runs_from
 runs_cover p j [] up i h = absurd (omega arith)
 runs_cover p j (c ∷ cs) up zero h =

@@ -69,7 +69,8 @@ hex-digits {s} {j} (suc k) n d =
     let f : q / 16 ≡ n / 2 ^ (4 * suc k) = shr-shr n (4 * k) 4 ∙ ap (λ (m : ℕ). n / 2 ^ m) e in
     let g : Digits (s ++ (hex_digit (q % 16) ∷ [])) (suc j) q = valued (omega arith) (digits_and d (nibble q)) in
     subst (λ (i : ℕ). Digits (s ++ (hex_digit (q % 16) ∷ hex_digits k n)) i n) (omega arith)
-    (subst (λ (l : List ℕ). Digits l (suc j + k) n) (append_assoc s (hex_digit (q % 16) ∷ []) (hex_digits k n)) (hex-digits k n g))
+    (subst (λ (l : List ℕ). Digits l (suc j + k) n) (append_assoc s (hex_digit (q % 16) ∷ []) (hex_digits k n))
+    (hex-digits {s = s ++ (hex_digit (q % 16) ∷ [])} {j = suc j} k n g))
 
 all_digits : (k n : ℕ) → n / 2 ^ (4 * k) ≡ 0 → Digits (hex_digits k n) k n
 all_digits k n e = subst (λ (i : ℕ). Digits (hex_digits k n) i n) (omega arith) (hex-digits k n (valued (sym e) no_digits))
@@ -130,7 +131,8 @@ unfolding parted pieces_at
 pieces-written {k} {at} {u} {f} {ys} r [] g s each_none = pieces-held g (piece_written k (at + length u) r s)
 pieces-written {k} {at} {u} {f} {ys} r (q ∷ rs) g s (each_and t ts) =
     let here = pieces-held g (piece_written k (at + length u) r s) in
-    let later = pieces-written q rs (after_comma here) t ts in
+    let later = pieces-written {u = (u ++ run_text r) ++ (0x2C ∷ [])} {f = false} {ys = ys ++ (piece_of k (at + length u) r ∷ [])} q rs
+    (after_comma here) t ts in
     subst (λ (l : List ℕ). Pieces k at l (ys ++ pieces_at k (at + length u) (r ∷ (q ∷ rs)))) (simp append_assoc)
     (subst (λ (l : List Piece). Pieces k at (((u ++ run_text r) ++ (0x2C ∷ [])) ++ parted 0x2C (run_text q ∷ map run_text rs)) l)
     (append_assoc ys (piece_of k (at + length u) r ∷ []) _ ∙ ap (λ (n : ℕ). ys ++ (piece_of k (at + length u) r ∷ pieces_at k n (q ∷ rs)))

@@ -1,12 +1,14 @@
 // A policy as text: policy sheets (document 02, vi). The crate evfmt has no such text. This crate has the definitions of a sheet, of its
 // meaning and of both calls, and the theorems about them (specs/). The calls are in the crates sheet_reading and sheet_writing.
+#![tactic(auto)]
+
 ghost use Rattle.std.specs.Prelude.{◌≡◌};
 ghost use Rattle.policy_sheet.specs.Calls.{sheet_answer};
 
 use base::{Refusal, WriteAnswer};
 
 // The answer to reading or writing a sheet: the number of bytes written, or a refusal.
-#[derive(Drop)]
+#[derive(Clone, Copy)]
 pub enum SheetAnswer {
     Written { len: usize },
     Refused(Refusal),

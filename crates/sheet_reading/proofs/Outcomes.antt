@@ -25,7 +25,8 @@ module _ (sheet out : List ℕ) where
   -- The policy's bytes, written or refused for a short output.
   pub meaning-written : {o : List ℕ} {p : Policy} {w : WriteAnswer} {r : SheetAnswer} → PolicyValue p → SetsHold (pieces_read sheet) p
       → Wrote (policy_bytes p) out o w → r ≡ sheet_answer w
-      → ◌≡◌ {A = After SheetAnswer ℕ} (record { answer = r; buffer = o }) (write_result (policy_bytes (sheet_policy (pieces_read sheet))) out)
+      → ◌≡◌ {A = After SheetAnswer ℕ} (record { answer = r; buffer = o })
+      (write_result (policy_bytes (sheet_policy (pieces_read sheet))) out)
   meaning-written {p = p} v h w g =
       ap₂ (λ (a : SheetAnswer) (b : List ℕ). record { answer = a; buffer = b }) (g ∙ ap sheet_answer w.answered.same) w.buffer
       ∙ ap (λ (q : Policy). write_result (policy_bytes q) out) (policy_of-pieces sheet p v h)

@@ -57,7 +57,8 @@ pub set_more : {line lo hi k : ℕ} (vs : List ℕ) (xs : List Piece) (x : Piece
     → Holds (λ (i : ℕ). in_set xs k i || within lo hi (get_or variation_entries i 0)) vs → Holds (in_set (xs ++ (x ∷ [])) k) vs
 set_more {line} {lo} {hi} {k} vs xs x e s h =
     holds_same entry_count (λ (i : ℕ). in_set xs k i || within lo hi (get_or variation_entries i 0)) (in_set (xs ++ (x ∷ [])) k) vs h
-    (λ i l. sym (in_more xs x k i s ∙ ap (λ (b : Bool). in_set xs k i || (b && within lo hi (get_or variation_entries i 0))) (eq-eqb line k e)))
+    (λ i l. sym (in_more xs x k i s ∙ ap (λ (b : Bool). in_set xs k i || (b && within lo hi (get_or variation_entries i 0)))
+    (eq-eqb line k e)))
 
 pub set_other : {line lo hi k : ℕ} (vs : List ℕ) (xs : List Piece) (x : Piece) → (line ≡ k → ⊥) → Spans x line lo hi
     → Holds (in_set xs k) vs → Holds (in_set (xs ++ (x ∷ [])) k) vs

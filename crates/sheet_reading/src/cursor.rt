@@ -8,7 +8,7 @@ ghost use Rattle.policy_sheet.specs.Reader.{more_digits, newline, piece_read, st
 ghost use Rattle.sheet_reading.specs.Tracking.{DigitValue, StepResult, Tracks, found, offset_in, or_found};
 
 // An offset that was found, or none.
-#[derive(Drop)]
+#[derive(Clone, Copy)]
 pub(crate) struct MaybeOffset {
     pub(crate) found: bool,
     pub(crate) at: usize,
@@ -17,7 +17,7 @@ pub(crate) struct MaybeOffset {
 // What was read of a sheet: the line, from 0 on; whether nothing of it was read; whether a dash was read in the piece, and then the
 // first code point of the range; where the number begins, its digits so far and their value; the start of the first
 // range that runs down (`descending`); the offset of the first code point that is no variation entry (`stray`).
-#[derive(Drop)]
+#[derive(Clone, Copy)]
 pub(crate) struct Cursor {
     pub(crate) line: u32,
     pub(crate) fresh: bool,
@@ -32,7 +32,7 @@ pub(crate) struct Cursor {
 }
 
 // The cursor after one more byte, or that the byte cannot follow.
-#[derive(Drop)]
+#[derive(Clone, Copy)]
 pub(crate) enum Step {
     On(Cursor),
     Stop,

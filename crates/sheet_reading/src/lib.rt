@@ -1,6 +1,8 @@
-// Reading a policy sheet (document 02, vi). `read_sheet` equals `read_call` (crate policy_sheet, specs/Calls.antt) for all inputs. The first
-// pass over the bytes finds the first fault, or the first code point that is no variation entry (`check_sheet`). The second pass collects
-// the sets (`read_pieces`). Both passes keep a cursor, which has only two offsets of the pieces before it.
+// Reading a policy sheet (document 02, vi). `read_sheet` equals `read_call` (crate policy_sheet, specs/Calls.antt) for all inputs. The
+// first pass over the bytes finds the first fault, or the first code point that is no variation entry (`check_sheet`). The second pass
+// collects the sets (`read_pieces`). Both passes keep a cursor, which has only two offsets of the pieces before it.
+#![tactic(auto)]
+
 mod cursor;
 mod sets;
 
@@ -19,7 +21,7 @@ use policy_sheet::{SheetAnswer, sheet_answer};
 use sets::{is_value, no_pieces, with_closed};
 
 // The bytes are a sheet of variation entries, or the first fault: refusal 11 or 12.
-#[derive(Drop)]
+#[derive(Clone, Copy)]
 enum SheetCheck {
     Formed,
     NotASheet(usize),

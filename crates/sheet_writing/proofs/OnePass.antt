@@ -62,12 +62,14 @@ head_full : (p : ℕ → Bool) (i : ℕ) (cs : List ℕ) → first_in p i cs ≡
 unfolding first_in runs_from
 head_full p i [] e = absurd (true≢false (sym e))
 head_full p i (c ∷ cs) e =
-    subst (λ (b : Bool). Full (with_entry c b (first_in p (suc i) cs) (runs_from p (suc i) cs))) (sym e) (with_full c (first_in p (suc i) cs)
+    subst (λ (b : Bool). Full (with_entry c b (first_in p (suc i) cs) (runs_from p (suc i) cs))) (sym e)
+    (with_full c (first_in p (suc i) cs)
     (runs_from p (suc i) cs))
 
 module _ (c : ℕ) (cs : List ℕ) (up : Up (c ∷ cs)) where
   -- A run that begins with c and goes on.
-  joined_text : (any : Bool) {rs : List Run} → Full rs → Each (Among cs) rs → with_comma any (point_text c) ++ after_first_lem rs ≡ join_text any
+  joined_text : (any : Bool) {rs : List Run} → Full rs → Each (Among cs) rs
+      → with_comma any (point_text c) ++ after_first_lem rs ≡ join_text any
       (joined c rs)
   unfolding after_first_lem join_text joined
   joined_text any (full {r} {rs}) (each_and a hs) =
@@ -94,7 +96,8 @@ module _ (p : ℕ → Bool) (i c : ℕ) (cs : List ℕ) (up : Up (c ∷ cs)) (h 
   abbrev R : List Run
   R = runs_from p (suc i) cs
 
-  outside-step : (b n any : Bool) → first_in p (suc i) cs ≡ n → entry_text false any b n c ++ line_from p (suc i) b (any || b) cs ≡ join_text
+  outside-step : (b n any : Bool) → first_in p (suc i) cs ≡ n
+      → entry_text false any b n c ++ line_from p (suc i) b (any || b) cs ≡ join_text
       any (with_entry c b n R)
   unfolding entry_text with_entry
   outside-step false n any f = h.outside (any || false) ∙ ap (λ (a : Bool). join_text a R) (or_false any)

@@ -1,5 +1,7 @@
 // Writing the sheet of a policy (document 02, vi). `write_sheet` equals `write_call` (crate policy_sheet, specs/Calls.antt) for all inputs.
 // A line is written in one pass over the variation entries, with a look at the next one (specs/OnePass.antt); it is measured first.
+#![tactic(auto)]
+
 ghost use Rattle.std.specs.Prelude.{◌≡◌, ◌||◌, false, ◌∷◌, ℕ, ◌+◌, ◌<◌, ◌≤◌, drop, length};
 ghost use Rattle.base.specs.Answers.{EndsAs};
 ghost use Rattle.base.specs.Output.{PutAt, Wrote};

@@ -37,7 +37,8 @@ file_refused bs text policy c n out r e = (
   ap (output_by (format text policy out).buffer out) e,
 )
 
-release_refused : (bs : List ℕ) (c n : ℕ) (r : Refusal) → (release_call bs c n).answer ≡ Answered.Refused r → (release_call bs c n).buffer ≡ bs
+release_refused : (bs : List ℕ) (c n : ℕ) (r : Refusal) → (release_call bs c n).answer ≡ Answered.Refused r
+    → (release_call bs c n).buffer ≡ bs
 unfolding release_call
 release_refused bs c n r e = ap (release_bytes c n bs) e
 

@@ -96,7 +96,7 @@ module _ (text policy : List ℕ) where
           ≡ false
           → charge_of text policy ≤ 4 * text_limit
       go (some r) q e = absurd (true≢false e)
-      go none q e = let a = passed-accepted text policy q in omega (arith, (formatted-claim policy text a).four-times, a.short)
+      go none q e = let a = passed-accepted text policy q in omega (arith, (formatted-claim policy text a).four_times, a.short)
 
   -- Formatting gives no refusal of a store.
   abbrev NotOfStore : Refusal → Type 0

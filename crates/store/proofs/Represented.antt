@@ -213,7 +213,8 @@ module _ (bs : List ℕ) (s : Store) (R : Represents bs s) where
       go true q = refl
       go false q = absurd (true≢false (ap (λ (t : Bool). not t || in_use c n s.filed) (sym q) ∙ e))
 
-  pub file_same : (text policy : List ℕ) (c n : ℕ) (out : List ℕ) → file_answer_of bs text policy c n out ≡ file_answer s text policy c n out
+  pub file_same : (text policy : List ℕ) (c n : ℕ) (out : List ℕ)
+      → file_answer_of bs text policy c n out ≡ file_answer s text policy c n out
   unfolding file_answer_of file_answer
   file_same text policy c n out =
       let fa = (format text policy out).answer in

@@ -1,6 +1,30 @@
 -- A store in lent bytes: its words, and what each call answers and leaves in the lent buffers, for any bytes. For a store begun new and
 -- handed on from call to call, specs/Theorems.antt (EveryStoreInBytes) says what this amounts to.
-use Rattle.std.specs.Prelude.{◌≡◌, Bool, cond, not, ◌&&◌, ◌||◌, List, [], ◌∷◌, ◌++◌, ℕ, ◌+◌, ◌*◌, ◌-◌, ◌%◌, ◌^◌, ◌<◌, eqb, leb, ltb, get_or, length, replicate}
+use Rattle.std.specs.Prelude.{
+  ◌≡◌,
+  Bool,
+  cond,
+  not,
+  ◌&&◌,
+  ◌||◌,
+  List,
+  [],
+  ◌∷◌,
+  ◌++◌,
+  ℕ,
+  ◌+◌,
+  ◌*◌,
+  ◌-◌,
+  ◌%◌,
+  ◌^◌,
+  ◌<◌,
+  eqb,
+  leb,
+  ltb,
+  get_or,
+  length,
+  replicate,
+}
 use Rattle.std.proofs.Math.Option.{Option, none, some}
 use Rattle.std.proofs.lemmas.List.Edits.{sets}
 use Rattle.base.specs.Answers.{Answers, done}

@@ -2,6 +2,8 @@
 // calls, and the call that needs no formatting and changes nothing: `used` equals `used_call` (specs/Bytes.antt). The other calls are in
 // crate storing. specs/Store.antt and specs/Calls.antt say what a store holds and what each call does, specs/Bytes.antt how bytes
 // represent it, and `EveryStoreInBytes` of specs/Theorems.antt what holds after every list of calls.
+#![tactic(auto)]
+
 ghost use Rattle.std.specs.Prelude.{◌≡◌, ◌<◌};
 ghost use Rattle.base.specs.Words.{word_at};
 ghost use Rattle.base.specs.Answers.{Answers};
@@ -11,7 +13,7 @@ use base::Refusal;
 
 // The answer of a call that writes no text: its number of bytes, or a refusal. The number is that of a store's bytes, of the bytes given
 // back, or of the bytes charged to a client.
-#[derive(Drop)]
+#[derive(Clone, Copy)]
 pub enum StoreAnswer {
     Done { bytes: usize },
     Refused(Refusal),

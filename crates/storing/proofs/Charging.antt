@@ -28,7 +28,8 @@ module _ (bs : List ℕ) (c n k : ℕ) where
   abbrev by_tests_lem : (bad fits : Bool) → Option Refusal
   by_tests_lem bad fits = cond bad (some BadClientOrNumber) (cond fits none (some (DoesNotFit L)))
 
-  charge_is : {bad fits : Bool} → is_bad bs c n ≡ bad → (leb k L && ltb k most) ≡ fits → charge_call bs c n k ≡ outcome (by_tests_lem bad fits)
+  charge_is : {bad fits : Bool} → is_bad bs c n ≡ bad → (leb k L && ltb k most) ≡ fits
+      → charge_call bs c n k ≡ outcome (by_tests_lem bad fits)
   unfolding charge_call charge_refusal
   charge_is p q = ap₂ (λ (x y : Bool). outcome (by_tests_lem x y)) p q
 

@@ -15,7 +15,6 @@ use Rattle.base.specs.Output.{PutAt, buffer_of}
 use Rattle.base.specs.Refusals.{After, checked, or_else, text_limit}
 use Rattle.base.specs.Sums.{most}
 use Rattle.base.specs.declared.Check.{Check}
-use Rattle.base.specs.declared.Check.TheVariants as Check
 use Rattle.base.specs.declared.Refusal.{Refusal}
 use Rattle.base.specs.declared.Refusal.TheVariants.{BadClientOrNumber, DoesNotFit}
 use Rattle.utf8.specs.Rfc3629.{valid_up_to_of}
@@ -26,7 +25,18 @@ use Rattle.formatter.specs.declared.FormatAnswer.{FormatAnswer}
 use Rattle.formatter.specs.declared.FormatAnswer.TheVariants.{Changed, Refused, Unchanged}
 use Rattle.formatter.proofs.CellView.{cell_view}
 use Rattle.formatter.proofs.Passing.{checked-passed, checked_refused}
-use Rattle.store.specs.Bytes.{EndsFiled, Filing, charge, charge_call, charge_refusal, file_answer_of, file_bytes, file_call, is_bad, left_of}
+use Rattle.store.specs.Bytes.{
+  EndsFiled,
+  Filing,
+  charge,
+  charge_call,
+  charge_refusal,
+  file_answer_of,
+  file_bytes,
+  file_call,
+  is_bad,
+  left_of,
+}
 use Rattle.store.specs.Calls.{after_format, charge_of, is_refusal, output_by}
 use Rattle.store.proofs.Formats.{changed_means, format_small, format_tests_lem, tests, unchanged_means}
 

@@ -3,6 +3,8 @@
 // A filing takes formatting's answer first, then charges, and then writes: nothing is written before refusals 13 and 14 are known. It does
 // not call `format_text`, which so keeps one caller in the static library (docs/DECISIONS.md, decision 247).
 // What a client uses is kept as a sum, so that a charge reads 50 words, whatever the store holds.
+#![tactic(auto)]
+
 ghost use Rattle.std.specs.Prelude.{◌≡◌, ℕ, ◌+◌, ◌*◌, ◌-◌, ◌%◌, ◌≤◌, ◌<◌, leb, get_or, length};
 ghost use Rattle.std.proofs.lemmas.List.Edits.{sets};
 ghost use Rattle.base.specs.Words.{word_at};
