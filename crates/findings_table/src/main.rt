@@ -1,16 +1,18 @@
 // Compares two ways of listing findings. For each line of standard input it lists the findings under the default policy
 // into a table of structs and into a table of bytes, and compares the two tables place by place. It writes the number
 // of lines, of findings, of refusals, and of lines for which the two tables differ.
+#![tactic(auto)]
+
 ghost use Rattle.std.specs.Prelude.{◌+◌, ◌≤◌, length};
 ghost use Rattle.formatter.specs.List.{row_bytes};
 
 use analysis::types::Finding;
 use base::{ListAnswer, WORD_BYTES};
-use libc::STDOUT_FILENO;
 use listing::table::{FEW, FewFindings, list_few};
 use listing::{ROW_BYTES, ROW_NUMBERS, list_findings, row_numbers};
 use message_io::{Ending, Message};
 use policy::POLICY_BYTES;
+use std::io;
 use std::num::wrapping_add_usize;
 use tilghorz::answer_word::list_word;
 
@@ -23,7 +25,7 @@ const INPUT_ROOM: usize = INPUT_LIMIT + 1;
 const TABLE_BYTES: usize = FEW * ROW_BYTES;
 
 // The counts for the lines so far.
-#[derive(Drop)]
+#[derive(Clone, Copy)]
 struct Seen {
     lines: usize,
     findings: usize,
@@ -130,13 +132,12 @@ fn list_lines(message: &[u8], policy: &[u8]) -> Seen {
 }
 
 // Writes a number and the name of what it counts.
-fn say_count(n: usize, what: &[u8]) {
-    io::print_decimal(STDOUT_FILENO, n as u64);
-    io::write_all(STDOUT_FILENO, what);
+fn say_count(rt: &impl Print, n: usize, what: &str) -> io::Result<()> {
+    print!(rt; "{n}{what}")
 }
 
 // Lists the findings of each line, and writes the counts.
-fn list_message(message: &[u8]) {
+fn list_message(rt: &impl Print, message: &[u8]) -> io::Result<()> {
     let mut policy = [0u8; POLICY_BYTES];
     message_io::put_default_policy(&mut policy);
     let Seen {
@@ -145,23 +146,23 @@ fn list_message(message: &[u8]) {
         refused,
         different,
     } = list_lines(message, &policy);
-    say_count(lines, b" lines, ");
-    say_count(findings, b" findings, ");
-    say_count(refused, b" refused, ");
-    say_count(different, b" different\n");
+    say_count(rt, lines, " lines, ")?;
+    say_count(rt, findings, " findings, ")?;
+    say_count(rt, refused, " refused, ")?;
+    say_count(rt, different, " different\n")
 }
 
 // Writes that the input is longer than the limit.
-fn say_too_long() {
-    io::write_all(libc::STDERR_FILENO, b"more than 12,288 bytes\n");
+fn say_too_long(rt: &impl Eprint) -> io::Result<()> {
+    rt.eprint("more than 12,288 bytes\n")
 }
 
-fn main() {
+fn main(rt: HostRuntime) -> io::Result<()> {
     let mut buf = [0u8; INPUT_ROOM];
-    let Message { ending, len } = message_io::read_message(&mut buf);
+    let Message { ending, len } = message_io::read_message(&mut rt.stdin(), &mut buf);
     match ending {
-        Ending::Whole => list_message(&buf[..len]),
-        Ending::TooLong => say_too_long(),
-        Ending::Failed => os::fail(b"standard input"),
+        Ending::Whole => list_message(&rt, &buf[..len]),
+        Ending::TooLong => say_too_long(&rt),
+        Ending::Failed => Err(io::Error::other("standard input")),
     }
 }

@@ -72,3 +72,10 @@ module _ (message : List ℕ) where
     refused-filed out n e l =
         let t = subst (λ (a : FormatAnswer). AnswerMeans message a after) e s.meaning in
         front-filed out n ∙ l ∙ refused message_limit message intakes result h t
+
+-- ---- the program as a whole
+
+-- The output for a message over the limit.
+pub long-output : (message : List ℕ) → message_limit < length message → refusal_line TextTooLong ≡ output_of message
+unfolding output_of
+long-output message h = too_long message_limit message (intakes message) (result message) h

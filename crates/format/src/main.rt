@@ -1,8 +1,12 @@
 // Formats the message on standard input under the default policy, and writes the filed text to standard output
 // (document 01, "Programs"). On a refusal it writes the refusal's line, and nothing else. `output_of` decides all bytes
-// of the output; it equals `output_of` of specs/Output.antt. The functions after it read the message, call `output_of`,
-// and write the bytes.
-ghost use Rattle.std.specs.Prelude.{◌≡◌, ◌+◌, ◌*◌, ◌≤◌, length, take};
+// of the output; it equals `output_of` of specs/Output.antt. `format_input` reads the message from any reader, calls
+// `output_of`, and writes the bytes to any writer: where the reader's bytes are known, what it writes is `output_of` of
+// all of them.
+#![tactic(auto)]
+
+ghost use Rattle.std.specs.Prelude.{◌≡◌, ◌+◌, ◌*◌, ◌≤◌, length, take, OnOk, IfSome};
+ghost use Rattle.std.specs.Io.KnownBytes.{Appends};
 ghost use Rattle.message_io.specs.Lines.{refusal_line};
 ghost use Rattle.formatter.specs.Filed.{filed_text};
 ghost use Rattle.format.specs.Output.{FormatsMessage, message_limit, output_of};
@@ -14,6 +18,8 @@ use formatting::format_text;
 use message_io::line::LINE_ROOM;
 use message_io::{Ending, Message};
 use policy::POLICY_BYTES;
+use std::io;
+use std::io::{Read, Write};
 
 // "The formatting program then reads up to 16,384 bytes with an output of 40,960, and refuses more by 1" (document 02, vii).
 const MESSAGE_LIMIT: usize = 16_384;
@@ -84,30 +90,33 @@ fn output_of(message: &[u8], out: &mut [u8]) -> Output
     }
 }
 
-// Writes the output for a message to standard output. If that fails, the program ends with an error message.
-fn say_output(message: &[u8]) {
+// Writes the output for a message.
+fn say_output<W: Write>(writer: &mut W, message: &[u8]) -> io::Result<()>
+    ensures { OnOk result
+        (Appends (W.contents writer.old) (W.contents writer.new) (output_of message.now)) }
+{
     let mut out = [0u8; OUTPUT_ROOM];
     let Output { in_buffer, len } = output_of(message, &mut out);
     let text = filed_text(message, &out, in_buffer, len);
-    if !io::write_all(libc::STDOUT_FILENO, text) {
-        os::fail(b"standard output");
-    }
+    writer.write_all(text)
 }
 
 // Reads a message into a buffer that is one byte longer than the limit, and writes the output. For a message that is
 // too long, the full buffer is over the limit too.
-fn format_input(buf: &mut [u8])
+fn format_input<R: Read, W: Write>(reader: &mut R, writer: &mut W, buf: &mut [u8]) -> io::Result<()>
     requires { length buf.old ≡ message_limit + 1 }
+    ensures { OnOk result (IfSome (R.remaining reader.old)
+        (λ message. Appends (W.contents writer.old) (W.contents writer.new) (output_of message))) }
 {
-    let Message { ending, len } = message_io::read_message(buf);
+    let Message { ending, len } = message_io::read_message(reader, buf);
     match ending {
-        Ending::Whole => say_output(&buf[..len]),
-        Ending::TooLong => say_output(buf),
-        Ending::Failed => os::fail(b"standard input"),
+        Ending::Whole => say_output(writer, &buf[..len]),
+        Ending::TooLong => say_output(writer, buf),
+        Ending::Failed => Err(io::Error::other("standard input")),
     }
 }
 
-fn main() {
+fn main(rt: HostRuntime) -> io::Result<()> {
     let mut buf = [0u8; MESSAGE_ROOM];
-    format_input(&mut buf);
+    format_input(&mut rt.stdin(), &mut rt.stdout(), &mut buf)
 }

@@ -6,7 +6,7 @@ use crate::tables::{Listed, Table, has, listed_in};
 use emoji::{VariationEntry, VariationSequenceIndex};
 
 // The first code point at which the file and the table differ, and which of them has it.
-#[derive(Drop)]
+#[derive(Clone, Copy)]
 pub enum Difference {
     Nowhere,
     FileOnly(u32),
@@ -15,7 +15,7 @@ pub enum Difference {
 
 // The result of comparing the entries: their number if they are as in the file, the first code point whose entry is
 // wrong, or an entry after the last.
-#[derive(Drop)]
+#[derive(Clone, Copy)]
 pub enum Entries {
     Same(usize),
     Wrong(u32),

@@ -4,7 +4,7 @@ use crate::marks::CODE_POINTS;
 use emoji::{EmojiData, VariationSequenceIndex};
 
 // The number of code points compared, or the first code point at which a fast form differs.
-#[derive(Drop)]
+#[derive(Clone, Copy)]
 pub enum Forms {
     Same(u32),
     Differ(u32),

@@ -2,6 +2,8 @@
 // exactly the code points that its file lists, over all of 0 to 10FFFF. The program writes a line for each file and
 // each table, and for a difference the first code point. The last line says whether the fast forms of the lookups agree
 // with the plain ones, over the same code points.
+#![tactic(auto)]
+
 mod checksum;
 mod compare;
 mod forms;
@@ -11,8 +13,13 @@ mod report;
 mod survey;
 mod tables;
 
+ghost use Rattle.std.specs.Io.{ReadsAtMost};
+
 use marks::WORDS;
 use report::{say_file, say_line};
+use std::io::Read;
+use std::rt::Files;
+use std::{fs, io};
 use tables::{File, Table};
 
 // The length of the buffer for a file. The file must be shorter.
@@ -20,87 +27,106 @@ const ROOM: usize = 131072;
 
 // Marks the code points that the file lists for the table, and compares the two. If they differ, it writes the
 // difference and returns false.
-fn agrees(name: &[u8], text: &[u8], table: Table, marks: &mut [u64; WORDS]) -> bool {
+fn agrees(
+    rt: &impl Print,
+    name: &str,
+    text: &[u8],
+    table: Table,
+    marks: &mut [u64; WORDS],
+) -> io::Result<bool> {
     let again = compare::mark_lines(text, table, marks);
     if again > 0 {
-        say_line(name, again, b"lists a code point again");
-        return false;
+        say_line(rt, name, again, "lists a code point again")?;
+        return Ok(false);
     }
-    report::say_difference(table, compare::first_difference(marks, table))
+    report::say_difference(rt, table, compare::first_difference(marks, table))
 }
 
 // Compares the table of a property with emoji-data.txt.
-fn check_property(name: &[u8], text: &[u8], table: Table) {
+fn check_property(rt: &impl Print, name: &str, text: &[u8], table: Table) -> io::Result<()> {
     let mut marks = [0u64; WORDS];
-    if agrees(name, text, table, &mut marks) {
-        report::say_as_published(table, marks::size_of(&marks));
+    if agrees(rt, name, text, table, &mut marks)? {
+        report::say_as_published(rt, table, marks::size_of(&marks))?;
     }
+    Ok(())
 }
 
 // Compares the tables of the properties with emoji-data.txt.
-fn check_properties(name: &[u8], text: &[u8]) {
-    check_property(name, text, Table::Emoji);
-    check_property(name, text, Table::EmojiPresentation);
-    check_property(name, text, Table::EmojiModifier);
-    check_property(name, text, Table::EmojiModifierBase);
-    check_property(name, text, Table::RegionalIndicator);
+fn check_properties(rt: &impl Print, name: &str, text: &[u8]) -> io::Result<()> {
+    check_property(rt, name, text, Table::Emoji)?;
+    check_property(rt, name, text, Table::EmojiPresentation)?;
+    check_property(rt, name, text, Table::EmojiModifier)?;
+    check_property(rt, name, text, Table::EmojiModifierBase)?;
+    check_property(rt, name, text, Table::RegionalIndicator)
 }
 
 // Compares the variation sequences with emoji-variation-sequences.txt: each style, then the entries.
-fn check_sequences(name: &[u8], text: &[u8]) {
+fn check_sequences(rt: &impl Print, name: &str, text: &[u8]) -> io::Result<()> {
     let mut text_style = [0u64; WORDS];
-    if !agrees(name, text, Table::TextStyle, &mut text_style) {
-        return;
+    if !agrees(rt, name, text, Table::TextStyle, &mut text_style)? {
+        return Ok(());
     }
     let mut emoji_style = [0u64; WORDS];
-    if !agrees(name, text, Table::EmojiStyle, &mut emoji_style) {
-        return;
+    if !agrees(rt, name, text, Table::EmojiStyle, &mut emoji_style)? {
+        return Ok(());
     }
-    report::say_entries(compare::compare_entries(&emoji_style));
+    report::say_entries(rt, compare::compare_entries(&emoji_style))
 }
 
 // Compares the tables with the text of a file, if each of its lines follows the format.
-fn check_text(name: &[u8], text: &[u8], file: File) {
+fn check_text(rt: &impl Print, name: &str, text: &[u8], file: File) -> io::Result<()> {
     let survey = survey::survey_of(text, file);
     if survey.bad > 0 {
-        say_line(name, survey.bad, b"does not follow the format");
-        return;
+        return say_line(rt, name, survey.bad, "does not follow the format");
     }
-    report::say_survey(name, survey, checksum::crc_32(text));
+    report::say_survey(rt, name, survey, checksum::crc_32(text))?;
     let totals = survey.totals;
     if totals.wrong > 0 {
         say_line(
+            rt,
             name,
             totals.wrong,
-            b"states a total that the lines above do not have",
-        );
+            "states a total that the lines above do not have",
+        )?;
     }
     match file {
-        File::Properties => check_properties(name, text),
-        File::Sequences => check_sequences(name, text),
+        File::Properties => check_properties(rt, name, text),
+        File::Sequences => check_sequences(rt, name, text),
     }
+}
+
+// Reads until the buffer is full or the input ends. Returns the number of bytes read, which stand at the start of the
+// buffer.
+fn read_full<R: Read>(reader: &mut R, buf: &mut [u8]) -> io::Result<usize>
+    ensures { ReadsAtMost result buf.new }
+{
+    let mut done = 0;
+    while done < buf.len() {
+        let n = reader.read(&mut buf[done..])?;
+        if n == 0 {
+            return Ok(done);
+        }
+        done += n;
+    }
+    Ok(done)
 }
 
 // Reads a file and compares the tables with it.
-fn check_file(name: &[u8], file: File) {
-    let fd = os::open_read(name);
-    if fd < 0 {
-        say_file(name, b"cannot be opened");
-        return;
-    }
+fn check_file<R: Files + Print>(rt: &R, name: &str, file: File) -> io::Result<()> {
+    let Ok(mut reader) = fs::open(rt, name) else {
+        return say_file(rt, name, "cannot be opened");
+    };
     let mut buf = [0u8; ROOM];
-    let n = io::read_full(fd, &mut buf);
-    libc::close(fd);
+    let n = read_full(&mut reader, &mut buf)?;
     if n == ROOM {
-        say_file(name, b"is longer than the buffer");
-        return;
+        return say_file(rt, name, "is longer than the buffer");
     }
-    check_text(name, &buf[..n], file);
+    check_text(rt, name, &buf[..n], file)
 }
 
-fn main() {
-    report::say_tables_version();
-    check_file(b"emoji-data.txt", File::Properties);
-    check_file(b"emoji-variation-sequences.txt", File::Sequences);
-    report::say_forms(forms::compare_forms());
+fn main(rt: HostRuntime) -> io::Result<()> {
+    report::say_tables_version(&rt)?;
+    check_file(&rt, "emoji-data.txt", File::Properties)?;
+    check_file(&rt, "emoji-variation-sequences.txt", File::Sequences)?;
+    report::say_forms(&rt, forms::compare_forms())
 }

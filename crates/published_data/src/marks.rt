@@ -6,7 +6,7 @@ pub const CODE_POINTS: u32 = 0x11_0000;
 pub const WORDS: usize = 17408;
 
 // The number of marked code points, and the number of runs of consecutive ones.
-#[derive(Drop)]
+#[derive(Clone, Copy)]
 pub struct Size {
     pub points: usize,
     pub ranges: usize,

@@ -4,7 +4,7 @@
 ghost use Rattle.std.specs.Prelude.{◌<◌, ◌≤◌, length};
 
 // A parsed line. `field` is the offset of the field after the semicolon.
-#[derive(Drop)]
+#[derive(Clone, Copy)]
 pub enum Line {
     Blank,
     Comment,
@@ -22,14 +22,14 @@ pub enum Line {
 }
 
 // The offset after a match, or no match.
-#[derive(Drop)]
+#[derive(Clone, Copy)]
 pub enum Place {
     Past(usize),
     Missing,
 }
 
 // A number and the offset after its digits, or no number.
-#[derive(Drop)]
+#[derive(Clone, Copy)]
 pub enum Number {
     Value(u32, usize),
     NoNumber,

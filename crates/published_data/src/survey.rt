@@ -5,14 +5,14 @@ use crate::parse::{Line, Number, Place, after, line_at, next_line, number_at, pa
 use crate::tables::{File, is_of_file};
 use std::num::{wrapping_add_u32, wrapping_add_u64};
 
-#[derive(Drop)]
+#[derive(Clone, Copy)]
 pub enum Version {
     Stated(u32, u32),
     Unstated,
 }
 
 // The number of elements since the last total, the number of totals, and the first line whose total is wrong, or 0.
-#[derive(Drop)]
+#[derive(Clone, Copy)]
 pub struct Totals {
     pub sum: u64,
     pub stated: u32,
@@ -20,7 +20,7 @@ pub struct Totals {
 }
 
 // The result for a file. `bad` is the first line that does not follow the format, or 0.
-#[derive(Drop)]
+#[derive(Clone, Copy)]
 pub struct Survey {
     pub lines: usize,
     pub bad: usize,

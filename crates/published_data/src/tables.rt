@@ -4,7 +4,7 @@
 use crate::parse::{Line, contains, field_is, parse_line};
 
 // The two files: emoji-data.txt, and emoji-variation-sequences.txt.
-#[derive(Drop)]
+#[derive(Clone, Copy)]
 pub enum File {
     Properties,
     Sequences,
@@ -12,7 +12,7 @@ pub enum File {
 
 // A table: a property, the regional indicators, or the characters that have a variation sequence of a style. The two
 // styles have the same characters.
-#[derive(Drop)]
+#[derive(Clone, Copy)]
 pub enum Table {
     Emoji,
     EmojiPresentation,
@@ -24,7 +24,7 @@ pub enum Table {
 }
 
 // The code points, first to last, that a line lists for a table, or none.
-#[derive(Drop)]
+#[derive(Clone, Copy)]
 pub enum Listed {
     Points(u32, u32),
     Nothing,

@@ -76,7 +76,8 @@ module _ (p : Policy) where
       row : Finding
       row = row_in text n (n + size width x.chars) (non_canonicality p x)
 
-      go : (b : Bool) → (total (found_totals p F) ≤ message_limit → length (finding_lines (map (finding_row p text) F)) ≤ 60 * length (join xs))
+      go : (b : Bool)
+          → (total (found_totals p F) ≤ message_limit → length (finding_lines (map (finding_row p text) F)) ≤ 60 * length (join xs))
           → total (found_totals p (cond b (record { start = n; item = x } ∷ F) F)) ≤ message_limit
           → length (finding_lines (map (finding_row p text) (cond b (record { start = n; item = x } ∷ F) F)))
           ≤ 60 * length (x.chars ++ join xs)

@@ -25,7 +25,6 @@ use Rattle.findings_near.specs.declared.NearestAnswer.{NearestAnswer}
 use Rattle.findings_near.specs.declared.NearestAnswer.TheVariants as Nearest
 use Rattle.cutting.specs.Cut.{cut_row}
 use Rattle.cutting.specs.declared.Cut.{Cut}
-use Rattle.cutting.specs.declared.Cut.TheVariants as Cut
 use Rattle.analysis.specs.Decisions.{mend_row}
 use Rattle.formatter.specs.Format.{format_row}
 use Rattle.policy_migration.specs.Carry.{carry_row}

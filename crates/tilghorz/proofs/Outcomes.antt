@@ -24,7 +24,8 @@ pub feed_outcome : {r : FeedAnswer} {feed out : List ℕ} {a : Called} {w : ℕ}
 feed_outcome e f = (f ∙ ap word e.answer.same_row, (e.feed_bytes_lem, e.out_bytes))
 
 -- The same for the call around a stretch, which has two tables.
-pub around_outcome : {r : AroundAnswer} {inner outer : List ℕ} {a : AfterBoth} {w : ℕ} → EndsAround a r inner outer → w ≡ word (around_row r)
+pub around_outcome : {r : AroundAnswer} {inner outer : List ℕ} {a : AfterBoth} {w : ℕ} → EndsAround a r inner outer
+    → w ≡ word (around_row r)
     → (w ≡ word (around_row a.answer)) × ((inner ≡ a.inner) × (outer ≡ a.outer))
 around_outcome e f = (f ∙ ap word e.answer.same_row, (e.inner_table, e.outer_table))
 

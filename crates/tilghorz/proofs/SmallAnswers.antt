@@ -22,7 +22,13 @@ use Rattle.emoji.specs.Tables.{entry_at}
 use Rattle.emoji.specs.Unicode.{variation_entry}
 use Rattle.emoji.specs.UnicodeData.{unicode_version, variation_entries}
 use Rattle.emoji.proofs.Between.{every}
-use Rattle.policy.specs.DefaultPolicy.{bare_as_text_words, bare_as_text_keycap_words, default_policy, prefer_bare_words, prefer_bare_keycap_words}
+use Rattle.policy.specs.DefaultPolicy.{
+  bare_as_text_words,
+  bare_as_text_keycap_words,
+  default_policy,
+  prefer_bare_words,
+  prefer_bare_keycap_words,
+}
 use Rattle.policy.specs.PolicyBytes.{is_policy, key_words, policy_bytes, policy_fault, policy_of, policy_words}
 use Rattle.policy.specs.declared.Policy.{Policy}
 use Rattle.policy.proofs.Refusals.{fault_value}
@@ -80,7 +86,8 @@ tests_small fault s text a b f p r e = go a b f p e
 
     go : (a b f : Bool) → leb (length text) text_limit ≡ a → by_tests_lem a b f fault text ≡ some r → (refusal_row r).value ≤ most
     go true true true p e = let z : ◌≡◌ {A = ℕ} 0 1 = cc in absurd (omega arith)
-    go true true false p e = is (NotWellFormed (valid_up_to_of text)) (cc) (omega (arith, valid_up_to_le text, leb-true (length text) text_limit p))
+    go true true false p e = is (NotWellFormed (valid_up_to_of text)) (cc)
+        (omega (arith, valid_up_to_le text, leb-true (length text) text_limit p))
     go true false f p e = is fault (cc) s
     go false b f p e = is TextTooLong (cc) (omega arith)
 
@@ -102,7 +109,7 @@ format_small text policy out =
     tested format_row Format.Refused (λ r. refl) (intake_refusal text policy) out _ (intake_small text policy)
     (λ e.
     let a = passed-accepted text policy e in
-    go (same_bytes F text) (leb (length F) (length out)) (formatted-claim policy text a).four-times a.short)
+    go (same_bytes F text) (leb (length F) (length out)) (formatted-claim policy text a).four_times a.short)
   where
     F : List ℕ
     F = formatted text policy
@@ -217,7 +224,8 @@ module _ (text policy : List ℕ) (offset : ℕ) (decisions out : List ℕ) wher
 
 -- The bytes of a policy are those of 25 words.
 default_bytes : length (policy_bytes default_policy) ≡ 25 * 8
-unfolding policy_bytes policy_words key_words default_policy prefer_bare_words prefer_bare_keycap_words bare_as_text_words bare_as_text_keycap_words
+unfolding policy_bytes policy_words key_words default_policy prefer_bare_words prefer_bare_keycap_words bare_as_text_words
+    bare_as_text_keycap_words
 default_bytes = length_bytes_of_lem (unicode_version ∷ policy_words default_policy)
 
 pub default_small : (out : List ℕ) → (write_row (answer_of (policy_bytes default_policy) out)).value ≤ most

@@ -6,7 +6,6 @@ use native.Mathlib.Omega.{arith}
 use lib.ListN.{length}
 use Rattle.cutting.specs.Cut.{cut_before, cut_row}
 use Rattle.cutting.specs.declared.Cut.{Cut}
-use Rattle.cutting.specs.declared.Cut.TheVariants as Cut
 use Rattle.cutting.proofs.Cuts.{largest}
 
 cut_value : (n : ℕ) (c : Cut) → ((m : ℕ) → c ≡ Cut.At m → m ≤ n) → (cut_row c).value ≤ n

@@ -40,7 +40,8 @@ module _ (text policy : List ℕ) (from to : ℕ) (inner outer : List ℕ) where
       let z : s ≡ r = cc in
       subst (λ (r : Refusal). (refusal_row r).value < 2 ^ 28) z h
 
-  pub around_refusal : (r : Refusal) → (list_around text policy from to inner outer).answer ≡ Around.Refused r → (refusal_row r).value < 2 ^ 28
+  pub around_refusal : (r : Refusal) → (list_around text policy from to inner outer).answer ≡ Around.Refused r
+      → (refusal_row r).value < 2 ^ 28
   around_refusal r e = go (intake_refusal text policy) refl
     where
       A : AfterBoth
@@ -84,7 +85,8 @@ nearest-small text policy o row = go (intake_refusal text policy) refl
         fits false = omega arith
 
     go : (x : Option Refusal) → intake_refusal text policy ≡ x
-        → (nearest_row (or_else x (λ (r : Refusal). unwritten (Nearest.Refused r) row) (write_nearest o (nearest o (listed text policy)) row)
+        → (nearest_row (or_else x (λ (r : Refusal). unwritten (Nearest.Refused r) row)
+        (write_nearest o (nearest o (listed text policy)) row)
         ).answer).value ≤ most
     go (some r) e = omega (arith, intake_small text policy r e)
     go none e = given (nearest o (listed text policy))

@@ -15,7 +15,17 @@ use Rattle.policy.specs.PolicyBytes.{numbers_of}
 use Rattle.formatter.specs.Format.{format, format_row}
 use Rattle.formatter.specs.declared.FormatAnswer.{FormatAnswer}
 use Rattle.formatter.specs.declared.FormatAnswer.TheVariants.{Changed, Refused, Unchanged}
-use Rattle.store.specs.Bytes.{begin_call, bytes_after, file_answer_of, file_call, release_call, store_bytes, store_row, used_call, used_word}
+use Rattle.store.specs.Bytes.{
+  begin_call,
+  bytes_after,
+  file_answer_of,
+  file_call,
+  release_call,
+  store_bytes,
+  store_row,
+  used_call,
+  used_word,
+}
 use Rattle.store.specs.Calls.{Call, after_format, bad_release, changes, charge_of, is_refusal, release, release_answer, store_after}
 use Rattle.store.specs.Store.{Store, charge_at, clients, new_store}
 use Rattle.store.specs.Theorems.{EveryStoreInBytes, InBytes, StoreClaim}
@@ -83,7 +93,8 @@ module _ (C : ℕ) (rb st : List ℕ) (w : C < 2 ^ 64) (e : (begin_call C rb st)
       go false l = omega (arith, no-client (eqb (length B) store_bytes))
         where
           no-client : (t : Bool)
-              → (store_row (cond (t && ltb c clients) (Answered.Done (word_at (used_word c) B)) (Answered.Refused BadClientOrNumber))).value ≡ 0
+              → (store_row (cond (t && ltb c clients) (Answered.Done (word_at (used_word c) B)) (Answered.Refused BadClientOrNumber))).value
+              ≡ 0
           no-client true =
               ap (λ (u : Bool). (store_row (cond u (Answered.Done (word_at (used_word c) B)) (Answered.Refused BadClientOrNumber))).value) l
           no-client false = refl

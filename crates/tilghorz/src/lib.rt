@@ -1,6 +1,8 @@
-// The C functions, on byte slices and numbers (document 01: "The intake host, written in Rust, calls formatting, listing and mending
-// through C functions"). Each makes one call of another crate and returns the answer as one word (specs/AnswerWord.antt). A slice is passed
-// as a pointer and a length. include/tilghorz.h describes the same functions for C.
+// The calls on byte slices and numbers that the crate tilghorz_c exports as C functions (document 01: "The intake host, written in Rust,
+// calls formatting, listing and mending through C functions"). Each makes one call of another crate and returns the answer as one word
+// (specs/AnswerWord.antt). include/tilghorz.h describes them for C.
+#![tactic(auto)]
+
 pub mod answer_word;
 
 ghost use Rattle.std.specs.Prelude.{◌≡◌};
@@ -38,8 +40,7 @@ use emoji::unicode_data::UNICODE_VERSION;
 use policy::Policy;
 
 // Formats a text under a policy. It may answer "nothing to do", or refusals 1, 2, 3 and 8.
-#[unsafe(no_mangle)]
-pub extern "C" fn tilghorz_format(text: &[u8], policy: &[u8], out: &mut [u8]) -> u64
+pub fn tilghorz_format(text: &[u8], policy: &[u8], out: &mut [u8]) -> u64
     ensures word { result ≡ word (format_row (format text.now policy.now out.old).answer) }
     ensures bytes { out.new ≡ (format text.now policy.now out.old).buffer }
 {
@@ -48,8 +49,7 @@ pub extern "C" fn tilghorz_format(text: &[u8], policy: &[u8], out: &mut [u8]) ->
 
 // Lists the findings of a text under a policy. A row is fourteen numbers of 8 bytes each: start, end, the eight counts, start and end in
 // characters, start and end in UTF-16 units. It may answer refusals 1, 2, 3 and 7.
-#[unsafe(no_mangle)]
-pub extern "C" fn tilghorz_list(text: &[u8], policy: &[u8], table: &mut [u8]) -> u64
+pub fn tilghorz_list(text: &[u8], policy: &[u8], table: &mut [u8]) -> u64
     ensures word { result ≡ word (list_row (list_bytes text.now policy.now table.old).answer) }
     ensures bytes { table.new ≡ (list_bytes text.now policy.now table.old).buffer }
 {
@@ -57,8 +57,7 @@ pub extern "C" fn tilghorz_list(text: &[u8], policy: &[u8], table: &mut [u8]) ->
 }
 
 // Mends the finding that starts at an offset. It may answer refusals 1, 2, 3, 4, 5, 6 and 8.
-#[unsafe(no_mangle)]
-pub extern "C" fn tilghorz_mend(
+pub fn tilghorz_mend(
     text: &[u8],
     policy: &[u8],
     offset: u64,
@@ -75,8 +74,7 @@ pub extern "C" fn tilghorz_mend(
 
 // Lists the items of a text. A row is eight numbers of 8 bytes each: start, end, kind, whether the tags are complete, start and end in
 // characters, start and end in UTF-16 units. It may answer refusals 1, 3 and 7.
-#[unsafe(no_mangle)]
-pub extern "C" fn tilghorz_scan(text: &[u8], table: &mut [u8]) -> u64
+pub fn tilghorz_scan(text: &[u8], table: &mut [u8]) -> u64
     ensures word { result ≡ word (list_row (list_items text.now table.old).answer) }
     ensures bytes { table.new ≡ (list_items text.now table.old).buffer }
 {
@@ -85,8 +83,7 @@ pub extern "C" fn tilghorz_scan(text: &[u8], table: &mut [u8]) -> u64
 
 // Writes a text with FFFD in place of each bad place. It may answer refusals 1 and 8. If it is done, the low 28 bits of the value are the
 // length written, and the bits above them are the number of replacements.
-#[unsafe(no_mangle)]
-pub extern "C" fn tilghorz_repair(text: &[u8], out: &mut [u8]) -> u64
+pub fn tilghorz_repair(text: &[u8], out: &mut [u8]) -> u64
     ensures word { result ≡ word (repair_row (repair text.now out.old).answer) }
     ensures bytes { out.new ≡ (repair text.now out.old).buffer }
 {
@@ -96,8 +93,7 @@ pub extern "C" fn tilghorz_repair(text: &[u8], out: &mut [u8]) -> u64
 // Lists the findings that lie wholly inside the bytes from `from` up to, not including, `to`, and those that only share a byte with them.
 // It may answer refusals 1, 2, 3 and 7. If it is done, the low 28 bits of the value are the number of rows in the table `inside`, and the
 // bits above them are the number of rows in the table `sharing`.
-#[unsafe(no_mangle)]
-pub extern "C" fn tilghorz_around(
+pub fn tilghorz_around(
     text: &[u8],
     policy: &[u8],
     from: u64,
@@ -124,8 +120,7 @@ pub extern "C" fn tilghorz_around(
 
 // Writes the finding that is nearest to an offset: its row, then the distance, 8 bytes each. It may answer "nothing to do", or refusals 1,
 // 2, 3 and 7.
-#[unsafe(no_mangle)]
-pub extern "C" fn tilghorz_nearest(text: &[u8], policy: &[u8], offset: u64, row: &mut [u8]) -> u64
+pub fn tilghorz_nearest(text: &[u8], policy: &[u8], offset: u64, row: &mut [u8]) -> u64
     ensures word { result ≡ word (nearest_row
         (give_nearest text.now policy.now offset row.old).answer) }
     ensures bytes { row.new ≡ (give_nearest text.now policy.now offset row.old).buffer }
@@ -135,16 +130,14 @@ pub extern "C" fn tilghorz_nearest(text: &[u8], policy: &[u8], offset: u64, row:
 
 // Gives the largest offset, at or below an offset, where a text may be cut for two workers. It takes bytes, and not a text in document 01's
 // sense: it makes no test and has no refusal. It may answer "nothing to do", if there is no such offset.
-#[unsafe(no_mangle)]
-pub extern "C" fn tilghorz_cut(bytes: &[u8], offset: u64) -> u64
+pub fn tilghorz_cut(bytes: &[u8], offset: u64) -> u64
     ensures { result ≡ word (cut_row (cut_before bytes.now offset)) }
 {
     cut_word(cutting::cut_before(bytes, offset as usize))
 }
 
 // Begins a feed under a policy in a lent buffer. It may answer the refusals 2 and 8. Its value is the number of bytes of a feed.
-#[unsafe(no_mangle)]
-pub extern "C" fn tilghorz_feed_begin(policy: &[u8], feed: &mut [u8]) -> u64
+pub fn tilghorz_feed_begin(policy: &[u8], feed: &mut [u8]) -> u64
     ensures word { result ≡ word (feed_row (begun_changing policy.now feed.old).answer) }
     ensures bytes { feed.new ≡ (begun_changing policy.now feed.old).buffer }
 {
@@ -153,8 +146,7 @@ pub extern "C" fn tilghorz_feed_begin(policy: &[u8], feed: &mut [u8]) -> u64
 
 // Takes the next piece of a thread and writes all but an unfinished character and a last base that has a variation entry, with its
 // selectors. It may answer the refusals 9, 1, 3 and 8.
-#[unsafe(no_mangle)]
-pub extern "C" fn tilghorz_feed_piece(feed: &mut [u8], piece: &[u8], out: &mut [u8]) -> u64
+pub fn tilghorz_feed_piece(feed: &mut [u8], piece: &[u8], out: &mut [u8]) -> u64
     ensures word { result ≡ word (feed_row
         (called_on feed.old (Calls.piece piece.now out.old)).answer) }
     ensures state { feed.new ≡ (called_on feed.old (Calls.piece piece.now out.old)).feed }
@@ -164,8 +156,7 @@ pub extern "C" fn tilghorz_feed_piece(feed: &mut [u8], piece: &[u8], out: &mut [
 }
 
 // Ends a feed and writes the held base. It may answer the refusals 9, 10 and 8.
-#[unsafe(no_mangle)]
-pub extern "C" fn tilghorz_feed_end(feed: &mut [u8], out: &mut [u8]) -> u64
+pub fn tilghorz_feed_end(feed: &mut [u8], out: &mut [u8]) -> u64
     ensures word { result ≡ word (feed_row (called_on feed.old (Calls.end out.old)).answer) }
     ensures state { feed.new ≡ (called_on feed.old (Calls.end out.old)).feed }
     ensures bytes { out.new ≡ (called_on feed.old (Calls.end out.old)).out }
@@ -174,8 +165,7 @@ pub extern "C" fn tilghorz_feed_end(feed: &mut [u8], out: &mut [u8]) -> u64
 }
 
 // Changes the policy of a feed. A held base keeps its policy. It may answer the refusals 9, 2 and 15. Its value is 0.
-#[unsafe(no_mangle)]
-pub extern "C" fn tilghorz_feed_policy(feed: &mut [u8], policy: &[u8]) -> u64
+pub fn tilghorz_feed_policy(feed: &mut [u8], policy: &[u8]) -> u64
     ensures word { result ≡ word (feed_row (called_on feed.old (Calls.change policy.now)).answer) }
     ensures state { feed.new ≡ (called_on feed.old (Calls.change policy.now)).feed }
 {
@@ -183,8 +173,7 @@ pub extern "C" fn tilghorz_feed_policy(feed: &mut [u8], policy: &[u8]) -> u64
 }
 
 // Writes the eight totals of a feed, 8 bytes each. It may answer refusal 8.
-#[unsafe(no_mangle)]
-pub extern "C" fn tilghorz_feed_totals(feed: &[u8], totals: &mut [u8]) -> u64
+pub fn tilghorz_feed_totals(feed: &[u8], totals: &mut [u8]) -> u64
     ensures word { result ≡ word (write_row
         (answer_of (bytes_of (count_numbers (changing_totals feed.now))) totals.old)) }
     ensures bytes { totals.new
@@ -195,8 +184,7 @@ pub extern "C" fn tilghorz_feed_totals(feed: &[u8], totals: &mut [u8]) -> u64
 
 // Reads a policy sheet and writes the bytes of its policy. It may answer the refusals 1, 11, 12 and 8. Its value is the number of bytes
 // of a policy.
-#[unsafe(no_mangle)]
-pub extern "C" fn tilghorz_read_sheet(sheet: &[u8], out: &mut [u8]) -> u64
+pub fn tilghorz_read_sheet(sheet: &[u8], out: &mut [u8]) -> u64
     ensures word { result ≡ word (sheet_row (read_call sheet.now out.old).answer) }
     ensures bytes { out.new ≡ (read_call sheet.now out.old).buffer }
 {
@@ -204,8 +192,7 @@ pub extern "C" fn tilghorz_read_sheet(sheet: &[u8], out: &mut [u8]) -> u64
 }
 
 // Writes the sheet of a policy. It may answer the refusals 2 and 8.
-#[unsafe(no_mangle)]
-pub extern "C" fn tilghorz_write_sheet(policy: &[u8], out: &mut [u8]) -> u64
+pub fn tilghorz_write_sheet(policy: &[u8], out: &mut [u8]) -> u64
     ensures word { result ≡ word (sheet_row (write_call policy.now out.old).answer) }
     ensures bytes { out.new ≡ (write_call policy.now out.old).buffer }
 {
@@ -214,8 +201,7 @@ pub extern "C" fn tilghorz_write_sheet(policy: &[u8], out: &mut [u8]) -> u64
 
 // Carries a policy over from the tables of another version. `entries` is the old variation table, numbers of 8 bytes each. It may answer
 // the refusals 16, 2 and 8. Its value is the number of bytes of a policy.
-#[unsafe(no_mangle)]
-pub extern "C" fn tilghorz_carry_policy(entries: &[u8], policy: &[u8], out: &mut [u8]) -> u64
+pub fn tilghorz_carry_policy(entries: &[u8], policy: &[u8], out: &mut [u8]) -> u64
     ensures word { result ≡ word (carry_row (carry_call entries.now policy.now out.old).answer) }
     ensures bytes { out.new ≡ (carry_call entries.now policy.now out.old).buffer }
 {
@@ -224,8 +210,7 @@ pub extern "C" fn tilghorz_carry_policy(entries: &[u8], policy: &[u8], out: &mut
 
 // Lists the memberships of a policy whose flip alone alters the formatted text. A row is three numbers of 8 bytes each: the code point; 0
 // for ordinary, 1 for keycap; 0 for `prefer_bare`, 1 for `bare_as_text`. It may answer refusals 1, 2, 3 and 7.
-#[unsafe(no_mangle)]
-pub extern "C" fn tilghorz_tips(text: &[u8], policy: &[u8], table: &mut [u8]) -> u64
+pub fn tilghorz_tips(text: &[u8], policy: &[u8], table: &mut [u8]) -> u64
     ensures word { result ≡ word (list_row (list_tips text.now policy.now table.old).answer) }
     ensures bytes { table.new ≡ (list_tips text.now policy.now table.old).buffer }
 {
@@ -234,8 +219,7 @@ pub extern "C" fn tilghorz_tips(text: &[u8], policy: &[u8], table: &mut [u8]) ->
 
 // Begins a store of `capacity` bytes in a lent buffer. The reserves are numbers of 8 bytes, from client 0 on. It may answer the refusals 8,
 // 13 and 14. Its value is the number of bytes of a store.
-#[unsafe(no_mangle)]
-pub extern "C" fn tilghorz_store_begin(capacity: u64, reserves: &[u8], store: &mut [u8]) -> u64
+pub fn tilghorz_store_begin(capacity: u64, reserves: &[u8], store: &mut [u8]) -> u64
     ensures word { result ≡ word (capped_row (store_row (begin_call capacity reserves.now store.old).answer)) }
     ensures state { store.new ≡ (begin_call capacity reserves.now store.old).buffer }
 {
@@ -244,8 +228,7 @@ pub extern "C" fn tilghorz_store_begin(capacity: u64, reserves: &[u8], store: &m
 
 // Formats a text under a policy, and charges the formatted length to a client under a number. It may answer "nothing to do", or the
 // refusals 1, 2, 3, 8, 13 and 14.
-#[unsafe(no_mangle)]
-pub extern "C" fn tilghorz_store_file(
+pub fn tilghorz_store_file(
     store: &mut [u8],
     text: &[u8],
     policy: &[u8],
@@ -264,8 +247,7 @@ pub extern "C" fn tilghorz_store_file(
 }
 
 // Releases the message that a client filed under a number. It may answer refusal 13. Its value is the number of bytes given back.
-#[unsafe(no_mangle)]
-pub extern "C" fn tilghorz_store_release(store: &mut [u8], client: u64, number: u64) -> u64
+pub fn tilghorz_store_release(store: &mut [u8], client: u64, number: u64) -> u64
     ensures word { result ≡ word (capped_row (store_row (release_call store.old client number).answer)) }
     ensures state { store.new ≡ (release_call store.old client number).buffer }
 {
@@ -273,16 +255,14 @@ pub extern "C" fn tilghorz_store_release(store: &mut [u8], client: u64, number: 
 }
 
 // Gives the number of bytes charged to a client. It may answer refusal 13.
-#[unsafe(no_mangle)]
-pub extern "C" fn tilghorz_store_used(store: &[u8], client: u64) -> u64
+pub fn tilghorz_store_used(store: &[u8], client: u64) -> u64
     ensures { result ≡ word (capped_row (store_row (used_call store.now client))) }
 {
     store_word(store::used(store, client as usize))
 }
 
 // Writes the bytes of the default policy. It may answer refusal 8.
-#[unsafe(no_mangle)]
-pub extern "C" fn tilghorz_default_policy(out: &mut [u8]) -> u64
+pub fn tilghorz_default_policy(out: &mut [u8]) -> u64
     ensures word { result ≡ word (write_row (answer_of (policy_bytes default_policy) out.old)) }
     ensures bytes { out.new ≡ buffer_of (policy_bytes default_policy) out.old }
 {
@@ -290,16 +270,14 @@ pub extern "C" fn tilghorz_default_policy(out: &mut [u8]) -> u64
 }
 
 // Gives the code point of the variation entry at an index, or "nothing to do" if there is no such entry.
-#[unsafe(no_mangle)]
-pub extern "C" fn tilghorz_variation_entry(index: u64) -> u64
+pub fn tilghorz_variation_entry(index: u64) -> u64
     ensures { result ≡ word (entry_row (variation_entry index)) }
 {
     entry_word(emoji::variation_entry(index as usize))
 }
 
 // Gives the version of the tables, as a policy begins with it: major times 256 plus minor.
-#[unsafe(no_mangle)]
-pub extern "C" fn tilghorz_version() -> u64
+pub fn tilghorz_version() -> u64
     ensures { result ≡ word (done unicode_version) }
 {
     UNICODE_VERSION

@@ -31,7 +31,7 @@ pub(crate) fn may_follow(last: usize, kind: usize) -> bool {
 }
 
 // The text of a line: its number of bytes, and the offset of its end in the line.
-#[derive(Drop)]
+#[derive(Clone, Copy)]
 pub enum TextRead {
     Text { len: usize, end: usize },
     NoText,

@@ -3,7 +3,7 @@
 ghost use Rattle.std.specs.Prelude.{◌<◌, ◌≤◌, length};
 
 // The number of a word in a list of words, or not in the list.
-#[derive(Drop)]
+#[derive(Clone, Copy)]
 pub enum Listed {
     At(usize),
     Unlisted,

@@ -5,7 +5,7 @@ use emoji::presentation::{FromSelector, Presentation};
 use scanner::selectors::PresentationSelectors;
 
 // The places up to which a line and a text were read together, or that they differ.
-#[derive(Drop)]
+#[derive(Clone, Copy)]
 pub enum Read {
     To { place: usize, at: usize },
     Apart,

@@ -4,14 +4,14 @@
 ghost use Rattle.std.specs.Prelude.{◌≤◌};
 
 // The offset after a match, or no match.
-#[derive(Drop)]
+#[derive(Clone, Copy)]
 pub enum Place {
     Past(usize),
     Missing,
 }
 
 // The value of a field and the offset after its digits, or no field.
-#[derive(Drop)]
+#[derive(Clone, Copy)]
 pub enum Field {
     Value(u64, usize),
     NoField,

@@ -11,6 +11,7 @@ use emoji::unicode_data::{
     UNICODE_VERSION, UNICODE_VERSION_MAJOR, UNICODE_VERSION_MINOR, VARIATION_ENTRY_COUNT,
 };
 use policy::{POLICY_BYTES, Policy};
+use std::io;
 use std::num::wrapping_add_u64;
 
 // The number of bytes of a character set, and its last bit.
@@ -77,7 +78,7 @@ pub(crate) fn round_trips(policy: Policy, words: &[u64], at: usize) -> bool {
 }
 
 // The number of byte strings accepted, the number not accepted, and the number for which that is wrong.
-#[derive(Drop)]
+#[derive(Clone, Copy)]
 pub struct Tried {
     pub accepted: u64,
     pub refused: u64,
@@ -169,7 +170,7 @@ fn with_versions(tried: Tried) -> Tried {
 }
 
 // Tries the policies and writes the counts.
-pub(crate) fn try_policies() {
+pub(crate) fn try_policies(rt: &impl Print) -> io::Result<()> {
     let none = Tried {
         accepted: 0,
         refused: 0,
@@ -178,5 +179,5 @@ pub(crate) fn try_policies() {
     let versions = with_versions(with_lengths(none));
     let first = with_set(with_set(versions, 0), 1);
     let tried = with_set(with_set(first, 2), 3);
-    report::say_policy_bytes(tried.accepted, tried.refused, tried.wrong);
+    report::say_policy_bytes(rt, tried.accepted, tried.refused, tried.wrong)
 }

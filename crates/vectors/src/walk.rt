@@ -4,17 +4,18 @@
 use crate::checksum::adler_32;
 use crate::policy_store::STORE_WORDS;
 use crate::{item_file, item_format, lines, policy_file, policy_format, report};
+use std::io;
 use std::num::wrapping_add_u64;
 
 // The format of a file.
-#[derive(Drop)]
+#[derive(Clone, Copy)]
 pub enum Form {
     Policy,
     Items,
 }
 
 // The result of replaying a line.
-#[derive(Drop)]
+#[derive(Clone, Copy)]
 pub enum Outcome {
     AsStored,
     Differs,
@@ -26,7 +27,7 @@ pub const KINDS: usize = 19;
 
 // The lines replayed so far: the kind of the last line, or `KINDS` if it does not follow its format; the offset of the
 // line that the next lines are about; the number of lines of each kind; and the number of them that differ.
-#[derive(Drop)]
+#[derive(Clone, Copy)]
 pub struct Walked {
     pub last: usize,
     pub subject: usize,
@@ -145,30 +146,37 @@ fn with_fault(walked: Walked) -> Walked {
 
 // Replays the line at an offset, counts it, and writes what is wrong with it.
 fn replay_line(
+    rt: &impl Print,
     form: Form,
-    name: &[u8],
+    name: &str,
     text: &[u8],
     at: usize,
     number: usize,
     walked: Walked,
     store: &mut [u64; STORE_WORDS],
-) -> Walked {
+) -> io::Result<Walked> {
     let kind = kind_of(form, line_of(text, at));
     match outcome_of(form, text, at, kind, walked, store) {
-        Outcome::AsStored => with_line(form, at, kind, walked),
+        Outcome::AsStored => Ok(with_line(form, at, kind, walked)),
         Outcome::Differs => {
-            report::say_line(name, number, b"differs");
-            with_difference(kind, with_line(form, at, kind, walked))
+            report::say_line(rt, name, number, "differs")?;
+            Ok(with_difference(kind, with_line(form, at, kind, walked)))
         }
         Outcome::Malformed => {
-            report::say_line(name, number, b"does not follow the format");
-            with_fault(walked)
+            report::say_line(rt, name, number, "does not follow the format")?;
+            Ok(with_fault(walked))
         }
     }
 }
 
 // Replays the lines of a text, up to the first that does not follow its format.
-fn replay_lines(form: Form, name: &[u8], text: &[u8], store: &mut [u64; STORE_WORDS]) -> Walked {
+fn replay_lines(
+    rt: &impl Print,
+    form: Form,
+    name: &str,
+    text: &[u8],
+    store: &mut [u64; STORE_WORDS],
+) -> io::Result<Walked> {
     let mut walked = Walked {
         last: lines::COMMENT,
         subject: 0,
@@ -179,44 +187,59 @@ fn replay_lines(form: Form, name: &[u8], text: &[u8], store: &mut [u64; STORE_WO
     let mut number = 0;
     while at < text.len() {
         number += 1;
-        walked = replay_line(form, name, text, at, number, walked, store);
+        walked = replay_line(rt, form, name, text, at, number, walked, store)?;
         if walked.last == KINDS {
-            return walked;
+            return Ok(walked);
         }
         at = lines::next_line(text, at);
     }
-    walked
+    Ok(walked)
 }
 
 // Writes the counts of each kind of line. The last kind is the end.
-fn say_counts(name: &[u8], text: &[u8], keywords: &[u8], end: usize, walked: Walked) {
+fn say_counts(
+    rt: &impl Print,
+    name: &str,
+    text: &[u8],
+    keywords: &[u8],
+    end: usize,
+    walked: Walked,
+) -> io::Result<()> {
     if walked.last != end {
-        report::say_file(name, b"has no line `end`");
+        report::say_file(rt, name, "has no line `end`")?;
     }
     if !lines::is_ended(text) {
-        report::say_file(name, b"does not end with a line feed");
+        report::say_file(rt, name, "does not end with a line feed")?;
     }
     let seen = walked.seen;
     let differ = walked.differ;
-    report::say_kinds(name, keywords, end, &seen, &differ);
-    report::say_total(name, end, &seen, &differ, adler_32(text));
+    report::say_kinds(rt, name, keywords, end, &seen, &differ)?;
+    report::say_total(rt, name, end, &seen, &differ, adler_32(text))
 }
 
 // Replays a text, and writes the counts if each line follows the format.
-pub(crate) fn replay(form: Form, name: &[u8], text: &[u8]) {
+pub(crate) fn replay(rt: &impl Print, form: Form, name: &str, text: &[u8]) -> io::Result<()> {
     let mut store = [0u64; STORE_WORDS];
-    let walked = replay_lines(form, name, text, &mut store);
+    let walked = replay_lines(rt, form, name, text, &mut store)?;
     if walked.last == KINDS {
-        return;
+        return Ok(());
     }
     match form {
         Form::Policy => say_counts(
+            rt,
             name,
             text,
             &policy_format::KEYWORDS,
             policy_format::END,
             walked,
         ),
-        Form::Items => say_counts(name, text, &item_format::KEYWORDS, item_format::END, walked),
+        Form::Items => say_counts(
+            rt,
+            name,
+            text,
+            &item_format::KEYWORDS,
+            item_format::END,
+            walked,
+        ),
     }
 }
