@@ -1,5 +1,5 @@
-/* Formats a text under the default policy. After "rt staticlib tilghorz", these commands in the root of the repository compile and
- * run it:
+/* Formats a text under the default policy. After "python3 tools/static_library.py", these commands in the root of the repository
+ * compile and run it:
  *
  *     cc -Iinclude include/example.c -Ltarget/staticlib -ltilghorz -o example
  *     ./example

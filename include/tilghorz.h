@@ -1,4 +1,4 @@
-/* The C functions of the library tilghorz. The command "rt staticlib tilghorz" makes the library,
+/* The C functions of the library tilghorz. The command "python3 tools/static_library.py" makes the library,
  * target/staticlib/libtilghorz.a. The file example.c in this folder calls two of the functions.
  *
  * Slices. A function takes each slice as a pointer and a length in bytes. If the length is 0, the pointer may have any value

@@ -10,7 +10,8 @@ ANTT = (r"(?<![^\s(){}.;,@])--", "{-", "-}")
 def uses(root):
     """For each crate of crates.txt, the crates of the repository and of the kit that it uses."""
     lines = (line.split("#", 1)[0] for line in (root / "crates.txt").read_text(encoding="utf-8").splitlines())
-    return {line.split(":", 1)[0].strip(): line.split(":", 1)[1].split() for line in lines if ":" in line}
+    # Words after the name, such as staticlib, say how rt builds the crate.
+    return {line.split(":", 1)[0].split()[0]: line.split(":", 1)[1].split() for line in lines if ":" in line}
 
 
 def listed(root):

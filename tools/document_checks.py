@@ -127,7 +127,7 @@ def untested_tools(root):
 def unclear_words(root):
     seen = 0
     for folder, folders, names in os.walk(root):
-        folders[:] = sorted(one for one in folders if one not in (".git", "target"))
+        folders[:] = sorted(one for one in folders if one not in (".git", "out", "target"))
         for path in (pathlib.Path(folder, name) for name in sorted(names)):
             if path.name.startswith("test_") or not (path.suffix in TEXTS or path.name in SCRIPTS):
                 continue

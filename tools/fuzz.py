@@ -15,9 +15,9 @@ the last line names the file with the input.
 
 The fuzzer is LLVM's libFuzzer. It needs the Rattle kit, cargo, clang and the archive of libFuzzer; the script names Debian's package
 for what is missing, and installs nothing. The Rust code of host/ and the library itself are compiled with counters, by which the
-fuzzer sees which branches an input reaches. rt compiles the library by the kit's clang. The script has rt call a clang that keeps a
-copy of its input, the library's code as LLVM bitcode, and then compiles that with counters. The proved library stays as it is.
-If the kit has no such clang, the script says so and links the proved library without counters.
+fuzzer sees which branches an input reaches. The library is compiled by the kit's clang. The script has the kit's compiler call a clang
+that keeps a copy of its input, the library's code as LLVM bitcode, and then compiles that with counters. The proved library stays as
+it is. If the kit has no such clang, the script says so and links the proved library without counters.
 """
 
 import argparse
@@ -32,6 +32,8 @@ import shutil
 import subprocess
 import sys
 import tempfile
+
+import static_library
 
 ROOT = pathlib.Path(__file__).resolve().parent.parent
 FOLDER = ROOT / "target" / "fuzz"
@@ -229,17 +231,16 @@ def pack(folder):
     return len(inputs), STORED.stat().st_size
 
 
-def kit_with_own_clang(kit, saved):
-    """Makes a folder of links to the kit, but for its clang: this one copies the bitcode that it is handed. None if the kit has no
-    such clang."""
-    own = pathlib.Path("on", platform.machine(), "toolchain", "bin")
-    real = kit / own / "clang"
+def toolchain_with_own_clang(kit, saved):
+    """Makes a folder of links to the kit's toolchain, but for its clang: this one copies the bitcode that it is handed. None if the kit
+    has no such clang."""
+    real = kit / "toolchain" / "bin" / "clang"
     if not real.is_file():
         return None
-    folder = FOLDER / "kit"
+    folder = FOLDER / "toolchain"
     shutil.rmtree(folder, ignore_errors=True)
-    place, inner = folder, kit
-    for name in [*own.parts, "clang"]:
+    place, inner = folder, kit / "toolchain"
+    for name in ("bin", "clang"):
         place.mkdir(parents=True)
         for path in inner.iterdir():
             if path.name != name:
@@ -256,17 +257,22 @@ def library():
     note = folder / "made-from"
     if LIBRARY.is_file() and note.is_file() and note.read_text() == digest(LIBRARY):
         return folder
-    rt = pathlib.Path(shutil.which("rt")).resolve()
-    kit = kit_with_own_clang(rt.parent.parent, saved)
-    saved.unlink(missing_ok=True)
+    kit = static_library.kit()
     FOLDER.mkdir(parents=True, exist_ok=True)
-    environment = dict(os.environ, RATTLE_HOME=str(kit)) if kit else dict(os.environ)
-    subprocess.run(["rt", "staticlib", "tilghorz"], cwd=ROOT, env=environment, check=True, stdout=subprocess.DEVNULL)
+    if static_library.make(ROOT, after_ci=False):
+        raise subprocess.CalledProcessError(1, "rt lib")
+    toolchain = toolchain_with_own_clang(kit, saved)
+    if toolchain is None:
+        return None
+    # The same build again over the same proved libraries, by that clang. The archive that comes of it is not used.
+    saved.unlink(missing_ok=True)
+    words = static_library.build_words(ROOT, kit, toolchain, FOLDER / "unused.a")
+    subprocess.run(words, cwd=ROOT / "crates" / static_library.CRATE, check=True, stdout=subprocess.DEVNULL)
     if not saved.is_file():
         return None
     shutil.rmtree(folder, ignore_errors=True)
     folder.mkdir()
-    clang = rt.parent.parent / "on" / platform.machine() / "toolchain" / "bin" / "clang"
+    clang = kit / "toolchain" / "bin" / "clang"
     words = [f"--target={TRIPLE}", "-march=x86-64", "--no-default-config", "-ffunction-sections", "-fdata-sections", "-fPIC", "-O3"]
     words += ["-mllvm", "-trap-unreachable", COUNTERS, "-c", "-x", "ir", str(saved), "-o", "tilghorz.o"]
     subprocess.run([clang, *words], cwd=folder, check=True)

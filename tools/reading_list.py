@@ -31,8 +31,8 @@ ROW = re.compile(r"^\| (crates/\S+) \| ([^|]*) \| (?:(\d+) \| )?([^|]*) \|$")
 SAID = re.compile(r"\babout ([\d,]+) lines\s+in\s+all\b")
 # Imports, and what they import: names of a file of specs/ or types of src/ by a module of specs/, and types of src/ by their path.
 IMPORT = re.compile(r"^(?:(?:pub |ghost )?use |pub mod )[^{;\n]*(?:\{[^}]*\})?[^\n]*\n", re.M)
-OF_SPECS = re.compile(r"Rattle·(\w+?)(?:·specs)?\.specs\.([\w.-]+?)(?:\.\{([^}]*)\}| as (\w+))?;?$")
-OF_SRC = re.compile(r"^use (\w+(?:::\w+)*)::(\w+);$", re.M)
+OF_SPECS = re.compile(r"Rattle\.(\w+)\.specs\.([\w.-]+?)(?:\.\{([^}]*)\}| as (\w+))?;?$")
+OF_SRC = re.compile(r"^use (\w+(?:::\w+)*)::(?:(\w+)|\{([^}]*)\});$", re.M)
 # What a paragraph of specs/ defines, and its fields and constructors; what begins a definition in src/.
 DEFINES = re.compile(r"^ *(?:(?:unfoldable|abbrev|opaque) pub|pub record|pub data) ([^\s(){}]+)", re.M)
 HAS = re.compile(r"^ +(?:pub )?([^\s(){}]+) : ", re.M)
@@ -70,10 +70,11 @@ class File:
                 self.uses[new or old] = where[0], where[1] or old
             if alias:
                 self.uses[alias] = where[0], where[1] or alias
-        for path, name in OF_SRC.findall(text):
+        for path, alone, names in OF_SRC.findall(text):
             first, *rest = path.split("::")
-            crate, rest = (first, rest) if first in listed(root) else (self.crate, [first, *rest])
-            self.uses[name] = f"crates/{crate}/src/{'/'.join(rest) or 'lib'}.rt", name
+            crate, rest = (first, rest) if first in listed(root) else (self.crate, rest if first == "crate" else [first, *rest])
+            for name in re.findall(r"\w+", alone or names):
+                self.uses[name] = f"crates/{crate}/src/{'/'.join(rest) or 'lib'}.rt", name
 
     def define(self, name, lines, text):
         self.lines[name] = self.lines.get(name, set()) | (lines & self.all)
@@ -107,7 +108,7 @@ class File:
 
 def declared_in(crate, path):
     """The file of a module of specs/, and the type that it declares, if it is one that Rattle declares."""
-    parts = path.removesuffix(".the-variants").split(".")
+    parts = path.removesuffix(".TheVariants").split(".")
     if parts[0] != "declared":
         return f"crates/{crate}/specs/{'/'.join(parts)}.antt", None
     return f"crates/{crate}/src/{'/'.join(parts[1:-1]) or 'lib'}.rt", parts[-1]
@@ -120,7 +121,7 @@ def free_words(name, text):
         bound.update(re.findall(WORD, left))
     for left in re.findall(r"[({]([^(){}:=]+) : ", text):
         bound.update(left.split())
-    text = re.sub(r"(?<=\s)\.\S+|(?<=[{;])\s*\S+ =", " ", text)
+    text = re.sub(r"(?<=[^\s({,;])\.[\w'«»]+|(?<=[{;])\s*\S+ =", " ", text)
     return {word for word in re.findall(WORD, text)} - bound
 
 
@@ -140,7 +141,7 @@ class Files:
         file = self.file(name)
         if file is None:
             return None
-        own = next((one for one in (word, f"_{word}_") if one in file.lines or one in file.uses), word)
+        own = next((one for one in (word, f"◌{word}◌") if one in file.lines or one in file.uses), word)
         if own in file.uses and file.uses[own] != (name, own):
             return self.resolve(*file.uses[own])
         if own in file.lines:

@@ -5,7 +5,8 @@
 
 Two declarations are the same if they differ only in their own name, in the names of variables, in line breaks, and in the words before
 the name (`pub`, `abbrev`, `unfoldable`). A name of at most two letters, with primes or digits below the line, counts as a variable. Short
-declarations do not count, nor do the proofs of functions (proofs/**/Proof.antt), whose needs are named by the code.
+declarations do not count, nor do the proofs of functions (Proof.antt, Answers.antt and Invariants.antt), whose goals are named by the
+code.
 """
 
 import collections
@@ -17,7 +18,8 @@ from crate_files import antt
 
 SIGNATURE = re.compile(r"^(?P<indent> *)(?:(?:unfoldable|abbrev|pub) )*(?P<name>[^\s:(){}]+) :(?: .*)?$")
 WORD = re.compile(r"[^\s(){}.,;]+|[(){}.,;]")
-VARIABLE = re.compile(r"[A-Za-z][a-z]?[′″₀-₉]*")
+VARIABLE = re.compile(r"[A-Za-z][a-z]?['′″₀-₉]*")
+OF_FUNCTIONS = ("Proof.antt", "Answers.antt", "Invariants.antt")
 MODIFIERS = ("unfoldable", "abbrev", "pub")
 SHORTEST = 69
 
@@ -51,7 +53,7 @@ def shape(name, text):
 def repeated_laws(root):
     places = collections.defaultdict(list)
     for path in sorted(root.glob("crates/*/specs/**/*.antt")) + sorted(root.glob("crates/*/proofs/**/*.antt")):
-        if path.name != "Proof.antt":
+        if path.name not in OF_FUNCTIONS:
             for name, text in declarations(antt(path)):
                 places[shape(name, text)].append(f"{name} ({path.relative_to(root)})")
     for said, names in places.items():

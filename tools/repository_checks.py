@@ -2,14 +2,16 @@
 """The gate's own checks of the repository. They check what `rt ci` does not.
 
     tools/repository_checks.py source         before rt ci: the crates, the contracts, the theorems
-    tools/repository_checks.py products LINE  after rt ci, with its last line: what it counted, the logs of the must-fail edits
-    tools/repository_checks.py staticlib      after `rt staticlib tilghorz`: the axioms that the library uses
+    tools/repository_checks.py products LINE  after rt ci and `edit_checks.py refuse`, with the last line of rt ci: what it counted, the
+                                              logs of the must-fail edits. It reads target/rt-ci.log, what rt ci printed
+    tools/repository_checks.py staticlib      after tools/static_library.py: the axioms that the library uses
 
 The script prints each fault as a line on standard error, and its exit status is then 1. A check that has nothing to check is
 also a fault.
 
 - crates:     crates.txt lists every folder of crates/, and every library has a must-fail edit.
-- calls of C: no library except message_io uses io, os, libc or a library that uses them. Their contracts are axioms.
+- calls of C: no library except message_io uses io, os, libc, a part of std that calls C, or a library that uses them. Their contracts
+              are axioms. `rt ci` itself refuses os and libc, and code in C.
 - misfits:    every must-fail edit can be applied, and names what must refuse it (edit_checks.py).
 - contracts:  no public function has a `requires`; each has an `ensures`, and every `ensures` is about the outcome.
 - audit:      docs/AUDIT.md has a row for every public function of a library, in the part about its crate, and every must-fail
@@ -19,9 +21,9 @@ also a fault.
 - repeated:   no definition and no law stands twice, under one name or under two (repeated_laws.py).
 - unused:     every law is used (unused_laws.py).
 - lines:      no line of code, definition or proof has more than 140 characters. A constant of bytes may have more.
-- counts:     the last line of rt ci counts every crate and every must-fail edit.
+- counts:     the last line of rt ci counts every crate and every must-fail edit, and its line `rt: ok` has no bad edit.
 - edits:      the place that a must-fail edit names refuses it, because a fact is false there (edit_checks.py).
-- proved:     the log of every crate says that it is proved.
+- proved:     rt ci says of every crate that it proved it, or that an earlier run on this machine proved the same files.
 - axioms:     the static library uses none. The prover counts axioms only for programs and static libraries; the axioms of a
               program are the contracts of the C functions that it calls.
 """
@@ -31,18 +33,24 @@ import re
 import sys
 
 from crate_files import libraries, listed, rattle, uses
-from edit_checks import misfits, must_fail_edits, telling_nothing, wrong_programs
+from edit_checks import CI_LOG, misfits, must_fail_edits, telling_nothing, wrong_programs
 from repeated_laws import repeated_laws
 from theorem_checks import empty_statements, open_statements, other_statements, unknown_names, unproved_statements
 from unused_laws import unused_laws
 
 CLAUSE = re.compile(r"\s*(requires|ensures|ghost)\b[^{]*\{")
+RESULT = re.compile(r"(?:\s*->\s*(?:\[[^]]*\]|[^{;])*?)?(?:\s*\bwhere\b[^{;]*?)?(?=\s*(?:\brequires\b|\bensures\b|\bghost\b|\{|;))")
 PUBLIC_FUNCTION = re.compile(r'\bpub\s+(?:const\s+)?(?:extern\s+"C"\s+)?fn\s+(\w+)')
 # The libraries of the kit that declare or call C functions; the library that may use them; the library that hosts link.
 OF_C = ("io", "libc", "os")
 MAY_CALL_C = ("message_io",)
+# The parts of std whose functions call C.
+STD_OF_C = re.compile(r"\bstd::(?:io|fs|env|process|net|os|thread|time)\b|\bHostRuntime\b")
+TESTS = re.compile(r"^#\[cfg\(test\)\]\n(?:pub )?mod \w+ \{\n.*?^\}\n", re.M | re.S)
 LONGEST_LINE = 140
-STATIC_LIBRARY = "tilghorz"
+# The thin crate that is built as the static library, and what rt lib said of it.
+STATIC_LIBRARY = "tilghorz_c"
+STATIC_LOG = "target/log/tilghorz_c.say"
 RULED_OUT = "## What each contract rules out\n"
 NAMED_EDITS = re.compile(r"\b[Ee]dits?\s+((?:`\w+`(?:\s+of\s+\w+)?(?:,\s+|\s+and\s+)?)+)")
 
@@ -69,6 +77,9 @@ def libraries_that_call_c(root):
         if name in calling and name not in MAY_CALL_C:
             through = ", ".join(sorted(calling & set(named[name])))
             yield f"crates.txt: {name}: the library uses contracts of C functions, through {through}"
+        for path in sorted((root / "crates" / name).glob("src/**/*.rt")) if name not in MAY_CALL_C else ():
+            if found := STD_OF_C.search(TESTS.sub("", rattle(path))):
+                yield f"{path.relative_to(root)}: the library uses contracts of C functions, through {found[0]}"
 
 
 def closing(text, at, opening, closes):
@@ -81,11 +92,22 @@ def closing(text, at, opening, closes):
     raise ValueError("a bracket that nothing closes")
 
 
+def after_generics(text, at):
+    """The index after the type parameters that begin at `at`, if there are any."""
+    if text[at : at + 1] != "<":
+        return at
+    depth = 0
+    for i in range(at, len(text)):
+        depth += (text[i] == "<") - (text[i] == ">" and text[i - 1] not in "-=")
+        if depth == 0:
+            return i + 1
+    raise ValueError("type parameters that nothing closes")
+
+
 def clauses(text, at):
     """The clauses of the function whose name ends at `at`, each with its text, and the text after the clauses."""
-    at = closing(text, text.index("(", at), "(", ")")
-    result = re.compile(r"\s*->\s*(?:\[[^]]*\]|[^{])*?(?=\s*(?:\brequires\b|\bensures\b|\bghost\b|\{|;))").match(text, at)
-    if result:
+    at = closing(text, text.index("(", after_generics(text, at)), "(", ")")
+    if result := RESULT.match(text, at):
         at = result.end()
     found = []
     while clause := CLAUSE.match(text, at):
@@ -97,12 +119,9 @@ def clauses(text, at):
 def says_nothing(ensures):
     """Whether an `ensures` says nothing about the outcome: it names neither the result nor a buffer at the exit, or its two
     sides are the same."""
-    said = re.fullmatch(r"λ (\S+)\. ⌜ (.*) ⌝", ensures, re.S)
-    if not said:
-        return True
-    result, fact = said[1], " ".join(said[2].split())
+    fact = " ".join(ensures.split())
     left, _, right = fact.partition(" ≡ ")
-    return left == right or not re.search(rf"(?<![^\s(){{}};,]){re.escape(result)}(?![^\s(){{}};,])|\.exit\b", fact)
+    return left == right or not re.search(r"(?<![\w.])result(?!\w)|\w\.new\b", fact)
 
 
 def public_functions(root, name):
@@ -153,35 +172,41 @@ def unaudited_functions(root):
                 yield f"docs/AUDIT.md: there is no must-fail edit {edit}"
 
 
+def ci_log(root):
+    """What rt ci printed."""
+    path = root / CI_LOG
+    return path.read_text(encoding="utf-8", errors="replace") if path.is_file() else ""
+
+
 def miscounted(root, last_line):
     wanted = f"{len(listed(root)) + len(must_fail_edits(root))} passed, 0 failed"
     if last_line != wanted:
         yield f"rt ci: its last line is `{last_line}`; with all crates and must-fail edits it is `{wanted}`"
-
-
-def verdict(root, name):
-    """The last verdict in the log of a crate, or an empty text."""
-    said = root / "target" / "log" / f"{name}.say"
-    found = re.findall(r"^logic=.*$", said.read_text(encoding="utf-8", errors="replace"), re.M) if said.is_file() else []
-    return found[-1] if found else ""
+    passed = re.findall(r"^rt: ok\b.*$", ci_log(root), re.M)
+    edits = f"must-fail edits: {len(must_fail_edits(root))} refused"
+    if len(passed) != 1 or not re.search(rf"; {edits}(?:, \d+ of them only by a limit)?;", passed[0]):
+        yield f"rt ci: its line `rt: ok` is `{' / '.join(passed)}`; with all must-fail edits it has `{edits}`"
 
 
 def unproved_crates(root):
+    said = ci_log(root)
     for name in listed(root):
-        if not verdict(root, name).startswith("logic=proved "):
+        if not re.search(rf"^rt: {name} (?:proved$|is kept: )", said, re.M):
             yield f"crates/{name}: no log says that it is proved"
 
 
 def rests_on_axioms(root):
-    said = verdict(root, STATIC_LIBRARY)
-    if not said.startswith("logic=proved ") or " target=" not in said:
-        yield f"{STATIC_LIBRARY}: its log does not say that it is a proved static library: {said}"
-    elif re.search(r"\b(axioms|foreign)=", said):
-        yield f"{STATIC_LIBRARY}: the static library uses an axiom: {said}"
+    path = root / STATIC_LOG
+    said = path.read_text(encoding="utf-8", errors="replace") if path.is_file() else ""
+    verdict = (re.findall(r"^logic=.*$", said, re.M) or [""])[-1]
+    if not verdict.startswith("logic=proved ") or " target=" not in verdict:
+        yield f"{STATIC_LIBRARY}: its log does not say that it is a proved static library: {verdict}"
+    elif found := re.search(r"\b(axioms|foreign)=.*", verdict) or re.search(r"^axioms \w+: (?!none reached).*$", said, re.M):
+        yield f"{STATIC_LIBRARY}: the static library uses an axiom: {found[0]}"
 
 
 def long_lines(root):
-    for path in sorted((root / "crates").glob("**/*")):
+    for path in sorted(path for part in ("src", "specs", "proofs") for path in root.glob(f"crates/*/{part}/**/*")):
         if path.suffix not in (".rt", ".antt") or not path.is_file():
             continue
         for number, line in enumerate(path.read_text(encoding="utf-8").splitlines(), 1):

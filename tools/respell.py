@@ -6,7 +6,7 @@ usage: respell.py [--dry]        at the top of the repository, once, after port.
 The rule: types, facts (what has a type `Type 0`) and modules are in upper camel case, everything else in snake case. A dash stays only
 where it joins the names of two definitions (`length-drop`), as in the toolchain's own library. Names from the source, and names that the
 checker makes (goals, steps, fields of `c`), keep their spelling. Where two names would become one, the lemma gets `_lem`.
-The crate `emoji` becomes `emoji`, since the toolchain has a library of that name.
+The crate `unicode` becomes `emoji`, since the toolchain has a library of that name.
 It turns specs/, proofs/, the clauses and `ghost use` lines of src/, the texts of must-fail edits, and names in backquotes in README.md and
 docs/. It prints each name that it turns; names that it leaves because they would clash are printed with "left:".
 """
@@ -14,6 +14,7 @@ docs/. It prints each name that it turns; names that it leaves because they woul
 import collections
 import pathlib
 import re
+import shutil
 import sys
 
 # Names whose new spelling another name has, and which no rule can tell apart well: a record's field or a constructor is no lemma.
@@ -173,6 +174,9 @@ def rename_crate(root, old, new):
     path = root / "crates.txt"
     path.write_text(re.sub(rf"\b{old}\b", new, path.read_text(encoding="utf-8")), encoding="utf-8")
     for path in [*texts(root), *(root / "tools").glob("*.py"), root / ".ci" / "run"]:
+        # This script names the old crate too.
+        if path.stem in ("respell", "test_respell"):
+            continue
         text = out = path.read_text(encoding="utf-8")
         out = re.sub(rf"\bRattle([.\u00b7]){old}\b", rf"Rattle\1{new}", out)
         out = re.sub(rf"\bcrates/{old}\b", f"crates/{new}", out)
@@ -190,9 +194,9 @@ def main():
     dry = "--dry" in sys.argv
     root = pathlib.Path(".").resolve()
     # The toolchain has a library of that name.
-    if not dry and (root / "crates" / "emoji").is_dir():
+    if not dry and (root / "crates" / "unicode").is_dir():
         rename_crate(root, "unicode", "emoji")
-    kit = pathlib.Path("/opt/rattle/rattle")
+    kit = pathlib.Path(shutil.which("rt") or "rt").resolve().parent.parent / "rattle"
     kinds, where, fields = {}, collections.defaultdict(set), set()
     goals = collections.defaultdict(set)
     for path in texts(root):

@@ -11,7 +11,7 @@ class CrateFiles(unittest.TestCase):
     def test_uses(self):
         with tempfile.TemporaryDirectory() as folder:
             root = pathlib.Path(folder)
-            (root / "crates.txt").write_text("# NAME: its uses\none:\ntwo: one io # more: words\n", encoding="utf-8")
+            (root / "crates.txt").write_text("# NAME: its uses\none:\ntwo staticlib: one io # more: words\n", encoding="utf-8")
             (root / "crates/one/src").mkdir(parents=True)
             (root / "crates/one/src/lib.rt").write_text("", encoding="utf-8")
             self.assertEqual(crate_files.uses(root), {"one": [], "two": ["one", "io"]})

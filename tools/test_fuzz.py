@@ -109,21 +109,23 @@ class Fuzz(unittest.TestCase):
             self.assertRegex(printed.getvalue(), rf"\A{found}\Z")
             self.assertEqual(len(list(self.folder.glob("found-*"))), status)
 
-    def test_the_links_to_a_kit_have_another_clang(self):
-        kit, place = self.folder / "kit-of-rt", pathlib.Path("on", fuzz.platform.machine(), "toolchain", "bin")
-        (kit / place).mkdir(parents=True)
+    def test_the_links_to_a_toolchain_have_another_clang(self):
+        kit = self.folder / "kit-of-rt"
+        place = kit / "toolchain" / "bin"
+        place.mkdir(parents=True)
         saved = self.folder / "saved.bc"
         with mock.patch.object(fuzz, "FOLDER", self.folder):
-            self.assertIsNone(fuzz.kit_with_own_clang(kit, saved))
+            self.assertIsNone(fuzz.toolchain_with_own_clang(kit, saved))
             for name in ("clang", "ld.lld"):
-                (kit / place / name).write_text(f'#!/bin/sh\necho {name} "$@"\n')
-                (kit / place / name).chmod(0o755)
-            (kit / "KIT-ID").write_text("a kit\n")
-            folder = fuzz.kit_with_own_clang(kit, saved)
-        self.assertEqual((folder / "KIT-ID").read_text(), "a kit\n")
-        self.assertTrue((folder / place / "ld.lld").is_symlink())
+                (place / name).write_text(f'#!/bin/sh\necho {name} "$@"\n')
+                (place / name).chmod(0o755)
+            (place.parent / "lib").mkdir()
+            (place.parent / "lib" / "crt1.o").write_text("code\n")
+            folder = fuzz.toolchain_with_own_clang(kit, saved)
+        self.assertEqual((folder / "lib" / "crt1.o").read_text(), "code\n")
+        self.assertTrue((folder / "bin" / "ld.lld").is_symlink())
         (self.folder / "module.bc").write_bytes(b"code")
-        words = [folder / place / "clang", "-c", "module.bc"]
+        words = [folder / "bin" / "clang", "-c", "module.bc"]
         printed = subprocess.run(words, cwd=self.folder, capture_output=True, text=True, check=True)
         self.assertEqual((printed.stdout, saved.read_bytes()), ("clang -c module.bc\n", b"code"))
 

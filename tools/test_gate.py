@@ -14,13 +14,16 @@ PROGRAM = """#!/bin/sh
 call="$(basename "$0") $*"
 echo "$call" >> "$GATE/calls"
 [ "$call" != "$(cat "$GATE/failing")" ] || exit 9
-[ -z "${TILGHORZ_LIBRARY:-}" ] || exit 9
-case "$(basename "$0") $1" in
+[ "${TILGHORZ_LIBRARY:-target/staticlib}" = target/staticlib ] || exit 9
+case "$call" in
     "rt version") cat "$GATE/kit" ;;
-    "rt ci") echo proved; cat "$GATE/last" ;;
+    "rt ci") echo proved; cat "$GATE/ok" "$GATE/last" ;;
     "tilghorz format" | "tilghorz report") cat ;;
 esac
 """
+
+
+OK = "rt: ok; handles allowed: none; must-fail edits: 2 refused; every proof and must-fail edit was done in this run\n"
 
 
 class Gate(unittest.TestCase):
@@ -29,8 +32,10 @@ class Gate(unittest.TestCase):
         folder = tempfile.mkdtemp()
         self.addCleanup(shutil.rmtree, folder, ignore_errors=True)
         self.root = pathlib.Path(folder, "repository")
-        for name in (".ci", "bin", "tools", "host", "crates/format", "crates/report", "evfmt/src"):
+        table = "crates/findings_table/out"
+        for name in (".ci", "bin", "tools", "host", "crates/format", "crates/report", table, "evfmt/src"):
             (self.root / name).mkdir(parents=True)
+        (self.root / table / "findings_table").write_text("a program\n", encoding="utf-8")
         shutil.copy(ROOT / ".ci" / "run", self.root / ".ci" / "run")
         (self.root / "tools" / "kits.txt").write_text("# kits\na kit logic 1\nanother kit logic 2\n", encoding="utf-8")
         for name in ("bin/rt", "bin/cargo", "bin/cargo-clippy", "bin/cargo-fmt", "bin/python3", "tilghorz"):
@@ -40,9 +45,9 @@ class Gate(unittest.TestCase):
             for file in ("stdin", "stdout"):
                 (self.root / "crates" / name / file).write_text("a text\n", encoding="utf-8")
 
-    def run_gate(self, last="3 passed, 0 failed\n", failing="", kit="a kit logic 1\n", **variables):
+    def run_gate(self, last="3 passed, 0 failed\n", failing="", kit="a kit logic 1\n", ok=OK, **variables):
         """The status, the lines of standard output, and the calls."""
-        for name, text in (("calls", ""), ("last", last), ("failing", failing), ("kit", kit)):
+        for name, text in (("calls", ""), ("last", last), ("failing", failing), ("kit", kit), ("ok", ok)):
             (self.root / name).write_text(text, encoding="utf-8")
         path = f"{self.root / 'bin'}{os.pathsep}{os.environ['PATH']}"
         variables = {"PATH": path, "GATE": str(self.root), "EVFMT_SRC": str(self.root), **variables}
@@ -53,6 +58,8 @@ class Gate(unittest.TestCase):
         status, lines, calls = self.run_gate(TILGHORZ_LIBRARY="elsewhere")
         self.assertEqual((status, lines[-1]), (0, "3 passed, 0 failed"))
         self.assertIn("python3 tools/repository_checks.py products 3 passed, 0 failed", calls)
+        self.assertLess(calls.index("rt ci"), calls.index("python3 tools/edit_checks.py refuse"))
+        self.assertEqual((self.root / "target" / "rt-ci.log").read_text(encoding="utf-8"), f"proved\n{OK}3 passed, 0 failed\n")
         self.assertGreater(len(calls), 25)
         self.assertFalse(any("SKIPPED" in line for line in lines))
 
@@ -71,6 +78,12 @@ class Gate(unittest.TestCase):
             with self.subTest(last):
                 self.assertNotEqual(self.run_gate(last)[0], 0)
 
+    def test_bad_edits_and_no_line_that_counts_them(self):
+        """rt ci itself passes where an edit is bad."""
+        for ok in ("", "rt: FAILED: one\n", OK.replace("refused;", "refused, 1 bad;"), OK.replace("refused;", "refused, 12 bad;")):
+            with self.subTest(ok):
+                self.assertNotEqual(self.run_gate(ok=ok)[0], 0)
+
     def test_other_output_of_a_program(self):
         (self.root / "crates" / "report" / "stdout").write_text("another text\n", encoding="utf-8")
         self.assertNotEqual(self.run_gate()[0], 0)
@@ -84,7 +97,8 @@ class Gate(unittest.TestCase):
 
     def test_static_library_is_looked_at(self):
         _, _, calls = self.run_gate()
-        self.assertLess(calls.index("rt staticlib tilghorz"), calls.index("python3 tools/repository_checks.py staticlib"))
+        made = calls.index("python3 tools/static_library.py after-ci")
+        self.assertLess(made, calls.index("python3 tools/repository_checks.py staticlib"))
 
     def test_without_the_crate(self):
         status, lines, calls = self.run_gate(EVFMT_SRC="nowhere")

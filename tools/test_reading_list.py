@@ -23,15 +23,15 @@ pub enum Answer {
 // A number.
 #[inline]
 pub fn number(answer: Answer) -> usize
-    ensures { λ r. ⌜ r ≡ numberOf answer ⌝ }
+    ensures { result ≡ numberOf answer }
 {
     0
 }
 """,
     "crates/base/specs/Answers.antt": """-- Answers.
-use mathlib.Core.List.{List}
-use Rattle·base·specs.specs.declared.Answer.{Answer}
-use Rattle·base·specs.specs.declared.Answer.the-variants.{
+use Rattle.std.specs.Prelude.{List}
+use Rattle.base.specs.declared.Answer.{Answer}
+use Rattle.base.specs.declared.Answer.TheVariants.{
   Done,
   Refused,
 }
@@ -50,26 +50,26 @@ abbrev pub helper : ℕ → ℕ
 helper limit = limit
 """,
     "crates/items/src/lib.rt": """use base::Answer;
-ghost use Rattle·base.specs.Answers.{numberOf};
-ghost use Rattle·items·specs.specs.Automaton.{states};
+ghost use Rattle.base.specs.Answers.{numberOf};
+ghost use Rattle.items.specs.Automaton.{states};
 
 // The answer that it is given.
 pub fn answer(given: Answer) -> usize
-    ensures { λ r. ⌜ r ≡ numberOf given ⌝ }
+    ensures { result ≡ numberOf given }
 {
     base::number(given)
 }
 
 // A number of states.
 pub(crate) fn states() -> usize
-    ensures { λ r. ⌜ r ≡ states ⌝ }
+    ensures { result ≡ states }
 {
     7
 }
 """,
     "crates/items/specs/Items.antt": """-- Items.
-use Rattle·base.specs.Answers.{limit, numberOf}
-use Rattle·items·specs.specs.Automaton.{states as all-states, _⊕_}
+use Rattle.base.specs.Answers.{limit, numberOf}
+use Rattle.items.specs.Automaton.{states as all-states, ◌⊕◌}
 
 -- An item.
 pub record Item : Type 0 where
@@ -79,14 +79,14 @@ pub record Item : Type 0 where
 module _ (n : ℕ) where
   -- The number of items.
   abbrev pub count : Item → (limit : ℕ) → ℕ
-  count x limit = all-states ⊕ x .helper
+  count x limit = all-states ⊕ x.helper
 """,
     "crates/items/specs/Automaton.antt": """-- The automaton.
 unfoldable pub states : ℕ
 states = 7
 
-infixl 65 _⊕_
-abbrev pub _⊕_ : ℕ → ℕ → ℕ
+infixl 65 ◌⊕◌
+abbrev pub ◌⊕◌ : ℕ → ℕ → ℕ
 m ⊕ n = m
 """,
     "docs/AUDIT.md": """# Audit
@@ -108,7 +108,7 @@ Not to be read:
 
 | file | what need not be read | why |
 |---|---|---|
-| crates/items/specs/Automaton.antt | `states`, `_⊕_` | a theorem says it |
+| crates/items/specs/Automaton.antt | `states`, `◌⊕◌` | a theorem says it |
 
 ### Two
 
@@ -193,9 +193,9 @@ class ReadingList(unittest.TestCase):
         self.finds("number uses Answer of crates/base/src/lib.rt, which is in no table", AUDIT, "`Answer` | 4", "`number` | 3")
         self.finds("numberOf uses limit of crates/base/specs/Answers.antt, which is in no table", AUDIT, ", `limit`", "")
         self.finds("count uses states of crates/items/specs/Automaton.antt, which is in no table", AUDIT, "`states`, ", "")
-        self.finds("count uses _⊕_ of crates/items/specs/Automaton.antt, which is in no table", AUDIT, ", `_⊕_`", "")
+        self.finds("count uses ◌⊕◌ of crates/items/specs/Automaton.antt, which is in no table", AUDIT, ", `◌⊕◌`", "")
         self.finds("answer uses numberOf of crates/base/specs/Answers.antt, which is in no table", AUDIT, "`numberOf`, ", "")
-        self.finds("states uses states of crates/items/specs/Automaton.antt, which is in no table", AUDIT, "`states`, `_⊕_`", "`_⊕_`")
+        self.finds("states uses states of crates/items/specs/Automaton.antt, which is in no table", AUDIT, "`states`, `◌⊕◌`", "`◌⊕◌`")
 
     def test_order(self):
         row = "| crates/base/src/lib.rt | `Answer` | 4 | the answers |\n"

@@ -7,7 +7,7 @@ import unittest
 from repeated_laws import repeated_laws
 
 LAW = """-- Words that are made from a test.
-use lib.ListN.{length}
+use Rattle.std.specs.Prelude.{length}
 
 pub words-many : (m : ℕ) (p : ℕ → Bool) → length (wordsOf m p) ≡ m
 unfolding wordsOf
@@ -15,11 +15,11 @@ words-many zero p = refl
 words-many (suc m) p = ap suc (words-many m (λ (i : ℕ). p (64 + i)))
 """
 SAME = """module _ (x : ℕ) where
-  words-length : (n : ℕ) (q′ : ℕ → Bool) → length (wordsOf n q′) ≡ n
+  words-length : (n : ℕ) (q' : ℕ → Bool) → length (wordsOf n q') ≡ n
   unfolding wordsOf
-  words-length zero q′ = refl
-  words-length (suc n) q′ =
-      ap suc (words-length n (λ (k : ℕ). q′ (64 + k)))
+  words-length zero q' = refl
+  words-length (suc n) q' =
+      ap suc (words-length n (λ (k : ℕ). q' (64 + k)))
 """
 
 
@@ -37,7 +37,7 @@ class Checks(unittest.TestCase):
         self.assertEqual(self.findings(SAME), [f"the same declaration stands more than once: {said}"])
 
     def test_other_laws(self):
-        for old, new in (("64", "63"), ("q′ : ℕ → Bool", "q′ : Bool → ℕ"), ("= refl", "= cc"), ("wordsOf", "bytesOf")):
+        for old, new in (("64", "63"), ("q' : ℕ → Bool", "q' : Bool → ℕ"), ("= refl", "= cc"), ("wordsOf", "bytesOf")):
             self.assertEqual(self.findings(SAME.replace(old, new)), [])
         self.assertEqual(self.findings(SAME.replace("(64 + k)", "(64 + n)")), [])
 
@@ -47,7 +47,8 @@ class Checks(unittest.TestCase):
         self.assertEqual(self.findings(f"pub record R : Type 0 where\n{clause}\npub record S : Type 0 where\n{clause}"), [])
 
     def test_proof_of_a_function(self):
-        self.assertEqual(self.findings(SAME, "crates/two/proofs/put/Proof.antt"), [])
+        for name in ("Proof", "Answers", "Invariants"):
+            self.assertEqual(self.findings(SAME, f"crates/two/proofs/put/{name}.antt"), [])
 
 
 if __name__ == "__main__":

@@ -14,27 +14,27 @@ SOUND = {
     "crates/one/src/lib.rt": """
 // pub fn in_a_comment(x: u8) -> u8 { x }
 pub fn same(x: u8) -> u8
-    ensures { λ r. ⌜ r ≡ x ⌝ }
+    ensures { result ≡ x }
 {
     x
 }
 
 pub fn twice(x: u8) -> [u8; 2]
-    ensures { λ r. ⌜ r ≡ x ∷ x ∷ [] ⌝ }
+    ensures { result ≡ x ∷ x ∷ [] }
 {
     [x, x]
 }
 
 fn private(x: u8) -> u8
-    requires { ⌜ x < 3 ⌝ }
+    requires { x < 3 }
 {
     x + 1
 }
 
 impl Thing {
     pub fn part<'a>(self, s: &'a [u8; 4], at: usize) -> &'a [u8]
-        ensures first { λ r. ⌜ f (record { at = at }) ≡ r ⌝ }
-        ensures second { λ _. ⌜ now (s .exit) ≡ now (s .entry) ⌝ }
+        ensures first { f (record { at = at }) ≡ result }
+        ensures second { s.new ≡ s.old }
     {
         &s[..]
     }
@@ -44,9 +44,9 @@ impl Thing {
     "crates/one/specs/Claimed.antt": "pub record ListClaim (x : ℕ) : Type 0 where\n  pub all : f x ≡ x\n\n"
     "pub record FormattedClaim (x : ℕ) : Type 0 where\n  pub all : f x ≡ x\n",
     "crates/one/proofs/Lib.antt": "pub mod Claims\n",
-    "crates/one/proofs/Claims.antt": "use Rattle·one·specs.specs.Theorems.{Same}\n\npub same : Same\nsame = refl\n",
+    "crates/one/proofs/Claims.antt": "use Rattle.one.specs.Theorems.{Same}\n\npub same : Same\nsame = refl\n",
     "crates/one/must-fail/wrong.edit": "refused by: twice: returns\nfile: src/lib.rt\nold: [x, x]\nnew: [x, 0]\n",
-    "crates/message_io/src/lib.rt": "pub fn get() -> u8 ensures { λ r. ⌜ r ≡ 0 ⌝ } { 0 }\n",
+    "crates/message_io/src/lib.rt": "pub fn get() -> u8 ensures { result ≡ 0 } { 0 }\n",
     "crates/message_io/must-fail/one.edit": "refused by: get: returns\nfile: src/lib.rt\nold: { 0 }\nnew: { 1 }\n",
     "crates/two/src/main.rt": "fn main() {}\n",
     "docs/DECISIONS.md": "A theorem is as `Same`.\n",
@@ -82,13 +82,13 @@ Excludes: another letter (edit
 |---|---|
 | `get` | edit `one` |
 """,
-    "target/must-fail/one/wrong/.log": "/r/target/must-fail/one/wrong/proofs/twice/Proof.antt:1:2: error: "
-    "`returns`: the two types differ\n",
-    "target/log/one.say": "fn one::same: proved\nlogic=proved functions=2 sum=0\n",
-    "target/must-fail/message_io/one/.log": "note: /r/src/lib.rt:1:1: it is not proved that (`returns`)\n"
-    "fn message_io::get: no proof: expected `get-spec` in F; `search` does not close `returns`\n",
-    "target/log/message_io.say": "logic=proved functions=1 sum=0\n",
-    "target/log/two.say": "logic=proved functions=1 sum=0 axioms=2\n",
+    "target/edits/one/wrong.log": "./proofs/twice/Answers.antt:1:2: error: `returns`: the two types differ\n",
+    "target/edits/message_io/one.log": "note: src/lib.rt:1:1: it is not proved that (`returns`)\n"
+    "fn message_io::get: no proof: expected answers in ./proofs/get/Answers.antt; `search` did not prove `returns`\n",
+    "target/rt-ci.log": "rt: one proved\nrt: message_io is kept: an earlier run on this machine proved the same files\nrt: two proved\n"
+    "rt: ok; handles allowed: none; must-fail edits: 2 refused; every proof and must-fail edit was done in this run\n5 passed, 0 failed\n",
+    "target/log/tilghorz_c.say": "fn one::same: proved\naxioms libc: none reached of the 128 declared\n"
+    "logic=proved functions=2 target=x86_64 sum=0\n",
 }
 
 
@@ -139,25 +139,25 @@ class Checks(unittest.TestCase):
         self.finds("part: a public function has a `requires`", checks.weak_contracts, lib_rt=("ensures first", "requires first"))
 
     def test_public_without_ensures(self):
-        self.finds("same: a public function has no `ensures`", checks.weak_contracts, lib_rt=("    ensures { λ r. ⌜ r ≡ x ⌝ }\n", ""))
+        self.finds("same: a public function has no `ensures`", checks.weak_contracts, lib_rt=("    ensures { result ≡ x }\n", ""))
 
     def test_public_with_an_empty_ensures(self):
-        for empty in ("r ≡ r", "x ≡ x", "Unit", "f x ≡ x"):
-            self.finds("same: an `ensures` says nothing", checks.weak_contracts, lib_rt=("λ r. ⌜ r ≡ x ⌝", f"λ r. ⌜ {empty} ⌝"))
-        self.finds("part: an `ensures` says nothing", checks.weak_contracts, lib_rt=("now (s .exit)", "now (s .entry)"))
+        for empty in ("result ≡ result", "x ≡ x", "Unit", "f x ≡ x", "x.result ≡ x"):
+            self.finds("same: an `ensures` says nothing", checks.weak_contracts, lib_rt=("result ≡ x }", f"{empty} }}"))
+        self.finds("part: an `ensures` says nothing", checks.weak_contracts, lib_rt=("s.new", "s.now"))
 
     def test_exported_without_ensures(self):
         self.finds(
             "cross: a public function has no `ensures`",
             checks.weak_contracts,
-            lib_rt=("impl Thing {", '#[no_mangle]\npub extern "C" fn cross(x: u64) -> u64 {\n    x\n}\n\nimpl Thing {'),
+            lib_rt=("impl Thing {", '#[unsafe(no_mangle)]\npub extern "C" fn cross(x: u64) -> u64 {\n    x\n}\n\nimpl Thing {'),
         )
 
     def test_ensures_in_a_comment(self):
         self.finds(
             "same: a public function has no `ensures`",
             checks.weak_contracts,
-            lib_rt=("    ensures { λ r. ⌜ r ≡ x ⌝ }\n", "/* /* nested */ ensures { λ r. ⌜ r ≡ x ⌝ } */\n"),
+            lib_rt=("    ensures { result ≡ x }\n", "/* /* nested */ ensures { result ≡ x } */\n"),
         )
 
     def test_clause_that_is_not_known(self):
@@ -189,6 +189,20 @@ class Checks(unittest.TestCase):
         self.assertEqual(self.findings(of("5 passed, 0 failed")), [])
         for line in ("0 passed, 0 failed", "4 passed, 0 failed", "5 passed, 1 failed", ""):
             self.finds("with all crates and must-fail edits it is `5 passed, 0 failed`", of(line))
+        for change in (("rt: ok;", "rt: well;"), ("2 refused;", "1 refused, 1 bad;"), ("2 refused;", "1 refused;")):
+            self.finds("its line `rt: ok` is `", of("5 passed, 0 failed"), rt_ci_log=change)
+
+    def test_library_that_calls_c_through_std(self):
+        words = "one/src/lib.rt: the library uses contracts of C functions, through std::fs"
+        self.finds(words, checks.libraries_that_call_c, lib_rt=("fn private", "use std::fs;\n\nfn private"))
+        test = "#[cfg(test)]\nmod tests {\n    use std::fs;\n}\n\nfn private"
+        self.assertEqual(self.findings(checks.libraries_that_call_c, lib_rt=("fn private", test)), [])
+
+    def test_clauses_after_type_parameters_and_bounds(self):
+        for head in ("fn same<F: Fn(u8) -> u8>(x: F) -> u8", "fn same<T>(x: T) -> Result<u8, Error>\n    where\n        T: Copy,"):
+            self.assertEqual(self.findings(checks.weak_contracts, lib_rt=("fn same(x: u8) -> u8", head)), [])
+            empty = ("fn same(x: u8) -> u8\n    ensures { result ≡ x }", f"{head}\n    ensures {{ x ≡ x }}")
+            self.finds("same: an `ensures` says nothing", checks.weak_contracts, lib_rt=empty)
 
     def test_library_that_calls_c(self):
         words = "one: the library uses contracts of C functions, through libc"
@@ -199,31 +213,22 @@ class Checks(unittest.TestCase):
         self.finds(words, checks.libraries_that_call_c, crates_txt=("one:\nmessage_io: one io", "one: message_io\nmessage_io: io"))
 
     def test_static_library_on_an_axiom(self):
-        sound = "sum=0 target=x86_64 native=nat"
-        self.assertEqual(self.findings(self.of_static_library(), one_say=("sum=0", sound)), [])
+        self.assertEqual(self.findings(checks.rests_on_axioms), [])
         for more in ("axioms=1", "foreign=1"):
-            self.finds("uses an axiom", self.of_static_library(), one_say=("sum=0", f"{more} {sound}"))
+            self.finds("uses an axiom", checks.rests_on_axioms, tilghorz_c_say=("sum=0", f"{more} sum=0"))
+        change = ("none reached of the 128 declared", "libc::write (1 of the 128 declared)")
+        self.finds("uses an axiom: axioms libc: libc::write", checks.rests_on_axioms, tilghorz_c_say=change)
 
     def test_static_library_not_made(self):
-        self.finds("does not say that it is a proved static library", self.of_static_library())
-        self.finds("does not say that it is a proved static library", self.of_static_library(), removed=["target/log/one.say"])
-        change = ("=proved functions=2", "=not-proved target=x")
-        self.finds("does not say that it is a proved static library", self.of_static_library(), one_say=change)
-
-    def of_static_library(self):
-        """The check of the static library, with the crate `one` for it."""
-
-        def check(root):
-            with unittest.mock.patch.object(checks, "STATIC_LIBRARY", "one"):
-                return list(checks.rests_on_axioms(root))
-
-        return check
-
-    def test_crate_not_checked(self):
-        self.finds("crates/two: no log says", checks.unproved_crates, removed=["target/log/two.say"])
+        words = "does not say that it is a proved static library"
+        self.finds(words, checks.rests_on_axioms, removed=["target/log/tilghorz_c.say"])
+        self.finds(words, checks.rests_on_axioms, tilghorz_c_say=("=proved", "=not-proved"))
+        self.finds(words, checks.rests_on_axioms, tilghorz_c_say=(" target=x86_64", ""))
 
     def test_crate_not_proved(self):
-        self.finds("crates/one: no log says", checks.unproved_crates, one_say=("logic=proved", "logic=not-proved"))
+        self.finds("crates/two: no log says", checks.unproved_crates, removed=["target/rt-ci.log"])
+        self.finds("crates/one: no log says", checks.unproved_crates, rt_ci_log=("rt: one proved", "rt: one NOT PROVED"))
+        self.finds("crates/message_io: no log says", checks.unproved_crates, rt_ci_log=("message_io is kept: ", "message_io "))
 
 
 if __name__ == "__main__":

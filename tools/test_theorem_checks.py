@@ -61,8 +61,8 @@ pub data Kind : Type 0 where
     "crates/one/proofs/Lib.antt": "pub mod Claims\n",
     "crates/one/proofs/Laws.antt": "",
     "crates/one/proofs/Claims.antt": """
-use mathlib.Core.Path.{refl}
-use Rattle·one·specs.specs.Theorems.{
+use Rattle.std.proofs.Common.{refl}
+use Rattle.one.specs.Theorems.{
   EveryList,
   Same,
   Whole,
@@ -263,7 +263,7 @@ class Checks(unittest.TestCase):
         self.finds("further hypotheses", checks.unproved_statements, ("Claims.antt", "pub same", "module _ (x : ⊥) where\npub same"))
 
     def test_claim_of_another_statement(self):
-        self.finds("is not imported from", checks.unproved_statements, ("Claims.antt", "specs.specs.Theorems", "specs.specs.Others"))
+        self.finds("is not imported from", checks.unproved_statements, ("Claims.antt", "specs.Theorems", "specs.Others"))
 
     def test_statement_in_section(self):
         change = ("Theorems.antt", "unfoldable pub Same", "  unfoldable pub Same")

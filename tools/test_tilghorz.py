@@ -14,9 +14,10 @@ RT = """#!/bin/sh
 echo "rt: $* in $(pwd)"
 [ -z "$RT_FAILS" ] || { echo why; exit 1; }
 [ -z "$RT_KEEPS" ] || exit 0
-mkdir -p target/bin
-printf '#!/bin/sh\\nexec cat\\n' > "target/bin/$2"
-chmod +x "target/bin/$2"
+name=$(basename "$(pwd)")
+mkdir -p out
+printf '#!/bin/sh\\nexec cat\\n' > "out/$name"
+chmod +x "out/$name"
 """
 
 
@@ -33,17 +34,19 @@ class Tilghorz(unittest.TestCase):
         self.source = self.root / "crates" / "a" / "src" / "lib.rt"
         self.source.parent.mkdir(parents=True)
         self.source.write_text("one\n", encoding="utf-8")
+        for name in ("format", "report"):
+            (self.root / "crates" / name).mkdir()
 
     def program(self, path, text):
         path.parent.mkdir(parents=True, exist_ok=True)
         path.write_text(text, encoding="utf-8")
         path.chmod(0o755)
 
-    def run_it(self, *arguments, path=None, rt_fails="", rt_keeps="", text=b"a text\n", tools=None):
+    def run_it(self, *arguments, path=None, rt_fails="", rt_keeps="", after_ci="", text=b"a text\n", tools=None):
         """The status, standard output and standard error on a text."""
         paths = tools or f"{self.root / 'bin'}{os.pathsep}{os.environ['PATH']}"
         command = [path or self.root / "tilghorz", *arguments]
-        variables = {"PATH": str(paths), "RT_FAILS": rt_fails, "RT_KEEPS": rt_keeps}
+        variables = {"PATH": str(paths), "RT_FAILS": rt_fails, "RT_KEEPS": rt_keeps, "TILGHORZ_AFTER_CI": after_ci}
         ran = subprocess.run(command, input=text, env=variables, capture_output=True, check=False)
         return ran.returncode, ran.stdout, ran.stderr.decode()
 
@@ -57,28 +60,37 @@ class Tilghorz(unittest.TestCase):
 
     def with_program(self, lines):
         """Puts a program in the place of `format`, as if it had been built from these sources."""
-        program = self.root / "target" / "bin" / "format"
-        self.program(program, f"#!/bin/sh\n{lines}\n")
+        (self.root / "target" / "bin" / "format").unlink(missing_ok=True)
+        self.program(self.root / "crates" / "format" / "out" / "format", f"#!/bin/sh\n{lines}\n")
         self.run_it("format", rt_keeps="yes")
 
     def test_it_builds_once_and_runs(self):
         status, out, said = self.run_it("format")
         self.assertEqual((status, out), (0, b"a text\n"))
-        self.assertIn(f"rt: check format in {self.root}\n", said)
+        self.assertIn(f"rt: run in {self.root}/crates/format\n", said)
         self.assertEqual(self.run_it("format"), (0, b"a text\n", ""))
+
+    def test_after_rt_ci_its_program_is_taken(self):
+        self.program(self.root / "crates" / "format" / "out" / "format", "#!/bin/sh\necho as rt ci left it\n")
+        status, out, said = self.run_it("format", after_ci="yes")
+        self.assertEqual((status, out), (0, b"as rt ci left it\n"))
+        self.assertNotIn("rt: ", said)
+        self.assertIn("rt: run in", self.run_it("report", after_ci="yes")[2])
 
     def test_through_a_link_from_elsewhere(self):
         link = self.root.parent / "link"
         link.symlink_to(self.root / "tilghorz")
         status, out, said = self.run_it("report", path=link)
         self.assertEqual((status, out), (0, b"a text\n"))
-        self.assertIn(f"rt: check report in {self.root}\n", said)
+        self.assertIn(f"rt: run in {self.root}/crates/report\n", said)
 
     def test_what_cannot_be_built_or_read_or_written_has_a_status(self):
         status, out, said = self.run_it("format", rt_fails="yes")
         self.assertEqual((status, out), (1, b""))
         self.assertIn("why\ntilghorz: format could not be built\n", said)
         self.with_program("cat\necho 'standard output: full' >&2")
+        self.assertEqual(self.run_it("format"), (1, b"a text\n", "standard output: full\n"))
+        self.with_program("cat\necho 'standard output: full' >&2\nexit 1")
         self.assertEqual(self.run_it("format"), (1, b"a text\n", "standard output: full\n"))
         self.with_program("kill -9 $$")
         self.assertEqual(self.run_it("format"), (137, b"", ""))
@@ -96,7 +108,7 @@ class Tilghorz(unittest.TestCase):
         status, out, said = self.run_it("format")
         self.assertEqual((status, out), (0, b"a text\n"))
         self.assertEqual(self.run_it("format"), (0, b"a text\n", ""))
-        self.assertEqual("rt: check format" in said, said != "")
+        self.assertEqual("rt: run in" in said, said != "")
         return said != ""
 
     def test_a_program_from_other_sources_is_built_anew(self):

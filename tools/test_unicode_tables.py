@@ -93,6 +93,13 @@ class Blocks(unittest.TestCase):
         self.assertEqual(sorted(held), sorted(row[1:] for row in maker.blocks(tables)))
 
 
+class Written(unittest.TestCase):
+    def test_arrays_in_the_layout_of_the_formatter(self):
+        self.assertEqual(maker.constant("A", "u32", [1, 2], 1), ["pub const A: [u32; 2] = [0x1, 0x2];"])
+        self.assertEqual(maker.constant("A", "u32", range(16, 41), 1)[1:3], ["    " + ", ".join(f"0x{n:X}" for n in part) + "," for part in (range(16, 32), range(32, 41))])
+        self.assertEqual(maker.constant("A", "u64", range(5), 16, "N")[:2], ["pub const A: [u64; N] = [", "    0x0000000000000000,"])
+
+
 class Widths(unittest.TestCase):
     def test_the_sets_of_rows(self):
         rows = maker.width_rows("f", "# a\n0300..0301;A;Mn\n0600;N;Cf\n200B;N;Cf\n3099;W;Mn\n4E00..4E01;W;-\nFF01;F;-\n20DD;N;Me\n")

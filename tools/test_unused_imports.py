@@ -13,7 +13,7 @@ class Cleaned(unittest.TestCase):
     def test_names_operators_and_modules(self):
         text = (
             "-- ap stands in a comment only\n"
-            "use a.B.{_≡_, refl, ap, cond}\n"
+            "use a.B.{◌≡◌, refl, ap, cond}\n"
             "use a.C.{\n  Longer,\n  Other,\n}\n"
             "use a.D as D\n"
             "use a.E as E\n"
@@ -22,13 +22,13 @@ class Cleaned(unittest.TestCase):
         )
         made, unused = unused_imports.cleaned(text)
         self.assertEqual(sorted(unused), ["E", "Other", "ap", "cond", "gone"])
-        self.assertIn("use a.B.{_≡_, refl}\n", made)
+        self.assertIn("use a.B.{◌≡◌, refl}\n", made)
         self.assertIn("use a.C.{Longer}\n", made)
         self.assertIn("use a.D as D\n", made)
         self.assertNotIn("a.F", made)
 
     def test_names_in_brackets_and_escapes(self):
-        made, unused = unused_imports.cleaned("use a.B.{f, g, «x_y»}\n\nh = (f) .«x_y» [g]\n")
+        made, unused = unused_imports.cleaned("use a.B.{f, g, «x_y»}\n\nh = (f).«x_y» [g]\n")
         self.assertEqual(unused, [])
 
     def test_a_renamed_name_alone_in_its_import(self):

@@ -3,11 +3,12 @@
 import pathlib
 import tempfile
 import unittest
+import unittest.mock
 
 from unused_laws import unused_laws
 
 SOUND = {
-    "crates/one/src/lib.rt": "ghost use Rattle·one.proofs.Laws.{Shape};\n// by-hand\n",
+    "crates/one/src/lib.rt": "ghost use Rattle.one.proofs.Laws.{Shape};\n// by-hand\n",
     "crates/one/proofs/Laws.antt": """-- A comment about lone.
 use lib.ListN.{length}
 
@@ -27,6 +28,8 @@ module _ (x : ℕ) where
 """,
     "crates/one/proofs/Claims.antt": "pub claim : Claim\nclaim = few\n",
     "crates/one/proofs/put/Proof.antt": "returns : Need\nreturns = search\n",
+    "crates/one/proofs/put/Answers.antt": "returns : goal.returns\nreturns c = search rules\n",
+    "crates/one/proofs/put/Invariants.antt": "invariant-loop : goal.invariant-loop\ninvariant-loop l = l.i ≤ l.n\n",
     "crates/one/specs/Lib.antt": "pub mine : ℕ\nmine = 0\n",
 }
 
@@ -42,6 +45,13 @@ class Checks(unittest.TestCase):
 
     def test_sound(self):
         self.assertEqual(self.findings(), [])
+
+    def test_law_that_a_function_names(self):
+        self.assertEqual(len(self.findings("few = many x", "few = refl")), 1)
+        change = ("// by-hand", "#[tactic(auto, using(crate::proofs::Laws::Shape, crate::proofs::Laws::lone))]")
+        with unittest.mock.patch.dict(SOUND, {"crates/one/proofs/Lone.antt": "pub lone : ℕ\nlone = 0\n"}):
+            self.assertEqual(len(self.findings()), 1)
+            self.assertEqual(self.findings(*change), [])
 
     def test_laws_that_nothing_uses(self):
         where = "crates/one/proofs/Laws.antt: nothing uses"

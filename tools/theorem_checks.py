@@ -3,6 +3,9 @@
 A statement is a definition of specs/ without parameters whose type is `Type N`, or a record without parameters in a file
 Theorems.antt. A claim is a line `pub name : Statement` of proofs/Claims.antt. It is in no section, so it has no further hypothesis.
 docs/AUDIT.md, "The statements", lists every statement by crate, and every clause of the records that the main theorems claim.
+
+The prover checks every file of proofs/: that Lib.antt names it, that it has no hole, and that a claim has the type that it says. It does
+not ask whether a statement of specs/ has a claim at all. That is what is checked here.
 """
 
 import re
@@ -64,7 +67,7 @@ def statements(crate):
     found, faults = {}, []
     for path in sorted(crate.glob("specs/**/*.antt")):
         text = antt(path)
-        module = f"Rattle·{crate.name}·specs." + ".".join(path.relative_to(crate).with_suffix("").parts)
+        module = f"Rattle.{crate.name}." + ".".join(path.relative_to(crate).with_suffix("").parts)
         names = STATEMENT.findall(text)
         if path.name == "Theorems.antt":
             names += CLOSED_RECORD.findall(text)

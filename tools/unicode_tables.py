@@ -10,7 +10,7 @@ The script reads crates/published_data/data/{emoji-data.txt,emoji-variation-sequ
 - crates/emoji/specs/UnicodeData.antt: the same numbers, as the lists that contracts cite;
 - crates/emoji/src/blocks.rt: the emoji and the variation entries as words. Each block of 64 code points is an arm of a `match`;
 - crates/emoji/specs/BlockData.antt: the same words, as lists of blocks;
-- crates/emoji/proofs/blocks/*_block/Proof.antt: the proof for each `match`, with the same lemma for each arm;
+- crates/emoji/proofs/blocks/*_block/Answers.antt: the answers for each `match`, with the same lemma for each arm;
 - crates/policy_key_set/src/named_sets.rt: the words of the named sets, with entry i at bit i % 64 of word i / 64;
 - crates/policy/src/default_policy.rt and crates/policy/specs/DefaultPolicy.antt: the words of the default policy.
 
@@ -24,12 +24,14 @@ import re
 import sys
 
 ROOT = pathlib.Path(__file__).resolve().parent.parent
+# The crate of the tables.
+CRATE = "emoji"
 DATA = ROOT / "crates" / "published_data" / "data"
-SOURCE = ROOT / "crates" / "emoji" / "src" / "unicode_data.rt"
-SPECS = ROOT / "crates" / "emoji" / "specs" / "UnicodeData.antt"
-BLOCKS = ROOT / "crates" / "emoji" / "src" / "blocks.rt"
-BLOCK_SPECS = ROOT / "crates" / "emoji" / "specs" / "BlockData.antt"
-BLOCK_PROOFS = ROOT / "crates" / "emoji" / "proofs" / "blocks"
+SOURCE = ROOT / "crates" / CRATE / "src" / "unicode_data.rt"
+SPECS = ROOT / "crates" / CRATE / "specs" / "UnicodeData.antt"
+BLOCKS = ROOT / "crates" / CRATE / "src" / "blocks.rt"
+BLOCK_SPECS = ROOT / "crates" / CRATE / "specs" / "BlockData.antt"
+BLOCK_PROOFS = ROOT / "crates" / CRATE / "proofs" / "blocks"
 NAMED_SETS = ROOT / "crates" / "policy_key_set" / "src" / "named_sets.rt"
 DEFAULT_POLICY = ROOT / "crates" / "policy" / "src" / "default_policy.rt"
 DEFAULT_POLICY_SPECS = ROOT / "crates" / "policy" / "specs" / "DefaultPolicy.antt"
@@ -129,23 +131,28 @@ def tables():
     of = properties("emoji-data.txt", texts["emoji-data.txt"])
     entries = variation_entries("emoji-variation-sequences.txt", texts["emoji-variation-sequences.txt"])
     return versions.pop(), [
-        ("EMOJI_RANGES", "emojiRanges", "Emoji", 2, ranges(of["Emoji"])),
-        ("EMOJI_PRESENTATION_RANGES", "emojiPresentationRanges", "Emoji_Presentation", 2, ranges(of["Emoji_Presentation"])),
-        ("EMOJI_MODIFIERS", "emojiModifiers", "Emoji_Modifier", 1, sorted(of["Emoji_Modifier"])),
-        ("EMOJI_MODIFIER_BASES", "emojiModifierBases", "Emoji_Modifier_Base", 1, sorted(of["Emoji_Modifier_Base"])),
-        ("RI_RANGES", "riRanges", "Regional indicators", 2, ranges(REGIONAL_INDICATORS)),
-        ("VARIATION_ENTRIES", "variationEntries", "The entries of emoji-variation-sequences.txt", 1, sorted(entries)),
+        ("EMOJI_RANGES", "emoji_ranges", "Emoji", 2, ranges(of["Emoji"])),
+        ("EMOJI_PRESENTATION_RANGES", "emoji_presentation_ranges", "Emoji_Presentation", 2, ranges(of["Emoji_Presentation"])),
+        ("EMOJI_MODIFIERS", "emoji_modifiers", "Emoji_Modifier", 1, sorted(of["Emoji_Modifier"])),
+        ("EMOJI_MODIFIER_BASES", "emoji_modifier_bases", "Emoji_Modifier_Base", 1, sorted(of["Emoji_Modifier_Base"])),
+        ("RI_RANGES", "ri_ranges", "Regional indicators", 2, ranges(REGIONAL_INDICATORS)),
+        ("VARIATION_ENTRIES", "variation_entries", "The entries of emoji-variation-sequences.txt", 1, sorted(entries)),
     ]
 
 
 def constant(name, kind, numbers, digits, length=None):
-    """A constant array in the layout of rt fmt: a short array on one line, a long one with one number on each line. Its length
-    is the number of its elements, or a name for it."""
+    """A constant array in the layout of rt fmt: on one line, or with as many numbers on a line as fit into 100 columns, or, where a number
+    has more than 10 characters, with one on each line. Its length is the number of its elements, or a name for it."""
     written = [f"0x{n:0{digits}X}" for n in numbers]
     line = f"pub const {name}: [{kind}; {length or len(numbers)}] = [" + ", ".join(written) + "];"
     if len(line) <= 100:
         return [line]
-    return [line[: line.index(" = [") + 4]] + [f"    {n}," for n in written] + ["];"]
+    rows, widest = [""], max(map(len, written))
+    for number in written:
+        if rows[-1] and (widest > 10 or len(rows[-1]) + len(number) + 2 > 97):
+            rows.append("")
+        rows[-1] += f" {number},"
+    return [line[: line.index(" = [") + 4]] + [f"   {row}" for row in rows] + ["];"]
 
 
 def described(what, width, numbers):
@@ -181,12 +188,11 @@ def specs(numbered, tables):
     out = [
         f"-- The tables of Unicode {major}.{minor} as lists: the numbers that document 01, \"Character\", takes from emoji-data.txt and",
         "-- emoji-variation-sequences.txt. tools/unicode_tables.py makes this file from the two data files.",
-        "use mathlib.Core.List.{List, [], _∷_}",
-        "use Prim.Native.Nat.{ℕ, _+_, _*_}",
+        "use Rattle.std.specs.Prelude.{List, [], ◌∷◌, ℕ, ◌+◌, ◌*◌}",
         "",
         "-- Document 02, change (xi): \"the version as major times 256 plus minor\".",
-        "unfoldable pub unicodeVersion : ℕ",
-        f"unicodeVersion = {major} * 256 + {minor}",
+        "unfoldable pub unicode_version : ℕ",
+        f"unicode_version = {major} * 256 + {minor}",
     ]
     for _, name, what, width, numbers in tables:
         out += ["", "-- " + described(what, width, numbers), f"unfoldable pub {name} : List ℕ", f"{name} ="]
@@ -236,14 +242,15 @@ def block_source(numbered, tables):
         f"// The emoji and the variation entries of Unicode {major}.{minor} as bit sets: one `match` arm for each block of 64 code",
         "// points. A `match` is compiled to a table in read-only memory, while reading a constant array copies the array. Each",
         "// function equals the search in a list of specs/BlockData.antt. tools/unicode_tables.py makes this file.",
-        "ghost use mathlib.Core.Path.{_≡_};",
-        "ghost use Rattle·emoji·specs.specs.Blocks.{blockIn};",
-        "ghost use Rattle·emoji·specs.specs.BlockData.{",
-        *[f"  {name}," for name in sorted(["blocks"] + [f"{name}Blocks" for name, *_ in matched(tables)])],
+        "ghost use Rattle.std.specs.Prelude.{◌≡◌};",
+        f"ghost use Rattle.{CRATE}.specs.Blocks.{{block_in}};",
+        f"ghost use Rattle.{CRATE}.specs.BlockData.{{",
+        *[f"  {name}," for name in sorted(["blocks"] + [f"{name}_blocks" for name, *_ in matched(tables)])],
         "};",
         "",
         "// Bit j of `emoji` is 1 if character j of the block is emoji. Bit j of `entries` is 1 if character j is a variation",
         "// entry. `rank` is the number of variation entries before the block.",
+        "#[derive(Clone, Copy)]",
         "pub(crate) struct Block {",
         "    pub(crate) emoji: u64,",
         "    pub(crate) entries: u64,",
@@ -252,7 +259,7 @@ def block_source(numbered, tables):
     ]
     for name, what, given, rows in matched(tables):
         out += ["", f"// Returns one of the {len(rows)} blocks {what}.", f"fn {name}_block({given}: u32) -> Block"]
-        out += [f"    ensures {{ λ r. ⌜ r ≡ blockIn {given} {name}Blocks ⌝ }}", "{", f"    match {given} {{"]
+        out += [f"    ensures {{ result ≡ block_in {given} {name}_blocks }}", "{", f"    match {given} {{"]
         for block, emoji, entries, rank in rows:
             out += [f"        0x{block:X} => Block {{", f"            emoji: 0x{emoji:016X},"]
             out += [f"            entries: 0x{entries:016X},", f"            rank: {rank},", "        },"]
@@ -262,7 +269,7 @@ def block_source(numbered, tables):
         "",
         "// Returns block k. The last `if` only chooses the number to subtract, so that the compiler makes no branch of it.",
         "pub(crate) fn block_of(k: u32) -> Block",
-        "    ensures { λ r. ⌜ r ≡ blockIn k blocks ⌝ }",
+        "    ensures { result ≡ block_in k blocks }",
         "{",
         f"    if k < 0x{FIRST['symbol']:X} {{",
         "        return low_block(k);",
@@ -291,64 +298,57 @@ def block_specs(numbered, tables):
         f"-- The emoji and the variation entries of Unicode {major}.{minor} as bit sets. For each block of 64 code points that has any,",
         "-- a row has the block's number, the bits of its emoji, the bits of its variation entries, and the number of entries before",
         "-- the block. tools/unicode_tables.py makes this file.",
-        "use mathlib.Core.List.{List, [], _∷_, _++_}",
-        "use Prim.Native.Nat.{ℕ, _-_}",
-        "use Rattle·emoji·specs.specs.Blocks.{BlockRow, moved, row}",
+        "use Rattle.std.specs.Prelude.{List, [], ◌∷◌, ◌++◌, ℕ, ◌-◌}",
+        f"use Rattle.{CRATE}.specs.Blocks.{{BlockRow, moved, row}}",
     ]
     for name, what, rows in grouped(tables):
         out += ["", f"-- The {len(rows)} blocks {what}."]
-        out += [f"unfoldable pub {name}Blocks : List BlockRow", f"{name}Blocks ="]
+        out += [f"unfoldable pub {name}_blocks : List BlockRow", f"{name}_blocks ="]
         out += [f"    row 0x{block:X} 0x{emoji:016X} 0x{entries:016X} {rank} ∷" for block, emoji, entries, rank in rows]
         out[-1] += " []"
-    names = [f"{name}Blocks" for name, *_ in BLOCK_GROUPS]
+    names = [f"{name}_blocks" for name, *_ in BLOCK_GROUPS]
     out += ["", "-- All blocks.", "unfoldable pub blocks : List BlockRow"]
     out += ["blocks = " + " ++ (".join(names[:-1]) + f" ++ {names[-1]}" + ")" * (len(names) - 2)]
     out += ["", "-- The first block of each group after the low one."]
     for name, first, _ in BLOCK_GROUPS[1:]:
-        out += [f"abbrev pub {name}First : ℕ", f"{name}First = 0x{first:X}", ""]
+        out += [f"abbrev pub {name}_first : ℕ", f"{name}_first = 0x{first:X}", ""]
     out += [
         "-- The blocks that one `match` of the code holds: the symbols, and after them the pictographs. Each has the number of its arm.",
-        "abbrev pub symbolPlaces : ℕ",
-        "symbolPlaces = middleFirst - symbolFirst",
+        "abbrev pub symbol_places : ℕ",
+        "symbol_places = middle_first - symbol_first",
         "",
-        "abbrev pub pictographMove : ℕ",
-        "pictographMove = pictographFirst - symbolPlaces",
+        "abbrev pub pictograph_move : ℕ",
+        "pictograph_move = pictograph_first - symbol_places",
         "",
-        "unfoldable pub denseBlocks : List BlockRow",
-        "denseBlocks = moved symbolFirst symbolBlocks ++ moved pictographMove pictographBlocks",
+        "unfoldable pub dense_blocks : List BlockRow",
+        "dense_blocks = moved symbol_first symbol_blocks ++ moved pictograph_move pictograph_blocks",
     ]
     return "\n".join(out) + "\n"
 
 
-def block_proof(name):
-    """The function that makes the proof for one `match`: a lemma for each arm, and one for the rest."""
+def block_answers(name):
+    """The function that makes the answers for one `match`: a lemma for each arm, and one for the rest."""
 
     def make(numbered, tables):
         given, rows = next((given, rows) for match, _, given, rows in matched(tables) if match == name)
-        listed = f"{name}Blocks"
-        lists, laws = [listed], ["blockIn", "noBlock"]
+        listed = f"{name}_blocks"
+        lists, laws = [listed], ["block_in", "no_block"]
         if name == "dense":
-            lists, laws = lists + [f"{group}Blocks" for group in sorted(MOVED)], ["blockIn", "moved", "noBlock"]
+            lists, laws = lists + [f"{group}_blocks" for group in sorted(MOVED)], ["block_in", "moved", "no_block"]
         out = [
-            f"-- `unicode::blocks::{name}_block` meets its contract: each arm of the `match` is the row of the list with that number, and",
+            f"-- `{CRATE}::blocks::{name}_block` meets its contract: each arm of the `match` is the row of the list with that number, and",
             "-- the list has no other row. tools/unicode_tables.py makes this file.",
             "use mathlib.Core.Path.{sym}",
-            f"use Rattle·emoji·specs.specs.Blocks.{{{', '.join(laws)}}}",
-            f"use Rattle·emoji·specs.specs.BlockData.{{{', '.join(lists)}}}",
-            "use Rattle·emoji·proofs.proofs.BlockSearch.{in-arm, in-no-arm}",
-            f"use Rattle·emoji·proofs.proofs.blocks.{name}_block.Statement.{{statement}}",
-            f"use Rattle·emoji·proofs.proofs.blocks.{name}_block.Tie as tie",
+            f"use Rattle.{CRATE}.specs.Blocks.{{{', '.join(laws)}}}",
+            f"use Rattle.{CRATE}.specs.BlockData.{{{', '.join(lists)}}}",
+            f"use Rattle.{CRATE}.proofs.BlockSearch.{{in_arm, in_no_arm}}",
+            f"use Rattle.{CRATE}.proofs.blocks.{name}_block.Goals as goal",
         ]
-        out += [
-            "",
-            f"pub {name}-block-spec : {{M : Type 1}} → statement M",
-            f"unfolding {' '.join(laws + lists)}",
-            f"{name}-block-spec =",
-            "    tie.close",
-            "    (tie.spec",
-        ]
-        out += [f"    (λ c. in-arm {listed} (c .match .keys{i}))" for i in range(1, len(rows) + 1)]
-        out += [f"    (λ c. sym (in-no-arm (c .before .args .{given}) {listed} (c .match .rest))))"]
+        answers = [(f"in-{arm}", f"in_arm {listed} c.in-{arm}.is") for arm, *_ in rows]
+        answers.append(("in_default", f"sym (in_no_arm c.args.{given} {listed} c.in_default.in_default-own.rest)"))
+        for step, answer in answers:
+            out += ["", f"pub returns-{step} : goal.returns-{step}", f"unfolding {' '.join(laws + lists)}"]
+            out += [f"returns-{step} c = {answer}"]
         return "\n".join(out) + "\n"
 
     return make
@@ -408,10 +408,10 @@ def default_policy_words(tables):
     its constant, the name of its list, its description and its members; and the variation entries."""
     entries, sets = members(tables)
     return [
-        ("PREFER_BARE_BITS", "preferBare", "`prefer_bare`, ordinary: ASCII and the emoji defaults", sets["ASCII"] | sets["EMOJI_DEFAULT"]),
-        (None, "preferBareKeycap", "`prefer_bare`, keycap: the empty set", set()),
-        (None, "bareAsText", "`bare_as_text`, ordinary: the text defaults", sets["TEXT_DEFAULT"]),
-        (None, "bareAsTextKeycap", "`bare_as_text`, keycap: every entry", sets["ALL"]),
+        ("PREFER_BARE_BITS", "prefer_bare_words", "`prefer_bare`, ordinary: ASCII and the emoji defaults", sets["ASCII"] | sets["EMOJI_DEFAULT"]),
+        (None, "prefer_bare_keycap_words", "`prefer_bare`, keycap: the empty set", set()),
+        (None, "bare_as_text_words", "`bare_as_text`, ordinary: the text defaults", sets["TEXT_DEFAULT"]),
+        (None, "bare_as_text_keycap_words", "`bare_as_text`, keycap: every entry", sets["ALL"]),
     ], entries
 
 
@@ -435,9 +435,8 @@ def default_policy_specs(numbered, tables):
     out = [
         f"-- The words of the default policy, for the tables of Unicode {major}.{minor}. The theorem `DefaultPolicyHolds` says which",
         "-- entries the four sets hold. tools/unicode_tables.py makes this file.",
-        "use mathlib.Core.List.{List, [], _∷_}",
-        "use Prim.Native.Nat.{ℕ}",
-        "use Rattle·policy·specs.specs.declared.Policy.{Policy}",
+        "use Rattle.std.specs.Prelude.{List, [], ◌∷◌, ℕ}",
+        "use Rattle.policy.specs.declared.Policy.{Policy}",
     ]
     for _, name, what, held in sets:
         numbers = [f"0x{w:016X}" for w in words(held, entries)]
@@ -448,10 +447,10 @@ def default_policy_specs(numbered, tables):
     out += [
         "",
         '-- "Reference: Policy::default for the default policy"',
-        "unfoldable pub defaultPolicy : Policy",
-        "defaultPolicy = record {",
-        "  «prefer_bare» = record { chars = record { bits = preferBare }; «keycap_chars» = record { bits = preferBareKeycap } };",
-        "  «bare_as_text» = record { chars = record { bits = bareAsText }; «keycap_chars» = record { bits = bareAsTextKeycap } };",
+        "unfoldable pub default_policy : Policy",
+        "default_policy = record {",
+        "  prefer_bare = record { chars = record { bits = prefer_bare_words }; keycap_chars = record { bits = prefer_bare_keycap_words } };",
+        "  bare_as_text = record { chars = record { bits = bare_as_text_words }; keycap_chars = record { bits = bare_as_text_keycap_words } };",
         "}",
     ]
     return "\n".join(out) + "\n"
@@ -507,7 +506,7 @@ def files():
         (SPECS, specs),
         (BLOCKS, block_source),
         (BLOCK_SPECS, block_specs),
-        *[(BLOCK_PROOFS / f"{name}_block" / "Proof.antt", block_proof(name)) for name, *_ in matched(made[1])],
+        *[(BLOCK_PROOFS / f"{name}_block" / "Answers.antt", block_answers(name)) for name, *_ in matched(made[1])],
         (NAMED_SETS, named_sets),
         (DEFAULT_POLICY, default_policy),
         (DEFAULT_POLICY_SPECS, default_policy_specs),

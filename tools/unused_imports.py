@@ -23,7 +23,7 @@ def tokens(text):
 def parts(name):
     """How a text can use the name: as the name itself, or as the sign of an operator."""
     own = name.split(" as ")[-1].strip()
-    signs = [sign for sign in own.split("_") if sign] if own.startswith("_") or own.endswith("_") else []
+    signs = [sign for sign in own.split("◌") if sign] if "◌" in own else []
     return [own] + ([" ".join(signs)] if len(signs) == 1 else [])
 
 

@@ -4,7 +4,7 @@
     tools/unused_laws.py    prints the laws that nothing uses; status 1 says that there are some
 
 A law is what a file of proofs/ declares, apart from Claims.antt, whose declarations are the claims, and from the proofs of functions
-(Proof.antt). It is used if its name stands anywhere else than in its own signature and at the front of its own clauses. So a law that
+(Proof.antt, Answers.antt and Invariants.antt). It is used if its name stands anywhere else than in its own signature and at the front of its own clauses. So a law that
 only calls itself counts as used, and so does one whose name another law has too.
 """
 
@@ -17,6 +17,7 @@ from crate_files import antt, rattle
 
 SIGNATURE = re.compile(r"^(?P<indent> {0,4})(?:(?:unfoldable|abbrev|pub) )*(?P<name>[^\s:(){}]+) :(?: |$)", re.M)
 WORD = re.compile(r"[^\s(){}.,;@]+")
+NO_LAWS = ("Claims.antt", "Proof.antt", "Answers.antt", "Invariants.antt")
 
 
 def laws(text):
@@ -27,12 +28,15 @@ def laws(text):
 
 
 def unused_laws(root):
-    texts = {path: antt(path) for path in sorted(root.glob("crates/*/*/**/*.antt"))}
+    files = (path for part in ("specs", "proofs") for path in root.glob(f"crates/*/{part}/**/*.antt"))
+    texts = {path: antt(path) for path in sorted(files)}
     words = collections.Counter()
-    for text in (*texts.values(), *(rattle(path) for path in root.glob("crates/*/src/**/*.rt"))):
+    # A function names the laws that its proof needs by their paths, as in `#[tactic(auto, using(crate::proofs::Laws::law))]`.
+    sources = (rattle(path).replace("::", " ") for path in root.glob("crates/*/src/**/*.rt"))
+    for text in (*texts.values(), *sources):
         words.update(WORD.findall(text))
     for path, text in texts.items():
-        if "proofs" in path.relative_to(root).parts[2:3] and path.name not in ("Claims.antt", "Proof.antt"):
+        if "proofs" in path.relative_to(root).parts[2:3] and path.name not in NO_LAWS:
             for name, own in laws(text):
                 if words[name] <= own:
                     yield f"{path.relative_to(root)}: nothing uses {name}"

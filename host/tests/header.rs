@@ -196,7 +196,11 @@ fn the_declarations_agree_with_the_header() {
 
 #[test]
 fn the_source_agrees_with_the_header() {
-    let source = slice_functions("../crates/tilghorz/src/lib.rt", "pub extern \"C\" fn ", "");
+    let source = slice_functions(
+        "../crates/tilghorz_c/src/lib.rt",
+        "pub extern \"C\" fn ",
+        "",
+    );
     assert_eq!(source, header_functions());
 }
 

@@ -1,7 +1,7 @@
 //! Links the proved static library. One that the variable names must be there; without the variable it is the one that
 //! the repository makes. Where that is missing, or was made from other sources or with another kit, it is made now. The
 //! library is then put into cargo's own folder for this package, `OUT_DIR`, and is linked there. So what is linked stays as
-//! it is when `rt` makes its folder `target/` anew. A fault is told to cargo and ends the build.
+//! it is when the library is made anew. A fault is told to cargo and ends the build.
 
 use std::collections::hash_map::DefaultHasher;
 use std::env;
@@ -22,10 +22,16 @@ const FILE: &str = "libtilghorz.a";
 const MADE_FROM: &str = "libtilghorz.a.made-from";
 /// What the sources are, from the repository root.
 const SOURCES: [&str; 2] = ["crates.txt", "crates"];
-/// The command that makes the library, in the repository root. It is proved first, which takes minutes from a fresh clone.
+/// The folder of a crate for what `rt` makes of it. No source is in it.
+const OUT: &str = "out";
+/// The command that makes the library, in the folder of its crate. It is proved first, which takes minutes from a fresh clone.
 const RT: &str = "rt";
-/// Its arguments.
-const MAKE: [&str; 2] = ["staticlib", "tilghorz"];
+/// Its argument.
+const MAKE: &str = "lib";
+/// The folder of the crate, from the repository root.
+const CRATE: &str = "crates/tilghorz_c";
+/// What the command makes there, under the name of the crate.
+const MADE: &str = "out/libtilghorz_c.a";
 
 fn main() {
     println!("cargo::rerun-if-env-changed={VARIABLE}");
@@ -88,10 +94,11 @@ fn library_folder() -> Result<PathBuf, String> {
     }
 }
 
-/// Has cargo run this again when a source or the kit is another.
+/// Has cargo run this again when a source or the kit is another. A folder is watched with all that is in it, and `rt` writes to
+/// the folder `out` of each crate, so what is beside that folder is named.
 fn watch(root: &Path) {
-    for source in SOURCES {
-        println!("cargo::rerun-if-changed={}", root.join(source).display());
+    for source in SOURCES.iter().flat_map(|source| watched(root, source)) {
+        println!("cargo::rerun-if-changed={}", source.display());
     }
     println!("cargo::rerun-if-env-changed=PATH");
     let paths = env::var_os("PATH").unwrap_or_default();
@@ -103,6 +110,22 @@ fn watch(root: &Path) {
     {
         println!("cargo::rerun-if-changed={}", kit.display());
     }
+}
+
+/// A file; or, of the folder of the crates, what each crate has beside its folder `out`.
+fn watched(root: &Path, source: &str) -> Vec<PathBuf> {
+    let inside = |folder: &Path| -> Vec<PathBuf> {
+        let entries = fs::read_dir(folder).into_iter().flatten().flatten();
+        entries.map(|entry| entry.path()).collect()
+    };
+    let path = root.join(source);
+    if !path.is_dir() {
+        return vec![path];
+    }
+    let mut found: Vec<PathBuf> = inside(&path).iter().flat_map(|of| inside(of)).collect();
+    found.retain(|path| path.file_name() != Some(OUT.as_ref()));
+    found.sort();
+    found
 }
 
 /// Makes the library, if it is missing or was made from other sources or with another kit; and says why, if it was there.
@@ -152,7 +175,8 @@ fn noted_kit(noted: &str) -> Option<String> {
     kit.map(str::to_owned)
 }
 
-/// A digest of files and folders: of each file the path, the length and the bytes, in the order of the paths.
+/// A digest of files and folders: of each file the path, the length and the bytes, in the order of the paths. The folder `out` of
+/// a crate is left out.
 fn digest(root: &Path, names: &[&str]) -> io::Result<u64> {
     let mut files = Vec::new();
     let mut left: Vec<PathBuf> = names.iter().map(PathBuf::from).collect();
@@ -163,7 +187,10 @@ fn digest(root: &Path, names: &[&str]) -> io::Result<u64> {
             continue;
         }
         for entry in fs::read_dir(path)? {
-            left.push(name.join(entry?.file_name()));
+            let entry = name.join(entry?.file_name());
+            if entry.components().count() != 3 || !entry.ends_with(OUT) {
+                left.push(entry);
+            }
         }
     }
     files.sort();
@@ -214,9 +241,11 @@ fn repository_root() -> Option<PathBuf> {
 
 /// Makes the library, which is not as it is to be for this reason.
 fn make(root: &Path, rt: &Path, why: &str) -> Result<(), String> {
-    let command = format!("{RT} {}", MAKE.join(" "));
+    let command = format!("{RT} {MAKE} in {CRATE}");
     let mut make = Command::new(rt);
-    make.args(MAKE).current_dir(root).stdin(Stdio::null());
+    make.arg(MAKE)
+        .current_dir(root.join(CRATE))
+        .stdin(Stdio::null());
     let output = make.output().map_err(|error| {
         format!(
             "{MADE_HERE}/{FILE} {why}, and the command that makes it, {command}, cannot be run: {error}\n\
@@ -231,10 +260,13 @@ fn make(root: &Path, rt: &Path, why: &str) -> Result<(), String> {
             last_lines(&output)
         ));
     }
-    if !root.join(MADE_HERE).join(FILE).is_file() {
-        return Err(format!("{command} did not make {MADE_HERE}/{FILE}"));
+    let (library, here) = (root.join(CRATE).join(MADE), root.join(MADE_HERE));
+    if !library.is_file() {
+        return Err(format!("{command} did not make {CRATE}/{MADE}"));
     }
-    Ok(())
+    let copied = fs::create_dir_all(&here).and_then(|()| fs::copy(library, here.join(FILE)));
+    let fault = |error| format!("{CRATE}/{MADE} to {MADE_HERE}/{FILE}: {error}");
+    copied.map(|_| ()).map_err(fault)
 }
 
 /// The last lines that a command wrote.

@@ -1,6 +1,6 @@
 //! Runs the linked library beside the crate evfmt and an independent reading of document 01.
 //!
-//! In `host/`, after `rt staticlib tilghorz` in the repository root:
+//! In `host/`, after `python3 tools/static_library.py` in the repository root:
 //!
 //! ```text
 //! cargo run --offline --release --package compare                             # about two minutes

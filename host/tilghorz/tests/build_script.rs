@@ -49,14 +49,15 @@ impl Repository {
         let new = Self(root);
         new.write("crates.txt", "a\n");
         new.write("crates/a/src/lib.rt", "one\n");
+        new.write("crates/tilghorz_c/src/lib.rt", "one\n");
         new.write("KIT-ID", "kit 1\n");
         let lines = "#!/bin/sh
 [ \"$1\" != version ] || exec cat \"$(dirname \"$0\")/KIT-ID\"
-[ \"$*\" = 'staticlib tilghorz' ] || exit 2
-[ ! -e fails ] || { echo why; exit 1; }
-mkdir -p target/staticlib
-echo >> made
-cat made > target/staticlib/libtilghorz.a
+[ \"$* $(basename \"$PWD\")\" = 'lib tilghorz_c' ] || exit 2
+[ ! -e ../../fails ] || { echo why; exit 1; }
+mkdir -p out
+echo >> ../../made
+cat ../../made > out/libtilghorz_c.a
 ";
         new.write("rt", lines);
         fs::set_permissions(new.0.join("rt"), Permissions::from_mode(0o755)).expect("set");
@@ -98,6 +99,9 @@ fn a_library_from_other_sources_is_made_anew() {
     assert_eq!((repository.made(), repository.made()), (2, 2));
     repository.write("crates/a/specs/New.antt", "");
     assert_eq!((repository.made(), repository.made()), (3, 3));
+    // What rt makes of a crate is no source.
+    repository.write("crates/a/out/rlib/new", "");
+    assert_eq!(repository.made(), 3);
     let moved = fs::rename(
         repository.0.join("crates/a/specs/New.antt"),
         repository.0.join("crates/a/specs/Other.antt"),

@@ -1,7 +1,7 @@
 //! Makes calls of the linked library on slices of every small length, exactly full and one byte off, at every
 //! alignment, and compares all that they do.
 //!
-//! In `host/`, after `rt staticlib tilghorz` in the repository root:
+//! In `host/`, after `python3 tools/static_library.py` in the repository root:
 //!
 //! ```text
 //! cargo run --offline --release --package compare --bin boundary                # some seconds

@@ -1,6 +1,6 @@
 //! Measures the linked library beside the crate evfmt, in one process and on the same texts.
 //!
-//! In `host/`, after `rt staticlib tilghorz` in the repository root:
+//! In `host/`, after `python3 tools/static_library.py` in the repository root:
 //!
 //! ```text
 //! cargo run --offline --release --package compare --bin benchmark                  # all tables, about a minute
