@@ -135,9 +135,9 @@ pub rules_leave_no_count : RulesLeaveNoCount
 unfolding RulesLeaveNoCount
 rules_leave_no_count = settles
 
-pub no_count-keeps_selectors : NoCountKeepsSelectors
+pub no_count_keeps_selectors : NoCountKeepsSelectors
 unfolding NoCountKeepsSelectors
-no_count-keeps_selectors p c k s e = keeps p c k s (ap total e)
+no_count_keeps_selectors p c k s e = keeps p c k s (ap total e)
 
 pub no_finding_no_count : NoFindingNoCount
 unfolding NoFindingNoCount
@@ -217,6 +217,6 @@ pub choice_examples : ChoiceExamples
 unfolding ChoiceExamples
 choice_examples = computed.1
 
-pub decision-examples : DecisionExamples
+pub decision_examples : DecisionExamples
 unfolding DecisionExamples
-decision-examples = computed.2
+decision_examples = computed.2

@@ -1,4 +1,4 @@
--- A statement about runs of ASCII bytes. proofs/Claims proves it under the same name in lower case with hyphens.
+-- A statement about runs of ASCII bytes. proofs/Claims proves it under the same name in snake case.
 use Rattle.std.specs.Prelude.{◌≡◌, ◌↔◌, List, ℕ}
 use Rattle.ascii_runs.specs.Ascii.{AsciiRun, NoAsciiAt, ascii_end}
 

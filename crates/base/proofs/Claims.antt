@@ -8,13 +8,13 @@ use Rattle.base.specs.Theorems.{BytesOfNumber, NumberOfWord, AnswerRowsDistinct,
 use Rattle.base.proofs.Rows.{check_rows, list-rows, rows_distinct, write-rows}
 use Rattle.base.proofs.Words.{little_endian-number, number-little_endian}
 
-pub number_of-word : NumberOfWord
+pub number_of_word : NumberOfWord
 unfolding NumberOfWord word_bytes
-number_of-word x h = number-little_endian 8 x h
+number_of_word x h = number-little_endian 8 x h
 
-pub bytes_of-number : BytesOfNumber
+pub bytes_of_number : BytesOfNumber
 unfolding BytesOfNumber
-bytes_of-number = little_endian-number
+bytes_of_number = little_endian-number
 
 pub written_or_refused : WrittenOrRefused
 unfolding WrittenOrRefused answer_of buffer_of write_row
@@ -26,6 +26,6 @@ written_or_refused result out = (
 pub refusal_rows_distinct : RefusalRowsDistinct
 refusal_rows_distinct = rows_distinct
 
-pub answer-rows_distinct : AnswerRowsDistinct
+pub answer_rows_distinct : AnswerRowsDistinct
 unfolding AnswerRowsDistinct
-answer-rows_distinct = (check_rows, list-rows, write-rows)
+answer_rows_distinct = (check_rows, list-rows, write-rows)

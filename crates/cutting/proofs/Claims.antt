@@ -15,21 +15,21 @@ pub every_length : EveryLength
 unfolding EveryLength
 every_length = joins
 
-pub every-list_of_parts : EveryListOfParts
+pub every_list_of_parts : EveryListOfParts
 unfolding EveryListOfParts
-every-list_of_parts policy a bs w h = join-list policy a w h
+every_list_of_parts policy a bs w h = join-list policy a w h
 
 pub cut_means : CutMeans
 unfolding CutMeans
 cut_means = means
 
-pub every-largest_cut : EveryLargestCut
+pub every_largest_cut : EveryLargestCut
 unfolding EveryLargestCut
-every-largest_cut = largest
+every_largest_cut = largest
 
-pub every-answer-joins : EveryAnswerJoins
+pub every_answer_joins : EveryAnswerJoins
 unfolding EveryAnswerJoins
-every-answer-joins policy text offset n w e =
+every_answer_joins policy text offset n w e =
     let t = in_two text n w ((largest text offset).allowed n e) in
     (t, joins policy (take n text) (drop n text) t.first t.begins_part)
 
@@ -37,11 +37,11 @@ pub end_is_cut : EndIsCut
 unfolding EndIsCut
 end_is_cut = from_end
 
-pub covered-examples : CoveredExamples
-covered-examples = covered
+pub covered_examples : CoveredExamples
+covered_examples = covered
 
-pub uncovered-examples : UncoveredExamples
-uncovered-examples = uncovered
+pub uncovered_examples : UncoveredExamples
+uncovered_examples = uncovered
 
 pub cut_examples : CutExamples
 cut_examples = cuts

@@ -1,5 +1,5 @@
--- What is claimed of a text that is cut (document 02, xiii). Each statement is proved in proofs/Claims.antt, under the same name in lower
--- case with hyphens.
+-- What is claimed of a text that is cut (document 02, xiii). Each statement is proved in proofs/Claims.antt, under the same name in snake
+-- case.
 use Rattle.std.specs.Prelude.{◌≡◌, ◌↔◌, true, false, List, [], ◌∷◌, ◌++◌, ℕ, ◌≤◌, ◌<◌, drop, length, take}
 use Rattle.utf8.specs.Rfc3629.{WellFormed, chars}
 use Rattle.analysis.specs.Counts.{◌⊕◌, empty}

@@ -6,6 +6,6 @@ pub every_feed_in_bytes : EveryFeedInBytes
 unfolding EveryFeedInBytes
 every_feed_in_bytes = every_feed
 
-pub refusals-write-nothing : RefusalsWriteNothing
+pub refusals_write_nothing : RefusalsWriteNothing
 unfolding RefusalsWriteNothing
-refusals-write-nothing = refusal_writes_nothing
+refusals_write_nothing = refusal_writes_nothing

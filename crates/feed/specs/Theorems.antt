@@ -1,4 +1,4 @@
--- What is claimed of a feed. Each statement is proved in proofs/Claims.antt, under the same name in lower case with hyphens.
+-- What is claimed of a feed. Each statement is proved in proofs/Claims.antt, under the same name in snake case.
 use Rattle.std.specs.Prelude.{◌≡◌, Bool, true, false, List, [], ◌∷◌, ◌++◌, map, ℕ, ◌+◌, ◌*◌, ◌≤◌, ◌<◌, drop, length}
 use Rattle.base.specs.Words.{all_bytes}
 use Rattle.base.specs.declared.Refusal.{Refusal}

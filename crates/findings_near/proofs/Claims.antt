@@ -8,21 +8,21 @@ use Rattle.findings_near.proofs.Distances.{best_nearest, distance_is, nearest_be
 use Rattle.findings_near.proofs.Order.{text_ordered}
 use Rattle.findings_near.proofs.Stretches.{stretch_claim}
 
-pub every-stretch : EveryStretch
+pub every_stretch : EveryStretch
 unfolding EveryStretch
-every-stretch = stretch_claim
+every_stretch = stretch_claim
 
 pub every_around_call : EveryAroundCall
 unfolding EveryAroundCall
 every_around_call = around_call
 
-pub every-distance : EveryDistance
+pub every_distance : EveryDistance
 unfolding EveryDistance
-every-distance = distance_is
+every_distance = distance_is
 
-pub every-nearest : EveryNearest
+pub every_nearest : EveryNearest
 unfolding EveryNearest nearest
-every-nearest text policy o = (
+every_nearest text policy o = (
   (none-nearest o (listed text policy), λ e. ap (nearest o) e),
   λ f. (
     (λ e.
@@ -33,6 +33,6 @@ every-nearest text policy o = (
   ),
 )
 
-pub every-nearest-call : EveryNearestCall
+pub every_nearest_call : EveryNearestCall
 unfolding EveryNearestCall
-every-nearest-call = nearest-call
+every_nearest_call = nearest-call

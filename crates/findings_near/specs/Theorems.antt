@@ -1,5 +1,5 @@
 -- The claims on the findings around a stretch, on the nearest finding, and on both calls. proofs/Claims.antt proves each statement, under
--- the same name in lower case with hyphens.
+-- the same name in snake case.
 use Rattle.std.specs.Prelude.{◌≡◌, ◌↔◌, ◌⊎◌, ℕ, ◌-◌, ◌/◌, ◌^◌, ◌≤◌, ◌<◌, length}
 use mathlib.Core.List.{List, [], ◌∷◌, Memᴰ}
 use Rattle.std.proofs.Math.Option.{none, some}

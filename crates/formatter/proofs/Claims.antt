@@ -43,9 +43,9 @@ pub columns_in_order : ColumnsInOrder
 unfolding ColumnsInOrder row_numbers bytes_of word_bytes little_endian
 columns_in_order = (refl, refl)
 
-pub findings-positioned : FindingsPositioned
+pub findings_positioned : FindingsPositioned
 unfolding FindingsPositioned
-findings-positioned = rows-listed
+findings_positioned = rows-listed
 
 pub listed_as_bytes : ListedAsBytes
 listed_as_bytes = listed_as
@@ -53,21 +53,21 @@ listed_as_bytes = listed_as
 pub filed_is_formatted : FiledIsFormatted
 filed_is_formatted = filed
 
-pub every-list : EveryList
+pub every_list : EveryList
 unfolding EveryList
-every-list policy first a h calls = list-claim policy first a h calls
+every_list policy first a h calls = list-claim policy first a h calls
 
-pub every-formatted_text : EveryFormattedText
+pub every_formatted_text : EveryFormattedText
 unfolding EveryFormattedText
-every-formatted_text policy first a = formatted-claim policy first a
+every_formatted_text policy first a = formatted-claim policy first a
 
-pub cell-by-cell : CellByCell
+pub cell_by_cell : CellByCell
 unfolding CellByCell
-cell-by-cell text policy = cell_view text policy
+cell_by_cell text policy = cell_view text policy
 
-pub every-after-repair : EveryAfterRepair
+pub every_after_repair : EveryAfterRepair
 unfolding EveryAfterRepair
-every-after-repair text policy = after-repair text policy
+every_after_repair text policy = after-repair text policy
 
 pub repair_may_pass_limit : RepairMayPassLimit
 unfolding RepairMayPassLimit

@@ -26,7 +26,7 @@ use Rattle.policy.specs.Policy.{holds_entry}
 use Rattle.policy.specs.PolicyBytes.{PolicyValue, SetValue, is_policy, no_unused_bit, no_unused_bits, policy_of, set_of, words_from}
 use Rattle.policy.specs.Theorems.{ReadWritten}
 use Rattle.policy.specs.declared.Policy.{Policy}
-use Rattle.policy.proofs.Bytes.{get_d_words_from, length_words_from}
+use Rattle.policy.proofs.Bytes.{get_or-words_from, length_words_from}
 use Rattle.policy.proofs.Claims.{read-written}
 use Rattle.policy.proofs.Refusals.{policy_parts}
 use Rattle.policy.proofs.RoundTrips.{SixWordSets, six_words_of}
@@ -64,7 +64,7 @@ word_below : (n at : ℕ) (bs : List ℕ) → all_bytes bs ≡ true → (k : ℕ
 word_below n at bs e k = ⊎_elim
     (λ (h : n ≤ k). let l : length (words_from n at bs) ≤ k = rw (length_words_from n at bs) h in rw
     (get_or-eq_default (words_from n at bs) 0 {n = k} l) (omega arith))
-    (λ (h : k < n). rw (get_d_words_from n at bs k h) (eight-below (drop (at + k * 8) bs) (all_bytes_drop (at + k * 8) bs e)))
+    (λ (h : k < n). rw (get_or-words_from n at bs k h) (eight-below (drop (at + k * 8) bs) (all_bytes_drop (at + k * 8) bs e)))
     (le_or_lt n k)
 
 set_value : (k : ℕ) (bs : List ℕ) → all_bytes bs ≡ true → SetValue (set_of k bs).bits

@@ -48,9 +48,9 @@ every_tip text policy = record {
   in_order = filtered_ordered (tips text policy) memberships-ordered;
 }
 
-pub tips-by_uses : TipsByUse
+pub tips_by_uses : TipsByUse
 unfolding TipsByUse
-tips-by_uses text policy m b e = tips-by_use text policy m b e
+tips_by_uses text policy m b e = tips-by_use text policy m b e
 
 pub examples : TipExamples
 examples = tip_examples

@@ -6,10 +6,10 @@ use Rattle.message_io.specs.Lines.{decimal, decimal_by, finding_line, line, refu
 use Rattle.message_io.specs.Theorems.{DecimalReadsBack, LineExamples}
 use Rattle.message_io.proofs.Digits.{tells}
 
-pub decimal-reads-back : DecimalReadsBack
+pub decimal_reads_back : DecimalReadsBack
 unfolding DecimalReadsBack decimal
-decimal-reads-back n = tells n n (omega arith)
+decimal_reads_back n = tells n n (omega arith)
 
-pub line-examples : LineExamples
+pub line_examples : LineExamples
 unfolding LineExamples finding_line total_line refusal_line line parted decimal decimal_by
-line-examples = (refl, refl, refl, refl, refl)
+line_examples = (refl, refl, refl, refl, refl)

@@ -18,7 +18,7 @@ use Rattle.base.proofs.Bits.{low_bits, zero_one}
 use Rattle.base.proofs.ByteBits.{bit_of_bytes}
 use Rattle.policy_key_set.proofs.Bits.{bits_determine, not_one}
 use Rattle.policy.specs.PolicyBytes.{words_from}
-use Rattle.policy.proofs.Bytes.{get_d_words_from}
+use Rattle.policy.proofs.Bytes.{get_or-words_from}
 
 -- Entry i of a set is bit i mod 8 of byte i / 8 of the set.
 pub member_of_bytes : (n at i : ℕ) (bs : List ℕ) → ((j : ℕ) → get_or bs j 0 < 256) → i < n * 64
@@ -29,7 +29,7 @@ member_of_bytes n at i bs f h =
     let b : (j : ℕ) → get_or (drop start bs) j 0 < 256 = (λ j. omega (arith, get_or-drop start bs j 0, f (start + j))) in
     let same_bit : i % 64 % 8 ≡ i % 8 = omega arith in
     let same_byte : start + i % 64 / 8 ≡ at + i / 8 = omega arith in
-    ap (one (i % 64)) (get_d_words_from n at bs (i / 64) (omega arith))
+    ap (one (i % 64)) (get_or-words_from n at bs (i / 64) (omega arith))
     ∙ bit_of_bytes 8 (i % 64) (drop start bs) b (omega arith)
     ∙ ap₂ one same_bit
     (get_or-drop start bs (i % 64 / 8) 0 ∙ ap (λ (j : ℕ). get_or bs j 0) same_byte ∙ sym (get_or-drop at bs (i / 8) 0))

@@ -23,13 +23,13 @@ length_words_from zero at bs = refl
 length_words_from (suc n) at bs = ap suc (length_words_from n (at + 8) bs)
 
 -- Word k is encoded by the eight bytes from 8 k on.
-pub get_d_words_from : (n at : ℕ) (bs : List ℕ) (k : ℕ) → k < n → get_or (words_from n at bs) k 0 ≡ number (take 8 (drop (at + k * 8) bs))
+pub get_or-words_from : (n at : ℕ) (bs : List ℕ) (k : ℕ) → k < n → get_or (words_from n at bs) k 0 ≡ number (take 8 (drop (at + k * 8) bs))
 unfolding words_from
-get_d_words_from zero at bs k h = absurd (not-suc-le-zero h)
-get_d_words_from (suc n) at bs zero h = let e : at ≡ at + 0 * 8 = omega arith in ap (λ (i : ℕ). number (take 8 (drop i bs))) e
-get_d_words_from (suc n) at bs (suc k) h =
+get_or-words_from zero at bs k h = absurd (not-suc-le-zero h)
+get_or-words_from (suc n) at bs zero h = let e : at ≡ at + 0 * 8 = omega arith in ap (λ (i : ℕ). number (take 8 (drop i bs))) e
+get_or-words_from (suc n) at bs (suc k) h =
     let e : at + 8 + k * 8 ≡ at + suc k * 8 = omega arith in
-    get_d_words_from n (at + 8) bs k (le_of_suc-le-suc h) ∙ ap (λ (i : ℕ). number (take 8 (drop i bs))) e
+    get_or-words_from n (at + 8) bs k (le_of_suc-le-suc h) ∙ ap (λ (i : ℕ). number (take 8 (drop i bs))) e
 
 -- The policy made of four sets.
 pub policy-made : (a b c d : CharSet) (bs : List ℕ) → a.bits ≡ (set_of 0 bs).bits → b.bits ≡ (set_of 1 bs).bits

@@ -90,9 +90,9 @@ holds_bare_as_text_keycap : words_match_rule (λ (c : ℕ). true) bare_as_text_k
 unfolding words_match_rule all_below member one entry_count variation_entries bare_as_text_keycap_words
 holds_bare_as_text_keycap = refl
 
-pub default_policy-holds : DefaultPolicyHolds
+pub default_policy_holds : DefaultPolicyHolds
 unfolding DefaultPolicyHolds default_policy
-default_policy-holds = (
+default_policy_holds = (
   record {
     ordinary_keys = matching_words_hold (λ (c : ℕ). is_ascii c || is_emoji_default c) prefer_bare_words holds_prefer_bare;
     keycap_keys = matching_words_hold (λ (c : ℕ). false) prefer_bare_keycap_words holds_prefer_bare_keycap;
@@ -157,9 +157,9 @@ pub same_words_same_policy : SameWordsSamePolicy
 unfolding SameWordsSamePolicy
 same_words_same_policy p q v w e = same_words p q (six-word_sets p v) (six-word_sets q w) e
 
-pub same-policy_means : SamePolicyMeans
+pub same_policy_means : SamePolicyMeans
 unfolding SamePolicyMeans
-same-policy_means p q v w e f = (same-policy-equal p q v w e f, equal-policy-same p q)
+same_policy_means p q v w e f = (same-policy-equal p q v w e f, equal-policy-same p q)
 
 pub same_rule_means : SameRuleMeans
 unfolding SameRuleMeans
@@ -181,9 +181,9 @@ unfolding unicode_version
 stored-below p v zero = omega arith
 stored-below p v (suc k) = words_below p v k
 
-pub read-written : ReadWritten
+pub read_written : ReadWritten
 unfolding ReadWritten is_policy policy_bytes words_from word_count entry_count variation_entries
-read-written p v =
+read_written p v =
     let ws = unicode_version ∷ policy_words p in
     let bs = bytes_of ws in
     let many = many_words p (six-word_sets p v) in

@@ -6,6 +6,6 @@ pub every_changing_feed : EveryChangingFeed
 unfolding EveryChangingFeed
 every_changing_feed = every_changing
 
-pub refusals-write-nothing : RefusalsWriteNothing
+pub refusals_write_nothing : RefusalsWriteNothing
 unfolding RefusalsWriteNothing
-refusals-write-nothing = refused-writes-nothing
+refusals_write_nothing = refused-writes-nothing

@@ -63,9 +63,9 @@ pub members_determine_words : MembersDetermineWords
 unfolding MembersDetermineWords
 members_determine_words = members_determine
 
-pub same_test-same_words : SameTestSameWords
+pub same_test_same_words : SameTestSameWords
 unfolding SameTestSameWords
-same_test-same_words n p q ws vs l h g a b e = members_determine ws vs l h g (λ i. holds_same n p q ws a e i ∙ sym (b i))
+same_test_same_words n p q ws vs l h g a b e = members_determine ws vs l h g (λ i. holds_same n p q ws a e i ∙ sym (b i))
 
 pub ones_are_members : OnesAreMembers
 unfolding OnesAreMembers
@@ -86,13 +86,13 @@ named_sets_compare c h = (
   beq_so (is_ascii c) (is_keycap_rgi c) (every-member (λ (x : ℕ). beq (is_ascii x) (is_keycap_rgi x)) variation_entries refl c h),
 )
 
-pub contains-by_operation : ContainsByOperation
+pub contains_by_operation : ContainsByOperation
 unfolding ContainsByOperation
-contains-by_operation = contains-made
+contains_by_operation = contains-made
 
-pub contains-by_complement : ContainsByComplement
+pub contains_by_complement : ContainsByComplement
 unfolding ContainsByComplement
-contains-by_complement = contains_complement
+contains_by_complement = contains_complement
 
 pub complement_twice : ComplementTwice
 unfolding ComplementTwice
@@ -126,9 +126,9 @@ same_entries_means ws vs = (
   λ h. below_all entry_count (λ (i : ℕ). beq (member i ws) (member i vs)) (λ i l. so_beq (member i ws) (member i vs) (h i l)),
 )
 
-pub size_of-none : SizeOfNone
+pub size_of_none : SizeOfNone
 unfolding SizeOfNone size_of
-size_of-none s = (
+size_of_none s = (
   λ e i l. (count_none entry_count (ordinary s) (omega arith) i l, count_none entry_count (keycap s) (omega arith) i l),
   λ h.
       let a = count_same entry_count (ordinary s) (λ (i : ℕ). false) (λ i l. (h i l).0) ∙ none-counted entry_count in

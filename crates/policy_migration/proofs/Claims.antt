@@ -9,9 +9,9 @@ use Rattle.policy_migration.proofs.Calls.{home_call, in_order}
 use Rattle.policy_migration.proofs.Carrying.{carried_length, home, members, no_unused, policy_value}
 use Rattle.policy_migration.proofs.Meaning.{entry_list, list-accepted, unused-one, unused-refused}
 
-pub carried-members : CarriedMembers
+pub carried_members : CarriedMembers
 unfolding CarriedMembers
-carried-members old policy k c e = members old policy k c e
+carried_members old policy k c e = members old policy k c e
 
 pub carried_is_policy : CarriedIsPolicy
 unfolding CarriedIsPolicy ReadWritten

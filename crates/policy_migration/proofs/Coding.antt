@@ -25,14 +25,14 @@ use Rattle.policy.specs.DefaultPolicy.{
   prefer_bare_keycap_words,
 }
 use Rattle.policy.specs.PolicyBytes.{PolicyValue, SetValue, numbers_of, words_from}
-use Rattle.policy.proofs.Bytes.{get_d_words_from, length_words_from}
+use Rattle.policy.proofs.Bytes.{get_or-words_from, length_words_from}
 
 -- ---- numbers in bytes
 
 pub number_word : (es : List ℕ) (j : ℕ) → j < length es / 8 → number (take 8 (drop (8 * j) es)) ≡ get_or (numbers_of es) j 0
 number_word es j l =
     let e : 8 * j ≡ 0 + j * 8 = omega arith in
-    ap (λ (i : ℕ). number (take 8 (drop i es))) e ∙ sym (get_d_words_from (length es / 8) 0 es j l)
+    ap (λ (i : ℕ). number (take 8 (drop i es))) e ∙ sym (get_or-words_from (length es / 8) 0 es j l)
 
 pub many-numbers : (es : List ℕ) → length (numbers_of es) ≡ length es / 8
 many-numbers es = length_words_from (length es / 8) 0 es
@@ -40,7 +40,7 @@ many-numbers es = length_words_from (length es / 8) 0 es
 pub word_bit : (ps : List ℕ) (at words j : ℕ) → j < words * 64 → (b : Bool) (w : ℕ) → w ≡ number (take 8 (drop (at + j / 64 * 8) ps)) → b
     ≡ one (j % 64) w → b ≡ member j (words_from words at ps)
 unfolding member
-word_bit ps at words j l b w e h = h ∙ ap (one (j % 64)) (e ∙ sym (get_d_words_from words at ps (j / 64) (omega arith)))
+word_bit ps at words j l b w e h = h ∙ ap (one (j % 64)) (e ∙ sym (get_or-words_from words at ps (j / 64) (omega arith)))
 
 -- ---- ascending
 

@@ -79,13 +79,13 @@ use Rattle.policy_sheet.proofs.Written.{point_written}
 use Rattle.policy_sheet.proofs.Points.{entries_none, none_entries, none_rising, non_entry_some, rising_none, some_non_entry}
 use Rattle.policy_sheet.proofs.Words.{one-meaning, pieces_mean}
 
-pub only-reading : OnlyReading
+pub only_reading : OnlyReading
 unfolding OnlyReading
-only-reading = only-pieces
+only_reading = only-pieces
 
-pub only-meaning : OnlyMeaning
+pub only_meaning : OnlyMeaning
 unfolding OnlyMeaning
-only-meaning = one-meaning
+only_meaning = one-meaning
 
 -- ---- answers
 
@@ -173,9 +173,9 @@ value_read : (s : List ℕ) (p : Policy) → read_sheet s ≡ is_read p → leng
 unfolding SheetsRead
 value_read s p e = policy_bytes-many p ((sheets_read s p).0 e).4.value
 
-pub every-read-call : EveryReadCall
+pub every_read_call : EveryReadCall
 unfolding EveryReadCall FirstFault NonEntryRefused
-every-read-call sheet out = record {
+every_read_call sheet out = record {
   long = read_long sheet out;
   no_sheet = λ h n e. read_as sheet out (not_a_sheet n) h e;
   no_entry = λ h n e. read_as sheet out (not_an_entry n) h e;
@@ -186,9 +186,9 @@ every-read-call sheet out = record {
       (λ n e. let r = (non_entry_refused sheet n).0 e in non_entry_inside r.1 r.3) (value_read sheet);
 }
 
-pub every-write-call : EveryWriteCall
+pub every_write_call : EveryWriteCall
 unfolding EveryWriteCall ReadsBack WriteRead
-every-write-call policy out = record {
+every_write_call policy out = record {
   no_policy = write-refused policy out;
   short = λ e l. write-result policy out e ∙ result-short (length S) S out refl l;
   done = λ e l. write-result policy out e ∙ result-done (length S) S out refl l;
@@ -211,14 +211,14 @@ every-write-call policy out = record {
 
 -- ---- the form of a written sheet
 
-pub written-runs : WrittenRuns
+pub written_runs : WrittenRuns
 unfolding WrittenRuns
-written-runs ws = maximal (λ (i : ℕ). in-set i ws) 0 variation_entries (λ (i : ℕ). in-set i ws) (λ i. ap (λ (n : ℕ). in-set n ws)
+written_runs ws = maximal (λ (i : ℕ). in-set i ws) 0 variation_entries (λ (i : ℕ). in-set i ws) (λ i. ap (λ (n : ℕ). in-set n ws)
     (omega arith))
 
-pub fewest-digits : FewestDigits
+pub fewest_digits_lem : FewestDigits
 unfolding FewestDigits
-fewest-digits c s h = (fewest h, point_written c (point_small h))
+fewest_digits_lem c s h = (fewest h, point_written c (point_small h))
 
 -- ---- examples
 

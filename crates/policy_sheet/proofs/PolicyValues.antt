@@ -18,7 +18,7 @@ use Rattle.policy_key_set.specs.Sets.{word_count}
 use Rattle.policy_key_set.proofs.Entries.{six}
 use Rattle.policy.specs.PolicyBytes.{PolicyValue, SetValue, policy_bytes, policy_of, policy_words, words_from}
 use Rattle.policy.specs.declared.Policy.{Policy}
-use Rattle.policy.proofs.Bytes.{get_d_words_from, length_words_from}
+use Rattle.policy.proofs.Bytes.{get_or-words_from, length_words_from}
 use Rattle.policy.proofs.RoundTrips.{many_words}
 
 number-below : (n : ℕ) (bs : List ℕ) → all_bytes bs ≡ true → number (take n bs) < 256 ^ n
@@ -39,7 +39,7 @@ set_of_bytes at bs t = record { has_word_count = length_words_from word_count at
         = get_or-eq_default (words_from word_count at bs) 0 (omega (arith, length_words_from word_count at bs)) in omega arith)
         (λ h. omega (
           arith,
-          get_d_words_from word_count at bs k h,
+          get_or-words_from word_count at bs k h,
           number-below 8 (drop (at + k * 8) bs) (all_bytes_drop (at + k * 8) bs t),
         ))
         (le_or_lt word_count k)

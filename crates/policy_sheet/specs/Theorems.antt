@@ -1,4 +1,5 @@
--- The claims on policy sheets. proofs/Claims.antt proves each statement, under the same name in lower case with hyphens.
+-- The claims on policy sheets. proofs/Claims.antt proves each statement, under the same name in snake case (`FewestDigits` with `_lem`,
+-- since a definition has the name).
 use Rattle.std.specs.Prelude.{◌≡◌, ◌↔◌, Bool, true, false, List, [], ◌∷◌, ℕ, suc, ◌<◌, ◌≤◌, get_or, length, take}
 use Rattle.std.proofs.Math.Option.{some}
 use Rattle.base.specs.Refusals.{unwritten, written}

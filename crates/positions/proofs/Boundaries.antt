@@ -41,10 +41,10 @@ inside-tail s t b (suc k) e o f p h =
     ∙ none_first t k (let q = ap leads e in omega arith) (let q = ap length e in omega arith)
 
 -- What stands at a place before the end of the first of two lists.
-get_d_front : (s t : List ℕ) (k : ℕ) → k < length s → get_or (s ++ t) k 0 ≡ get_or s k 0
-get_d_front [] t k h = absurd (omega arith)
-get_d_front (a ∷ s) t zero h = refl
-get_d_front (a ∷ s) t (suc k) h = get_d_front s t k (omega arith)
+get_or-front : (s t : List ℕ) (k : ℕ) → k < length s → get_or (s ++ t) k 0 ≡ get_or s k 0
+get_or-front [] t k h = absurd (omega arith)
+get_or-front (a ∷ s) t zero h = refl
+get_or-front (a ∷ s) t (suc k) h = get_or-front s t k (omega arith)
 
 char_well_formed : (v : ℕ) (s : List ℕ) → is_scalar v ≡ true → WellFormed s → WellFormed (encode v ++ s)
 unfolding encode_all all_scalar
@@ -79,7 +79,7 @@ first_boundary {s} (read_more v w e r) q (suc m) h f =
     let o = inside-tail (encode v) z.rest z.byte (suc m) z.bytes z.one z.begins (omega arith) (omega arith) in
     let y : is_lead (get_or s (suc m) 0) ≡ is_lead (get_or (encode v) (suc m) 0) =
     ap (λ (t : List ℕ). is_lead (get_or t (suc m) 0)) (sym b.bytes)
-    ∙ ap is_lead (get_d_front (encode v) (drop w s) (suc m) (omega arith)) in
+    ∙ ap is_lead (get_or-front (encode v) (drop w s) (suc m) (omega arith)) in
     absurd (omega (arith, o, y, f)))
     (le_or_lt w (suc m))
 

@@ -30,21 +30,21 @@ use Rattle.positions.specs.Theorems.{
 use Rattle.positions.proofs.Counting as Counting
 use Rattle.positions.proofs.Boundaries as Boundaries
 
-pub counted-by_bytes : CountedByBytes
+pub counted_by_bytes : CountedByBytes
 unfolding CountedByBytes
-counted-by_bytes s w = Counting.counted-by_bytes w
+counted_by_bytes s w = Counting.counted_by_bytes w
 
-pub counted-between : CountedBetween
+pub counted_between : CountedBetween
 unfolding CountedBetween
-counted-between text from to a b h = (Counting.between_well_formed text from to a b h, Counting.counted-between text from to a b h)
+counted_between text from to a b h = (Counting.between_well_formed text from to a b h, Counting.counted_between text from to a b h)
 
 pub positions_differ : PositionsDiffer
 unfolding PositionsDiffer
 positions_differ = Counting.positions_differ
 
-pub position-counted : PositionCounted
+pub position_counted : PositionCounted
 unfolding PositionCounted
-position-counted = Counting.position-counted
+position_counted = Counting.position_counted
 
 pub boundary_means : BoundaryMeans
 unfolding BoundaryMeans
@@ -66,8 +66,8 @@ pub unit_examples : UnitExamples
 unfolding UnitExamples utf16_units
 unit_examples = refl
 
-pub position-examples : PositionExamples
+pub position_examples : PositionExamples
 unfolding PositionExamples position_at text_count units utf16_units chars fold_chars fold_step read_char read_four utf8_1 utf8_2 utf8_3
     utf8_4
     count_between counted stretch leads long_leads_of is_lead is_long_lead
-position-examples = (refl, refl, refl)
+position_examples = (refl, refl, refl)

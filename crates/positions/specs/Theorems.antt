@@ -1,4 +1,4 @@
--- Statements about positions. Each statement is proved in proofs/Claims.antt, under the same name in lower case with hyphens.
+-- Statements about positions. Each statement is proved in proofs/Claims.antt, under the same name in snake case.
 use Rattle.std.specs.Prelude.{◌≡◌, ◌↔◌, List, [], ◌∷◌, map, ℕ, ◌≤◌, ◌<◌, ◌*◌, ◌^◌, length, get_or}
 use Rattle.utf8.specs.Rfc3629.{WellFormed, chars}
 use Rattle.positions.specs.declared.TextCount.{TextCount}

@@ -4,13 +4,13 @@ use Rattle.repair.specs.Theorems.{EveryRepairCall, EveryRepairedText, ThreeTimes
 use Rattle.repair.proofs.Outcomes.{the_call}
 use Rattle.repair.proofs.Repairing.{none-bad, only, reached, result-chars, result_well_formed, stretches, times, well_formed_is}
 
-pub every-repair-call : EveryRepairCall
+pub every_repair_call : EveryRepairCall
 unfolding EveryRepairCall
-every-repair-call = the_call
+every_repair_call = the_call
 
-pub every-repaired_text : EveryRepairedText
+pub every_repaired_text : EveryRepairedText
 unfolding EveryRepairedText
-every-repaired_text s = record {
+every_repaired_text s = record {
   stretches = stretches s;
   no_other = λ t k r. let o = only r in (o.text, o.number);
   well_formed = result_well_formed (stretches s);
@@ -21,6 +21,6 @@ every-repaired_text s = record {
   few = (times (stretches s)).1;
 }
 
-pub three-times-reached : ThreeTimesReached
+pub three_times_reached : ThreeTimesReached
 unfolding ThreeTimesReached
-three-times-reached n = reached n
+three_times_reached n = reached n

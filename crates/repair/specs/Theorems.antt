@@ -1,5 +1,4 @@
--- The claims on the repaired text and on the call `repair`. proofs/Claims.antt proves each statement, under the same name in lower case
--- with hyphens.
+-- The claims on the repaired text and on the call `repair`. proofs/Claims.antt proves each statement, under the same name in snake case.
 use Rattle.std.specs.Prelude.{◌≡◌, ◌↔◌, List, ℕ, ◌*◌, ◌^◌, ◌≤◌, ◌<◌, length, replicate}
 use Rattle.base.specs.Refusals.{refusal_row, unwritten, written}
 use Rattle.base.specs.declared.Refusal.{Refusal}

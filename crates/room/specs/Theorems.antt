@@ -1,5 +1,5 @@
--- Statements about the length of a formatted text (document 02, vii). proofs/Claims.antt proves each of them, under the same name in lower
--- case with hyphens.
+-- Statements about the length of a formatted text (document 02, vii). proofs/Claims.antt proves each of them, under the same name in snake
+-- case.
 use Rattle.std.specs.Prelude.{◌≡◌, true, cond, List, [], ◌∷◌, ℕ, ◌*◌, ◌≤◌, length, replicate}
 use Rattle.base.specs.Refusals.{After, unwritten, written}
 use Rattle.utf8.specs.Rfc3629.{encode_all}

@@ -123,9 +123,9 @@ pub no_other_reading : OnlyReading
 unfolding OnlyReading
 no_other_reading = only-reading
 
-pub items-afresh : ItemsAfresh
+pub items_afresh : ItemsAfresh
 unfolding ItemsAfresh
-items-afresh = afresh
+items_afresh = afresh
 
 pub item_is_alone : ItemAlone
 unfolding ItemAlone
@@ -163,15 +163,15 @@ runs_are_longest = (
   longest-links,
 )
 
-pub first-item-by-runs : FirstItemByRuns
+pub first_item_by_runs : FirstItemByRuns
 unfolding FirstItemByRuns items
-first-item-by-runs c t x xs e =
+first_item_by_runs c t x xs e =
     let f : x.chars ≡ c ∷ (split_from (start_state (class_of c)) t).0 = ap (λ (i : Item). i.chars) (sym (head-eq_of_cons-eq e)) in
     (λ s. f ∙ item_selectors c t s, λ l. f ∙ item-links c t l, λ m. f ∙ (unit_item c t m).item, λ p. f ∙ item_passthrough c t p)
 
-pub rest-by-runs : RestByRuns
+pub rest_by_runs : RestByRuns
 unfolding RestByRuns link_at
-rest-by-runs = (
+rest_by_runs = (
   λ c t e f. unit_ends (at_char e) (at_char f),
   λ t c u e f. ap (λ (a : List ℕ × List Item). a.0) (unit_joins t c u e f)
       ∙ ap (λ (l : List ℕ). 0x200D ∷ (selectors_at t ++ l)) (unit_item c u f).item,
@@ -195,9 +195,9 @@ pub spans_are_items : SpansAreItems
 unfolding SpansAreItems scan
 spans_are_items text = scan-spans_of_items text 0 no_count
 
-pub spans-afresh : SpansAfresh
+pub spans_afresh : SpansAfresh
 unfolding SpansAfresh scan
-spans-afresh text before after x e = scan-after text 0 no_count before x after e
+spans_afresh text before after x e = scan-after text 0 no_count before x after e
 
 pub cursor_at_start : CursorAtStart
 unfolding CursorAtStart scan_at scan
@@ -257,11 +257,11 @@ tags_complete_means t x m k =
     (sym k)
     (all_complete_means (tag_modifications x.chars)))
 
-pub item-examples : ItemExamples
+pub item_examples : ItemExamples
 unfolding ItemExamples class_of is_selector is_tag is_ri is_emoji_modifier is_emoji in_ranges member emoji_modifiers emoji_ranges ri_ranges
     transition
     start_state kind_of split_from items
-item-examples = (refl, refl, refl, refl, refl)
+item_examples = (refl, refl, refl, refl, refl)
 
 pub tag_examples : TagExamples
 unfolding TagExamples class_of is_selector is_tag is_ri is_emoji_modifier is_emoji in_ranges member emoji_modifiers emoji_ranges ri_ranges
@@ -281,6 +281,6 @@ unfolding StructureExample class_of is_selector is_tag is_ri is_emoji_modifier i
     sequence_of structure
 structure_example = refl
 
-pub runs-by_class : RunsByClass
+pub runs_by_class : RunsByClass
 unfolding RunsByClass
-runs-by_class t = (run_selectors t, run-links t, run_modifications t, run_tags t, run_passthrough t)
+runs_by_class t = (run_selectors t, run-links t, run_modifications t, run_tags t, run_passthrough t)

@@ -53,6 +53,6 @@ begin_refused bs C rb r e = go (leb store_bytes (length bs)) (Whole C rb bs) (Fi
     go true true false e = refl
     go true true true e = let z : ◌≡◌ {A = ℕ} 0 1 = cc in absurd (omega arith)
 
-pub refusals-write-nothing : RefusalsWriteNothing
+pub refusals_write_nothing : RefusalsWriteNothing
 unfolding RefusalsWriteNothing
-refusals-write-nothing bs = (file_refused bs, release_refused bs, begin_refused bs)
+refusals_write_nothing bs = (file_refused bs, release_refused bs, begin_refused bs)

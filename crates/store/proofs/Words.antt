@@ -11,7 +11,7 @@ use borrow.Author.Tests.{ltb-false, ltb-true}
 use Rattle.base.proofs.Lists.{zeros}
 use Rattle.base.specs.Words.{bytes_of, number, word_at, word_bytes}
 use Rattle.base.proofs.Words.{length_word_bytes, number-little_endian}
-use Rattle.policy.proofs.Bytes.{get_d_words_from}
+use Rattle.policy.proofs.Bytes.{get_or-words_from}
 use Rattle.policy.proofs.RoundTrips.{read_words}
 use Rattle.store.specs.Bytes.{put_word}
 
@@ -81,7 +81,7 @@ pub word_of : (ws : List ℕ) → ((k : ℕ) → get_or ws k 0 < 2 ^ 64) → (k 
 word_of ws h k l =
     let e : 8 * k ≡ 0 + k * 8 = omega arith in
     ap (λ (i : ℕ). number (take 8 (drop i (bytes_of ws)))) e
-    ∙ sym (get_d_words_from (length ws) 0 (bytes_of ws) k l)
+    ∙ sym (get_or-words_from (length ws) 0 (bytes_of ws) k l)
     ∙ ap (λ (vs : List ℕ). get_or vs k 0) (read_words ws h)
 
 pub padded : (rs : List ℕ) (m c : ℕ) → get_or (rs ++ replicate m 0) c 0 ≡ get_or rs c 0

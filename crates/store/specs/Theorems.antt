@@ -1,4 +1,4 @@
--- What is claimed of a store. Each statement is proved in proofs/Claims.antt, under the same name in lower case with hyphens.
+-- What is claimed of a store. Each statement is proved in proofs/Claims.antt, under the same name in snake case.
 use Rattle.std.specs.Prelude.{◌≡◌, true, false, cond, List, ℕ, ◌+◌, ◌*◌, ◌-◌, ◌^◌, ◌≤◌, ◌<◌, leb, take}
 use Rattle.base.specs.Sums.{sum_below}
 use Rattle.base.specs.Refusals.{text_limit}

@@ -18,7 +18,7 @@ use Rattle.base.specs.Refusals.{After}
 use Rattle.base.specs.Words.{bytes_of, number, word_at}
 use Rattle.base.specs.declared.Refusal.TheVariants.{BadClientOrNumber, DoesNotFit, OutputTooShort}
 use Rattle.policy.specs.PolicyBytes.{numbers_of}
-use Rattle.policy.proofs.Bytes.{get_d_words_from, length_words_from}
+use Rattle.policy.proofs.Bytes.{get_or-words_from, length_words_from}
 use Rattle.store.specs.declared.StoreAnswer.{StoreAnswer}
 use Rattle.store.specs.declared.StoreAnswer.TheVariants.{Done, Refused}
 use Rattle.store.specs.Bytes.{begin_call, new_bytes, new_words, store_bytes, store_row}
@@ -37,7 +37,7 @@ reserve-word rb h c = go (ltb c (length rb / 8)) refl
     e = omega arith
 
     go : (t : Bool) → ltb c (length rb / 8) ≡ t → word_at c rb ≡ get_or (numbers_of rb) c 0
-    go true q = ap (λ (i : ℕ). number (take 8 (drop i rb))) e ∙ sym (get_d_words_from (length rb / 8) 0 rb c (ltb-true c (length rb / 8) q))
+    go true q = ap (λ (i : ℕ). number (take 8 (drop i rb))) e ∙ sym (get_or-words_from (length rb / 8) 0 rb c (ltb-true c (length rb / 8) q))
     go false q =
         let l : length rb / 8 ≤ c = ltb-false c (length rb / 8) q in
         let m : length rb ≤ 8 * c = omega arith in

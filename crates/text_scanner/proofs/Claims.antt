@@ -11,13 +11,13 @@ use Rattle.scanner.proofs.Claims.{spans_cover}
 use Rattle.text_scanner.specs.Scanner.{NextGivesItems, ScanGivesItems, RawIsItemBytes, RawsJoin}
 use Rattle.text_scanner.proofs.GivenItems.{gives-items, join_raw_lem, scan-gives, raw_bytes}
 
-pub next-gives-items : NextGivesItems
+pub next_gives_items : NextGivesItems
 unfolding NextGivesItems
-next-gives-items = gives-items
+next_gives_items = gives-items
 
-pub scan-gives-items : ScanGivesItems
+pub scan_gives_items : ScanGivesItems
 unfolding ScanGivesItems
-scan-gives-items = scan-gives
+scan_gives_items = scan-gives
 
 pub raw_is_item_bytes : RawIsItemBytes
 unfolding RawIsItemBytes

@@ -89,6 +89,6 @@ store_words_have_values = (
   λ C rb st w e xs. (λ c. has-row _ (used-small C rb st w e xs c), λ c n. has-row _ (release_small C rb st w e xs c n)),
 )
 
-pub word-has_version : WordHasVersion
+pub word_has_version : WordHasVersion
 unfolding WordHasVersion unicode_version
-word-has_version = (refl, refl)
+word_has_version = (refl, refl)

@@ -34,7 +34,7 @@ use Rattle.utf8.specs.Theorems.{
 }
 use Rattle.utf8.proofs.Fronts.{read_char_nil}
 use Rattle.utf8.proofs.Encoding.{end_empty}
-use Rattle.utf8.proofs.Texts.{chars-encode_all-alone, encode_all-chars, chars-all_scalar, valid_up_to_le, read_char_iff}
+use Rattle.utf8.proofs.Texts.{chars-encode_all-alone, encode_all-chars, chars-all_scalar, valid_up_to_le, read_char-iff}
 use Rattle.utf8.proofs.Grammar.{well_formed_whole, whole_well_formed, encoding_well_formed, longest_well_formed, none_longer}
 use Rattle.utf8.proofs.Completions.{goes_on, more_bytes}
 use Rattle.utf8.proofs.Subparts.{bad-maximal, maximal-reads}
@@ -56,9 +56,9 @@ pub longest_beginning : LongestBeginning
 unfolding LongestBeginning
 longest_beginning s = (valid_up_to_le s, longest_well_formed s, none_longer s)
 
-pub read-char_iff : ReadCharIff
+pub read_char_iff : ReadCharIff
 unfolding ReadCharIff
-read-char_iff = read_char_iff
+read_char_iff = read_char-iff
 
 pub chars_are_scalar : CharsAreScalar
 unfolding CharsAreScalar

@@ -155,9 +155,9 @@ encode_all_append (u ∷ us) vs = ap (λ (l : List ℕ). encode u ++ l) (encode_
 
 -- ---- the table of section 4 and the encoding of section 3 agree
 
-pub read_char_iff : (s : List ℕ) (v w : ℕ) → (read_char s ≡ Char v w)
+pub read_char-iff : (s : List ℕ) (v w : ℕ) → (read_char s ≡ Char v w)
     ↔ ((is_scalar v ≡ true) × (length (encode v) ≡ w) × (encode v ++ drop w s ≡ s))
-read_char_iff s v w = (
+read_char-iff s v w = (
   λ e. let f = char_begins s v w e in (f.is_scalar_lem, f.width, f.bytes),
   λ p. ap read_char (sym p.2) ∙ read_char-encode v (drop w s) p.0 ∙ ap (λ (n : ℕ). Char v n) p.1,
 )

@@ -1,4 +1,4 @@
--- Statements about UTF-8 as defined in Rfc3629. proofs/Claims proves each of them under the same name in lower case with hyphens.
+-- Statements about UTF-8 as defined in Rfc3629. proofs/Claims proves each of them under the same name in snake case.
 use Rattle.std.specs.Prelude.{◌≡◌, ◌↔◌, ◌⊎◌, true, List, [], ◌∷◌, ◌++◌, map, ℕ, ◌≤◌, length, take, drop}
 use Rattle.utf8.specs.Rfc3629.{WellFormed, utf8_char, read_char, chars, valid_up_to_of, is_scalar, all_scalar, encode, encode_all}
 use Rattle.utf8.specs.Subparts.{MaximalSubpart, unfinished}

@@ -9,7 +9,7 @@ use Rattle.emoji.specs.UnicodeData.{variation_entries}
 use Rattle.policy_key_set.specs.Sets.{entry_count, word_count}
 use Rattle.policy_key_set.proofs.Members.{set_more}
 use Rattle.policy.specs.PolicyBytes.{words_from}
-use Rattle.policy.proofs.Bytes.{get_d_words_from, length_words_from}
+use Rattle.policy.proofs.Bytes.{get_or-words_from, length_words_from}
 use Rattle.policy.proofs.read_set.Goals as goal
 
 pub loop-i-init : goal.loop-i-init
@@ -31,4 +31,4 @@ returns c =
     let l = c.loop-i in
     let x = c.args in
     ext_get_or 0 l.bits (words_from 6 x.at x.bytes.now) (l.invariant.1 ∙ sym (length_words_from 6 x.at x.bytes.now))
-    (λ k h. l.invariant.2 k (omega arith) ∙ sym (get_d_words_from 6 x.at x.bytes.now k (omega arith)))
+    (λ k h. l.invariant.2 k (omega arith) ∙ sym (get_or-words_from 6 x.at x.bytes.now k (omega arith)))
