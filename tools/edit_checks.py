@@ -345,7 +345,8 @@ def below(named, name):
 
 def digest_of(root, kit, edit):
     """A digest of all that the prover's answer to an edit depends on."""
-    sums, named = hashlib.sha256(kit.encode()), uses(root)
+    # What this script asks and notes is part of the answer.
+    sums, named = hashlib.sha256(kit.encode() + pathlib.Path(__file__).read_bytes()), uses(root)
     for name in below(named, edit.parent.parent.name):
         sums.update(f"{name}: {' '.join(named[name])}\0".encode())
         for part in ("src", "specs", "proofs"):

@@ -299,7 +299,7 @@ fn the_limit_and_the_entries_agree_with_the_source() {
     let limit = number_after("../crates/base/src/lib.rt", "TEXT_LIMIT: usize = ");
     let header = "../include/tilghorz.h";
     assert_eq!(number_after(header, "TILGHORZ_TEXT_LIMIT "), limit);
-    let tables = "../crates/unicode/src/unicode_data.rt";
+    let tables = "../crates/emoji/src/unicode_data.rt";
     let entries = number_after(tables, "VARIATION_ENTRY_COUNT: usize = ");
     assert_eq!(number_after(header, "TILGHORZ_ENTRIES "), entries);
     assert_eq!(number_after(header, "There are "), entries);

@@ -32,11 +32,11 @@ use Rattle.positions.proofs.Boundaries as Boundaries
 
 pub counted_by_bytes : CountedByBytes
 unfolding CountedByBytes
-counted_by_bytes s w = Counting.counted_by_bytes w
+counted_by_bytes s w = Counting.counted-by_bytes w
 
 pub counted_between : CountedBetween
 unfolding CountedBetween
-counted_between text from to a b h = (Counting.between_well_formed text from to a b h, Counting.counted_between text from to a b h)
+counted_between text from to a b h = (Counting.between_well_formed text from to a b h, Counting.counted-between text from to a b h)
 
 pub positions_differ : PositionsDiffer
 unfolding PositionsDiffer
@@ -44,7 +44,7 @@ positions_differ = Counting.positions_differ
 
 pub position_counted : PositionCounted
 unfolding PositionCounted
-position_counted = Counting.position_counted
+position_counted = Counting.position-counted
 
 pub boundary_means : BoundaryMeans
 unfolding BoundaryMeans

@@ -37,7 +37,8 @@ reserve-word rb h c = go (ltb c (length rb / 8)) refl
     e = omega arith
 
     go : (t : Bool) → ltb c (length rb / 8) ≡ t → word_at c rb ≡ get_or (numbers_of rb) c 0
-    go true q = ap (λ (i : ℕ). number (take 8 (drop i rb))) e ∙ sym (get_or-words_from (length rb / 8) 0 rb c (ltb-true c (length rb / 8) q))
+    go true q =
+        ap (λ (i : ℕ). number (take 8 (drop i rb))) e ∙ sym (get_or-words_from (length rb / 8) 0 rb c (ltb-true c (length rb / 8) q))
     go false q =
         let l : length rb / 8 ≤ c = ltb-false c (length rb / 8) q in
         let m : length rb ≤ 8 * c = omega arith in
