@@ -27,7 +27,7 @@ use Rattle.policy.specs.PolicyBytes.{PolicyValue, SetValue, is_policy, no_unused
 use Rattle.policy.specs.Theorems.{ReadWritten}
 use Rattle.policy.specs.declared.Policy.{Policy}
 use Rattle.policy.proofs.Bytes.{get_or-words_from, length_words_from}
-use Rattle.policy.proofs.Claims.{read-written}
+use Rattle.policy.proofs.Claims.{read_written}
 use Rattle.policy.proofs.Refusals.{policy_parts}
 use Rattle.policy.proofs.RoundTrips.{SixWordSets, six_words_of}
 use Rattle.analysis.specs.Analysis.{render, renew}
@@ -176,14 +176,14 @@ module _ (i : ℕ) where
 
 pub flipped-read : (policy : List ℕ) (m : Membership) → all_bytes policy ≡ true → policy_of (flipped m policy) ≡ flip m (policy_of policy)
 unfolding ReadWritten
-flipped-read policy m e = (read-written (flip m (policy_of policy))
+flipped-read policy m e = (read_written (flip m (policy_of policy))
     (flip-policy m.entry m.as_text m.keycap (policy_of policy) (policy_value policy e))).0
 
 pub flipped-accepted : (policy : List ℕ) (m : Membership) → m.entry < entry_count → is_policy policy ≡ true → all_bytes policy ≡ true
     → is_policy (flipped m policy) ≡ true
 unfolding ReadWritten
 flipped-accepted policy m b a e =
-    (read-written (flip m (policy_of policy)) (flip-policy m.entry m.as_text m.keycap (policy_of policy) (policy_value policy e))).1
+    (read_written (flip m (policy_of policy)) (flip-policy m.entry m.as_text m.keycap (policy_of policy) (policy_value policy e))).1
     ∙ flip-clean m.entry b m.as_text m.keycap (policy_of policy) (six_words_of policy)
     (policy_parts policy a).2
 

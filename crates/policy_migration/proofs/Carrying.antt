@@ -40,7 +40,7 @@ use Rattle.policy.specs.PolicyBytes.{
 }
 use Rattle.policy.specs.Theorems.{ReadWritten}
 use Rattle.policy.specs.declared.Policy.{Policy}
-use Rattle.policy.proofs.Claims.{read-written}
+use Rattle.policy.proofs.Claims.{read_written}
 use Rattle.policy.proofs.RoundTrips.{SixWordSets, many_words, same-policy, words_from_drop}
 use Rattle.policy_migration.specs.Carry.{
   WhichSet,
@@ -187,7 +187,7 @@ module _ (p : Policy) (v : PolicyValue p) (u : no_unused_bits p ≡ true) (versi
 
   pub old_set_lem : (k : WhichSet) → old_set variation_entries Vs k ≡ set_in p k
   unfolding old_set word_count entry_count ReadWritten
-  old_set_lem k = moved word_count (place_of k * (word_count * 8)) ∙ set_at k ∙ ap (λ (q : Policy). set_in q k) (read-written p v).0
+  old_set_lem k = moved word_count (place_of k * (word_count * 8)) ∙ set_at k ∙ ap (λ (q : Policy). set_in q k) (read_written p v).0
 
   pub set_value : (k : WhichSet) → SetValue (set_in p k)
   set_value prefer_bare_set = v.prefer_bare_set

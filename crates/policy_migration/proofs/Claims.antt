@@ -2,7 +2,7 @@
 use mathlib.Core.Path.{◌∙◌}
 use Rattle.policy.specs.PolicyBytes.{numbers_of}
 use Rattle.policy.specs.Theorems.{ReadWritten}
-use Rattle.policy.proofs.Claims.{read-written}
+use Rattle.policy.proofs.Claims.{read_written}
 use Rattle.policy_migration.specs.Carry.{carried}
 use Rattle.policy_migration.specs.Theorems.{CarriedHome, CarriedIsPolicy, CarriedMembers, CarryInOrder, TestsMean}
 use Rattle.policy_migration.proofs.Calls.{home_call, in_order}
@@ -19,7 +19,7 @@ carried_is_policy old policy = (
   policy_value old policy,
   no_unused old policy,
   carried_length old policy,
-  (read-written (carried old policy) (policy_value old policy)).1 ∙ no_unused old policy,
+  (read_written (carried old policy) (policy_value old policy)).1 ∙ no_unused old policy,
 )
 
 pub carried_home : CarriedHome

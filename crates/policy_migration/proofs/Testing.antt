@@ -23,7 +23,7 @@ use Rattle.policy.specs.DefaultPolicy.{default_policy}
 use Rattle.policy.specs.PolicyBytes.{numbers_of, policy_bytes, policy_of, set_of, words_from}
 use Rattle.policy.specs.Theorems.{ReadWritten}
 use Rattle.policy.specs.declared.Policy.{Policy}
-use Rattle.policy.proofs.Claims.{read-written}
+use Rattle.policy.proofs.Claims.{read_written}
 use Rattle.policy_migration.specs.Carry.{
   WhichSet,
   bare_as_text_set,
@@ -83,7 +83,7 @@ set_of_lem p bare_as_text_keycap_set = refl
 default_set : (k : WhichSet) → words_from word_count (8 + place_of k * (word_count * 8)) (policy_bytes default_policy)
     ≡ set_in default_policy k
 unfolding ReadWritten
-default_set k = set_of_lem default_policy k ∙ ap (λ (q : Policy). set_in q k) (read-written default_policy default_value).0
+default_set k = set_of_lem default_policy k ∙ ap (λ (q : Policy). set_in q k) (read_written default_policy default_value).0
 
 module _ (es ps : List ℕ) (k i : ℕ) (lk : k < 4) where
   abbrev old : List ℕ

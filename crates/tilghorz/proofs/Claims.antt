@@ -16,7 +16,7 @@ use Rattle.policy_migration.specs.Carry.{carry_row}
 use Rattle.policy_migration.proofs.Calls.{call-small}
 use Rattle.policy_sheet.specs.Calls.{sheet_row}
 use Rattle.policy_sheet.specs.Theorems.{EveryReadCall, EveryWriteCall}
-use Rattle.policy_sheet.proofs.Claims.{every-read-call, every-write-call}
+use Rattle.policy_sheet.proofs.Claims.{every_read_call, every_write_call}
 use Rattle.repair.specs.Repair.{repair_row}
 use Rattle.repair.proofs.Outcomes.{the_call}
 use Rattle.tilghorz.specs.Theorems.{StoreWordsHaveValues, WordHasVersion, WordsDetermineAnswers, WordsHaveBothValues}
@@ -61,8 +61,8 @@ words_determine_answers = (
   words_determine feed_row _ (λ c. omega (arith, begun-small c.0 c.1)) (λ i j. feed_rows _ _),
   words_determine feed_row _ (λ c. omega (arith, called-small c.0 c.1)) (λ i j. feed_rows _ _),
   words_determine write_row _ (λ c. omega (arith, totals-small c.0 c.1)) (λ i j. write-rows _ _),
-  words_determine sheet_row _ (λ c. omega (arith, (every-read-call c.0 c.1).small)) (λ i j. sheet_rows _ _),
-  words_determine sheet_row _ (λ c. omega (arith, (every-write-call c.0 c.1).small)) (λ i j. sheet_rows _ _),
+  words_determine sheet_row _ (λ c. omega (arith, (every_read_call c.0 c.1).small)) (λ i j. sheet_rows _ _),
+  words_determine sheet_row _ (λ c. omega (arith, (every_write_call c.0 c.1).small)) (λ i j. sheet_rows _ _),
   words_determine list_row _ (λ c. omega (arith, tips-small c.0 c.1 c.2)) (λ i j. list-rows _ _),
   words_determine around_row _
       (λ c. around_small _ (around_call c.0 c.1 c.2 c.3 c.4 c.5).small
