@@ -76,8 +76,8 @@ same = refl
 pub whole : Whole
 whole = record { part = same }
 
-pub every-list : EveryList
-every-list policy calls = list-claim policy calls
+pub every_list : EveryList
+every_list policy calls = list-claim policy calls
 
 pub worked : Worked
 worked = (refl, refl)
@@ -147,7 +147,7 @@ class Checks(unittest.TestCase):
         changes = (
             ("Theorems.antt", "pub EveryList : Type 0\nEveryList = (policy : List ℕ) (calls : List Call) → ListClaim policy calls\n", ""),
             ("Claims.antt", "  EveryList,\n", ""),
-            ("Claims.antt", "pub every-list : EveryList\nevery-list policy calls = list-claim policy calls\n", ""),
+            ("Claims.antt", "pub every_list : EveryList\nevery_list policy calls = list-claim policy calls\n", ""),
         )
         self.assertEqual(self.findings(checks.unproved_statements, *changes), [])
         self.finds("one lists EveryList, which specs/ does not have", checks.other_statements, *changes)
@@ -163,7 +163,7 @@ class Checks(unittest.TestCase):
             (root / "crates.txt").write_text("formatter:\n", encoding="utf-8")
             gone = "formatter lists EveryList, which specs/ does not have"
             self.assertFalse([one for one in checks.other_statements(root) if "formatter" in one])
-            theorem, claim = r"unfoldable pub EveryList.*?\n\n", r"pub every-list.*?\n\n"
+            theorem, claim = r"unfoldable pub EveryList.*?\n\n", r"pub every_list.*?\n\n"
             for name, taken in (("specs/Theorems.antt", theorem), ("proofs/Claims.antt", claim)):
                 path = root / "crates" / "formatter" / name
                 text, times = re.subn(taken, "", path.read_text(encoding="utf-8"), flags=re.S)
@@ -177,7 +177,7 @@ class Checks(unittest.TestCase):
         changes = (
             ("Theorems.antt", "EveryList : Type 0\nEveryList = (policy : List ℕ)", "EveryList : List ℕ → Type 0\nEveryList policy ="),
             ("Claims.antt", "  EveryList,\n", ""),
-            ("Claims.antt", "pub every-list : EveryList\nevery-list policy calls = list-claim policy calls\n", ""),
+            ("Claims.antt", "pub every_list : EveryList\nevery_list policy calls = list-claim policy calls\n", ""),
             ("AUDIT.md", ", `EveryList` |", " |"),
         )
         self.assertEqual(self.findings(checks.unproved_statements, *changes), [])
