@@ -5,6 +5,8 @@ import re
 # The marks of comments: of a comment to the end of the line, and the beginning and the end of a block comment.
 RATTLE = ("//", "/*", "*/")
 ANTT = (r"(?<![^\s(){}.;,@])--", "{-", "-}")
+# The parts of the proof of a function, which stand in its folder below proofs/.
+OF_FUNCTION = ("Proof.antt", "Answers.antt", "Invariants.antt")
 
 
 def uses(root):
@@ -12,6 +14,11 @@ def uses(root):
     lines = (line.split("#", 1)[0] for line in (root / "crates.txt").read_text(encoding="utf-8").splitlines())
     # Words after the name, such as staticlib, say how rt builds the crate.
     return {line.split(":", 1)[0].split()[0]: line.split(":", 1)[1].split() for line in lines if ":" in line}
+
+
+def is_of_function(path, root):
+    """Whether an antt file is a part of the proof of a function: crates/NAME/proofs/FUNCTION/Answers.antt, and not proofs/Answers.antt."""
+    return path.name in OF_FUNCTION and len(path.relative_to(root).parts) > 4
 
 
 def listed(root):

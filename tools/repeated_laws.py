@@ -14,12 +14,11 @@ import pathlib
 import re
 import sys
 
-from crate_files import antt
+from crate_files import antt, is_of_function
 
 SIGNATURE = re.compile(r"^(?P<indent> *)(?:(?:unfoldable|abbrev|pub) )*(?P<name>[^\s:(){}]+) :(?: .*)?$")
 WORD = re.compile(r"[^\s(){}.,;]+|[(){}.,;]")
 VARIABLE = re.compile(r"[A-Za-z][a-z]?['′″₀-₉]*")
-OF_FUNCTIONS = ("Proof.antt", "Answers.antt", "Invariants.antt")
 MODIFIERS = ("unfoldable", "abbrev", "pub")
 SHORTEST = 69
 
@@ -53,7 +52,7 @@ def shape(name, text):
 def repeated_laws(root):
     places = collections.defaultdict(list)
     for path in sorted(root.glob("crates/*/specs/**/*.antt")) + sorted(root.glob("crates/*/proofs/**/*.antt")):
-        if path.name not in OF_FUNCTIONS:
+        if not is_of_function(path, root):
             for name, text in declarations(antt(path)):
                 places[shape(name, text)].append(f"{name} ({path.relative_to(root)})")
     for said, names in places.items():

@@ -49,6 +49,8 @@ class Checks(unittest.TestCase):
     def test_proof_of_a_function(self):
         for name in ("Proof", "Answers", "Invariants"):
             self.assertEqual(self.findings(SAME, f"crates/two/proofs/put/{name}.antt"), [])
+        for part in ("proofs", "specs"):
+            self.assertEqual(len(self.findings(SAME, f"crates/two/{part}/Answers.antt")), 1)
 
 
 if __name__ == "__main__":

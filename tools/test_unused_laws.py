@@ -53,6 +53,11 @@ class Checks(unittest.TestCase):
             self.assertEqual(len(self.findings()), 1)
             self.assertEqual(self.findings(*change), [])
 
+    def test_laws_in_a_file_that_is_called_as_a_proof(self):
+        file = "crates/one/proofs/Answers.antt"
+        with unittest.mock.patch.dict(SOUND, {file: "pub lone : ℕ\nlone = 0\n"}):
+            self.assertEqual(self.findings(), [f"{file}: nothing uses lone"])
+
     def test_laws_that_nothing_uses(self):
         where = "crates/one/proofs/Laws.antt: nothing uses"
         self.assertEqual(self.findings("claim = few", "claim = refl"), [f"{where} few"])

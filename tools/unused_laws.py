@@ -13,11 +13,10 @@ import pathlib
 import re
 import sys
 
-from crate_files import antt, rattle
+from crate_files import antt, is_of_function, rattle
 
 SIGNATURE = re.compile(r"^(?P<indent> {0,4})(?:(?:unfoldable|abbrev|pub) )*(?P<name>[^\s:(){}]+) :(?: |$)", re.M)
 WORD = re.compile(r"[^\s(){}.,;@]+")
-NO_LAWS = ("Claims.antt", "Proof.antt", "Answers.antt", "Invariants.antt")
 
 
 def laws(text):
@@ -36,7 +35,7 @@ def unused_laws(root):
     for text in (*texts.values(), *sources):
         words.update(WORD.findall(text))
     for path, text in texts.items():
-        if "proofs" in path.relative_to(root).parts[2:3] and path.name not in NO_LAWS:
+        if "proofs" in path.relative_to(root).parts[2:3] and path.name != "Claims.antt" and not is_of_function(path, root):
             for name, own in laws(text):
                 if words[name] <= own:
                     yield f"{path.relative_to(root)}: nothing uses {name}"
