@@ -192,6 +192,17 @@ class Checks(unittest.TestCase):
         for change in (("rt: ok;", "rt: well;"), ("2 refused;", "1 refused, 1 bad;"), ("2 refused;", "1 refused;")):
             self.finds("its line `rt: ok` is `", of("5 passed, 0 failed"), rt_ci_log=change)
 
+    def test_edit_that_is_refused_for_a_name(self):
+        self.assertEqual(self.findings(checks.refused_for_a_name), [])
+        line = "rt: must-fail one/wrong.edit: refused, as it must be (only {}: change a value): ./proofs/a\nrt: ok;"
+        for why in ("because a proof file names what the edit took away", "by a limit of the prover"):
+            said = f"crates/one/must-fail/wrong.edit: rt ci refuses it only {why}"
+            self.finds(said, checks.refused_for_a_name, rt_ci_log=("rt: ok;", line.format(f"{why}, so this says little")))
+        plain = "rt: must-fail one/wrong.edit: refused, as it must be: ./proofs/a: (only here)\nrt: ok;"
+        self.assertEqual(self.findings(checks.refused_for_a_name, rt_ci_log=("rt: ok;", plain)), [])
+        limit = ("2 refused;", "2 refused, 1 of them only by a limit;")
+        self.finds("its line `rt: ok` is `", lambda root: checks.miscounted(root, "5 passed, 0 failed"), rt_ci_log=limit)
+
     def test_library_that_calls_c_through_std(self):
         words = "one/src/lib.rt: the library uses contracts of C functions, through std::fs"
         self.finds(words, checks.libraries_that_call_c, lib_rt=("fn private", "use std::fs;\n\nfn private"))
