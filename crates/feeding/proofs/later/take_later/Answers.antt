@@ -146,32 +146,6 @@ take_rest-rest-requires c =
       other-room q p x.held x.counts F d ds e cs out k s Q.4 w₁.chars_are,
     )
 
-pub shape_of-out : goal.shape_of-out
-shape_of-out c =
-    let x = c.args in
-    let Q = c.requires in
-    let q = policy_of x.earlier.now in
-    let p = policy_of x.policy.now in
-    let only = c.is_other.ensures.selectors c.if-is_other.false in
-    let a = c.take_first-first.ensures in
-    let g = c.take_selectors-front.ensures.so_far in
-    let r = c.take_selectors-front.result.taken in
-    let S = front-chars q p x.piece.now x.scan x.held x.counts only a g in
-    let F = front_is q p x.piece.now x.scan x.held x.counts only a g in
-    let out = front_out q p x.piece.now x.scan x.held x.counts only a g in
-    let parted = front-parted q p x.piece.now x.scan x.held x.counts only a g in
-    let at = c.take_selectors-front.result.at in
-    let w₁ = first_at x.piece.now at x.scan.end (omega (arith, c.if-scan-at.false)) (selectors_end g Q.3.end_is)
-    c.take_selectors-front.ensures.none_more in
-    let d = w₁.first in
-    let ds = w₁.more in
-    let e = w₁.other in
-    let k = c.class_of-class.ensures ∙ ap class_of (value_at w₁ c.decode.result c.decode.ensures) in
-    let cs : scanned_chars x.piece.now x.scan ≡ S ++ (d ∷ ds) = parted ∙ ap (λ (l : List ℕ). S ++ l) w₁.chars_are in
-    let s = c.settle_held-start.ensures in
-    later_length (settled-then q p x.held x.counts F d ds e cs out k s (taken_as w₁.chars_are
-    c.take_rest-rest.ensures))
-
 pub returns : goal.returns
 returns c =
     let x = c.args in
@@ -196,3 +170,6 @@ returns c =
     let cs : scanned_chars x.piece.now x.scan ≡ S ++ (d ∷ ds) = parted ∙ ap (λ (l : List ℕ). S ++ l) w₁.chars_are in
     let s = c.settle_held-start.ensures in
     settled-then q p x.held x.counts F d ds e cs out k s (taken_as w₁.chars_are c.take_rest-rest.ensures)
+
+pub shape_of-out : goal.shape_of-out
+shape_of-out c = later_length (returns c)
