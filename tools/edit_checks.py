@@ -61,9 +61,10 @@ MEMORY = 3_000_000_000
 
 
 PROGRAM = re.compile(r"^program: (\w+)\n", re.M)
+# A function with clauses has its `{` on a line of its own. A method of a trait has the trait's clauses, and its head may end with `{`.
 BODY = re.compile(
     r"""^(?P<indent>\ *)(?:pub(?:\(crate\))?\ )?(?:const\ )?(?:extern\ "C"\ )?fn\ (?P<name>\w+)\b
-    (?:(?!^(?P=indent)\}$).)*?^(?P=indent)\{\n(?P<body>.*?)^(?P=indent)\}$""",
+    (?:(?P<plain>[^\n]*\ \{\n)|(?:(?!^(?P=indent)\}$).)*?^(?P=indent)\{\n)(?P<body>.*?)^(?P=indent)\}$""",
     re.M | re.S | re.X,
 )
 
@@ -150,7 +151,7 @@ def misfits_of(program, texts):
     if len(named) != 1:
         yield f"it has {len(named)} lines `refused by: PLACE: NAME`"
     for place, name in named:
-        yield from unknown_place(crate, place, name)
+        yield from unknown_place(crate, place, name, [new for _, _, new in replacements(program)])
 
 
 def not_apart(programs):
@@ -165,8 +166,14 @@ def not_apart(programs):
                 yield f"{program.label}: {changed_by[place]} changes {place} too"
             changed_by[place] = program.label
         for place, _ in refusers(program):
-            if place not in changed:
+            if not any(is_place(place, one) for one in changed - {None}):
                 yield f"{program.label}: it does not change {place}, which must refuse it"
+
+
+def is_place(said, place):
+    """Whether the prover's name of a place is that of a function: in a method of a trait it also has the arguments of the trait."""
+    said, place = said.split("::"), place.split("::")
+    return said == place or (said[:-2] == place[:-2] and said[-1] == place[-1] and len(place) > 1 and said[-2].startswith(place[-2]))
 
 
 def body_with(path, text):
@@ -175,15 +182,25 @@ def body_with(path, text):
     at = source.find(text)
     for function in BODY.finditer(source):
         if function.start("body") <= at and at + len(text) <= function.end("body"):
-            return place_of(path, source, function)
+            has_contract = not function["plain"] or any(trait for trait, _ in impl_of(source, function))
+            return place_of(path, source, function) if has_contract else None
     return None
+
+
+def impl_of(source, function):
+    """The trait, or "", and the type of the impl that a function stands in, in a list; no entry if it stands in none."""
+    found = re.findall(r"^impl(?:<.*?>)? (?:(\w+)(?:<.*>)? for )?(\w+)(?:<.*>)? \{$", source[: function.start()], re.M)
+    return found[-1:] if function["indent"] else []
 
 
 def place_of(path, source, function):
     """The place of a function: the modules of its file, the type whose method it is, and its name. A method of a trait has the type and the
-    trait in one word."""
-    found = re.findall(r"^impl(?:<.*?>)? (?:(\w+)(?:<.*>)? for )?(\w+)(?:<.*>)? \{$", source[: function.start()], re.M) if function["indent"] else []
-    return "::".join([*modules(path), *(type_name + trait for trait, type_name in found[-1:]), function["name"]])
+    trait in one word. Any other method stands with its type, which another file may declare."""
+    found, below = impl_of(source, function), modules(path)
+    for trait, type_name in found:
+        if not trait and (elsewhere := re.search(rf"^use crate::((?:\w+::)*)(?:{type_name};|\{{[^}}]*\b{type_name}\b)", source, re.M)):
+            below = elsewhere[1].split("::")[:-1]
+    return "::".join([*below, *(type_name + trait for trait, type_name in found), function["name"]])
 
 
 def false_goals(own, log):
@@ -203,9 +220,9 @@ def modules(path):
     return [] if below in (["lib"], ["main"]) else below
 
 
-def unknown_place(crate, place, name):
-    """The fault of a place: it is neither a file of proofs/ that declares the name, nor a function. A proof that walks the code names all
-    that it proves; else a goal has an answer in a file only if the prover does not find it alone."""
+def unknown_place(crate, place, name, written):
+    """The fault of a place: it is neither a file of proofs/ that declares the name, nor a function of the crate or of what the edit writes.
+    A proof that walks the code names all that it proves; else a goal has an answer in a file only if the prover does not find it alone."""
     below = place.replace("::", "/")
     for path in (crate / "proofs" / f"{below}.antt", crate / "proofs" / below / "Proof.antt"):
         if path.is_file():
@@ -213,7 +230,7 @@ def unknown_place(crate, place, name):
                 yield f"refused by: {path.relative_to(crate)} does not declare {name}"
             return
     function = re.compile(rf"\bfn {re.escape(place.rpartition('::')[2])}\b")
-    if not any(function.search(rattle(path)) for path in crate.glob("src/**/*.rt")):
+    if not any(function.search(text) for text in [*written, *(rattle(path) for path in crate.glob("src/**/*.rt"))]):
         yield f"refused by: there is no {place}"
 
 

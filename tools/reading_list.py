@@ -100,10 +100,27 @@ class File:
             while first and re.match(r" *(?://|#)", lines[first - 1]):
                 first -= 1
             closes = f"{indent}{'{' if kind == 'fn' else '}'}"
-            while last < len(lines) and lines[last] != closes:
+            # A function without clauses opens its body in the last line of its head.
+            heads = (line[: len(line) - len(line.lstrip())] + ")", line) if kind == "fn" else ()
+            while last < len(lines) and lines[last] != closes and not (lines[last].endswith(" {") and lines[last].startswith(heads)):
                 last += 1
-            item = range(first, last + (kind != "fn"))
-            self.define(name, set(item), without_comments("\n".join(lines[one] for one in item), RATTLE))
+            opens = last < len(lines) and lines[last] != closes
+            item = {*range(first, last + (kind != "fn" or opens)), *self.promises(lines, at)}
+            self.define(name, item, without_comments("\n".join(lines[one] for one in sorted(item)), RATTLE))
+
+    def promises(self, lines, at):
+        """The lines of what the `impl` of a trait states, if a function stands in one: its ghost members hold the function's clauses."""
+        head = next((one for one in range(at, -1, -1) if lines[one] and not lines[one][0].isspace()), 0)
+        if head == at or not re.match(r"impl\b.* for ", lines[head]):
+            return []
+        end = next((one for one in range(head, len(lines)) if lines[one] == "}"), len(lines))
+        found, inside = [], False
+        for one in range(head + 1, end):
+            inside = inside or bool(re.match(r"    ghost (?!use )\w+", lines[one]))
+            if inside:
+                found.append(one)
+                inside = not lines[one].endswith(";")
+        return found
 
 
 def declared_in(crate, path):

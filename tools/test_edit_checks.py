@@ -156,6 +156,24 @@ class Checks(unittest.TestCase):
             self.finds(words, checks.misfits, change, sound=TOGETHER)
             self.finds("second: it does not change pairs::pair::Pair::first", checks.misfits, change, sound=TOGETHER)
 
+    def test_methods_of_traits_and_of_types_of_another_file(self):
+        pair = TOGETHER["crates/two/src/pairs/pair.rt"]
+        method = "impl Start<&[u8]> for Pair {\n    fn first(&self) -> u8 {\n        self.x\n    }\n}\n"
+        refused = (".edit", "pairs::pair::Pair::first", "pairs::pair::PairStartRefSliceU8::first")
+        self.assertEqual(self.findings(checks.misfits, ("pair.rt", pair, method), refused, sound=TOGETHER), [])
+        # A method without clauses has a contract only if it is a trait's.
+        bare = method.replace("Start<&[u8]> for ", "")
+        self.finds("second: it changes more than bodies", checks.misfits, ("pair.rt", pair, bare), sound=TOGETHER)
+        imported = ("pair.rt", pair, "use crate::{Kind, Pair};\n" + pair)
+        refused = (".edit", "pairs::pair::Pair::first", "Pair::first")
+        self.assertEqual(self.findings(checks.misfits, imported, refused, sound=TOGETHER), [])
+
+    def test_function_that_an_edit_writes(self):
+        change = ("wrong.edit", "same: returns", "written: returns")
+        self.finds("there is no written", checks.misfits, change)
+        new = ("wrong.edit", "new: ", "new: fn written() {} ")
+        self.assertEqual(self.findings(checks.misfits, change, new), [])
+
     def test_fault_of_one_program_of_an_edit(self):
         for old, new, words in (
             ("old: self.x", "old: self.z", "second: src/pairs/pair.rt has its old text 0 times"),

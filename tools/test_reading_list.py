@@ -155,6 +155,28 @@ class ReadingList(unittest.TestCase):
 
         self.assertEqual(self.in_repository(counts), [[4, 5, 3, 6, 5], [4]])
 
+    def test_methods_of_traits(self):
+        # What the impl of a trait states counts with its function. A head without clauses ends where the body opens.
+        method = """
+impl Default for Item {
+    ghost use Rattle.items.specs.Automaton.{states};
+
+    ghost is_default = {
+        λ x. x ≡ states
+    };
+
+    fn fallback() -> Self {
+        Item
+    }
+}
+
+// A number of states."""
+        found = self.in_repository(
+            lambda root: reading_list.File(root, "crates/items/src/lib.rt"), "crates/items/src/lib.rt", "\n// A number of states.", method
+        )
+        self.assertEqual(len(found.lines["fallback"]), 4)
+        self.assertIn("states", found.words["fallback"])
+
     def test_missing(self):
         self.finds("crates/items/specs/Item.antt: there is no such file", AUDIT, "Items.antt", "Item.antt")
         self.finds("crates/base/specs/Answers.antt: it does not define numberof", AUDIT, "numberOf", "numberof")

@@ -134,6 +134,8 @@ class Checks(unittest.TestCase):
         change = ("// pub fn in_a_comment(x: u8) -> u8 { x }", line)
         self.finds("crates/one/src/lib.rt: line 2 has 141 characters", checks.long_lines, lib_rt=change)
         self.assertEqual(self.findings(checks.long_lines, lib_rt=("// pub fn in_a_comment(x: u8) -> u8 { x }", line[:-1])), [])
+        attribute = "#[tactic(auto, using(" + 138 * "x" + "))]"
+        self.assertEqual(self.findings(checks.long_lines, lib_rt=("// pub fn in_a_comment(x: u8) -> u8 { x }", attribute)), [])
 
     def test_public_requires(self):
         self.finds("part: a public function has a `requires`", checks.weak_contracts, lib_rt=("ensures first", "requires first"))
